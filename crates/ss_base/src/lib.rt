@@ -15,6 +15,7 @@ mod picture_line;
 mod plan;
 mod spelling;
 mod value;
+mod words;
 
 pub use alpha::{Alpha, TEXT_LIMIT};
 pub use arithmetic::{div_f, minus, mod_f, plus, times};
@@ -32,3 +33,4 @@ pub use picture_line::PictureLine;
 pub use plan::Plan;
 pub use spelling::{SPELLING_LIMIT, Spelling};
 pub use value::Value;
+pub use words::{End, GuardKind, PhraseKind, Relation, Sign, Weighting};

@@ -1,2 +1,1 @@
-pub use Rattle.ss_check_laws.specs.ProgramLaws
 pub mod Checking

@@ -1,81 +1,58 @@
 //! The check of a program.
 
-ghost use Rattle.std.specs.Prelude.{◌≡◌, ◌≤◌, map, None, OnOk, IfOk, IfErr};
+ghost use Rattle.std.specs.Prelude.{◌≡◌, ◌≤◌, map, None, IfOk, IfErr, OnOk};
 ghost use Rattle.ss_tree.specs.Nodes.{nodes as tree_nodes};
 ghost use Rattle.ss_tree.specs.View.{view_program, view_section};
 ghost use Rattle.ss_tables_rules.specs.Broken.{refusal_of_declarations as declared_refusal};
 ghost use Rattle.ss_names.specs.Table.{table};
-ghost use Rattle.ss_check_scopes.specs.WholeOf.{whole_in, whole_of};
-ghost use Rattle.ss_check_scopes.specs.Whole.{locals_of};
-ghost use Rattle.ss_check_rules.specs.Refusal.{refusal_of_uses};
+ghost use Rattle.ss_names_scopes.specs.Locals.{locals_of};
 ghost use Rattle.ss_program.specs.Checking.{program_in};
 ghost use Rattle.ss_program.specs.Nodes.{nodes};
 ghost use Rattle.ss_program.specs.View.{view_program as program_seen};
 ghost use Rattle.ss_tables.specs.Tables.{AreTablesOf};
 ghost use Rattle.ss_check.specs.Checking.{Becomes, ReportsCheckError, refusal_of};
 
-use crate::error::{CheckError, error_of};
-use ss_check_laws::program_laws::kept_programs_resolve;
-use ss_check_laws::size_laws::laws as laws_of_nodes;
 use ss_check_programs::resolve;
-use ss_check_rules::judge;
-use ss_check_scopes::{LocalModes, ProgramGlobals};
+use ss_check_rules::{CheckError, judge};
+use ss_names::Names;
+use ss_names_scopes::Locals;
 use ss_program::checked::Checked;
 use ss_tables::Tables;
 use ss_tree::program::Program;
 use ss_tree::release::release_tree;
 use std::alloc::Global;
 
-// The local variables of each section; refuses a program that breaks a rule on what it does with its names.
-fn keep_rules(
-    alloc: Global,
-    program: &Program,
-    globals: &ProgramGlobals,
-) -> Result<Vec<LocalModes>, CheckError>
-    ensures locals { IfOk result (λ found. found.items ≡ map (locals_of (whole_in globals.now.names globals.now.signatures.items)) (map view_section program.now.sections.items)) }
-    ensures kept { OnOk result (refusal_of_uses (whole_in globals.now.names globals.now.signatures.items) (view_program program.now) ≡ None) }
-    ensures refused { IfErr result (λ e. ReportsCheckError e (refusal_of_uses (whole_in globals.now.names globals.now.signatures.items) (view_program program.now))) }
+// The local variables of each section, if the program breaks no rule on what it does with its names.
+fn keep_rules(alloc: Global, program: &Program, names: &Names) -> Result<Vec<Locals>, CheckError>
+    requires { names.now ≡ table (view_program program.now) }
+    ensures locals { IfOk result (λ found. found.items ≡ map (locals_of names.now) (map view_section program.now.sections.items)) }
+    ensures kept { OnOk result (refusal_of (view_program program.now) ≡ None) }
+    ensures refused { IfErr result (λ e. ReportsCheckError e (refusal_of (view_program program.now))) }
 {
-    let (broken, locals) = judge(alloc, program, globals)?;
+    let (broken, locals) = judge(alloc, program, names)?;
     match broken {
-        Some(broken) => Err(error_of(broken)),
+        Some(error) => Err(error),
         None => Ok(locals),
     }
 }
 
-// The resolved program, by what is known of its names, where it breaks no rule.
-fn judged(alloc: Global, program: &Program, globals: &ProgramGlobals) -> Result<Checked, CheckError>
-    requires names { globals.now.names ≡ table (view_program program.now) }
-    requires whole { whole_in globals.now.names globals.now.signatures.items ≡ whole_of (view_program program.now) }
+// The resolved program, by its table, if it breaks no rule.
+fn checked(alloc: Global, program: &Program, names: &Names) -> Result<Checked, CheckError>
+    requires names { names.now ≡ table (view_program program.now) }
     requires declared { declared_refusal (view_program program.now) ≡ None }
     ensures checked { IfOk result (λ c. Becomes (view_program program.now) (program_in c)) }
     ensures nodes { IfOk result (λ c. nodes (program_seen (program_in c)) ≤ tree_nodes (view_program program.now)) }
     ensures refused { IfErr result (λ e. ReportsCheckError e (refusal_of (view_program program.now))) }
 {
-    kept_programs_resolve();
-    laws_of_nodes();
-    let locals = keep_rules(alloc, program, globals)?;
-    match resolve(alloc, program, &globals.names, &locals)? {
+    let locals = keep_rules(alloc, program, names)?;
+    match resolve(alloc, program, names, &locals)? {
         Some(resolved) => Ok(Checked::new(resolved)),
         None => unreachable!(),
     }
 }
 
-// The resolved program, by its tables, where it breaks no rule.
-fn checked(alloc: Global, program: &Program, tables: Tables) -> Result<Checked, CheckError>
-    requires tables { AreTablesOf (view_program program.now) tables }
-    ensures checked { IfOk result (λ c. Becomes (view_program program.now) (program_in c)) }
-    ensures nodes { IfOk result (λ c. nodes (program_seen (program_in c)) ≤ tree_nodes (view_program program.now)) }
-    ensures refused { IfErr result (λ e. ReportsCheckError e (refusal_of (view_program program.now))) }
-{
-    let globals = ProgramGlobals::of(alloc, program, tables.into_names())?;
-    let result = judged(alloc, program, &globals);
-    globals.release();
-    result
-}
-
-/// The program with its names resolved, where it breaks no rule on what it does with
-/// its names and values, the refusals 71 to 79. The tables are those of the program.
+/// The program with its names resolved, if it breaks no rule on what it does with its names and values, the refusals
+/// 71 to 79. The tables are those of the program.
 ///
 /// The result is well typed, and has no more nodes than the tree.
 ///
@@ -88,7 +65,9 @@ pub fn check(alloc: Global, program: Program, tables: Tables) -> Result<Checked,
     ensures nodes { IfOk result (λ c. nodes (program_seen (program_in c)) ≤ tree_nodes (view_program program)) }
     ensures refused { IfErr result (λ e. ReportsCheckError e (refusal_of (view_program program))) }
 {
-    let result = checked(alloc, &program, tables);
+    let names = tables.into_names();
+    let result = checked(alloc, &program, &names);
+    names.release();
     release_tree(program);
     result
 }

@@ -2,9 +2,7 @@
 #![tactic(auto)]
 
 mod checking;
-mod error;
 
 pub use checking::check;
-pub use error::CheckError;
-pub use ss_check_laws::program_laws::kept_programs_resolve;
+pub use ss_check_rules::CheckError;
 pub use ss_program::checked::Checked;

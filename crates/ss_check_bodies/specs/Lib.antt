@@ -1,2 +1,2 @@
-pub mod Examples
 pub mod Results
+pub mod Examples

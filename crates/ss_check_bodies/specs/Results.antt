@@ -1,18 +1,23 @@
--- What calls answer for steps one after the other.
+-- The scope that names are resolved by, and what calls answer for steps one after the other.
 use Rattle.std.specs.Prelude.{◌≡◌, List, map, Option, Some, Result, Ok, Err}
 use Rattle.std.specs.Global.{Vec}
 use Rattle.ss_tree.specs.Tree.{ExpressionRow, HeadTree}
 use Rattle.ss_program.specs.declared.expression.Operator.{Operator}
 use Rattle.ss_program.specs.declared.head.Head.{Head as HeadMade}
 use Rattle.ss_program.specs.declared.head.Phrase.{Phrase as PhraseMade}
-use Rattle.ss_program.specs.Program.{Block, Calculate, Expression, Head, Phrase}
-use Rattle.ss_program.specs.View.{view_body, view_head, view_phrase}
-use Rattle.ss_check_bodies.specs.declared.bodies.Bodies.{Bodies}
+use Rattle.ss_program.specs.Program.{Calculate, Expression, Head, Phrase}
+use Rattle.ss_program.specs.View.{view_head, view_phrase}
+use Rattle.ss_names_scopes.specs.Scopes.{Scope}
+use Rattle.ss_names_scopes.specs.Seen.{scope_seen}
 use Rattle.ss_names_meaning.specs.declared.error.ResolveError.{ResolveError}
 use Rattle.ss_names_meaning.specs.Answers.{◌>>=◌, each}
-use Rattle.ss_names_meaning.specs.Contexts.{Context}
 use Rattle.ss_names_meaning.specs.Expressions.{two}
 use Rattle.ss_names_meaning.specs.Heads.{head, resolved_phrase, phrases_of}
+use Rattle.ss_check_bodies.specs.declared.resolver.Resolver.{Resolver as ResolverValue}
+
+-- the scope of what resolves
+abbrev pub scope_in : ResolverValue → Scope
+scope_in r = scope_seen r.scope
 
 -- what was made first, beside what was made next, unless that failed
 abbrev pub MadeBeside : {A B : Type 0} → A → Result B ResolveError → Result (A × B) ResolveError → Type 0
@@ -20,7 +25,7 @@ MadeBeside first next (Ok p) = (p.0 ≡ first) × (next ≡ Ok p.1)
 MadeBeside first next (Err e) = next ≡ Err e
 
 -- what a FOR goes over, and its phrases
-abbrev pub resolved_over : Context → HeadTree → Option (Head × List Phrase)
+abbrev pub resolved_over : Scope → HeadTree → Option (Head × List Phrase)
 resolved_over c t = do
   h ← head c t
   phrases ← each (resolved_phrase c) (phrases_of t)
@@ -30,11 +35,7 @@ abbrev pub over_seen : HeadMade × Vec PhraseMade → Head × List Phrase
 over_seen p = (view_head p.0, map view_phrase p.1.items)
 
 -- a function of two numbers
-abbrev pub operation : Context → Operator → ExpressionRow → Option Expression
+abbrev pub operation : Scope → Operator → ExpressionRow → Option Expression
 operation c operator arguments = do
   p ← two c arguments
   Some (Calculate operator p.0 p.1)
-
--- the bodies in a statement
-abbrev pub bodies_seen : Bodies → Block × Block
-bodies_seen b = (view_body b.first.items, view_body b.second.items)

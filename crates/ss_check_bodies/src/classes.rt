@@ -1,97 +1,105 @@
-//! Classes by their kind.
+//! Classes by the kind that their place needs.
 
 ghost use Rattle.std.specs.Prelude.{◌≡◌};
 ghost use Rattle.ss_names_meaning.specs.Answers.{Gives, each};
-ghost use Rattle.ss_names_meaning.specs.Contexts.{counted, if_notice, if_permanent, if_single, notice_class, permanent_class, single_class};
+ghost use Rattle.ss_names_meaning.specs.Classes.{class_named, class_number, count_of, counted, suits, variable_named};
+ghost use Rattle.ss_check_bodies.specs.Results.{scope_in};
 
-use ss_base::{ClassKind, Name};
-use ss_names_meaning::{ClassMeant, ResolveError, Scope};
+use crate::resolver::Resolver;
+use ss_base::{ClassKind, Name, Spelling};
+use ss_names::Meaning;
+use ss_names_meaning::{NamedClass, ResolveError};
+use ss_names_scopes::variable_of;
+use ss_names_uses::ClassNeed;
+use ss_program::expression::Variable;
 use ss_program::statement::CountedClass;
-use std::alloc::Global;
 
-// A class whose entities are made one by one.
-fn if_single(class: ClassMeant) -> Result<ClassMeant, ResolveError>
-    ensures { Gives (λ x. x) result (if_single class class.kind) }
+// Whether a class of this kind suits a place that needs the other.
+fn suits(kind: ClassKind, need: ClassNeed) -> bool
+    ensures { result ≡ suits kind need }
 {
-    match class.kind {
-        ClassKind::Permanent => Err(ResolveError::Unresolved),
-        ClassKind::Temporary => Ok(class),
-        ClassKind::Notice => Ok(class),
+    match need {
+        ClassNeed::Permanent => matches!(kind, ClassKind::Permanent),
+        ClassNeed::Notice => matches!(kind, ClassKind::Notice),
+        ClassNeed::Single => !matches!(kind, ClassKind::Permanent),
     }
 }
 
-// A notice class.
-fn if_notice(class: ClassMeant) -> Result<ClassMeant, ResolveError>
-    ensures { Gives (λ x. x) result (if_notice class class.kind) }
+// The number of a class of the kind that its place needs.
+fn class_number(need: ClassNeed, meaning: Option<Meaning>) -> Option<usize>
+    ensures { result ≡ class_number need meaning }
 {
-    match class.kind {
-        ClassKind::Permanent => Err(ResolveError::Unresolved),
-        ClassKind::Temporary => Err(ResolveError::Unresolved),
-        ClassKind::Notice => Ok(class),
+    match meaning {
+        Some(Meaning::Class { class, kind, .. }) => {
+            if suits(kind, need) {
+                Some(class)
+            } else {
+                None
+            }
+        }
+        _ => None,
     }
 }
 
-// A permanent class.
-fn if_permanent(class: ClassMeant) -> Result<ClassMeant, ResolveError>
-    ensures { Gives (λ x. x) result (if_permanent class class.kind) }
+// The class whose N. this is.
+fn count_of(meaning: Option<Meaning>) -> Option<CountedClass>
+    ensures { result ≡ count_of meaning }
 {
-    match class.kind {
-        ClassKind::Permanent => Ok(class),
-        ClassKind::Temporary => Err(ResolveError::Unresolved),
-        ClassKind::Notice => Err(ResolveError::Unresolved),
+    match meaning {
+        Some(Meaning::Count { count }) => Some(count),
+        _ => None,
     }
 }
 
-/// The temporary or notice class of a name.
-pub(crate) fn single_class<S: Scope>(scope: &S, name: Name) -> Result<ClassMeant, ResolveError>
-    ensures { Gives (λ x. x) result (single_class (S.context scope.now) name) }
-{
-    let class = scope.class(name)?;
-    if_single(class)
-}
+impl Resolver<'_> {
+    /// The variable that a name means here: of a class its own, which a local one may hide.
+    pub(crate) fn variable_named(&self, name: &Name) -> Result<Variable, ResolveError>
+        ensures { Gives (λ x. x) result (variable_named (scope_in self.now) name.now) }
+    {
+        match self.scope.meaning_of_name(name) {
+            Some(meaning) => variable_of(meaning).ok_or(ResolveError::Unresolved),
+            None => Err(ResolveError::Unresolved),
+        }
+    }
 
-/// The notice class of a name.
-pub(crate) fn notice_class<S: Scope>(scope: &S, name: Name) -> Result<ClassMeant, ResolveError>
-    ensures { Gives (λ x. x) result (notice_class (S.context scope.now) name) }
-{
-    let class = scope.class(name)?;
-    if_notice(class)
-}
-
-/// The permanent class of a name.
-pub(crate) fn permanent_class<S: Scope>(scope: &S, name: Name) -> Result<ClassMeant, ResolveError>
-    ensures { Gives (λ x. x) result (permanent_class (S.context scope.now) name) }
-{
-    let class = scope.class(name)?;
-    if_permanent(class)
-}
-
-// A permanent class with its N.
-fn counted<S: Scope>(scope: &S, name: Name) -> Result<CountedClass, ResolveError>
-    ensures { Gives (λ x. x) result (counted (S.context scope.now) name) }
-{
-    let class = permanent_class(scope, name)?;
-    match class.count {
-        Some(variable) => Ok(CountedClass {
-            class: class.class,
+    /// The class of a name, if it is of the kind that its place needs.
+    pub(crate) fn class_named(
+        &self,
+        need: ClassNeed,
+        name: &Name,
+    ) -> Result<NamedClass, ResolveError>
+        ensures { Gives (λ x. x) result (class_named (scope_in self.now) need name.now) }
+    {
+        let Some(class) = class_number(need, self.scope.names.meaning(name)) else {
+            return Err(ResolveError::Unresolved);
+        };
+        let variable = self.variable_named(name)?;
+        let attributes = self.scope.names.attributes_of(class).len();
+        Ok(NamedClass {
+            class,
+            attributes,
             variable,
-        }),
-        None => Err(ResolveError::Unresolved),
+        })
     }
-}
 
-/// The classes of a CREATE EVERY.
-pub(crate) fn all_counted<S: Scope>(
-    alloc: Global,
-    scope: &S,
-    trees: &[Name],
-) -> Result<Vec<CountedClass>, ResolveError>
-    ensures { Gives (λ v. v.items) result (each (counted (S.context scope.now)) trees.now) }
-{
-    let mut resolved = Vec::new(alloc);
-    for tree in trees {
-        let one = counted(scope, *tree)?;
-        resolved.push(one)?;
+    // A permanent class with its N.
+    fn counted(&self, name: &Name) -> Result<CountedClass, ResolveError>
+        ensures { Gives (λ x. x) result (counted (scope_in self.now) name.now) }
+    {
+        let names = self.scope.names;
+        count_of(names.meanings.meaning(&Spelling::derived(b'N', name)))
+            .ok_or(ResolveError::Unresolved)
     }
-    Ok(resolved)
+
+    /// The classes of a CREATE EVERY.
+    pub(crate) fn all_counted(&self, trees: &[Name]) -> Result<Vec<CountedClass>, ResolveError>
+        ensures { Gives (λ v. v.items) result (each (counted (scope_in self.now)) trees.now) }
+    {
+        let mut resolved = Vec::new(self.alloc);
+        for tree in trees {
+            let one = self.counted(tree)?;
+            resolved.push(one)?;
+        }
+        Ok(resolved)
+    }
 }

@@ -1,123 +1,104 @@
 //! Items of PRINT with their names resolved.
 
-ghost use Rattle.std.specs.Prelude.{◌≡◌, map, option_map};
+ghost use Rattle.std.specs.Prelude.{map, option_map};
 ghost use Rattle.ss_tree.specs.Tree.{expression_row, named};
 ghost use Rattle.ss_tree.specs.View.{view_expression};
 ghost use Rattle.ss_program.specs.Program.{AValue};
 ghost use Rattle.ss_program.specs.View.{view_expression as view_resolved, view_item, view_option};
 ghost use Rattle.ss_names_meaning.specs.Answers.{Gives, each};
 ghost use Rattle.ss_names_meaning.specs.Expressions.{expression, item, resolved_item, resolved_value};
+ghost use Rattle.ss_check_bodies.specs.Results.{scope_in};
 
-use crate::expressions::{
-    entity_of, resolve_expression, resolve_subscript, resolved_value, without_subscript,
-};
-use ss_names_meaning::{Meaning, ResolveError, Scope};
+use crate::expressions::resolved_value;
+use crate::resolver::Resolver;
+use ss_names::Meaning;
+use ss_names_meaning::ResolveError;
 use ss_program::expression::Expression as Resolved;
 use ss_program::statement::Item;
 use ss_tree::expression::{Designator, Expression};
 use std::alloc::Global;
 
-// ---- what is named
-
-// The value of what is named, with the subscript if there is one.
-fn named_value(
+// An item that is a value.
+fn value_item(
     alloc: Global,
     meaning: Meaning,
-    subscript: Option<Resolved>,
+    entity: Option<Resolved>,
 ) -> Result<Item, ResolveError>
-    ensures { Gives view_item result (option_map AValue (resolved_value meaning (view_option view_resolved subscript))) }
+    ensures { Gives view_item result (option_map AValue (resolved_value meaning (view_option view_resolved entity))) }
 {
-    let value = resolved_value(alloc, meaning, subscript)?;
+    let value = resolved_value(alloc, meaning, entity)?;
     Ok(Item::Value { value })
 }
 
-// What PRINT shows of what is named, with the subscript if there is one.
-#[tactic(auto, using(crate::proofs::Seen::plain_seen))]
+// What PRINT shows of what a name means, of the entity that has it.
 fn resolved_item(
     alloc: Global,
     meaning: Meaning,
-    subscript: Option<Resolved>,
+    entity: Option<Resolved>,
 ) -> Result<Item, ResolveError>
-    ensures { Gives view_item result (resolved_item meaning (view_option view_resolved subscript)) }
+    ensures { Gives view_item result (resolved_item meaning (view_option view_resolved entity)) }
 {
     match meaning {
-        Meaning::Mean { statistic } => without_subscript(subscript, Item::Mean { statistic }),
-        Meaning::MeanOf { statistic, implied } => {
-            let entity = entity_of(implied, subscript);
-            Ok(Item::MeanOf { statistic, entity })
+        Meaning::Statistic { fold, statistic } => match fold {
+            Some(_) => value_item(alloc, meaning, entity),
+            None => match entity {
+                Some(entity) => Ok(Item::MeanOf { statistic, entity }),
+                None => Ok(Item::Mean { statistic }),
+            },
+        },
+        _ => value_item(alloc, meaning, entity),
+    }
+}
+
+impl Resolver<'_> {
+    // What is named, with its subscripts.
+    fn resolve_named_item(
+        &self,
+        designator: Designator,
+        subscripts: &[Expression],
+    ) -> Result<Item, ResolveError>
+        ensures { Gives view_item result (item (scope_in self.now) (named designator (expression_row (map view_expression subscripts.now)))) }
+    {
+        let (meaning, entity) = self.resolve_place(designator, subscripts)?;
+        resolved_item(self.alloc, meaning, entity)
+    }
+
+    // A value.
+    fn resolve_value_item(&self, tree: &Expression) -> Result<Item, ResolveError>
+        ensures { Gives view_item result (option_map AValue (expression (scope_in self.now) (view_expression tree.now))) }
+    {
+        let value = self.resolve_expression(tree)?;
+        Ok(Item::Value { value })
+    }
+
+    // An item: a mean where that is named alone, through any parentheses, and else a value.
+    #[tactic(auto, unfolding(ss_tree::specs::View::view_expression))]
+    fn resolve_item(&self, tree: &Expression) -> Result<Item, ResolveError>
+        ensures { Gives view_item result (item (scope_in self.now) (view_expression tree.now)) }
+    {
+        match tree {
+            Expression::Named(named) => {
+                self.resolve_named_item(named.designator, &named.subscripts)
+            }
+            Expression::Parenthesised(inner) => self.resolve_item(inner),
+            Expression::Number(_)
+            | Expression::Text(_)
+            | Expression::Call { .. }
+            | Expression::Product { .. }
+            | Expression::Signed { .. }
+            | Expression::Sum { .. } => self.resolve_value_item(tree),
         }
-        Meaning::Variable { .. }
-        | Meaning::Count { .. }
-        | Meaning::Attribute { .. }
-        | Meaning::OfSystemSet { .. }
-        | Meaning::OfSet { .. }
-        | Meaning::OfMember { .. }
-        | Meaning::Figure { .. }
-        | Meaning::FigureOf { .. }
-        | Meaning::Clock
-        | Meaning::NoticeTime => named_value(alloc, meaning, subscript),
     }
-}
 
-// ---- items
-
-// What is named, with its subscripts.
-fn resolve_named<S: Scope>(
-    alloc: Global,
-    scope: &S,
-    designator: Designator,
-    subscripts: &[Expression],
-) -> Result<Item, ResolveError>
-    ensures { Gives view_item result (item (S.context scope.now) (named designator (expression_row (map view_expression subscripts.now)))) }
-{
-    let meaning = scope.meaning(designator)?;
-    let subscript = resolve_subscript(alloc, scope, subscripts)?;
-    resolved_item(alloc, meaning, subscript)
-}
-
-// A value.
-fn resolve_value<S: Scope>(
-    alloc: Global,
-    scope: &S,
-    tree: &Expression,
-) -> Result<Item, ResolveError>
-    ensures { Gives view_item result (option_map AValue (expression (S.context scope.now) (view_expression tree.now))) }
-{
-    let value = resolve_expression(alloc, scope, tree)?;
-    Ok(Item::Value { value })
-}
-
-// An item: a mean where that is named alone, through any parentheses, and else a value.
-#[tactic(auto, unfolding(ss_tree::specs::View::view_expression))]
-fn resolve_item<S: Scope>(alloc: Global, scope: &S, tree: &Expression) -> Result<Item, ResolveError>
-    ensures { Gives view_item result (item (S.context scope.now) (view_expression tree.now)) }
-{
-    match tree {
-        Expression::Named(named) => {
-            resolve_named(alloc, scope, named.designator, &named.subscripts)
+    /// The items of a PRINT.
+    pub(crate) fn resolve_items(&self, trees: &[Expression]) -> Result<Vec<Item>, ResolveError>
+        ensures { Gives (λ v. map view_item v.items) result (each (item (scope_in self.now)) (map view_expression trees.now)) }
+    {
+        let mut resolved = Vec::new(self.alloc);
+        for tree in trees {
+            let one = self.resolve_item(tree)?;
+            resolved.push(one)?;
         }
-        Expression::Parenthesised(inner) => resolve_item(alloc, scope, inner),
-        Expression::Number(_)
-        | Expression::Text(_)
-        | Expression::Call { .. }
-        | Expression::Product { .. }
-        | Expression::Signed { .. }
-        | Expression::Sum { .. } => resolve_value(alloc, scope, tree),
+        Ok(resolved)
     }
-}
-
-/// The items of a PRINT.
-pub(crate) fn resolve_items<S: Scope>(
-    alloc: Global,
-    scope: &S,
-    trees: &[Expression],
-) -> Result<Vec<Item>, ResolveError>
-    ensures { Gives (λ v. map view_item v.items) result (each (item (S.context scope.now)) (map view_expression trees.now)) }
-{
-    let mut resolved = Vec::new(alloc);
-    for tree in trees {
-        let one = resolve_item(alloc, scope, tree)?;
-        resolved.push(one)?;
-    }
-    Ok(resolved)
 }

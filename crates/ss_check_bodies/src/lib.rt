@@ -8,13 +8,12 @@ mod entities;
 mod expressions;
 mod heads;
 mod items;
-mod lists;
 mod loops;
 mod notices;
 mod places;
+mod resolver;
 mod results;
 mod statements;
-mod words;
 
-pub use bodies::resolve_body;
-pub use ss_names_meaning::{ClassMeant, Meaning, ResolveError, RoutineMeant, Scope, SetMeant};
+pub use resolver::Resolver;
+pub use ss_names_meaning::ResolveError;

@@ -1,249 +1,203 @@
 //! Targets and sets with their names resolved.
 
-ghost use Rattle.std.specs.Prelude.{◌≡◌, map, Some, None};
+ghost use Rattle.std.specs.Prelude.{◌≡◌, map, None};
 ghost use Rattle.ss_tree.specs.View.{view_expression, view_named, view_option};
 ghost use Rattle.ss_program.specs.View.{view_expression as view_resolved, view_option as option_seen, view_owner, view_place, view_restart, view_target};
 ghost use Rattle.ss_names_meaning.specs.Answers.{Gives, each};
-ghost use Rattle.ss_names_meaning.specs.Expressions.{resolved_set, place_of, set_named, target};
-ghost use Rattle.ss_names_meaning.specs.Statements.{entity_called, mode_of_target, new_place, reader, restart, owner_of_statistic};
+ghost use Rattle.ss_names_meaning.specs.Expressions.{owner_named, place_of, set_named, set_number, set_of_name, target};
+ghost use Rattle.ss_names_meaning.specs.Statements.{entity_called, history_of, new_place, reader, restart};
+ghost use Rattle.ss_check_bodies.specs.Results.{scope_in};
 
-use crate::expressions::{entity_of, resolve_expression, resolve_subscript, without_subscript};
-use ss_base::Mode;
-use ss_names_meaning::{Meaning, ResolveError, Scope, SetMeant};
+use crate::resolver::Resolver;
+use crate::results::unresolved;
+use ss_names::Meaning;
+use ss_names_meaning::ResolveError;
+use ss_names_scopes::mode_of;
 use ss_program::expression::{Expression as Resolved, SetOwner, Variable};
 use ss_program::statement::{Place, Restart, Target};
-use ss_tree::expression::{Expression, Named};
-use std::alloc::Global;
+use ss_tree::expression::{Designator, Expression, Named};
 
-// ---- targets
-
-// The target that is named, with the subscript if there is one.
-#[tactic(auto, using(crate::proofs::Seen::plain_seen))]
-fn place_of(meaning: Meaning, subscript: Option<Resolved>) -> Result<Place, ResolveError>
-    ensures { Gives view_place result (place_of meaning (option_seen view_resolved subscript)) }
+// The target that is of no entity.
+fn place_alone(meaning: Meaning) -> Result<Place, ResolveError>
+    ensures { Gives view_place result (place_of meaning None) }
 {
     match meaning {
-        Meaning::Variable { variable, .. } => without_subscript(
-            subscript,
-            Place::ToVariable { variable },
-        ),
-        Meaning::Count { count } => without_subscript(subscript, Place::ToCount { count }),
-        Meaning::Attribute {
-            class,
-            field,
-            implied,
-            ..
-        } => {
-            let of = entity_of(implied, subscript);
-            Ok(Place::ToAttribute { class, field, of })
-        }
-        Meaning::OfSystemSet { .. }
-        | Meaning::OfSet { .. }
-        | Meaning::OfMember { .. }
-        | Meaning::Figure { .. }
-        | Meaning::FigureOf { .. }
-        | Meaning::Mean { .. }
-        | Meaning::MeanOf { .. }
-        | Meaning::Clock
-        | Meaning::NoticeTime => Err(ResolveError::Unresolved),
+        Meaning::Variable { variable, .. } => Ok(Place::ToVariable { variable }),
+        Meaning::Class { variable, .. } => Ok(Place::ToVariable {
+            variable: Variable::Global { number: variable },
+        }),
+        Meaning::Count { count } => Ok(Place::ToCount { count }),
+        _ => Err(ResolveError::Unresolved),
     }
 }
 
-/// A target.
-pub(crate) fn resolve_target<S: Scope>(
-    alloc: Global,
-    scope: &S,
-    tree: &Named,
-) -> Result<Place, ResolveError>
-    ensures { Gives view_place result (target (S.context scope.now) (view_named tree.now)) }
+// The target that a name means, of the entity that has it.
+fn place_of(meaning: Meaning, entity: Option<Resolved>) -> Result<Place, ResolveError>
+    ensures { Gives view_place result (place_of meaning (option_seen view_resolved entity)) }
 {
-    let meaning = scope.meaning(tree.designator)?;
-    let subscript = resolve_subscript(alloc, scope, &tree.subscripts)?;
-    place_of(meaning, subscript)
-}
-
-/// Targets.
-pub(crate) fn resolve_targets<S: Scope>(
-    alloc: Global,
-    scope: &S,
-    trees: &[Named],
-) -> Result<Vec<Place>, ResolveError>
-    ensures { Gives (λ v. map view_place v.items) result (each (target (S.context scope.now)) (map view_named trees.now)) }
-{
-    let mut resolved = Vec::new(alloc);
-    for tree in trees {
-        let one = resolve_target(alloc, scope, tree)?;
-        resolved.push(one)?;
-    }
-    Ok(resolved)
-}
-
-// The mode of a target.
-fn mode_of(meaning: Meaning) -> Result<Mode, ResolveError>
-    ensures { Gives (λ x. x) result (mode_of_target meaning) }
-{
-    let mode = match meaning {
-        Meaning::Variable { mode, .. } => mode,
-        Meaning::Attribute { mode, .. } => mode,
-        Meaning::Count { .. } => Some(Mode::Integer),
-        Meaning::OfSystemSet { .. }
-        | Meaning::OfSet { .. }
-        | Meaning::OfMember { .. }
-        | Meaning::Figure { .. }
-        | Meaning::FigureOf { .. }
-        | Meaning::Mean { .. }
-        | Meaning::MeanOf { .. }
-        | Meaning::Clock
-        | Meaning::NoticeTime => None,
-    };
-    mode.ok_or(ResolveError::Unresolved)
-}
-
-// A target of READ.
-fn resolve_reader<S: Scope>(alloc: Global, scope: &S, tree: &Named) -> Result<Target, ResolveError>
-    ensures { Gives view_target result (reader (S.context scope.now) (view_named tree.now)) }
-{
-    let meaning = scope.meaning(tree.designator)?;
-    let mode = mode_of(meaning)?;
-    let place = resolve_target(alloc, scope, tree)?;
-    Ok(Target { place, mode })
-}
-
-/// The targets of READ.
-pub(crate) fn resolve_readers<S: Scope>(
-    alloc: Global,
-    scope: &S,
-    trees: &[Named],
-) -> Result<Vec<Target>, ResolveError>
-    ensures { Gives (λ v. map view_target v.items) result (each (reader (S.context scope.now)) (map view_named trees.now)) }
-{
-    let mut resolved = Vec::new(alloc);
-    for tree in trees {
-        let one = resolve_reader(alloc, scope, tree)?;
-        resolved.push(one)?;
-    }
-    Ok(resolved)
-}
-
-/// What takes the number of a new entity: the target after CALLED, or else the variable of the class.
-pub(crate) fn resolve_new_place<S: Scope>(
-    alloc: Global,
-    scope: &S,
-    variable: Variable,
-    called: &Option<Named>,
-) -> Result<Place, ResolveError>
-    ensures { Gives view_place result (new_place (S.context scope.now) variable (view_option view_named called.now)) }
-{
-    match called {
-        None => Ok(Place::ToVariable { variable }),
-        Some(tree) => resolve_target(alloc, scope, tree),
-    }
-}
-
-/// The entity after CALLED, or else the one in the variable of the class.
-#[tactic(auto, unfolding(ss_program::specs::View::view_expression))]
-pub(crate) fn resolve_entity_called<S: Scope>(
-    alloc: Global,
-    scope: &S,
-    variable: Variable,
-    called: &Option<Expression>,
-) -> Result<Resolved, ResolveError>
-    ensures { Gives view_resolved result (entity_called (S.context scope.now) variable (view_option view_expression called.now)) }
-{
-    match called {
-        None => Ok(Resolved::Fetch { variable }),
-        Some(tree) => resolve_expression(alloc, scope, tree),
-    }
-}
-
-// ---- sets
-
-// The number of a set, and its owner.
-#[tactic(auto, using(crate::proofs::Seen::plain_seen))]
-fn resolved_set(
-    set: SetMeant,
-    subscript: Option<Resolved>,
-) -> Result<(usize, SetOwner), ResolveError>
-    ensures { Gives (λ p. (p.0, view_owner p.1)) result (resolved_set set (option_seen view_resolved subscript)) }
-{
-    match set {
-        SetMeant::OfSystem { set } => without_subscript(subscript, (set, SetOwner::TheSystem)),
-        SetMeant::OfEntity { set, implied } => {
-            let entity = entity_of(implied, subscript);
-            Ok((set, SetOwner::Entity { entity }))
-        }
-    }
-}
-
-/// The number of the set that is named, and its owner.
-pub(crate) fn resolve_set<S: Scope>(
-    alloc: Global,
-    scope: &S,
-    tree: &Named,
-) -> Result<(usize, SetOwner), ResolveError>
-    ensures { Gives (λ p. (p.0, view_owner p.1)) result (set_named (S.context scope.now) (view_named tree.now)) }
-{
-    let set = scope.set(tree.designator)?;
-    let subscript = resolve_subscript(alloc, scope, &tree.subscripts)?;
-    resolved_set(set, subscript)
-}
-
-// ---- statistics
-
-// The entity whose statistic starts afresh; None where the statistic is of no entity.
-#[tactic(auto, using(crate::proofs::Seen::plain_seen))]
-fn owner_of_statistic(
-    meaning: Meaning,
-    subscript: Option<Resolved>,
-) -> Result<Option<Resolved>, ResolveError>
-    ensures { Gives (option_seen view_resolved) result (owner_of_statistic meaning (option_seen view_resolved subscript)) }
-{
-    match meaning {
-        Meaning::Variable { variable, .. } => match variable {
-            Variable::Global { .. } => without_subscript(subscript, None),
-            Variable::Local { .. } => Err(ResolveError::Unresolved),
+    match entity {
+        None => place_alone(meaning),
+        Some(of) => match meaning {
+            Meaning::Attribute { class, field, .. } => Ok(Place::ToAttribute { class, field, of }),
+            _ => Err(unresolved(of)),
         },
-        Meaning::Attribute { implied, .. } => Ok(Some(entity_of(implied, subscript))),
-        Meaning::OfSystemSet { .. } => without_subscript(subscript, None),
-        Meaning::OfSet { implied, .. } => Ok(Some(entity_of(implied, subscript))),
-        Meaning::Count { .. }
-        | Meaning::OfMember { .. }
-        | Meaning::Figure { .. }
-        | Meaning::FigureOf { .. }
-        | Meaning::Mean { .. }
-        | Meaning::MeanOf { .. }
-        | Meaning::Clock
-        | Meaning::NoticeTime => Err(ResolveError::Unresolved),
     }
 }
 
-// A statistic that starts afresh.
-fn resolve_restart<S: Scope>(
-    alloc: Global,
-    scope: &S,
-    tree: &Named,
-) -> Result<Restart, ResolveError>
-    ensures { Gives view_restart result (restart (S.context scope.now) (view_named tree.now)) }
+// The owner of a set.
+fn owner_named(entity: Option<Resolved>) -> SetOwner
+    ensures { view_owner result ≡ owner_named (option_seen view_resolved entity) }
 {
-    let meaning = scope.meaning(tree.designator)?;
-    let statistic = scope.statistic(tree.designator)?;
-    let subscript = resolve_subscript(alloc, scope, &tree.subscripts)?;
-    let of = owner_of_statistic(meaning, subscript)?;
-    Ok(Restart { statistic, of })
+    match entity {
+        Some(entity) => SetOwner::Entity { entity },
+        None => SetOwner::TheSystem,
+    }
 }
 
-/// The statistics of a RESET.
-pub(crate) fn resolve_restarts<S: Scope>(
-    alloc: Global,
-    scope: &S,
-    trees: &[Named],
-) -> Result<Vec<Restart>, ResolveError>
-    ensures { Gives (λ v. map view_restart v.items) result (each (restart (S.context scope.now)) (map view_named trees.now)) }
+// The number of a set.
+fn set_number(meaning: Option<Meaning>) -> Option<usize>
+    ensures { result ≡ set_number meaning }
 {
-    let mut resolved = Vec::new(alloc);
-    for tree in trees {
-        let one = resolve_restart(alloc, scope, tree)?;
-        resolved.push(one)?;
+    match meaning {
+        Some(Meaning::Set { set }) => Some(set),
+        _ => None,
     }
-    Ok(resolved)
+}
+
+impl Resolver<'_> {
+    /// A target.
+    pub(crate) fn resolve_target(&self, tree: &Named) -> Result<Place, ResolveError>
+        ensures { Gives view_place result (target (scope_in self.now) (view_named tree.now)) }
+    {
+        let (meaning, entity) = self.resolve_place(tree.designator, &tree.subscripts)?;
+        place_of(meaning, entity)
+    }
+
+    /// Targets.
+    pub(crate) fn resolve_targets(&self, trees: &[Named]) -> Result<Vec<Place>, ResolveError>
+        ensures { Gives (λ v. map view_place v.items) result (each (target (scope_in self.now)) (map view_named trees.now)) }
+    {
+        let mut resolved = Vec::new(self.alloc);
+        for tree in trees {
+            let one = self.resolve_target(tree)?;
+            resolved.push(one)?;
+        }
+        Ok(resolved)
+    }
+
+    // A target of READ.
+    fn resolve_reader(&self, tree: &Named) -> Result<Target, ResolveError>
+        ensures { Gives view_target result (reader (scope_in self.now) (view_named tree.now)) }
+    {
+        let (meaning, entity) = self.resolve_place(tree.designator, &tree.subscripts)?;
+        let place = place_of(meaning, entity)?;
+        match mode_of(meaning) {
+            Some(mode) => Ok(Target { place, mode }),
+            None => Err(unresolved(place)),
+        }
+    }
+
+    /// The targets of READ.
+    pub(crate) fn resolve_readers(&self, trees: &[Named]) -> Result<Vec<Target>, ResolveError>
+        ensures { Gives (λ v. map view_target v.items) result (each (reader (scope_in self.now)) (map view_named trees.now)) }
+    {
+        let mut resolved = Vec::new(self.alloc);
+        for tree in trees {
+            let one = self.resolve_reader(tree)?;
+            resolved.push(one)?;
+        }
+        Ok(resolved)
+    }
+
+    /// What takes the number of a new entity: the target after CALLED, or else the variable of the class.
+    pub(crate) fn resolve_new_place(
+        &self,
+        variable: Variable,
+        called: &Option<Named>,
+    ) -> Result<Place, ResolveError>
+        ensures { Gives view_place result (new_place (scope_in self.now) variable (view_option view_named called.now)) }
+    {
+        match called {
+            None => Ok(Place::ToVariable { variable }),
+            Some(tree) => self.resolve_target(tree),
+        }
+    }
+
+    /// The entity after CALLED, or else the one in the variable of the class.
+    #[tactic(auto, unfolding(ss_program::specs::View::view_expression))]
+    pub(crate) fn resolve_entity_called(
+        &self,
+        variable: Variable,
+        called: &Option<Expression>,
+    ) -> Result<Resolved, ResolveError>
+        ensures { Gives view_resolved result (entity_called (scope_in self.now) variable (view_option view_expression called.now)) }
+    {
+        match called {
+            None => Ok(Resolved::Fetch { variable }),
+            Some(tree) => self.resolve_expression(tree),
+        }
+    }
+
+    // The number of the set of a name, which nothing hides.
+    fn set_of_name(&self, place: &Designator) -> Option<usize>
+        ensures { result ≡ set_of_name (scope_in self.now) place.now }
+    {
+        match place {
+            Designator::Name(name) => set_number(self.scope.names.meaning(name)),
+            Designator::TimeV => None,
+            Designator::TimeA => None,
+        }
+    }
+
+    /// The number of the set that is named, and its owner.
+    pub(crate) fn resolve_set(&self, tree: &Named) -> Result<(usize, SetOwner), ResolveError>
+        ensures { Gives (λ p. (p.0, view_owner p.1)) result (set_named (scope_in self.now) (view_named tree.now)) }
+    {
+        let Some(set) = self.set_of_name(&tree.designator) else {
+            return Err(ResolveError::Unresolved);
+        };
+        let subscript = self.resolve_subscript(&tree.subscripts)?;
+        let entity = self.entity_of(Meaning::Set { set }, subscript)?;
+        Ok((set, owner_named(entity)))
+    }
+
+    // ---- statistics
+
+    // The number of the history of what is named. A name that a local variable hides has none.
+    fn history_of(&self, place: &Designator) -> Option<usize>
+        ensures { result ≡ history_of (scope_in self.now) place.now }
+    {
+        let names = self.scope.names;
+        match place {
+            Designator::Name(name) => match self.scope.locals.number(name) {
+                Some(_) => None,
+                None => names.histories.place(name),
+            },
+            Designator::TimeV => None,
+            Designator::TimeA => None,
+        }
+    }
+
+    // A statistic that starts afresh, and of which entity.
+    fn resolve_restart(&self, tree: &Named) -> Result<Restart, ResolveError>
+        ensures { Gives view_restart result (restart (scope_in self.now) (view_named tree.now)) }
+    {
+        let Some(statistic) = self.history_of(&tree.designator) else {
+            return Err(ResolveError::Unresolved);
+        };
+        let (_, of) = self.resolve_place(tree.designator, &tree.subscripts)?;
+        Ok(Restart { statistic, of })
+    }
+
+    /// The statistics of a RESET.
+    pub(crate) fn resolve_restarts(&self, trees: &[Named]) -> Result<Vec<Restart>, ResolveError>
+        ensures { Gives (λ v. map view_restart v.items) result (each (restart (scope_in self.now)) (map view_named trees.now)) }
+    {
+        let mut resolved = Vec::new(self.alloc);
+        for tree in trees {
+            let one = self.resolve_restart(tree)?;
+            resolved.push(one)?;
+        }
+        Ok(resolved)
+    }
 }

@@ -1,100 +1,38 @@
-//! LET, ADD, SUBTRACT, CALL, READ, PRINT and SKIP with their names resolved.
+//! Statements without statements in them, with their names resolved.
 
 ghost use Rattle.std.specs.Prelude.{◌≡◌, map, IfOk};
-ghost use Rattle.ss_tree.specs.View.{view_expression, view_named};
-ghost use Rattle.ss_tree.specs.Tree.{add_statement, call_statement, let_statement, print_statement, read_statement, skip_statement, subtract_statement};
+ghost use Rattle.ss_tree.specs.View.{view_statement};
 ghost use Rattle.ss_program.specs.View.{view_expression as expression_seen, view_place, view_statement as view_resolved};
 ghost use Rattle.ss_names_meaning.specs.Answers.{Gives};
-ghost use Rattle.ss_names_meaning.specs.Statements.{call_of, statement};
+ghost use Rattle.ss_names_meaning.specs.Statements.{call_of, routine_named, routine_number, simple_statement};
+ghost use Rattle.ss_check_bodies.specs.Results.{scope_in};
 
-use crate::expressions::resolve_expression;
-use crate::items::resolve_items;
-use crate::lists::resolve_all;
-use crate::places::{resolve_readers, resolve_target, resolve_targets};
+use crate::resolver::Resolver;
 use crate::results::beside;
-use ss_base::{Line, Name, PictureLine};
-use ss_names_meaning::{ResolveError, RoutineMeant, Scope};
-use ss_program::expression::{Expression as Value, Sign};
+use ss_base::{Line, Name, PictureLine, Sign};
+use ss_names::{Meaning, RoutineSection};
+use ss_names_declarations::value_at;
+use ss_names_meaning::ResolveError;
+use ss_program::expression::Expression as Value;
 use ss_program::statement::{Place, Statement as Resolved};
-use ss_tree::expression::{Expression, Named};
+use ss_tree::statement::Statement;
 use std::alloc::{AllocError, Global};
 
-/// LET.
-#[tactic(auto, unfolding(ss_names_meaning::specs::Statements::statement, ss_program::specs::View::view_statement))]
-pub(crate) fn resolve_let<S: Scope>(
-    alloc: Global,
-    scope: &S,
-    line: Line,
-    target: &Named,
-    value: &Expression,
-) -> Result<Resolved, ResolveError>
-    ensures { Gives view_resolved result (statement (S.context scope.now) (let_statement line (view_named target.now) (view_expression value.now))) }
-{
-    let target = resolve_target(alloc, scope, target)?;
-    let (target, value) = beside(target, resolve_expression(alloc, scope, value))?;
-    Ok(Resolved::Let {
-        line,
-        target,
-        value,
-    })
-}
-
-/// ADD.
-#[tactic(auto, unfolding(ss_names_meaning::specs::Statements::statement, ss_program::specs::View::view_statement))]
-pub(crate) fn resolve_add<S: Scope>(
-    alloc: Global,
-    scope: &S,
-    line: Line,
-    amount: &Expression,
-    target: &Named,
-) -> Result<Resolved, ResolveError>
-    ensures { Gives view_resolved result (statement (S.context scope.now) (add_statement line (view_expression amount.now) (view_named target.now))) }
-{
-    let value = resolve_expression(alloc, scope, amount)?;
-    let (value, target) = beside(value, resolve_target(alloc, scope, target))?;
-    Ok(Resolved::Change {
-        line,
-        sign: Sign::Plus,
-        target,
-        value,
-    })
-}
-
-/// SUBTRACT.
-#[tactic(auto, unfolding(ss_names_meaning::specs::Statements::statement, ss_program::specs::View::view_statement))]
-pub(crate) fn resolve_subtract<S: Scope>(
-    alloc: Global,
-    scope: &S,
-    line: Line,
-    amount: &Expression,
-    target: &Named,
-) -> Result<Resolved, ResolveError>
-    ensures { Gives view_resolved result (statement (S.context scope.now) (subtract_statement line (view_expression amount.now) (view_named target.now))) }
-{
-    let value = resolve_expression(alloc, scope, amount)?;
-    let (value, target) = beside(value, resolve_target(alloc, scope, target))?;
-    Ok(Resolved::Change {
-        line,
-        sign: Sign::Minus,
-        target,
-        value,
-    })
-}
-
-// A CALL, where the routine is given and yields as many values.
+// A CALL, if the routine is given and yields as many values.
 #[tactic(auto, unfolding(ss_program::specs::View::view_statement))]
 fn call_of(
     line: Line,
-    routine: RoutineMeant,
+    routine: usize,
+    section: RoutineSection,
     given: Vec<Value>,
     yielding: Vec<Place>,
 ) -> Result<Resolved, ResolveError>
-    ensures { Gives view_resolved result (call_of line routine (map expression_seen given.items) (map view_place yielding.items)) }
+    ensures { Gives view_resolved result (call_of line routine section (map expression_seen given.items) (map view_place yielding.items)) }
 {
-    if given.len() == routine.given && yielding.len() == routine.yielding {
+    if given.len() == section.given && yielding.len() == section.yielding {
         Ok(Resolved::Call {
             line,
-            routine: routine.routine,
+            routine,
             given,
             yielding,
         })
@@ -103,36 +41,14 @@ fn call_of(
     }
 }
 
-/// CALL.
-#[tactic(auto, unfolding(ss_names_meaning::specs::Statements::statement, ss_program::specs::View::view_statement))]
-pub(crate) fn resolve_routine_call<S: Scope>(
-    alloc: Global,
-    scope: &S,
-    line: Line,
-    routine: Name,
-    given: &[Expression],
-    yielding: &[Named],
-) -> Result<Resolved, ResolveError>
-    ensures { Gives view_resolved result (statement (S.context scope.now) (call_statement line routine (map view_expression given.now) (map view_named yielding.now))) }
+// The number of a routine.
+fn routine_number(meaning: Option<Meaning>) -> Option<usize>
+    ensures { result ≡ routine_number meaning }
 {
-    let routine = scope.routine(routine)?;
-    let given = resolve_all(alloc, scope, given)?;
-    let yielding = resolve_targets(alloc, scope, yielding)?;
-    call_of(line, routine, given, yielding)
-}
-
-/// READ.
-#[tactic(auto, unfolding(ss_names_meaning::specs::Statements::statement, ss_program::specs::View::view_statement))]
-pub(crate) fn resolve_read<S: Scope>(
-    alloc: Global,
-    scope: &S,
-    line: Line,
-    targets: &[Named],
-) -> Result<Resolved, ResolveError>
-    ensures { Gives view_resolved result (statement (S.context scope.now) (read_statement line (map view_named targets.now))) }
-{
-    let targets = resolve_readers(alloc, scope, targets)?;
-    Ok(Resolved::Read { line, targets })
+    match meaning {
+        Some(Meaning::Routine { routine }) => Some(routine),
+        _ => None,
+    }
 }
 
 // The bytes of some pictures.
@@ -146,36 +62,112 @@ fn picture_lines(alloc: Global, pictures: &[PictureLine]) -> Result<Vec<Vec<u8>>
     Ok(lines)
 }
 
-/// PRINT.
-#[tactic(auto, unfolding(ss_names_meaning::specs::Statements::statement, ss_program::specs::View::view_statement))]
-pub(crate) fn resolve_print<S: Scope>(
-    alloc: Global,
-    scope: &S,
-    line: Line,
-    items: &[Expression],
-    pictures: &[PictureLine],
-) -> Result<Resolved, ResolveError>
-    ensures { Gives view_resolved result (statement (S.context scope.now) (print_statement line (map view_expression items.now) pictures.now)) }
-{
-    let items = resolve_items(alloc, scope, items)?;
-    let pictures = picture_lines(alloc, pictures)?;
-    Ok(Resolved::Print {
-        line,
-        items,
-        pictures,
-    })
-}
+impl Resolver<'_> {
+    // The routine of a name, with its number.
+    fn routine_named(&self, name: &Name) -> Result<(usize, RoutineSection), ResolveError>
+        ensures { Gives (λ x. x) result (routine_named (scope_in self.now) name.now) }
+    {
+        let Some(routine) = routine_number(self.scope.names.meaning(name)) else {
+            return Err(ResolveError::Unresolved);
+        };
+        let names = self.scope.names;
+        match value_at(&names.routines, routine) {
+            Some(section) => Ok((routine, section)),
+            None => Err(ResolveError::Unresolved),
+        }
+    }
 
-/// SKIP.
-#[tactic(auto, unfolding(ss_names_meaning::specs::Statements::statement, ss_program::specs::View::view_statement))]
-pub(crate) fn resolve_skip<S: Scope>(
-    alloc: Global,
-    scope: &S,
-    line: Line,
-    count: &Expression,
-) -> Result<Resolved, ResolveError>
-    ensures { Gives view_resolved result (statement (S.context scope.now) (skip_statement line (view_expression count.now))) }
-{
-    let count = resolve_expression(alloc, scope, count)?;
-    Ok(Resolved::Skip { line, count })
+    /// A statement without statements in it. `Unresolved` for another.
+    #[tactic(auto, unfolding(ss_names_meaning::specs::Statements::simple_statement, ss_tree::specs::View::view_statement, ss_program::specs::View::view_statement))]
+    pub(crate) fn resolve_simple(&self, tree: &Statement) -> Result<Resolved, ResolveError>
+        ensures { Gives view_resolved result (simple_statement (scope_in self.now) (view_statement tree.now)) }
+    {
+        match tree {
+            Statement::Let {
+                line,
+                target,
+                value,
+            } => {
+                let target = self.resolve_target(target)?;
+                let (target, value) = beside(target, self.resolve_expression(value))?;
+                Ok(Resolved::Let {
+                    line: *line,
+                    target,
+                    value,
+                })
+            }
+            Statement::Add {
+                line,
+                amount,
+                target,
+            } => {
+                let value = self.resolve_expression(amount)?;
+                let (value, target) = beside(value, self.resolve_target(target))?;
+                Ok(Resolved::Change {
+                    line: *line,
+                    sign: Sign::Plus,
+                    target,
+                    value,
+                })
+            }
+            Statement::Subtract {
+                line,
+                amount,
+                target,
+            } => {
+                let value = self.resolve_expression(amount)?;
+                let (value, target) = beside(value, self.resolve_target(target))?;
+                Ok(Resolved::Change {
+                    line: *line,
+                    sign: Sign::Minus,
+                    target,
+                    value,
+                })
+            }
+            Statement::Call {
+                line,
+                routine,
+                given,
+                yielding,
+            } => {
+                let (number, section) = self.routine_named(routine)?;
+                let values = self.resolve_all(given)?;
+                let (values, places) = beside(values, self.resolve_targets(yielding))?;
+                call_of(*line, number, section, values, places)
+            }
+            Statement::Read { line, targets } => {
+                let readers = self.resolve_readers(targets)?;
+                Ok(Resolved::Read {
+                    line: *line,
+                    targets: readers,
+                })
+            }
+            Statement::Print {
+                line,
+                items,
+                pictures,
+            } => {
+                let lines = picture_lines(self.alloc, pictures)?;
+                let (pictures, items) = beside(lines, self.resolve_items(items))?;
+                Ok(Resolved::Print {
+                    line: *line,
+                    items,
+                    pictures,
+                })
+            }
+            Statement::Skip { line, count } => {
+                let count = self.resolve_expression(count)?;
+                Ok(Resolved::Skip { line: *line, count })
+            }
+            Statement::Find { line, head } => {
+                let found = Vec::new(self.alloc);
+                let none = Vec::new(self.alloc);
+                self.resolve_find(*line, head, found, none)
+            }
+            Statement::Return { .. } => Ok(Resolved::Return),
+            Statement::Stop { .. } => Ok(Resolved::Stop),
+            Statement::StartSimulation { .. } => Ok(Resolved::Simulate),
+            _ => self.resolve_on_entities(tree),
+        }
+    }
 }

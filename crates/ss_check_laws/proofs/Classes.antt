@@ -4,8 +4,8 @@ use Rattle.std.specs.Prelude.{map, Contains}
 use Rattle.std.specs.List.{AllByRecursion as Every}
 use Rattle.ss_base.specs.declared.line.Line.{Line}
 use Rattle.ss_base.specs.declared.layout.Mode.TheVariants as modes
-use Rattle.ss_tree.specs.declared.preamble.ClassKind.{ClassKind as ClassWord}
-use Rattle.ss_tree.specs.declared.preamble.ClassKind.TheVariants as class_words
+use Rattle.ss_base.specs.declared.layout.ClassKind.{ClassKind as ClassWord}
+use Rattle.ss_base.specs.declared.layout.ClassKind.TheVariants as class_words
 use Rattle.ss_tree.specs.Tree.{ExpressionTree, NamedTree, create_statement, create_every, destroy_statement, cancel_statement}
 use Rattle.ss_names_uses.specs.declared.mention.Role.TheVariants as roles
 use Rattle.ss_names_uses.specs.Mentions as mentioned
@@ -38,12 +38,12 @@ IsSingleKind kind = (is_created_singly (Some (kind_said kind)) ≡ true) × ((cl
 
 known_single : (known : Known) → is_transient known ≡ true → (kind : ClassWord) × (known ≡ knowns.Class kind) × IsSingleKind kind
 known_single (knowns.Class class_words.Temporary) h = (class_words.Temporary, refl, (refl, λ class. refl))
-known_single (knowns.Class class_words.EventNotice) h = (class_words.EventNotice, refl, (refl, λ class. refl))
+known_single (knowns.Class class_words.Notice) h = (class_words.Notice, refl, (refl, λ class. refl))
 known_single (knowns.Class class_words.Permanent) h = absurd cc
 known_single _ h = absurd cc
 
-known_notice : (known : Known) → is_known_notice known ≡ true → known ≡ knowns.Class class_words.EventNotice
-known_notice (knowns.Class class_words.EventNotice) h = refl
+known_notice : (known : Known) → is_known_notice known ≡ true → known ≡ knowns.Class class_words.Notice
+known_notice (knowns.Class class_words.Notice) h = refl
 known_notice (knowns.Class class_words.Temporary) h = absurd cc
 known_notice (knowns.Class class_words.Permanent) h = absurd cc
 known_notice _ h = absurd cc
@@ -68,11 +68,11 @@ module _ (w : Whole) (locals : Moded) (c : Context) (s : Scope) (linked : Contex
 
   -- a class of notices
   abbrev pub IsNotice : NameBytes → Type 0
-  IsNotice name = (referent : ClassMeant) × (notice_class c name ≡ Some referent) × IsClass w locals s name class_words.EventNotice referent
+  IsNotice name = (referent : ClassMeant) × (notice_class c name ≡ Some referent) × IsClass w locals s name class_words.Notice referent
 
   pub notice_there : (name : NameBytes) (known : Known) → w.meanings name ≡ Some known → is_known_notice known ≡ true → IsNotice name
   notice_there name known e h =
-      let meant = linked.class name class_words.EventNotice (e ∙ ap Some (known_notice known h)) in
+      let meant = linked.class name class_words.Notice (e ∙ ap Some (known_notice known h)) in
       let referent = meant.0 in
       let chosen : if_notice referent referent.kind ≡ Some referent = ap (if_notice referent) meant.2.kind_meant in
       (referent, step (c.class name) (λ u. if_notice u u.kind) referent referent meant.1 chosen, meant.2)
@@ -129,7 +129,7 @@ module _ (w : Whole) (locals : Moded) (c : Context) (s : Scope) (linked : Contex
   cancel_resolves name called m d =
       let known = known_of (w.meanings name) is_known_notice m.0.0 in
       let class = notice_there name known.0 known.1 known.2 in
-      let x = old_resolves name class_words.EventNotice class.0 class.2 called m.1 d in
+      let x = old_resolves name class_words.Notice class.0 class.2 called m.1 d in
       let made : Statement = Cancel line class.0.class x.0 in (
         made,
         step (notice_class c name) (λ k. entity_called c k.variable called >>= λ u. Some (Cancel line k.class u)) class.0 made class.1

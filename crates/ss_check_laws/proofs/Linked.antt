@@ -8,8 +8,8 @@ use Rattle.ss_base.specs.declared.layout.Owner.{Owner}
 use Rattle.ss_base.specs.declared.layout.Owner.TheVariants as owners
 use Rattle.ss_base.specs.Plain.{PlainClass}
 use Rattle.ss_tree.specs.declared.expression.Designator.TheVariants.{Name}
-use Rattle.ss_tree.specs.declared.preamble.ClassKind.{ClassKind as ClassWord}
-use Rattle.ss_tree.specs.declared.preamble.ClassKind.TheVariants as class_words
+use Rattle.ss_base.specs.declared.layout.ClassKind.{ClassKind as ClassWord}
+use Rattle.ss_base.specs.declared.layout.ClassKind.TheVariants as class_words
 use Rattle.ss_tree.specs.declared.preamble.Mode.{Mode as ModeWord}
 use Rattle.ss_tree.specs.Names.{NameBytes}
 use Rattle.ss_names.specs.declared.entry.Class.{Class}
@@ -66,7 +66,7 @@ use Rattle.ss_names_laws.proofs.Typed.{class_known, count_there}
 kinds_same : (kind : ClassWord) → class_kind kind ≡ kind_said kind
 kinds_same class_words.Permanent = refl
 kinds_same class_words.Temporary = refl
-kinds_same class_words.EventNotice = refl
+kinds_same class_words.Notice = refl
 
 module _ (t : Table) (signatures : List Signed) (is : IsTable t) (k : IsValidTable t) (s : Scope) (h : HasTables t s.program)
     (locals : Moded) (modes : local_modes locals ≡ Some s.locals) where
@@ -114,7 +114,7 @@ module _ (t : Table) (signatures : List Signed) (is : IsTable t) (k : IsValidTab
           goes (slice_get (values_of t.variables) (n + 1)) (λ x. count_kind class (n + 1) x.kind) v (n + 1) q
           (ap (count_kind class (n + 1)) r ∙ holds (class == class) (n + 1) (same_number class))
   count_linked class n name v c class_words.Temporary e f g p = tt
-  count_linked class n name v c class_words.EventNotice e f g p = tt
+  count_linked class n name v c class_words.Notice e f g p = tt
 
   class_linked : (name : NameBytes) (kind : ClassWord) → here.meanings name ≡ Some (knowns.Class kind) → (referent : ClassMeant) × (class_of t locals name ≡ Some referent) × IsClass here locals s name kind referent
   class_linked name kind e =

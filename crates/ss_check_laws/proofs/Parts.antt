@@ -5,7 +5,7 @@ use Rattle.std.specs.Map.{keys_of, lookup, values_of}
 use Rattle.std.proofs.lemmas.List.{length-map}
 use Rattle.std.proofs.lemmas.Option.{same_Some, slice_get-map, slice_get_within}
 use Rattle.ss_base.specs.declared.layout.Mode.{Mode}
-use Rattle.ss_tree.specs.declared.preamble.ClassKind.TheVariants as class_words
+use Rattle.ss_base.specs.declared.layout.ClassKind.TheVariants as class_words
 use Rattle.ss_tree.specs.declared.preamble.Mode.{Mode as ModeWord}
 use Rattle.ss_tree.specs.Tree as tree
 use Rattle.ss_tree.specs.Names.{NameBytes}
@@ -222,16 +222,16 @@ module _ (p : tree.ProgramTree) (k : IsValidTable (table p)) (g : KeepsAllRules 
       subst (GoodBlock (scope_of q s parts.modes)) (same_Some done.0 parts.body (sym done.1 ∙ h.body)) done.2
 
   -- a class of notices by what the rules know of its name
-  pub notice_known : (s : tree.SectionTree) → KeepsRules w s → (name : NameBytes) → w.meanings name ≡ Some (knowns.Class class_words.EventNotice) → (class : ℕ) × (c : Class) × (slice_get t.classes class ≡ Some (name, c)) × (c.kind ≡ class_words.EventNotice)
+  pub notice_known : (s : tree.SectionTree) → KeepsRules w s → (name : NameBytes) → w.meanings name ≡ Some (knowns.Class class_words.Notice) → (class : ℕ) × (c : Class) × (slice_get t.classes class ≡ Some (name, c)) × (c.kind ≡ class_words.Notice)
   notice_known s r name e =
       let modes = modes_there s r in
       let sc = scope_of outline s modes.0 in
       let tables = has_tables sketches.0 [] [] Done in
-      let found = meaning_found t signatures is k sc tables (locals_of w s) modes.1.resolved (value_for t.names name) (knowns.Class class_words.EventNotice) e in
-      let m = class_numbered t signatures is k sc tables (locals_of w s) modes.1.resolved found.0 name class_words.EventNotice found.1 found.2 in
+      let found = meaning_found t signatures is k sc tables (locals_of w s) modes.1.resolved (value_for t.names name) (knowns.Class class_words.Notice) e in
+      let m = class_numbered t signatures is k sc tables (locals_of w s) modes.1.resolved found.0 name class_words.Notice found.1 found.2 in
       let is_class : value_for t.names name ≡ Some (globals.Class m.0 m.1) = found.1 ∙ ap Some m.2 in
       let c = is.names name (globals.Class m.0 m.1) is_class in
-      let known : Some (knowns.Class c.0.kind) ≡ Some (knowns.Class class_words.EventNotice) =
+      let known : Some (knowns.Class c.0.kind) ≡ Some (knowns.Class class_words.Notice) =
       sym (ap known_of_class (value_at t.classes m.0 name c.0 c.2)) ∙ sym (ap (meaning_of t) is_class) ∙ e in
-      let kind : c.0.kind ≡ class_words.EventNotice = cc in
+      let kind : c.0.kind ≡ class_words.Notice = cc in
       (m.0, c.0, c.2, kind)

@@ -7,8 +7,8 @@ use Rattle.std.specs.Option.{option_or}
 use Rattle.std.specs.Cmp.Lexicographic.{bytes_decides}
 use Rattle.std.proofs.lemmas.Option.{same_Some}
 use Rattle.ss_base.specs.declared.line.Line.{Line}
-use Rattle.ss_tree.specs.declared.preamble.ClassKind.{ClassKind}
-use Rattle.ss_tree.specs.declared.preamble.ClassKind.TheVariants as class_kinds
+use Rattle.ss_base.specs.declared.layout.ClassKind.{ClassKind}
+use Rattle.ss_base.specs.declared.layout.ClassKind.TheVariants as class_kinds
 use Rattle.ss_tree.specs.Tree as tree
 use Rattle.ss_names_declarations.specs.declared.saying.Said.{Said}
 use Rattle.ss_names_declarations.specs.declared.saying.Said.TheVariants as said
@@ -100,12 +100,12 @@ module _ {V : Type 0} where
 
 -- a class of notices of this number
 abbrev pub IsNotice : List (NameBytes × Class) → NameBytes → ℕ → Type 0
-IsNotice cs name class = (c : Class) × (slice_get cs class ≡ Some (name, c)) × (c.kind ≡ class_kinds.EventNotice) × (place_in cs name ≡ Some class)
+IsNotice cs name class = (c : Class) × (slice_get cs class ≡ Some (name, c)) × (c.kind ≡ class_kinds.Notice) × (place_in cs name ≡ Some class)
 
-is_notice : (kind : ClassKind) → is_kind_of_notices kind ≡ true → kind ≡ class_kinds.EventNotice
+is_notice : (kind : ClassKind) → is_kind_of_notices kind ≡ true → kind ≡ class_kinds.Notice
 is_notice class_kinds.Permanent e = absurd cc
 is_notice class_kinds.Temporary e = absurd cc
-is_notice class_kinds.EventNotice e = refl
+is_notice class_kinds.Notice e = refl
 
 module _ (cs : List (NameBytes × Class)) where
   notice_placed : (name : NameBytes) (b : Bool) (place : Option ℕ) → is_notice_class (value_for cs name) ≡ b → place_in cs name ≡ place → Entries (IsNotice cs) (if b then entry_if name place else [])
@@ -197,7 +197,7 @@ module _ (p : tree.ProgramTree) where
   rank_known i name class h = ranked (classes (sayings p)) (sayings p) i name class h
 
   -- each class of notices has a rank
-  pub rank_there : (name : NameBytes) (class : ℕ) (c : Class) → slice_get (table p).classes class ≡ Some (name, c) → c.kind ≡ class_kinds.EventNotice → value_for (table p).ranks name ≡ Some class
+  pub rank_there : (name : NameBytes) (class : ℕ) (c : Class) → slice_get (table p).classes class ≡ Some (name, c) → c.kind ≡ class_kinds.Notice → value_for (table p).ranks name ≡ Some class
   rank_there name class c h kind =
       let cs = classes (sayings p) in
       let once = firsts_once (flat_map class_by (sayings p)) in

@@ -4,7 +4,7 @@ use Rattle.std.specs.Prelude.{nat_le, nat_lt, take, option_map}
 use Rattle.std.proofs.lemmas.Bool.{ltb-false, le-leb}
 use Rattle.ss_base.specs.declared.line.Line.{Line}
 use Rattle.ss_base.specs.declared.layout.Mode.{Mode}
-use Rattle.ss_tree.specs.declared.preamble.ClassKind.TheVariants as class_words
+use Rattle.ss_base.specs.declared.layout.ClassKind.TheVariants as class_words
 use Rattle.ss_tree.specs.Tree.{ExpressionTree, NamedTree, WhenTree, at_time, in_units, now, schedule_new, schedule_statement}
 use Rattle.ss_names_uses.specs.declared.mention.Role.TheVariants as roles
 use Rattle.ss_names_uses.specs.Mentions as mentioned
@@ -43,7 +43,7 @@ module _ (w : Whole) (locals : Moded) (c : Context) (s : Scope) (linked : Contex
   abbrev GivenResolve : ClassMeant → List ExpressionTree → Type 0
   GivenResolve referent given = (xs : List Expression) × (each (expression c) given ≡ Some xs) × (nat_le (length xs) referent.attributes ≡ true) × GoodGiven s referent.class xs
 
-  given_resolve : (name : NameBytes) (referent : ClassMeant) → IsClass w locals s name class_words.EventNotice referent → (given : List ExpressionTree) →
+  given_resolve : (name : NameBytes) (referent : ClassMeant) → IsClass w locals s name class_words.Notice referent → (given : List ExpressionTree) →
       KeptMentions w locals (mentioned.in_all line given) → KeptDemands w locals (demanded.in_given line name given) → GivenResolve referent given
   given_resolve name referent k given m d =
       let fields = k.fields_there in
@@ -80,7 +80,7 @@ module _ (w : Whole) (locals : Moded) (c : Context) (s : Scope) (linked : Contex
       let known = known_of (w.meanings name) is_known_notice m.0.0 in
       let class = notice_there w locals c s linked line name known.0 known.1 known.2 in
       let referent = class.0 in
-      let x = new_resolves w locals c s linked line name class_words.EventNotice referent class.2 called m1 d1 in
+      let x = new_resolves w locals c s linked line name class_words.Notice referent class.2 called m1 d1 in
       let xs = given_resolve name referent class.2 given m2 d2 in
       let t = when_resolves time m3 d3 in
       let made : Statement = ScheduleNew line referent.class x.0 xs.0 t.0 in
@@ -108,7 +108,7 @@ module _ (w : Whole) (locals : Moded) (c : Context) (s : Scope) (linked : Contex
       let known = known_of (w.meanings name) is_known_notice m.0.0 in
       let class = notice_there w locals c s linked line name known.0 known.1 known.2 in
       let referent = class.0 in
-      let x = old_resolves w locals c s linked line name class_words.EventNotice referent class.2 called m1 d1 in
+      let x = old_resolves w locals c s linked line name class_words.Notice referent class.2 called m1 d1 in
       let xs = given_resolve name referent class.2 given m2 d2 in
       let t = when_resolves time m3 d3 in
       let made : Statement = Schedule line referent.class x.0 xs.0 t.0 in

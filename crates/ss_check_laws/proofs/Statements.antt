@@ -3,14 +3,14 @@ use Rattle.std.proofs.Common.{◌≡◌, false, List, ◌++◌, Some, refl, subs
 use Rattle.ss_base.specs.declared.line.Line.{Line}
 use Rattle.ss_base.specs.declared.layout.Mode.TheVariants as modes
 use Rattle.ss_tree.specs.Tree.{ExpressionTree, NamedTree, PositionTree, by_discipline, at_first, at_last, before, after, StatementTree, let_statement, add_statement, subtract_statement, read_statement, file_statement, remove_end, remove_statement, skip_statement}
-use Rattle.ss_tree.specs.declared.statement.SetEnd.{SetEnd}
+use Rattle.ss_base.specs.declared.words.End.{End}
 use Rattle.ss_names_uses.specs.declared.mention.Role.TheVariants as roles
 use Rattle.ss_names_uses.specs.Mentions as mentioned
 use Rattle.ss_names_uses.specs.Demands as demanded
 use Rattle.ss_check_scopes.specs.Locals.{Moded}
 use Rattle.ss_check_scopes.specs.Whole.{Whole}
 use Rattle.ss_check_rules.specs.Modes.{aspect_mode, differ}
-use Rattle.ss_program.specs.declared.expression.Sign.TheVariants.{Plus, Minus}
+use Rattle.ss_base.specs.declared.words.Sign.TheVariants.{Plus, Minus}
 use Rattle.ss_program.specs.Program.{ByDiscipline, AsFirst, AsLast, BeforeMember, AfterMember, Statement, Let, Change, File, Remove, RemoveEnd, Skip, Read, Target}
 use Rattle.ss_program.specs.WellTyped.{Scope, HasMode, TakesMode, GoodPosition, Good}
 use Rattle.ss_names_meaning.specs.Answers.{◌>>=◌, each}

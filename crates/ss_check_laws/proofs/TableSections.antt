@@ -3,8 +3,8 @@ use Rattle.std.proofs.Common.{◌≡◌, ℕ, suc, inl, inr, ◌+◌, List, [], 
 use Rattle.std.specs.Prelude.{slice_get}
 use Rattle.std.specs.List.{AllByRecursion as Every, flat_map}
 use Rattle.ss_base.specs.declared.line.Line.{Line}
-use Rattle.ss_tree.specs.declared.preamble.ClassKind.{ClassKind}
-use Rattle.ss_tree.specs.declared.preamble.ClassKind.TheVariants as class_kinds
+use Rattle.ss_base.specs.declared.layout.ClassKind.{ClassKind}
+use Rattle.ss_base.specs.declared.layout.ClassKind.TheVariants as class_kinds
 use Rattle.ss_tree.specs.Tree as tree
 use Rattle.ss_names_declarations.specs.declared.saying.Said.TheVariants as said
 use Rattle.ss_names_declarations.specs.declared.saying.Saying.{Saying}
@@ -34,7 +34,7 @@ IsEventSection sections name e =
 
 -- where the class is one of notices, it is declared as one
 abbrev pub IsNoticeSaid : List NameBytes → NameBytes → Class → Type 0
-IsNoticeSaid notices name c = c.kind ≡ class_kinds.EventNotice → Somewhere (λ n. n ≡ name) notices
+IsNoticeSaid notices name c = c.kind ≡ class_kinds.Notice → Somewhere (λ n. n ≡ name) notices
 
 module _ (sections : List tree.SectionTree) (notices : List NameBytes) where
   abbrev Good : Saying → Type 0
@@ -64,14 +64,14 @@ module _ (sections : List tree.SectionTree) (notices : List NameBytes) where
   abbrev Among : List NameBytes → Type 0
   Among names = (name : NameBytes) → Somewhere (λ n. n ≡ name) names → Somewhere (λ n. n ≡ name) notices
 
-  all_notices : (line : Line) (names : List NameBytes) → Among names → Every Good (said_of_all line (said.Class class_kinds.EventNotice) names)
+  all_notices : (line : Line) (names : List NameBytes) → Among names → Every Good (said_of_all line (said.Class class_kinds.Notice) names)
   all_notices line [] h = tt
   all_notices line (n ∷ ns) h = ((tt, tt, ((λ e. h n (inl refl)), tt)), all_notices line ns (λ name g. h name (inr g)))
 
   class_good : (line : Line) (kind : ClassKind) (class : NameBytes) → Among (notice_named kind class) → Good (saying_of_name line (said.Class kind) class)
   class_good line class_kinds.Permanent class h = (tt, tt, ((λ e. absurd cc), tt))
   class_good line class_kinds.Temporary class h = (tt, tt, ((λ e. absurd cc), tt))
-  class_good line class_kinds.EventNotice class h = (tt, tt, ((λ e. h class (inl refl)), tt))
+  class_good line class_kinds.Notice class h = (tt, tt, ((λ e. h class (inl refl)), tt))
 
   preamble : (number : ℕ) (s : tree.PreambleTree) → Among (notices_in s) → Every Good (preamble_says number s)
   preamble number (tree.permanent_entities line) h = tt

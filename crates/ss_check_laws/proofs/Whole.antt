@@ -8,8 +8,8 @@ use Rattle.std.proofs.lemmas.List.{append-nil, length-map}
 use Rattle.std.proofs.lemmas.Option.{same_Some, slice_get_within}
 use Rattle.ss_base.specs.declared.layout.ClassKind.TheVariants.{Notice}
 use Rattle.ss_base.specs.declared.layout.RankKey.{RankKey}
-use Rattle.ss_tree.specs.declared.preamble.ClassKind.{ClassKind as ClassWord}
-use Rattle.ss_tree.specs.declared.preamble.ClassKind.TheVariants as class_words
+use Rattle.ss_base.specs.declared.layout.ClassKind.{ClassKind as ClassWord}
+use Rattle.ss_base.specs.declared.layout.ClassKind.TheVariants as class_words
 use Rattle.ss_tree.specs.Tree as tree
 use Rattle.ss_tree.specs.Names.{NameBytes}
 use Rattle.ss_names.specs.declared.entry.Class.{Class}
@@ -48,10 +48,10 @@ somewhere_named P (n ∷ ns) name h (inr f) = somewhere_named P ns name h.1 f
 no_more : (a b : ℕ) → a ≤ b → nat_le a b ≡ true
 no_more a b h = grind (arith, nat_tests, h)
 
-pub notice_word : (kind : ClassWord) → class_kind kind ≡ Notice → kind ≡ class_words.EventNotice
+pub notice_word : (kind : ClassWord) → class_kind kind ≡ Notice → kind ≡ class_words.Notice
 notice_word class_words.Permanent e = absurd cc
 notice_word class_words.Temporary e = absurd cc
-notice_word class_words.EventNotice e = refl
+notice_word class_words.Notice e = refl
 
 pub main_kind : (kind : tree.SectionKindTree) → is_main_kind kind ≡ true → uses.is_main kind ≡ true
 main_kind tree.main e = refl
@@ -144,7 +144,7 @@ module _ (p : tree.ProgramTree) (k : IsValidTable (table p)) (g : KeepsAllRules 
     pub parts : Parts
     pub ranked : slice_get (values_of (table p).ranks) i ≡ Some made.class
     pub there : slice_get (table p).classes made.class ≡ Some (name, class)
-    pub notice : class.kind ≡ class_words.EventNotice
+    pub notice : class.kind ≡ class_words.Notice
     pub keeps : KeepsRules (whole.whole_of p) section
     pub kind : section.kind ≡ tree.event name given saving
     pub distinct : parameters.AreDistinctNames given

@@ -3,10 +3,10 @@ use Rattle.std.specs.Prelude.{ℕ, pos, true, false, [], ◌∷◌, None, codes,
 use Rattle.ss_base.specs.declared.line.Line.{Line}
 use Rattle.ss_picture.specs.Pictures.{picture_fields}
 use Rattle.ss_tree.specs.declared.expression.Designator.TheVariants.{Name}
-use Rattle.ss_tree.specs.declared.preamble.ClassKind.TheVariants.{Permanent, Temporary, EventNotice}
+use Rattle.ss_base.specs.declared.layout.ClassKind.TheVariants.{Permanent, Temporary, Notice}
 use Rattle.ss_tree.specs.declared.preamble.Mode.TheVariants.{Integer}
 use Rattle.ss_tree.specs.declared.preamble.StatisticKind.TheVariants.{Sum, Mean}
-use Rattle.ss_tree.specs.declared.preamble.Weighting.TheVariants.{Tally}
+use Rattle.ss_base.specs.declared.words.Weighting.TheVariants.{Tally}
 use Rattle.ss_tree.specs.Tree as tree
 use Rattle.ss_tree.specs.Names.{NameBytes}
 use Rattle.ss_check_scopes.specs.WholeOf.{whole_of}
@@ -67,7 +67,7 @@ p = record {
   preamble =
       tree.normally (line 2) Integer ∷ tree.every (line 4) Permanent (codes "MACHINE") (tree.owns (codes "QUEUE" ∷ []) ∷ [])
       ∷ tree.every (line 6) Temporary (codes "JOB") (tree.has (codes "RANK" ∷ []) ∷ tree.belongs_to (codes "QUEUE" ∷ []) ∷ [])
-      ∷ tree.every (line 8) EventNotice (codes "ARRIVAL") (tree.has (codes "PLACE" ∷ []) ∷ [])
+      ∷ tree.every (line 8) Notice (codes "ARRIVAL") (tree.has (codes "PLACE" ∷ []) ∷ [])
       ∷ tree.define_sets (line 10) (codes "QUEUE" ∷ []) (tree.ranked (record { name = codes "RANK"; high = true } ∷ []))
       ∷ tree.break_ties (line 11) (codes "ARRIVAL") (record { name = codes "PLACE"; high = false } ∷ [])
       ∷ tree.statistics (line 12) Tally (record { name = codes "S1"; kind = Sum } ∷ record { name = codes "M1"; kind = Mean } ∷ []) (codes "RANK") ∷ [];

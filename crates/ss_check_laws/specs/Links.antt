@@ -6,8 +6,8 @@ use Rattle.ss_base.specs.declared.layout.ClassKind.{ClassKind}
 use Rattle.ss_base.specs.declared.layout.ClassKind.TheVariants as class_kinds
 use Rattle.ss_base.specs.declared.layout.Owner.TheVariants.{System}
 use Rattle.ss_tree.specs.declared.expression.Designator.TheVariants.{Name, TimeV, TimeA}
-use Rattle.ss_tree.specs.declared.preamble.ClassKind.{ClassKind as ClassWord}
-use Rattle.ss_tree.specs.declared.preamble.ClassKind.TheVariants as class_words
+use Rattle.ss_base.specs.declared.layout.ClassKind.{ClassKind as ClassWord}
+use Rattle.ss_base.specs.declared.layout.ClassKind.TheVariants as class_words
 use Rattle.ss_tree.specs.Names.{NameBytes}
 use Rattle.ss_check_scopes.specs.declared.known.Holder.{Holder}
 use Rattle.ss_check_scopes.specs.declared.known.Holder.TheVariants.{Program as TheProgram, Entity as EachOf}
@@ -106,7 +106,7 @@ module _ (w : Whole) (locals : Moded) (s : Scope) where
 abbrev pub kind_said : ClassWord → ClassKind
 kind_said class_words.Permanent = class_kinds.Permanent
 kind_said class_words.Temporary = class_kinds.Temporary
-kind_said class_words.EventNotice = class_kinds.Notice
+kind_said class_words.Notice = class_kinds.Notice
 
 -- N. of a class, by its variable
 abbrev pub counted_class : ClassMeant → (variable : ℕ) → CountedClass
@@ -116,7 +116,7 @@ counted_class referent variable = record { class = referent.class; variable = va
 abbrev pub HasCount : Scope → ClassWord → ClassMeant → Type 0
 HasCount s class_words.Permanent referent = (variable : ℕ) × (referent.count ≡ Some variable) × Contains s.program.counts (counted_class referent variable)
 HasCount s class_words.Temporary referent = Unit {0}
-HasCount s class_words.EventNotice referent = Unit {0}
+HasCount s class_words.Notice referent = Unit {0}
 
 -- the class of a name and a kind: what its name means as a variable in the section, and its attributes
 pub record IsClass (w : Whole) (locals : Moded) (s : Scope) (name : NameBytes) (kind : ClassWord) (referent : ClassMeant) : Type 0 where

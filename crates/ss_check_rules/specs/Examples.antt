@@ -1,68 +1,60 @@
 -- Worked examples: small programs with the first rule that they break and its line, read off by hand.
-use Rattle.std.specs.Prelude.{◌≡◌, ℕ, pos, false, List, [], ◌∷◌, Option, Some, None, codes, refl}
-use Rattle.std.specs.Map.{lookup}
+use Rattle.std.specs.Prelude.{◌≡◌, ℕ, pos, false, List, [], ◌∷◌, ◌++◌, Option, Some, None, codes, refl}
 use Rattle.ss_base.specs.declared.line.Line.{Line}
-use Rattle.ss_base.specs.declared.layout.Mode.{Mode as ValueMode}
-use Rattle.ss_base.specs.declared.layout.Mode.TheVariants as values
 use Rattle.ss_tree.specs.declared.expression.Designator.TheVariants as designators
 use Rattle.ss_tree.specs.declared.expression.Function.TheVariants.{Abs}
-use Rattle.ss_tree.specs.declared.expression.Sign.TheVariants.{Plus}
-use Rattle.ss_tree.specs.declared.preamble.ClassKind.TheVariants.{Permanent, Temporary, EventNotice}
+use Rattle.ss_base.specs.declared.words.Sign.TheVariants.{Plus}
+use Rattle.ss_base.specs.declared.layout.ClassKind.TheVariants.{Permanent, Temporary, Notice}
 use Rattle.ss_tree.specs.declared.preamble.Mode.TheVariants as said
-use Rattle.ss_tree.specs.declared.preamble.StatisticKind.TheVariants.{Sum}
-use Rattle.ss_tree.specs.declared.preamble.Weighting.TheVariants.{Tally}
-use Rattle.ss_tree.specs.Tree.{ExpressionTree, number, text, named, call, parenthesised, sum, no_expression, and_expression, no_term, and_term, NamedTree, by_discipline, now, StatementTree, let_statement, call_statement, start_simulation, create_statement, file_statement, schedule_new, reset_statement, print_statement, event_notices, every, statistics, SectionKindTree, main, routine, event, SectionTree}
+use Rattle.ss_tree.specs.declared.preamble.StatisticKind.TheVariants.{Sum, Mean}
+use Rattle.ss_base.specs.declared.words.Weighting.TheVariants.{Tally}
+use Rattle.ss_tree.specs.Tree.{ExpressionTree, number, text, named, call, parenthesised, sum, no_expression, and_expression, no_term, and_term, NamedTree, by_discipline, now, StatementTree, let_statement, call_statement, start_simulation, create_statement, file_statement, schedule_new, reset_statement, print_statement, event_notices, every, normally, system_owns, define_variables, statistics, has, owns, belongs_to, PreambleTree, SectionKindTree, main, routine, event, SectionTree, ProgramTree}
 use Rattle.ss_picture.specs.Pictures.{picture_fields}
 use Rattle.ss_tree.specs.Names.{NameBytes}
-use Rattle.ss_check_scopes.specs.declared.known.Holder.TheVariants.{Program, Entity}
-use Rattle.ss_check_scopes.specs.declared.known.Known.{Known}
-use Rattle.ss_check_scopes.specs.declared.known.Known.TheVariants as meanings
-use Rattle.ss_names_declarations.specs.Firsts.{same_name}
-use Rattle.ss_check_scopes.specs.Whole.{Whole}
-use Rattle.ss_check_rules.specs.declared.rule.Rule.{Rule}
-use Rattle.ss_check_rules.specs.declared.rule.Rule.TheVariants as rules
-use Rattle.ss_check_rules.specs.declared.rule.Broken.{Broken}
 use Rattle.ss_check_rules.specs.Refusal.{refusal_of_uses}
-
--- A program with the permanent class MACHINE, which owns QUEUE; the temporary class JOB, which has RANK, an INTEGER, and
--- may belong to QUEUE and to POOL of THE SYSTEM; notices BELL, which have TONE; an ALPHA variable W, a variable X, of
--- which S1 is the sum and M1 the mean; M2, the mean of RANK; a routine R that is given nothing and a routine T that is given a text
-abbrev known : List (NameBytes × Known)
-known =
-    (codes "MACHINE", meanings.Class Permanent) ∷ (codes "N.MACHINE", meanings.EntityCount) ∷ (codes "QUEUE", meanings.Set (Entity (codes "MACHINE"))) ∷
-    (codes "JOB", meanings.Class Temporary) ∷ (codes "RANK", meanings.Attribute (codes "JOB") values.Integer) ∷
-    (codes "POOL", meanings.Set Program) ∷ (codes "F.POOL", meanings.Membership Program) ∷ (codes "N.POOL", meanings.MemberCount Program) ∷
-    (codes "BELL", meanings.Class EventNotice) ∷ (codes "TONE", meanings.Attribute (codes "BELL") values.Integer) ∷
-    (codes "W", meanings.Variable values.Alpha) ∷ (codes "X", meanings.Variable values.Integer) ∷ (codes "S1", meanings.Statistic Program) ∷
-    (codes "M1", meanings.Mean Program) ∷ (codes "M2", meanings.Mean (Entity (codes "JOB"))) ∷
-    (codes "R", meanings.Routine) ∷ (codes "T", meanings.Routine) ∷ []
-
-abbrev modes_in : List (NameBytes × List ValueMode) → NameBytes → Option (List ValueMode)
-modes_in modes name = lookup (same_name name) modes
-
-abbrev whole : Whole
-whole =
-    record {
-      usual = Some said.Integer;
-      meanings = λ name. lookup (same_name name) known;
-      is_watched = λ name. same_name name (codes "X");
-      attributes = modes_in ((codes "MACHINE", []) ∷ (codes "JOB", values.Integer ∷ []) ∷ (codes "BELL", values.Integer ∷ []) ∷ []);
-      given = modes_in ((codes "R", []) ∷ (codes "T", values.Alpha ∷ []) ∷ []);
-      yielding = modes_in ((codes "R", []) ∷ (codes "T", []) ∷ []);
-    }
+use Rattle.ss_check_rules.specs.declared.error.CheckError.{CheckError}
+use Rattle.ss_check_rules.specs.declared.error.CheckError.TheVariants as rules
 
 abbrev line : ℕ → Line
 line n = record { 0 = n }
 
-abbrev broken : Rule → ℕ → Option Broken
-broken rule n = Some (record { rule = rule; line = line n })
+abbrev broken : (Line → CheckError) → ℕ → Option CheckError
+broken rule n = Some (rule (line n))
 
 abbrev a_section : ℕ → SectionKindTree → List StatementTree → SectionTree
 a_section n kind body = record { line = line n; kind = kind; definitions = []; body = body }
 
--- MAIN (in line 15) with these statements
-abbrev in_main : List StatementTree → Option Broken
-in_main body = refusal_of_uses whole (record { preamble = []; sections = a_section 15 main body ∷ [] })
+-- A preamble with the permanent class MACHINE, which owns QUEUE; the temporary class JOB, which has RANK, an INTEGER, and
+-- may belong to QUEUE and to POOL of THE SYSTEM; notices BELL, which have TONE; an ALPHA variable W, a variable X, of which S1 is
+-- the sum and M1 the mean; M2, the mean of RANK
+abbrev preamble : List PreambleTree
+preamble =
+    normally (line 1) said.Integer
+    ∷ every (line 2) Permanent (codes "MACHINE") (owns (codes "QUEUE" ∷ []) ∷ [])
+    ∷ every (line 3) Temporary (codes "JOB") (has (codes "RANK" ∷ []) ∷ belongs_to (codes "QUEUE" ∷ codes "POOL" ∷ []) ∷ [])
+    ∷ every (line 4) Notice (codes "BELL") (has (codes "TONE" ∷ []) ∷ [])
+    ∷ system_owns (line 5) (codes "POOL" ∷ [])
+    ∷ define_variables (line 6) (codes "W" ∷ []) said.Alpha
+    ∷ define_variables (line 7) (codes "X" ∷ []) said.Integer
+    ∷ statistics (line 8) Tally (record { name = codes "S1"; kind = Sum } ∷ record { name = codes "M1"; kind = Mean } ∷ []) (codes "X")
+    ∷ statistics (line 9) Tally (record { name = codes "M2"; kind = Mean } ∷ []) (codes "RANK")
+    ∷ []
+
+-- EVENT BELL; a routine T that is given a text; and these sections
+abbrev with_sections : List SectionTree → ProgramTree
+with_sections sections =
+    record {
+      preamble = preamble;
+      sections =
+        sections
+        ++ a_section 41 (event (codes "BELL") [] false) []
+        ∷ record { line = line 43; kind = routine (codes "T") (codes "A" ∷ []) []; definitions = record { line = line 44; names = codes "A" ∷ []; mode = said.Alpha } ∷ []; body = [] }
+        ∷ [];
+    }
+
+-- MAIN (in line 15) with these statements, and a routine R that is given nothing
+abbrev in_main : List StatementTree → Option CheckError
+in_main body = refusal_of_uses (with_sections (a_section 15 main body ∷ a_section 31 (routine (codes "R") [] []) [] ∷ []))
 
 abbrev name : NameBytes → ExpressionTree
 name n = named (designators.Name n) no_expression
@@ -82,25 +74,25 @@ one = number (pos 1)
 
 -- ---- 71, 72 and 78
 
-pub no_main : refusal_of_uses whole (record { preamble = []; sections = [] }) ≡ broken rules.NoMain 0
+pub no_main : refusal_of_uses (record { preamble = []; sections = [] }) ≡ broken rules.NoMain 0
 no_main = refl
 
 -- EVERY BELL .. (in line 9) and no EVENT BELL; with one it is right
-pub no_event : refusal_of_uses whole (record { preamble = every (line 9) EventNotice (codes "BELL") [] ∷ []; sections = a_section 15 main [] ∷ [] }) ≡ broken rules.NoEventRoutine 9
+pub no_event : refusal_of_uses (record { preamble = every (line 9) Notice (codes "BELL") [] ∷ []; sections = a_section 15 main [] ∷ [] }) ≡ broken rules.NoEventRoutine 9
 no_event = refl
 
-pub an_event : refusal_of_uses whole (record { preamble = every (line 9) EventNotice (codes "BELL") [] ∷ []; sections = a_section 13 (event (codes "BELL") [] false) [] ∷ a_section 15 main [] ∷ [] }) ≡ None
+pub an_event : refusal_of_uses (record { preamble = every (line 9) Notice (codes "BELL") [] ∷ []; sections = a_section 13 (event (codes "BELL") [] false) [] ∷ a_section 15 main [] ∷ [] }) ≡ None
 an_event = refl
 
 -- EVENT NOTICES INCLUDE BELL, ALARM: each has one or breaks the rule
-pub included : refusal_of_uses whole (record { preamble = event_notices (line 4) (codes "BELL" ∷ codes "ALARM" ∷ []) ∷ []; sections = a_section 13 (event (codes "BELL") [] false) [] ∷ a_section 15 main [] ∷ [] }) ≡ broken rules.NoEventRoutine 4
+pub included : refusal_of_uses (record { preamble = event_notices (line 4) (codes "BELL" ∷ codes "ALARM" ∷ []) ∷ []; sections = a_section 13 (event (codes "BELL") [] false) [] ∷ a_section 15 main [] ∷ [] }) ≡ broken rules.NoEventRoutine 4
 included = refl
 
 -- START SIMULATION in MAIN, and in ROUTINE R
 pub started : in_main (start_simulation (line 16) ∷ []) ≡ None
 started = refl
 
-pub started_elsewhere : refusal_of_uses whole (record { preamble = []; sections = a_section 15 main [] ∷ a_section 17 (routine (codes "R") [] []) (start_simulation (line 18) ∷ []) ∷ [] }) ≡ broken rules.StartPlace 18
+pub started_elsewhere : refusal_of_uses (record { preamble = []; sections = a_section 15 main [] ∷ a_section 17 (routine (codes "R") [] []) (start_simulation (line 18) ∷ []) ∷ [] }) ≡ broken rules.StartPlace 18
 started_elsewhere = refl
 
 -- ---- 79
@@ -119,7 +111,7 @@ pub a_local : in_main (let_statement (line 16) (at (codes "FOO")) (number (pos 2
 a_local = refl
 
 -- TALLY S2 AS THE SUM OF JOB; RESET TOTALS OF W, which has no statistic
-pub tally_of_a_class : refusal_of_uses whole (record { preamble = statistics (line 3) Tally (record { name = codes "S2"; kind = Sum } ∷ []) (codes "JOB") ∷ []; sections = a_section 15 main [] ∷ [] }) ≡ broken rules.Unknown 3
+pub tally_of_a_class : refusal_of_uses (record { preamble = every (line 2) Temporary (codes "JOB") [] ∷ statistics (line 3) Tally (record { name = codes "S2"; kind = Sum } ∷ []) (codes "JOB") ∷ []; sections = a_section 15 main [] ∷ [] }) ≡ broken rules.Unknown 3
 tally_of_a_class = refl
 
 pub reset_of_none : in_main (reset_statement (line 16) (at (codes "X") ∷ []) ∷ reset_statement (line 17) (at (codes "W") ∷ []) ∷ []) ≡ broken rules.Unknown 17
@@ -219,7 +211,7 @@ pub reset_of_a_mean : in_main (reset_statement (line 16) (at (codes "M1") ∷ []
 reset_of_a_mean = refl
 
 -- ROUTINE R GIVEN JOB DEFINE JOB AS AN ALPHA VARIABLE LET RANK = 1: JOB is implied, and a text
-pub a_hidden_class : refusal_of_uses whole (record { preamble = []; sections = a_section 15 main [] ∷ record { line = line 17; kind = routine (codes "R") (codes "JOB" ∷ []) []; definitions = record { line = line 18; names = codes "JOB" ∷ []; mode = said.Alpha } ∷ []; body = let_statement (line 19) (at (codes "RANK")) one ∷ [] } ∷ [] }) ≡ broken rules.Mode 19
+pub a_hidden_class : refusal_of_uses (with_sections (a_section 15 main [] ∷ record { line = line 17; kind = routine (codes "R") (codes "JOB" ∷ []) []; definitions = record { line = line 18; names = codes "JOB" ∷ []; mode = said.Alpha } ∷ []; body = let_statement (line 19) (at (codes "RANK")) one ∷ [] } ∷ [])) ≡ broken rules.Mode 19
 a_hidden_class = refl
 
 -- ---- 77, and several rules at once

@@ -1,14 +1,6 @@
-pub mod Lines
-pub mod Uses
-pub mod Seen
-pub mod Once
-pub mod Events
-pub mod Unknown
-pub mod Subscripts
-pub mod Targets
-pub mod Arguments
+pub mod Order
+pub mod Kinds
 pub mod Modes
-pub mod Numbers
-pub mod Fields
+pub mod Counts
 pub mod Refusal
 pub mod Examples

@@ -1,115 +1,71 @@
 -- Rule 73: values of two modes, or a text where a number has to be, or a MEAN where a value has to be.
-use Rattle.std.specs.Prelude.{Bool, true, false, ◌||◌, List, [], Option, Some, None}
-use Rattle.ss_base.specs.declared.line.Line.{Line}
+use Rattle.std.specs.Prelude.{ℕ, ◌+◌, Bool, true, false, ◌&&◌, ◌||◌, ◌==◌, Option, Some, None, slice_get, get_or, []}
 use Rattle.ss_base.specs.declared.layout.Mode.{Mode}
-use Rattle.ss_base.specs.declared.layout.Mode.TheVariants as modes
-use Rattle.ss_tree.specs.Tree.{PreambleTree, statistics}
+use Rattle.ss_base.specs.declared.layout.Mode.TheVariants.{Integer, Alpha}
 use Rattle.ss_tree.specs.Names.{NameBytes}
-use Rattle.ss_names_uses.specs.declared.demand.Aspect.{Aspect}
-use Rattle.ss_names_uses.specs.declared.demand.Aspect.TheVariants.{Integer, Alpha, Named, Implied, Given, Yielded, Attribute, Value}
-use Rattle.ss_names_uses.specs.declared.demand.Demand.{Demand}
-use Rattle.ss_check_scopes.specs.declared.known.Holder.{Holder}
-use Rattle.ss_check_scopes.specs.declared.known.Holder.TheVariants.{Program, Entity}
-use Rattle.ss_check_scopes.specs.declared.known.Known.{Known}
-use Rattle.ss_check_scopes.specs.declared.known.Known.TheVariants as meanings
-use Rattle.ss_check_scopes.specs.Locals.{Moded}
-use Rattle.ss_check_scopes.specs.Whole.{Whole, mode_in_place}
-use Rattle.ss_check_scopes.specs.Meanings.{meaning_in}
-use Rattle.ss_base.specs.Lines.{line_if}
-use Rattle.ss_check_rules.specs.Unknown.{if_known}
+use Rattle.ss_names_declarations.specs.Firsts.{place_in, value_for}
+use Rattle.ss_names_uses.specs.declared.used.ModeOf.{ModeOf}
+use Rattle.ss_names_uses.specs.declared.used.ModeOf.TheVariants as modes
+use Rattle.ss_names_uses.specs.declared.used.Role.{Role}
+use Rattle.ss_names_uses.specs.declared.used.Role.TheVariants as roles
+use Rattle.ss_names.specs.declared.entry.Attribute.{Attribute}
+use Rattle.ss_names.specs.declared.entry.RoutineSection.{RoutineSection}
+use Rattle.ss_names.specs.declared.meaning.Meaning.{Meaning}
+use Rattle.ss_names.specs.Table.{Table}
+use Rattle.ss_names_scopes.specs.Scopes.{Scope, implied, meaning_of_name, mode_of, parameter_mode}
+use Rattle.ss_check_rules.specs.Kinds.{is_mean}
 
--- the mode of what a name means; a set and a routine have none
-abbrev pub mode_of_known : Known → Option Mode
-mode_of_known (meanings.Local mode) = Some mode
-mode_of_known (meanings.Variable mode) = Some mode
-mode_of_known (meanings.Class kind) = Some modes.Integer
-mode_of_known (meanings.Attribute class mode) = Some mode
-mode_of_known (meanings.Set holder) = None
-mode_of_known (meanings.MemberCount holder) = Some modes.Integer
-mode_of_known (meanings.Membership holder) = Some modes.Integer
-mode_of_known meanings.EntityCount = Some modes.Integer
-mode_of_known (meanings.Statistic holder) = Some modes.Integer
-mode_of_known (meanings.Mean holder) = Some modes.Integer
-mode_of_known meanings.Routine = None
+abbrev pub mode_meant : Option Meaning → Option Mode
+mode_meant None = None
+mode_meant (Some meaning) = mode_of meaning
 
-abbrev pub known_mode : Option Known → Option Mode
-known_mode None = None
-known_mode (Some meaning) = mode_of_known meaning
+-- the mode of what a routine is given in this place, and of what it yields
+abbrev pub given_mode : Scope → Option RoutineSection → ℕ → Option Mode
+given_mode s None place = None
+given_mode s (Some r) place = parameter_mode s r.section place
 
--- the mode of what a name means in a section
-abbrev pub mode_of_name : Whole → Moded → NameBytes → Option Mode
-mode_of_name w locals name = known_mode (meaning_in w.meanings locals name)
+abbrev pub yielded_mode : Scope → Option RoutineSection → ℕ → Option Mode
+yielded_mode s None place = None
+yielded_mode s (Some r) place = parameter_mode s r.section (r.given + place)
 
-abbrev pub class_of_holder : Holder → Option NameBytes
-class_of_holder Program = None
-class_of_holder (Entity class) = Some class
+-- the mode of the attribute of a class in this place
+abbrev pub mode_of_attribute : Option Attribute → Option Mode
+mode_of_attribute None = None
+mode_of_attribute (Some a) = Some a.mode
 
--- the class whose variable has the entity where no subscript is written
-abbrev pub class_implied : Known → Option NameBytes
-class_implied (meanings.Attribute class mode) = Some class
-class_implied (meanings.Set holder) = class_of_holder holder
-class_implied (meanings.MemberCount holder) = class_of_holder holder
-class_implied (meanings.Membership holder) = class_of_holder holder
-class_implied (meanings.Statistic holder) = class_of_holder holder
-class_implied (meanings.Mean holder) = class_of_holder holder
-class_implied _ = None
+abbrev pub field_mode : Table → Option NameBytes → Option Mode
+field_mode t None = None
+field_mode t (Some name) = mode_of_attribute (value_for t.attributes name)
 
-abbrev pub known_class : Option Known → Option NameBytes
-known_class None = None
-known_class (Some meaning) = class_implied meaning
+abbrev pub attribute_mode : Table → Option ℕ → ℕ → Option Mode
+attribute_mode t None place = None
+attribute_mode t (Some class) place = field_mode t (slice_get (get_or t.fields class []) place)
 
--- the mode of the variable named like a class, if there is one
-abbrev pub class_mode : Whole → Moded → Option NameBytes → Option Mode
-class_mode w locals None = None
-class_mode w locals (Some class) = mode_of_name w locals class
+-- the mode that a use says, if there is one
+abbrev pub mode_said : Scope → ModeOf → Option Mode
+mode_said s modes.Integer = Some Integer
+mode_said s modes.Alpha = Some Alpha
+mode_said s (modes.Named name) = mode_meant (meaning_of_name s name)
+mode_said s (modes.Given routine place) = given_mode s (value_for s.table.routines routine) place
+mode_said s (modes.Yielded routine place) = yielded_mode s (value_for s.table.routines routine) place
+mode_said s (modes.Attribute class place) = attribute_mode s.table (place_in s.table.classes class) place
 
--- the mode that an aspect is; counts are none
-abbrev pub aspect_mode : Whole → Moded → Aspect → Option Mode
-aspect_mode w locals Integer = Some modes.Integer
-aspect_mode w locals Alpha = Some modes.Alpha
-aspect_mode w locals (Named name) = mode_of_name w locals name
-aspect_mode w locals (Implied name) = class_mode w locals (known_class (meaning_in w.meanings locals name))
-aspect_mode w locals (Given routine place) = mode_in_place (w.given routine) place
-aspect_mode w locals (Yielded routine place) = mode_in_place (w.yielding routine) place
-aspect_mode w locals (Attribute class number) = mode_in_place (w.attributes class) number
-aspect_mode w locals _ = None
-
-abbrev pub are_two : Mode → Mode → Bool
-are_two modes.Integer modes.Alpha = true
-are_two modes.Alpha modes.Integer = true
-are_two _ _ = false
-
--- two modes, if there are any
+-- two modes, where there are two
 abbrev pub differ : Option Mode → Option Mode → Bool
-differ (Some a) (Some b) = are_two a b
+differ (Some Integer) (Some Alpha) = true
+differ (Some Alpha) (Some Integer) = true
 differ _ _ = false
 
--- a demand that joins two modes
-abbrev pub mixes : Whole → Moded → Demand → Bool
-mixes w locals d = differ (aspect_mode w locals d.found) (aspect_mode w locals d.wanted)
+abbrev pub is_text : Option Meaning → Bool
+is_text meaning = differ (mode_meant meaning) (Some Integer)
 
 -- a MEAN isn't a whole number but what two whole numbers make, and is rounded where it is printed
-abbrev pub is_mean : Known → Bool
-is_mean (meanings.Mean holder) = true
-is_mean _ = false
+abbrev pub is_mean_as_value : Role → Meaning → Bool
+is_mean_as_value roles.Value meaning = is_mean meaning
+is_mean_as_value _ meaning = false
 
--- whether what a name means in a section is a MEAN
-abbrev pub names_mean : Whole → Moded → NameBytes → Bool
-names_mean w locals name = if_known is_mean (meaning_in w.meanings locals name)
-
-abbrev pub is_mean_as_value : Whole → Moded → Aspect → Bool
-is_mean_as_value w locals (Value name) = names_mean w locals name
-is_mean_as_value w locals _ = false
-
--- a demand of a value where a MEAN is
-abbrev pub misplaces : Whole → Moded → Demand → Bool
-misplaces w locals d = is_mean_as_value w locals d.found
-
--- a demand that breaks the rule
-abbrev pub breaks_modes : Whole → Moded → Demand → Bool
-breaks_modes w locals d = mixes w locals d || misplaces w locals d
-
--- the line of a TALLY or an ACCUMULATE of texts
-abbrev pub text_subjects : Whole → PreambleTree → List Line
-text_subjects w (statistics line weighting found subject) = line_if (differ (known_mode (w.meanings subject)) (Some modes.Integer)) line
-text_subjects w _ = []
+-- a place in a role breaks the rule: a text where a number has to be, a MEAN as a value, or an entity that is in a variable of
+-- texts because no subscript is written
+abbrev pub mixes_modes : Scope → Role → Meaning → ℕ → Bool → Bool
+mixes_modes s role meaning subscripts is_number =
+    (is_number && is_text (Some meaning)) || is_mean_as_value role meaning || ((subscripts == 0) && is_text (implied s meaning))

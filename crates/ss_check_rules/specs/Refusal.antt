@@ -1,83 +1,117 @@
--- The first of the rules 71 to 79 that a program breaks.
-use Rattle.std.specs.Prelude.{Bool, false, List, [], ◌∷◌, ◌++◌, map, Option, Some, None, if◌then◌else◌}
-use Rattle.std.specs.List.{flat_map}
+-- The first of the rules 71 to 79 that a program breaks, and the first line of the text where it does.
+use Rattle.std.specs.Prelude.{ℕ, Bool, true, false, not, ◌&&◌, ◌||◌, List, [], ◌∷◌, ◌++◌, Option, Some, None, is_some, if◌then◌else◌}
+use Rattle.std.specs.List.{flat_map, list_any}
 use Rattle.ss_base.specs.declared.line.Line.{Line}
-use Rattle.ss_tree.specs.Tree.{PreambleTree, SectionTree, ProgramTree}
-use Rattle.ss_names_uses.specs.declared.mention.Mention.{Mention}
 use Rattle.ss_tree.specs.Names.{NameBytes}
-use Rattle.ss_names_uses.specs.declared.demand.Demand.{Demand}
-use Rattle.ss_check_scopes.specs.Whole.{Whole}
-use Rattle.ss_check_rules.specs.declared.rule.Rule.{Rule}
-use Rattle.ss_check_rules.specs.declared.rule.Rule.TheVariants.{NoMain, NoEventRoutine, StartPlace, Unknown, Subscript, NotAssignable, Arguments, Mode, Fields}
-use Rattle.ss_check_rules.specs.declared.rule.Broken.{Broken}
-use Rattle.ss_check_rules.specs.Lines.{first_of_lines, mention_lines, demand_lines}
-use Rattle.ss_check_rules.specs.Uses.{Uses, uses_of}
-use Rattle.ss_check_rules.specs.Events.{has_main, event_names, lacks_event, declares_eventless, is_misplaced}
-use Rattle.ss_check_rules.specs.Unknown.{is_unknown, unknown_subjects}
-use Rattle.ss_check_rules.specs.Subscripts.{has_wrong_subscripts}
-use Rattle.ss_check_rules.specs.Targets.{is_not_assignable}
-use Rattle.ss_check_rules.specs.Arguments.{miscounts}
-use Rattle.ss_check_rules.specs.Modes.{breaks_modes, text_subjects}
-use Rattle.ss_check_rules.specs.Fields.{misfits}
+use Rattle.ss_tree.specs.Tree.{PreambleTree, event_notices, every, statistics, SectionKindTree, main, SectionTree, ProgramTree}
+use Rattle.ss_tree.specs.declared.expression.Designator.{Designator}
+use Rattle.ss_base.specs.declared.layout.ClassKind.{ClassKind}
+use Rattle.ss_base.specs.declared.layout.ClassKind.TheVariants.{Notice}
+use Rattle.ss_names_declarations.specs.Earliest.{earliest}
+use Rattle.ss_names_declarations.specs.Firsts.{value_for}
+use Rattle.ss_names_uses.specs.declared.used.Role.{Role}
+use Rattle.ss_names_uses.specs.declared.used.ClassNeed.{ClassNeed}
+use Rattle.ss_names_uses.specs.declared.used.Used.{Used}
+use Rattle.ss_names_uses.specs.declared.used.Used.TheVariants.{Parameter, Local, Place, Class, Routine, Start, Same, Count, Mean, Unfit}
+use Rattle.ss_names_uses.specs.declared.used.Use.{Use}
+use Rattle.ss_names_uses.specs.Uses.{uses}
+use Rattle.ss_names.specs.declared.meaning.Meaning.{Meaning}
+use Rattle.ss_names.specs.Table.{Table, table}
+use Rattle.ss_names_scopes.specs.Locals.{as_list}
+use Rattle.ss_names_scopes.specs.Scopes.{Scope, meaning, meaning_of_name, scope_of}
+use Rattle.ss_check_rules.specs.Counts.{suits_count}
+use Rattle.ss_check_rules.specs.Kinds.{if_means, is_mean, is_routine, is_target, may_be_watched, meaning_in_role, suits, suits_class, suits_subscripts, takes_values}
+use Rattle.ss_check_rules.specs.Modes.{differ, is_text, mixes_modes, mode_said}
+use Rattle.ss_check_rules.specs.Order.{order_of}
+use Rattle.ss_check_rules.specs.declared.error.CheckError.{CheckError}
+use Rattle.ss_check_rules.specs.declared.error.CheckError.TheVariants as e
 
--- the lines in which a statement of the preamble breaks a rule, where these names lack an EVENT section
-abbrev pub in_preamble : Rule → Whole → (NameBytes → Bool) → PreambleTree → List Line
-in_preamble NoEventRoutine w lacks s = declares_eventless lacks s
-in_preamble Unknown w lacks s = unknown_subjects w s
-in_preamble Mode w lacks s = text_subjects w s
-in_preamble _ w lacks s = []
+-- ---- uses
 
--- whether a mention in a section breaks a rule
-abbrev pub mention_breaks : Rule → Whole → Uses → Mention → Bool
-mention_breaks StartPlace w u m = is_misplaced u m
-mention_breaks Unknown w u m = is_unknown w u.locals m
-mention_breaks Subscript w u m = has_wrong_subscripts w u.locals m
-mention_breaks NotAssignable w u m = is_not_assignable w u.locals m
-mention_breaks _ w u m = false
+abbrev pub unless : Bool → CheckError → Option CheckError
+unless true breach = None
+unless false breach = Some breach
 
--- whether a demand of a section breaks a rule
-abbrev pub demand_breaks : Rule → Whole → Uses → Demand → Bool
-demand_breaks Arguments w u d = miscounts w d
-demand_breaks Mode w u d = breaks_modes w u.locals d
-demand_breaks Fields w u d = misfits w u.locals d
-demand_breaks _ w u d = false
+-- a place that means something: its subscripts, 75; as a target, 76; its mode, 73
+abbrev pub meant_breaks : Scope → Line → Role → ℕ → Bool → Option Meaning → Option CheckError
+meant_breaks s line role subscripts is_number None = None
+meant_breaks s line role subscripts is_number (Some meaning) =
+    if not (suits_subscripts s.table meaning subscripts) then Some (e.Subscript line)
+    else if is_target role && not (takes_values meaning) then Some (e.NotAssignable line)
+    else unless (not (mixes_modes s role meaning subscripts is_number)) (e.Mode line)
 
--- the lines in which a section breaks a rule
-abbrev pub in_section : Rule → Whole → Uses → List Line
-in_section rule w u = mention_lines (mention_breaks rule w u) u.mentions ++ demand_lines (demand_breaks rule w u) u.demands
+-- its kind, 79, comes first
+abbrev pub place_breaks : Scope → Line → Role → Designator → ℕ → Bool → Option CheckError
+place_breaks s line role place subscripts is_number =
+    if suits s role place then meant_breaks s line role subscripts is_number (meaning_in_role s role place)
+    else Some (e.Unknown line)
 
--- the line of a program without MAIN
-abbrev pub without_main : List SectionTree → List Line
-without_main sections = if has_main sections then [] else record { 0 = 0 } ∷ []
+-- a class of another kind, 79; or its entity is in a variable of texts because none is named, 73
+abbrev pub class_breaks : Scope → Line → ClassNeed → NameBytes → Bool → Option CheckError
+class_breaks s line need class called =
+    if suits_class (value_for s.table.meanings class) need
+    then unless (called || not (is_text (meaning_of_name s class))) (e.Mode line)
+    else Some (e.Unknown line)
 
--- the lines in which the whole program lacks what a rule asks of it
-abbrev pub in_program : Rule → List SectionTree → List Line
-in_program NoMain sections = without_main sections
-in_program _ sections = []
+-- the first of the rules that a use breaks, in MAIN or in another section
+abbrev pub used_breaks : Scope → Bool → Line → Used → Option CheckError
+used_breaks s in_main line (Parameter name) = None
+used_breaks s in_main line (Local name mode) = None
+used_breaks s in_main line (Place role place subscripts is_number) = place_breaks s line role place subscripts is_number
+used_breaks s in_main line (Class need class called) = class_breaks s line need class called
+used_breaks s in_main line (Routine routine) =
+    unless (if_means is_routine (value_for s.table.meanings routine)) (e.Unknown line)
+used_breaks s in_main line Start = unless in_main (e.StartPlace line)
+used_breaks s in_main line (Same found wanted) = unless (not (differ (mode_said s found) (mode_said s wanted))) (e.Mode line)
+used_breaks s in_main line (Count found wanted) = unless (suits_count s.table found wanted) (e.Arguments line)
+used_breaks s in_main line (Mean place) = unless (if_means is_mean (meaning s place)) (e.Fields line)
+used_breaks s in_main line Unfit = Some (e.Fields line)
 
--- the lines in which a program breaks a rule, in the order of the text, where these names lack an EVENT section and
--- sections have these uses
-abbrev pub lines_in : Whole → ProgramTree → (NameBytes → Bool) → List Uses → Rule → List Line
-lines_in w p lacks uses rule =
-    in_program rule p.sections ++ flat_map (in_preamble rule w lacks) p.preamble ++ flat_map (in_section rule w) uses
+abbrev pub use_breaks : Scope → Bool → Use → Option CheckError
+use_breaks s in_main u = used_breaks s in_main u.line u.what
 
--- the lines in which a program breaks a rule, in the order of the text
-abbrev pub breaking_lines : Whole → ProgramTree → Rule → List Line
-breaking_lines w p rule = lines_in w p (lacks_event (event_names p.sections)) (map (uses_of w) p.sections) rule
+abbrev pub is_main : SectionKindTree → Bool
+is_main main = true
+is_main _ = false
 
--- the rules in the order in which they are looked at
-abbrev pub rules_in_order : List Rule
-rules_in_order = NoMain ∷ NoEventRoutine ∷ StartPlace ∷ Unknown ∷ Subscript ∷ NotAssignable ∷ Arguments ∷ Mode ∷ Fields ∷ []
+abbrev pub is_main_section : SectionTree → Bool
+is_main_section s = is_main s.kind
 
-abbrev pub or_next : Rule → Option Line → Option Broken → Option Broken
-or_next rule (Some line) rest = Some (record { rule = rule; line = line })
-or_next rule None rest = rest
+-- a use that breaks a rule
+abbrev pub breaks : Scope → Bool → Use → List CheckError
+breaks s in_main u = as_list (use_breaks s in_main u)
 
--- the first of some rules that has a line, with its first line
-abbrev pub first_broken : (Rule → List Line) → List Rule → Option Broken
-first_broken breaking_lines [] = None
-first_broken breaking_lines (rule ∷ rules) = or_next rule (first_of_lines (breaking_lines rule)) (first_broken breaking_lines rules)
+abbrev pub in_section : Table → List SectionTree → SectionTree → List CheckError
+in_section t sections s = flat_map (breaks (scope_of t sections s) (is_main s.kind)) (uses s)
 
--- the first rule that a program breaks, with the line of its first place
-abbrev pub refusal_of_uses : Whole → ProgramTree → Option Broken
-refusal_of_uses w p = first_broken (breaking_lines w p) rules_in_order
+-- ---- the preamble and the program
+
+-- a class of notices without an EVENT section, 72
+abbrev pub eventless : Table → Line → NameBytes → List CheckError
+eventless t line class = as_list (unless (is_some (value_for t.events class)) (e.NoEventRoutine line))
+
+abbrev pub eventless_of : Table → Line → ClassKind → NameBytes → List CheckError
+eventless_of t line Notice class = eventless t line class
+eventless_of t line _ class = []
+
+-- a TALLY or an ACCUMULATE of what has no history, 79, or of texts, 73
+abbrev pub subject_breaks : Line → Option Meaning → Option CheckError
+subject_breaks line meaning =
+    if if_means may_be_watched meaning then unless (not (is_text meaning)) (e.Mode line) else Some (e.Unknown line)
+
+abbrev pub in_preamble : Table → PreambleTree → List CheckError
+in_preamble t (event_notices line names) = flat_map (eventless t line) names
+in_preamble t (every line kind class clauses) = eventless_of t line kind class
+in_preamble t (statistics line weighting found subject) = as_list (subject_breaks line (value_for t.meanings subject))
+in_preamble t _ = []
+
+-- a program without MAIN, 71
+abbrev pub in_program : List SectionTree → List CheckError
+in_program sections = if list_any is_main_section sections then [] else e.NoMain (record { 0 = 0 }) ∷ []
+
+abbrev pub breaches : Table → ProgramTree → List CheckError
+breaches t p = flat_map (in_preamble t) p.preamble ++ (in_program p.sections ++ flat_map (in_section t p.sections) p.sections)
+
+-- the first rule that a program breaks, at the first line where it does; none where it breaks none
+abbrev pub refusal_of_uses : ProgramTree → Option CheckError
+refusal_of_uses p = earliest order_of (breaches (table p) p)

@@ -1,19 +1,13 @@
-//! The rules 71 to 79 on uses, and the first of them that is broken.
+//! The rules 71 to 79 on what a program does with its names, and the first that is broken.
 #![tactic(auto)]
 
-mod arguments;
-mod checking;
-pub mod events;
-mod fields;
-mod lines;
-mod modes;
-pub mod preamble;
-mod rule;
-pub mod section;
-mod subscripts;
-mod targets;
-mod unknown;
-pub mod uses;
+mod counts;
+mod error;
+mod kinds;
+mod places;
+mod preamble;
+mod program;
+mod sections;
 
-pub use checking::judge;
-pub use rule::{Broken, Rule};
+pub use error::CheckError;
+pub use program::judge;

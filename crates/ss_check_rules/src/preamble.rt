@@ -1,96 +1,112 @@
-//! The rules in statements of the preamble.
+//! The rules on classes of notices and on subjects of statistics.
 
-ghost use Rattle.std.specs.Prelude.{◌≡◌, map};
-ghost use Rattle.std.specs.List.{flat_map};
+ghost use Rattle.std.specs.Prelude.{◌≡◌, is_some, map};
+ghost use Rattle.std.specs.List.{flat_map, fold};
 ghost use Rattle.ss_tree.specs.View.{view_preamble};
-ghost use Rattle.ss_check_rules.specs.Events.{declares_eventless, lacks_event};
-ghost use Rattle.ss_check_rules.specs.Lines.{first_of_lines};
-ghost use Rattle.ss_check_rules.specs.Modes.{text_subjects};
-ghost use Rattle.ss_check_rules.specs.Refusal.{in_preamble};
-ghost use Rattle.ss_check_rules.specs.Unknown.{unknown_subjects};
+ghost use Rattle.ss_names_declarations.specs.Earliest.{earlier};
+ghost use Rattle.ss_names_declarations.specs.Firsts.{value_for};
+ghost use Rattle.ss_check_rules.specs.declared.error.CheckError.TheVariants as e;
+ghost use Rattle.ss_check_rules.specs.Order.{order_of};
+ghost use Rattle.ss_check_rules.specs.Refusal.{eventless, eventless_of, in_preamble, subject_breaks, unless};
 
-use crate::events::{eventless_of, first_eventless};
-use crate::lines::line_if;
-use crate::modes::{differ, global_mode};
-use crate::rule::Rule;
-use crate::unknown::is_known_subject;
-use ss_base::{Line, Mode, Name};
-use ss_check_scopes::Globals;
-use ss_names_declarations::Keys;
-use ss_tree::preamble::PreambleStatement;
+use crate::error::{CheckError, unless};
+use crate::kinds::if_watched;
+use crate::places::is_text;
+use ss_base::{Line, Name};
+use ss_names::{Meaning, Names};
+use ss_names_declarations::{earlier_of, has_entry};
+use ss_tree::preamble::{ClassKind, PreambleStatement};
 
-// The line of a statement that declares a class of notices without an EVENT section.
-fn declares_eventless(events: &Keys<Name>, statement: &PreambleStatement) -> Option<Line>
-    ensures { result ≡ first_of_lines (declares_eventless (lacks_event events.now) (view_preamble statement.now)) }
+// The breach of a class of notices without an EVENT section.
+fn eventless(names: &Names, line: Line, class: &Name) -> Option<CheckError>
+    ensures { result ≡ unless (is_some (value_for names.now.events class.now)) (e.NoEventRoutine line) }
+{
+    unless(
+        has_entry(&names.events, class),
+        CheckError::NoEventRoutine(line),
+    )
+}
+
+// What was found so far, or the first of these classes of notices that has no EVENT section.
+fn notices_break(
+    names: &Names,
+    line: Line,
+    classes: &[Name],
+    found: Option<CheckError>,
+) -> Option<CheckError>
+    ensures { result ≡ fold (earlier order_of) found (flat_map (eventless names.now line) classes.now) }
+{
+    let mut found = found;
+    for class in classes {
+        found = earlier_of(found, eventless(names, line, class));
+    }
+    found
+}
+
+// What was found so far, or a class of notices without an EVENT section.
+fn class_breaks(
+    names: &Names,
+    line: Line,
+    kind: ClassKind,
+    class: &Name,
+    found: Option<CheckError>,
+) -> Option<CheckError>
+    ensures { result ≡ fold (earlier order_of) found (eventless_of names.now line kind class.now) }
+{
+    match kind {
+        ClassKind::Notice => earlier_of(found, eventless(names, line, class)),
+        ClassKind::Permanent => found,
+        ClassKind::Temporary => found,
+    }
+}
+
+// The first of the rules that a subject breaks, which means this.
+fn subject_breaks(line: Line, meaning: Option<Meaning>) -> Option<CheckError>
+    ensures { result ≡ subject_breaks line meaning }
+{
+    if if_watched(meaning) {
+        unless(!is_text(meaning), CheckError::Mode(line))
+    } else {
+        Some(CheckError::Unknown(line))
+    }
+}
+
+// What was found so far, or the first rule that a statement breaks.
+fn statement_breaks(
+    names: &Names,
+    statement: &PreambleStatement,
+    found: Option<CheckError>,
+) -> Option<CheckError>
+    ensures { result ≡ fold (earlier order_of) found (in_preamble names.now (view_preamble statement.now)) }
 {
     match statement {
         PreambleStatement::EventNotices { line, included } => {
-            first_eventless(events, *line, included)
+            notices_break(names, *line, included, found)
         }
         PreambleStatement::Every {
             line,
             kind,
             class,
             ..
-        } => eventless_of(events, *line, *kind, *class),
-        _ => None,
-    }
-}
-
-// The line of a TALLY or an ACCUMULATE of what can have none.
-fn unknown_subjects<G: Globals>(globals: &G, statement: &PreambleStatement) -> Option<Line>
-    ensures { result ≡ first_of_lines (unknown_subjects (G.whole globals.now) (view_preamble statement.now)) }
-{
-    match statement {
+        } => class_breaks(names, *line, *kind, class, found),
         PreambleStatement::Statistics { line, subject, .. } => {
-            line_if(!is_known_subject(globals, *subject), *line)
+            earlier_of(found, subject_breaks(*line, names.meaning(subject)))
         }
-        _ => None,
+        _ => found,
     }
 }
 
-// The line of a TALLY or an ACCUMULATE of texts.
-fn text_subjects<G: Globals>(globals: &G, statement: &PreambleStatement) -> Option<Line>
-    ensures { result ≡ first_of_lines (text_subjects (G.whole globals.now) (view_preamble statement.now)) }
-{
-    match statement {
-        PreambleStatement::Statistics { line, subject, .. } => line_if(
-            differ(global_mode(globals, *subject), Some(Mode::Integer)),
-            *line,
-        ),
-        _ => None,
-    }
-}
-
-// The first line in which a statement breaks a rule.
-fn first_in_statement<G: Globals>(
-    globals: &G,
-    events: &Keys<Name>,
-    rule: Rule,
-    statement: &PreambleStatement,
-) -> Option<Line>
-    ensures { result ≡ first_of_lines (in_preamble rule (G.whole globals.now) (lacks_event events.now) (view_preamble statement.now)) }
-{
-    match rule {
-        Rule::NoEventRoutine => declares_eventless(events, statement),
-        Rule::Unknown => unknown_subjects(globals, statement),
-        Rule::Mode => text_subjects(globals, statement),
-        _ => None,
-    }
-}
-
-/// The first line in which a preamble breaks a rule, where EVENT sections have these names; None where it breaks none.
-pub fn first_in_preamble<G: Globals>(
-    globals: &G,
-    events: &Keys<Name>,
-    rule: Rule,
+/// What was found so far, or the first rule that a preamble breaks.
+pub fn preamble_breaks(
+    names: &Names,
     preamble: &[PreambleStatement],
-) -> Option<Line>
-    ensures { result ≡ first_of_lines (flat_map (in_preamble rule (G.whole globals.now) (lacks_event events.now)) (map view_preamble preamble.now)) }
+    found: Option<CheckError>,
+) -> Option<CheckError>
+    ensures { result ≡ fold (earlier order_of) found (flat_map (in_preamble names.now) (map view_preamble preamble.now)) }
 {
-    let mut found = None;
+    let mut found = found;
     for statement in preamble {
-        found = found.or(first_in_statement(globals, events, rule, statement));
+        found = statement_breaks(names, statement, found);
     }
     found
 }

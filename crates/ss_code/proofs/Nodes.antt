@@ -1,10 +1,10 @@
 -- How long the code of a program is: at most 64 instructions for each of its nodes.
 use Rattle.std.proofs.Common.{ℕ, zero, suc, ◌+◌, ◌*◌, ◌≤◌, Bool, true, false, List, [], ◌∷◌, Option, Some, None, arith}
 use Rattle.ss_program.specs.declared.expression.Variable.{Variable}
-use Rattle.ss_program.specs.declared.head.GuardKind.{GuardKind}
-use Rattle.ss_program.specs.declared.head.GuardKind.TheVariants as guards
-use Rattle.ss_program.specs.declared.head.PhraseKind.{PhraseKind}
-use Rattle.ss_program.specs.declared.head.PhraseKind.TheVariants as kinds
+use Rattle.ss_base.specs.declared.words.GuardKind.{GuardKind}
+use Rattle.ss_base.specs.declared.words.GuardKind.TheVariants as guards
+use Rattle.ss_base.specs.declared.words.PhraseKind.{PhraseKind}
+use Rattle.ss_base.specs.declared.words.PhraseKind.TheVariants as kinds
 use Rattle.ss_program.specs.Program.{Expression, Constant, Fetch, Attribute, OfSystemSet, OfSet, OfMember, Clock, TimeOf, Figure, FigureOf, Signed, Absolute, Calculate, SetOwner, TheSystem, Entity, Test, Compare, DataEnded, Empty, Member, Condition, Head, Numbers, Members, Each, Start, AtEnd, From, After, Phrase, Guard, Place, ToVariable, ToAttribute, ToCount, Target, Position, ByDiscipline, AsFirst, AsLast, BeforeMember, AfterMember, When, At, In, Now, Restart, Item, AValue, AMean, AMeanOf, Statement, Let, Change, Call, Return, Stop, Read, Simulate, If, Loop, For, Find, Create, CreateEvery, Destroy, File, RemoveEnd, Remove, ScheduleNew, Schedule, Cancel, Reset, Print, Skip, Block, Done, Then, Routine, Event, Program}
 use Rattle.ss_program.specs.Nodes.{total, option_nodes, expression_nodes, subscript_nodes, set_nodes, test_nodes, alternative_nodes, condition_nodes, guard_nodes, phrase_nodes, place_nodes, target_nodes, start_nodes, head_nodes, position_nodes, when_nodes, restart_nodes, item_nodes, statement_nodes, block_nodes, routine_nodes, event_nodes, nodes}
 use Rattle.ss_code_instructions.specs.Facts.{is_watched, must_look, needs_look, expression_of, may_fault, beside}

@@ -2,7 +2,7 @@
 use Rattle.std.proofs.Common.{◌≡◌, ℕ, ◌+◌, ◌<◌, ◌^◌, Bool, [], ◌∷◌, ◌++◌, refl}
 use Rattle.ss_base.specs.declared.layout.Mode.TheVariants.{Integer}
 use Rattle.ss_program.specs.declared.sections.Subject.TheVariants.{OfCount}
-use Rattle.ss_program.specs.declared.statement.End.{End}
+use Rattle.ss_base.specs.declared.words.End.{End}
 use Rattle.ss_program.specs.Program.{SetOwner, Place, RemoveEnd}
 use Rattle.ss_program.specs.WellTyped.{Good}
 use Rattle.ss_code_instructions.specs.declared.address.Address.{Address}

@@ -1,7 +1,7 @@
 -- What the generator emits for conditions.
 use Rattle.std.proofs.Common.{◌≡◌, ℕ, ◌+◌, ◌<◌, ◌^◌, Bool, List, [], ◌∷◌, ◌++◌, length, Option, Some, None, refl, sym, ap, ◌∙◌, subst, arith, append_assoc, append-nil, length-append}
 use Rattle.ss_base.specs.declared.layout.Mode.{Mode}
-use Rattle.ss_program.specs.declared.condition.Relation.{Relation}
+use Rattle.ss_base.specs.declared.words.Relation.{Relation}
 use Rattle.std.specs.List.{AllByRecursion as Every}
 use Rattle.ss_program.specs.Program.{Expression, SetOwner, TheSystem, Entity, Test, Compare, Empty, Member, Condition, Guard, Phrase}
 use Rattle.ss_program.specs.WellTyped.{Scope, HasMode, OwnerFits, GoodTest, GoodCondition, GoodPhrase}

@@ -14,7 +14,7 @@ use Rattle.ss_program.specs.declared.expression.Operation.{Operation}
 use Rattle.ss_program.specs.declared.expression.SetQuery.{SetQuery}
 use Rattle.ss_program.specs.declared.expression.MemberQuery.{MemberQuery}
 use Rattle.ss_program.specs.declared.expression.Fold.{Fold}
-use Rattle.ss_program.specs.declared.expression.Sign.{Sign}
+use Rattle.ss_base.specs.declared.words.Sign.{Sign}
 use Rattle.ss_program.specs.Program.{Program, Expression, Constant as AConstant, Fetch, Attribute, OfSystemSet, OfSet, OfMember, TimeOf, Figure, FigureOf, Signed, Absolute}
 use Rattle.ss_program.specs.View.{view_expression, view_program}
 use Rattle.ss_program.specs.Views.{with_operation}

@@ -5,8 +5,8 @@ use Rattle.ss_base.specs.declared.fault.FaultKind.{FaultKind}
 use Rattle.ss_base.specs.declared.line.Line.{Line}
 use Rattle.ss_base.specs.declared.value.Value.{Value}
 use Rattle.ss_meaning.specs.Words.{is_ended}
-use Rattle.ss_program.specs.declared.head.GuardKind.{GuardKind}
-use Rattle.ss_program.specs.declared.head.GuardKind.TheVariants as guards
+use Rattle.ss_base.specs.declared.words.GuardKind.{GuardKind}
+use Rattle.ss_base.specs.declared.words.GuardKind.TheVariants as guards
 use Rattle.ss_program.specs.Program.{Expression, SetOwner, Test, Compare, DataEnded, Empty, Member, Condition, Guard}
 use Rattle.ss_meaning.specs.Values.{Trouble, Fails, Misfit, if_ok, turned, due, sure, related}
 use Rattle.ss_meaning.specs.Sets.{member, is_empty, is_in}

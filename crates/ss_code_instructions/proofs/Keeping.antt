@@ -13,11 +13,11 @@ use Rattle.ss_meaning.specs.Words.{Given, value_given}
 use Rattle.ss_program.specs.declared.sections.Subject.{Subject}
 use Rattle.ss_program.specs.declared.sections.Subject.TheVariants.{OfVariable, OfAttribute, OfCount}
 use Rattle.ss_meaning.specs.Histories.{all_noting, noted, renewed}
-use Rattle.ss_program.specs.declared.expression.Sign.{Sign}
+use Rattle.ss_base.specs.declared.words.Sign.{Sign}
 use Rattle.ss_program.specs.declared.expression.Variable.{Variable}
 use Rattle.ss_program.specs.declared.expression.Variable.TheVariants.{Global, Local}
 use Rattle.ss_program.specs.declared.statement.CountedClass.{CountedClass}
-use Rattle.ss_program.specs.declared.statement.End.{End}
+use Rattle.ss_base.specs.declared.words.End.{End}
 use Rattle.ss_meaning.specs.Values.{Trouble, if_ok, turned, due, sure, where_fit, unless_fault, number_of, calculated, operator_of}
 use Rattle.ss_meaning.specs.Store.{Setting, Store, with_heap, with_pending, with_histories, fetched, put_at, put}
 use Rattle.ss_meaning.specs.Entities.{class_at, field_at, entity, attribute, is_single, is_permanent, with_new, made_one, with_all, made_all, with_none, gone, without}

@@ -2,8 +2,8 @@
 use Rattle.std.proofs.Common.{◌≡◌, ℕ, suc, ◌+◌, ◌-◌, ◌≤◌, Bool, true, false, not, List, [], ◌∷◌, ◌++◌, length, Some, Ok, Err, refl, sym, ap, ◌∙◌, subst, arith, length-append}
 use Rattle.std.specs.Prelude.{slice_get, Result as OkOr}
 use Rattle.ss_base.specs.declared.value.Value.{Value}
-use Rattle.ss_program.specs.declared.head.PhraseKind.{PhraseKind}
-use Rattle.ss_program.specs.declared.head.PhraseKind.TheVariants as kinds
+use Rattle.ss_base.specs.declared.words.PhraseKind.{PhraseKind}
+use Rattle.ss_base.specs.declared.words.PhraseKind.TheVariants as kinds
 use Rattle.ss_program.specs.Program.{Condition, Phrase, Guard}
 use Rattle.ss_meaning.specs.Values.{Trouble, Fails, Misfit, if_ok}
 use Rattle.ss_meaning.specs.Expressions.{holds, all_pass}

@@ -8,7 +8,7 @@ use Rattle.ss_base.specs.declared.value.Value.TheVariants.{Whole}
 use Rattle.ss_world.specs.State.{State}
 use Rattle.ss_world.specs.Sets.{count_in}
 use Rattle.ss_program.specs.declared.sections.Subject.TheVariants.{OfCount}
-use Rattle.ss_program.specs.declared.statement.End.{End}
+use Rattle.ss_base.specs.declared.words.End.{End}
 use Rattle.ss_program.specs.Program.{Expression, SetOwner, Place}
 use Rattle.ss_meaning.specs.Values.{Trouble, Fails, Misfit, due}
 use Rattle.ss_meaning.specs.Store.{Store, with_heap, with_histories}

@@ -13,8 +13,8 @@ use Rattle.ss_base.specs.declared.value.Value.TheVariants.{Whole, Text}
 use Rattle.ss_base.specs.Layout.{mode_of, first_value}
 use Rattle.ss_program.specs.FieldValue.{FieldValue}
 use Rattle.ss_program.specs.FieldValue.TheVariants.{Is, Mean}
-use Rattle.ss_program.specs.declared.condition.Relation.{Relation}
-use Rattle.ss_program.specs.declared.expression.Sign.{Sign}
+use Rattle.ss_base.specs.declared.words.Relation.{Relation}
+use Rattle.ss_base.specs.declared.words.Sign.{Sign}
 use Rattle.ss_program.specs.Program.{Event, Program}
 use Rattle.ss_program.specs.WellTyped.{WellTyped, IsSet, field_mode}
 use Rattle.ss_meaning.specs.PendingList.{next}

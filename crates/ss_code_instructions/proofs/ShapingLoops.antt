@@ -8,8 +8,8 @@ use Rattle.ss_base.specs.declared.value.Value.TheVariants.{Whole}
 use Rattle.ss_base.specs.declared.layout.Mode.{Mode}
 use Rattle.ss_base.specs.declared.layout.Mode.TheVariants.{Integer}
 use Rattle.ss_program.specs.declared.expression.Variable.{Variable}
-use Rattle.ss_program.specs.declared.head.PhraseKind.{PhraseKind}
-use Rattle.ss_program.specs.declared.head.PhraseKind.TheVariants as kinds
+use Rattle.ss_base.specs.declared.words.PhraseKind.{PhraseKind}
+use Rattle.ss_base.specs.declared.words.PhraseKind.TheVariants as kinds
 use Rattle.ss_program.specs.Program.{Expression, SetOwner, TheSystem, Entity, Condition, Head, Numbers, Members, Each, Start, AtEnd, From, After, Phrase, Guard, Program}
 use Rattle.ss_program.specs.WellTyped.{Scope, WellTyped, mode_at, HasMode, OwnerFits, GoodCondition, GoodStart, GoodHead, GoodPhrase}
 use Rattle.ss_code_instructions.specs.Instructions.{Bearer, Instruction, Placed}

@@ -10,7 +10,7 @@ use Rattle.ss_base.specs.declared.layout.ClassKind.TheVariants.{Notice}
 use Rattle.ss_base.specs.declared.layout.Discipline.{Discipline}
 use Rattle.ss_base.specs.declared.layout.Discipline.TheVariants as disciplines
 use Rattle.ss_program.specs.declared.statement.CountedClass.{CountedClass}
-use Rattle.ss_program.specs.declared.statement.End.{End}
+use Rattle.ss_base.specs.declared.words.End.{End}
 use Rattle.ss_program.specs.Program.{Expression, SetOwner, Place, ToVariable, ToAttribute, ToCount, Position, ByDiscipline, AsFirst, AsLast, BeforeMember, AfterMember, When, At as AtTime, In, Now, Restart, Item, AValue, AMean, AMeanOf, Program}
 use Rattle.ss_program.specs.FieldValue.{FieldValue}
 use Rattle.ss_program.specs.FieldValue.TheVariants.{Is, Mean}

@@ -13,14 +13,14 @@ use Rattle.ss_world.specs.State.{State, kind_in, notice, assigned, created, crea
 use Rattle.ss_world.specs.Sets.{count_in, filed_first, filed_last, filed_before, filed_after, removed as taken_from}
 use Rattle.ss_world.specs.Disciplines.{filed}
 use Rattle.ss_world.specs.PendingList.{is_pending, scheduled, cancelled, next}
-use Rattle.ss_program.specs.declared.expression.Sign.{Sign}
+use Rattle.ss_base.specs.declared.words.Sign.{Sign}
 use Rattle.ss_program.specs.declared.expression.Variable.{Variable}
 use Rattle.ss_program.specs.declared.expression.Variable.TheVariants.{Global, Local}
 use Rattle.ss_program.specs.declared.sections.Subject.{Subject}
 use Rattle.ss_program.specs.declared.sections.Subject.TheVariants.{OfVariable, OfAttribute, OfCount}
 use Rattle.ss_program.specs.declared.statement.CountedClass.{CountedClass}
-use Rattle.ss_program.specs.declared.statement.End.{End}
-use Rattle.ss_program.specs.declared.statement.End.TheVariants as sides
+use Rattle.ss_base.specs.declared.words.End.{End}
+use Rattle.ss_base.specs.declared.words.End.TheVariants as sides
 use Rattle.ss_meaning.specs.Words.{value_given, is_ended}
 use Rattle.ss_meaning.specs.Values.{Trouble, if_ok, turned, due, sure, where_fit, number_of, calculated, operator_of, absolute, related, printed, empty_lines}
 use Rattle.ss_meaning.specs.Store.{Store, with_heap, with_pending, with_histories, fetched, put_at, put, opened, yielded}

@@ -3,14 +3,14 @@ use Rattle.std.specs.Prelude.{◌≡◌, ℕ, List, [], ◌∷◌, map, length, 
 use Rattle.ss_base.specs.declared.value.Value.TheVariants.{Whole}
 use Rattle.ss_base.specs.declared.layout.Mode.TheVariants.{Integer}
 use Rattle.ss_program.specs.declared.expression.Variable.TheVariants.{Global, Local}
-use Rattle.ss_program.specs.declared.expression.Sign.TheVariants.{Plus}
+use Rattle.ss_base.specs.declared.words.Sign.TheVariants.{Plus}
 use Rattle.ss_program.specs.declared.expression.Operator.TheVariants as operators
-use Rattle.ss_program.specs.declared.condition.Relation.TheVariants.{Less}
-use Rattle.ss_program.specs.declared.head.GuardKind.TheVariants as guards
-use Rattle.ss_program.specs.declared.head.PhraseKind.TheVariants as kinds
+use Rattle.ss_base.specs.declared.words.Relation.TheVariants.{Less}
+use Rattle.ss_base.specs.declared.words.GuardKind.TheVariants as guards
+use Rattle.ss_base.specs.declared.words.PhraseKind.TheVariants as kinds
 use Rattle.ss_program.specs.declared.sections.Subject.TheVariants.{OfVariable, OfCount}
-use Rattle.ss_program.specs.declared.sections.Weighting.TheVariants.{Tally}
-use Rattle.ss_program.specs.declared.statement.End.TheVariants as ends
+use Rattle.ss_base.specs.declared.words.Weighting.TheVariants.{Tally}
+use Rattle.ss_base.specs.declared.words.End.TheVariants as ends
 use Rattle.ss_program.specs.Program.{Attribute, Calculate, Compare, Numbers, Members, AtEnd, From, TheSystem, Entity, ToVariable, ToAttribute, ToCount, ByDiscipline, At, Let, Change, Call, Return, Stop, If, Loop, For, Find, File, RemoveEnd, ScheduleNew, Simulate, Read, Program}
 use Rattle.ss_meaning.specs.Building.{line, num, global, local, to_local, block, only, print_line, program_of_main, workshop, machine, machines, job, queue, pool, bell}
 use Rattle.ss_code_instructions.specs.Instructions.{Instruction, Placed, Held, Taken, Stays, Into, Onto, Last}

@@ -1,10 +1,10 @@
 -- How many instructions the code of a program has, said without them. `code_size` is the number that a refusal of too long a program goes by.
 use Rattle.std.specs.Prelude.{ℕ, zero, suc, ◌+◌, Bool, true, false, List, [], ◌∷◌, length, Option, Some, None}
 use Rattle.ss_program.specs.declared.expression.Variable.{Variable}
-use Rattle.ss_program.specs.declared.head.GuardKind.{GuardKind}
-use Rattle.ss_program.specs.declared.head.GuardKind.TheVariants as guards
-use Rattle.ss_program.specs.declared.head.PhraseKind.{PhraseKind}
-use Rattle.ss_program.specs.declared.head.PhraseKind.TheVariants as kinds
+use Rattle.ss_base.specs.declared.words.GuardKind.{GuardKind}
+use Rattle.ss_base.specs.declared.words.GuardKind.TheVariants as guards
+use Rattle.ss_base.specs.declared.words.PhraseKind.{PhraseKind}
+use Rattle.ss_base.specs.declared.words.PhraseKind.TheVariants as kinds
 use Rattle.ss_program.specs.Program.{Expression, Constant, Fetch, Attribute, OfSystemSet, OfSet, OfMember, Clock, TimeOf, Figure, FigureOf, Signed, Absolute, Calculate, SetOwner, TheSystem, Entity, Test, Compare, DataEnded, Empty, Member, Condition, Head, Numbers, Members, Each, Start, AtEnd, From, After, Phrase, Guard, Place, ToVariable, ToAttribute, ToCount, Target, When, At, In, Now, Restart, Item, AValue, AMean, AMeanOf, Statement, Let, Change, Call, Return, Stop, Read, Simulate, If, Loop, For, Find, Create, CreateEvery, Destroy, File, RemoveEnd, Remove, ScheduleNew, Schedule, Cancel, Reset, Print, Skip, Block, Done, Then, Routine, Event, Program}
 use Rattle.ss_code_instructions.specs.Facts.{is_watched, must_look, needs_look, expression_of, may_fault, beside}
 

@@ -4,159 +4,97 @@ use Rattle.ss_lex.specs.declared.error.LexError.{LexError}
 use Rattle.ss_lex.specs.declared.error.LexError.TheVariants as lexical
 use Rattle.ss_parse.specs.declared.error.ParseError.{ParseError}
 use Rattle.ss_parse.specs.declared.error.ParseError.TheVariants as parsing
-use Rattle.ss_tables.specs.declared.error.TableError.{TableError}
-use Rattle.ss_tables.specs.declared.error.TableError.TheVariants as declaring
-use Rattle.ss_check.specs.declared.error.CheckError.{CheckError}
-use Rattle.ss_check.specs.declared.error.CheckError.TheVariants as checking
+use Rattle.ss_tables_rules.specs.declared.error.TableError.{TableError}
+use Rattle.ss_tables_rules.specs.declared.error.TableError.TheVariants as declaring
+use Rattle.ss_check_rules.specs.declared.error.CheckError.{CheckError}
+use Rattle.ss_check_rules.specs.declared.error.CheckError.TheVariants as using
 use Rattle.ss_code.specs.declared.error.CodeError.{CodeError}
 use Rattle.ss_code.specs.declared.error.CodeError.TheVariants as generating
 use Rattle.ss_engine.specs.declared.refusal.Refusal.{Refusal}
-use Rattle.ss_engine.specs.declared.refusal.Refusal.TheVariants.{TooLong, NotAscii, BadNumber, OpenText, AlphaTooLong, PictureCut, NameTooLong, Syntax, TooDeep, Twice, RealMode, UnknownClass, UnknownSet, NoOwner, NoMember, RankKey, TallyTwice, TooMany, TieKey, NoMain, NoEventRoutine, Mode, Arguments, Subscript, NotAssignable, Fields, StartPlace, Unknown, CodeTooLong, Memory}
+use Rattle.ss_engine.specs.declared.refusal.Refusal.TheVariants.{Lexed, Parsed, Declared, Used, CodeTooLong, Memory}
+
+-- a number, a name and a line
+abbrev pub Reported : Type 0
+Reported = ℕ × List ℕ × ℕ
+
+abbrev pub words_of_lexer : LexError → Reported
+words_of_lexer (lexical.TooLong line) = (31, codes "TooLong", line.0)
+words_of_lexer (lexical.NotAscii line) = (32, codes "NotAscii", line.0)
+words_of_lexer (lexical.BadNumber line) = (33, codes "BadNumber", line.0)
+words_of_lexer (lexical.OpenText line) = (34, codes "OpenText", line.0)
+words_of_lexer (lexical.AlphaTooLong line) = (35, codes "AlphaTooLong", line.0)
+words_of_lexer (lexical.PictureCut line) = (36, codes "PictureCut", line.0)
+words_of_lexer (lexical.NameTooLong line) = (37, codes "NameTooLong", line.0)
+words_of_lexer lexical.Memory = (0, codes "Memory", 0)
+
+abbrev pub words_of_parser : ParseError → Reported
+words_of_parser (parsing.Syntax line) = (41, codes "Syntax", line.0)
+words_of_parser (parsing.TooDeep line) = (42, codes "TooDeep", line.0)
+words_of_parser parsing.Memory = (0, codes "Memory", 0)
+
+abbrev pub words_of_tables : TableError → Reported
+words_of_tables (declaring.Twice line) = (51, codes "Twice", line.0)
+words_of_tables (declaring.RealMode line) = (52, codes "RealMode", line.0)
+words_of_tables (declaring.UnknownClass line) = (53, codes "UnknownClass", line.0)
+words_of_tables (declaring.UnknownSet line) = (54, codes "UnknownSet", line.0)
+words_of_tables (declaring.NoOwner line) = (55, codes "NoOwner", line.0)
+words_of_tables (declaring.NoMember line) = (56, codes "NoMember", line.0)
+words_of_tables (declaring.RankKey line) = (57, codes "RankKey", line.0)
+words_of_tables (declaring.TallyTwice line) = (58, codes "TallyTwice", line.0)
+words_of_tables (declaring.TooMany line) = (59, codes "TooMany", line.0)
+words_of_tables (declaring.TieKey line) = (60, codes "TieKey", line.0)
+words_of_tables declaring.Memory = (0, codes "Memory", 0)
+
+abbrev pub words_of_checker : CheckError → Reported
+words_of_checker (using.NoMain line) = (71, codes "NoMain", line.0)
+words_of_checker (using.NoEventRoutine line) = (72, codes "NoEventRoutine", line.0)
+words_of_checker (using.Mode line) = (73, codes "Mode", line.0)
+words_of_checker (using.Arguments line) = (74, codes "Arguments", line.0)
+words_of_checker (using.Subscript line) = (75, codes "Subscript", line.0)
+words_of_checker (using.NotAssignable line) = (76, codes "NotAssignable", line.0)
+words_of_checker (using.Fields line) = (77, codes "Fields", line.0)
+words_of_checker (using.StartPlace line) = (78, codes "StartPlace", line.0)
+words_of_checker (using.Unknown line) = (79, codes "Unknown", line.0)
+words_of_checker using.Memory = (0, codes "Memory", 0)
+
+abbrev pub words_of_refusal : Refusal → Reported
+words_of_refusal (Lexed e) = words_of_lexer e
+words_of_refusal (Parsed e) = words_of_parser e
+words_of_refusal (Declared e) = words_of_tables e
+words_of_refusal (Used e) = words_of_checker e
+words_of_refusal CodeTooLong = (81, codes "CodeTooLong", 0)
+words_of_refusal Memory = (0, codes "Memory", 0)
 
 -- the number of a refusal, which is 0 for memory
 abbrev pub refusal_number : Refusal → ℕ
-refusal_number (TooLong line) = 31
-refusal_number (NotAscii line) = 32
-refusal_number (BadNumber line) = 33
-refusal_number (OpenText line) = 34
-refusal_number (AlphaTooLong line) = 35
-refusal_number (PictureCut line) = 36
-refusal_number (NameTooLong line) = 37
-refusal_number (Syntax line) = 41
-refusal_number (TooDeep line) = 42
-refusal_number (Twice line) = 51
-refusal_number (RealMode line) = 52
-refusal_number (UnknownClass line) = 53
-refusal_number (UnknownSet line) = 54
-refusal_number (NoOwner line) = 55
-refusal_number (NoMember line) = 56
-refusal_number (RankKey line) = 57
-refusal_number (TallyTwice line) = 58
-refusal_number (TooMany line) = 59
-refusal_number (TieKey line) = 60
-refusal_number (NoMain line) = 71
-refusal_number (NoEventRoutine line) = 72
-refusal_number (Mode line) = 73
-refusal_number (Arguments line) = 74
-refusal_number (Subscript line) = 75
-refusal_number (NotAssignable line) = 76
-refusal_number (Fields line) = 77
-refusal_number (StartPlace line) = 78
-refusal_number (Unknown line) = 79
-refusal_number CodeTooLong = 81
-refusal_number Memory = 0
+refusal_number r = (words_of_refusal r).0
 
--- the name of a refusal
+-- its name
 abbrev pub refusal_name : Refusal → List ℕ
-refusal_name (TooLong line) = codes "TooLong"
-refusal_name (NotAscii line) = codes "NotAscii"
-refusal_name (BadNumber line) = codes "BadNumber"
-refusal_name (OpenText line) = codes "OpenText"
-refusal_name (AlphaTooLong line) = codes "AlphaTooLong"
-refusal_name (PictureCut line) = codes "PictureCut"
-refusal_name (NameTooLong line) = codes "NameTooLong"
-refusal_name (Syntax line) = codes "Syntax"
-refusal_name (TooDeep line) = codes "TooDeep"
-refusal_name (Twice line) = codes "Twice"
-refusal_name (RealMode line) = codes "RealMode"
-refusal_name (UnknownClass line) = codes "UnknownClass"
-refusal_name (UnknownSet line) = codes "UnknownSet"
-refusal_name (NoOwner line) = codes "NoOwner"
-refusal_name (NoMember line) = codes "NoMember"
-refusal_name (RankKey line) = codes "RankKey"
-refusal_name (TallyTwice line) = codes "TallyTwice"
-refusal_name (TooMany line) = codes "TooMany"
-refusal_name (TieKey line) = codes "TieKey"
-refusal_name (NoMain line) = codes "NoMain"
-refusal_name (NoEventRoutine line) = codes "NoEventRoutine"
-refusal_name (Mode line) = codes "Mode"
-refusal_name (Arguments line) = codes "Arguments"
-refusal_name (Subscript line) = codes "Subscript"
-refusal_name (NotAssignable line) = codes "NotAssignable"
-refusal_name (Fields line) = codes "Fields"
-refusal_name (StartPlace line) = codes "StartPlace"
-refusal_name (Unknown line) = codes "Unknown"
-refusal_name CodeTooLong = codes "CodeTooLong"
-refusal_name Memory = codes "Memory"
+refusal_name r = (words_of_refusal r).1
 
--- the line of a refusal, which is 0 where it has none
+-- its line, which is 0 where it has none
 abbrev pub refusal_line : Refusal → ℕ
-refusal_line (TooLong line) = line.0
-refusal_line (NotAscii line) = line.0
-refusal_line (BadNumber line) = line.0
-refusal_line (OpenText line) = line.0
-refusal_line (AlphaTooLong line) = line.0
-refusal_line (PictureCut line) = line.0
-refusal_line (NameTooLong line) = line.0
-refusal_line (Syntax line) = line.0
-refusal_line (TooDeep line) = line.0
-refusal_line (Twice line) = line.0
-refusal_line (RealMode line) = line.0
-refusal_line (UnknownClass line) = line.0
-refusal_line (UnknownSet line) = line.0
-refusal_line (NoOwner line) = line.0
-refusal_line (NoMember line) = line.0
-refusal_line (RankKey line) = line.0
-refusal_line (TallyTwice line) = line.0
-refusal_line (TooMany line) = line.0
-refusal_line (TieKey line) = line.0
-refusal_line (NoMain line) = line.0
-refusal_line (NoEventRoutine line) = line.0
-refusal_line (Mode line) = line.0
-refusal_line (Arguments line) = line.0
-refusal_line (Subscript line) = line.0
-refusal_line (NotAssignable line) = line.0
-refusal_line (Fields line) = line.0
-refusal_line (StartPlace line) = line.0
-refusal_line (Unknown line) = line.0
-refusal_line CodeTooLong = 0
-refusal_line Memory = 0
+refusal_line r = (words_of_refusal r).2
 
--- the refusal for what the lexer refuses
-abbrev pub refusal_of_lexer : LexError → Refusal
-refusal_of_lexer (lexical.TooLong line) = TooLong line
-refusal_of_lexer (lexical.NotAscii line) = NotAscii line
-refusal_of_lexer (lexical.BadNumber line) = BadNumber line
-refusal_of_lexer (lexical.OpenText line) = OpenText line
-refusal_of_lexer (lexical.AlphaTooLong line) = AlphaTooLong line
-refusal_of_lexer (lexical.PictureCut line) = PictureCut line
-refusal_of_lexer (lexical.NameTooLong line) = NameTooLong line
-refusal_of_lexer lexical.Memory = Memory
+-- ---- what is refused at each step
 
--- the refusal for what the parser refuses
-abbrev pub refusal_of_parser : ParseError → Refusal
-refusal_of_parser (parsing.Syntax line) = Syntax line
-refusal_of_parser (parsing.TooDeep line) = TooDeep line
-refusal_of_parser parsing.Memory = Memory
+abbrev pub lexed : LexError → Refusal
+lexed lexical.Memory = Memory
+lexed e = Lexed e
 
--- the refusal for what the tables refuse
-abbrev pub refusal_of_tables : TableError → Refusal
-refusal_of_tables (declaring.Twice line) = Twice line
-refusal_of_tables (declaring.RealMode line) = RealMode line
-refusal_of_tables (declaring.UnknownClass line) = UnknownClass line
-refusal_of_tables (declaring.UnknownSet line) = UnknownSet line
-refusal_of_tables (declaring.NoOwner line) = NoOwner line
-refusal_of_tables (declaring.NoMember line) = NoMember line
-refusal_of_tables (declaring.RankKey line) = RankKey line
-refusal_of_tables (declaring.TallyTwice line) = TallyTwice line
-refusal_of_tables (declaring.TooMany line) = TooMany line
-refusal_of_tables (declaring.TieKey line) = TieKey line
-refusal_of_tables declaring.Memory = Memory
+abbrev pub parsed : ParseError → Refusal
+parsed parsing.Memory = Memory
+parsed e = Parsed e
 
--- the refusal for what the checker refuses
-abbrev pub refusal_of_checker : CheckError → Refusal
-refusal_of_checker (checking.NoMain line) = NoMain line
-refusal_of_checker (checking.NoEventRoutine line) = NoEventRoutine line
-refusal_of_checker (checking.Mode line) = Mode line
-refusal_of_checker (checking.Arguments line) = Arguments line
-refusal_of_checker (checking.Subscript line) = Subscript line
-refusal_of_checker (checking.NotAssignable line) = NotAssignable line
-refusal_of_checker (checking.Fields line) = Fields line
-refusal_of_checker (checking.StartPlace line) = StartPlace line
-refusal_of_checker (checking.Unknown line) = Unknown line
-refusal_of_checker checking.Memory = Memory
+abbrev pub declared : TableError → Refusal
+declared declaring.Memory = Memory
+declared e = Declared e
 
--- the refusal for what the generator refuses
-abbrev pub refusal_of_generator : CodeError → Refusal
-refusal_of_generator generating.CodeTooLong = CodeTooLong
-refusal_of_generator generating.Memory = Memory
+abbrev pub used : CheckError → Refusal
+used using.Memory = Memory
+used e = Used e
+
+abbrev pub coded : CodeError → Refusal
+coded generating.CodeTooLong = CodeTooLong
+coded generating.Memory = Memory

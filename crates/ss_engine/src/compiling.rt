@@ -1,8 +1,8 @@
 //! From a text to a model.
 
 ghost use Rattle.std.specs.Prelude.{◌≡◌, IfOk, IfErr};
+ghost use Rattle.ss_engine.specs.Refusals.{coded, declared, lexed, parsed, used};
 ghost use Rattle.ss_engine.specs.Accepting.{Compiles, IsRefusedWith};
-ghost use Rattle.ss_engine.specs.Refusals.{refusal_of_lexer, refusal_of_parser, refusal_of_tables, refusal_of_checker, refusal_of_generator};
 
 use crate::refusal::Refusal;
 use ss_check::{CheckError, check};
@@ -17,77 +17,58 @@ use ss_tables::{TableError, Tables};
 use ss_tree::release::release_tree;
 use std::alloc::Global;
 
-// The refusal for what the lexer refuses.
-fn lexical(error: LexError) -> Refusal
-    ensures { result ≡ refusal_of_lexer error }
-{
-    match error {
-        LexError::TooLong(line) => Refusal::TooLong(line),
-        LexError::NotAscii(line) => Refusal::NotAscii(line),
-        LexError::BadNumber(line) => Refusal::BadNumber(line),
-        LexError::OpenText(line) => Refusal::OpenText(line),
-        LexError::AlphaTooLong(line) => Refusal::AlphaTooLong(line),
-        LexError::PictureCut(line) => Refusal::PictureCut(line),
-        LexError::NameTooLong(line) => Refusal::NameTooLong(line),
-        LexError::Memory => Refusal::Memory,
+impl From<LexError> for Refusal {
+    ghost from_gives = { λ error refusal. refusal ≡ lexed error };
+
+    fn from(error: LexError) -> Refusal {
+        match error {
+            LexError::Memory => Refusal::Memory,
+            _ => Refusal::Lexed(error),
+        }
     }
 }
 
-// The refusal for what the parser refuses.
-fn syntactic(error: ParseError) -> Refusal
-    ensures { result ≡ refusal_of_parser error }
-{
-    match error {
-        ParseError::Syntax(line) => Refusal::Syntax(line),
-        ParseError::TooDeep(line) => Refusal::TooDeep(line),
-        ParseError::Memory => Refusal::Memory,
+impl From<ParseError> for Refusal {
+    ghost from_gives = { λ error refusal. refusal ≡ parsed error };
+
+    fn from(error: ParseError) -> Refusal {
+        match error {
+            ParseError::Memory => Refusal::Memory,
+            _ => Refusal::Parsed(error),
+        }
     }
 }
 
-// The refusal for what the tables refuse.
-fn declared(error: TableError) -> Refusal
-    ensures { result ≡ refusal_of_tables error }
-{
-    match error {
-        TableError::Twice(line) => Refusal::Twice(line),
-        TableError::RealMode(line) => Refusal::RealMode(line),
-        TableError::UnknownClass(line) => Refusal::UnknownClass(line),
-        TableError::UnknownSet(line) => Refusal::UnknownSet(line),
-        TableError::NoOwner(line) => Refusal::NoOwner(line),
-        TableError::NoMember(line) => Refusal::NoMember(line),
-        TableError::RankKey(line) => Refusal::RankKey(line),
-        TableError::TallyTwice(line) => Refusal::TallyTwice(line),
-        TableError::TooMany(line) => Refusal::TooMany(line),
-        TableError::TieKey(line) => Refusal::TieKey(line),
-        TableError::Memory => Refusal::Memory,
+impl From<TableError> for Refusal {
+    ghost from_gives = { λ error refusal. refusal ≡ declared error };
+
+    fn from(error: TableError) -> Refusal {
+        match error {
+            TableError::Memory => Refusal::Memory,
+            _ => Refusal::Declared(error),
+        }
     }
 }
 
-// The refusal for what the checker refuses.
-fn checked(error: CheckError) -> Refusal
-    ensures { result ≡ refusal_of_checker error }
-{
-    match error {
-        CheckError::NoMain(line) => Refusal::NoMain(line),
-        CheckError::NoEventRoutine(line) => Refusal::NoEventRoutine(line),
-        CheckError::Mode(line) => Refusal::Mode(line),
-        CheckError::Arguments(line) => Refusal::Arguments(line),
-        CheckError::Subscript(line) => Refusal::Subscript(line),
-        CheckError::NotAssignable(line) => Refusal::NotAssignable(line),
-        CheckError::Fields(line) => Refusal::Fields(line),
-        CheckError::StartPlace(line) => Refusal::StartPlace(line),
-        CheckError::Unknown(line) => Refusal::Unknown(line),
-        CheckError::Memory => Refusal::Memory,
+impl From<CheckError> for Refusal {
+    ghost from_gives = { λ error refusal. refusal ≡ used error };
+
+    fn from(error: CheckError) -> Refusal {
+        match error {
+            CheckError::Memory => Refusal::Memory,
+            _ => Refusal::Used(error),
+        }
     }
 }
 
-// The refusal for what the generator refuses.
-fn generated(error: CodeError) -> Refusal
-    ensures { result ≡ refusal_of_generator error }
-{
-    match error {
-        CodeError::CodeTooLong => Refusal::CodeTooLong,
-        CodeError::Memory => Refusal::Memory,
+impl From<CodeError> for Refusal {
+    ghost from_gives = { λ error refusal. refusal ≡ coded error };
+
+    fn from(error: CodeError) -> Refusal {
+        match error {
+            CodeError::CodeTooLong => Refusal::CodeTooLong,
+            CodeError::Memory => Refusal::Memory,
+        }
     }
 }
 
@@ -104,33 +85,17 @@ pub fn compile(alloc: Global, text: &[u8]) -> Result<Model, Refusal>
     ensures refused { IfErr result (λ refusal. IsRefusedWith text.now refusal) }
 {
     laws_of_code();
-    let tokens = match tokens(alloc, text) {
-        Ok(tokens) => tokens,
-        Err(error) => return Err(lexical(error)),
-    };
-    let program = match parse(alloc, &tokens) {
-        Ok(program) => program,
-        Err(error) => return Err(syntactic(error)),
-    };
+    let tokens = tokens(alloc, text)?;
+    let program = parse(alloc, &tokens)?;
     let tables = match Tables::of(alloc, &program) {
         Ok(tables) => tables,
         Err(error) => {
             release_tree(program);
-            return Err(declared(error));
+            return Err(error.into());
         }
     };
-    let resolved = match check(alloc, program, tables) {
-        Ok(resolved) => resolved,
-        Err(error) => return Err(checked(error)),
-    };
-    match generate(alloc, &resolved) {
-        Ok(code) => {
-            release_checked(resolved);
-            Ok(Model::new(code))
-        }
-        Err(error) => {
-            release_checked(resolved);
-            Err(generated(error))
-        }
-    }
+    let resolved = check(alloc, program, tables)?;
+    let code = generate(alloc, &resolved);
+    release_checked(resolved);
+    Ok(Model::new(code?))
 }

@@ -2,7 +2,6 @@
 
 ghost use Rattle.ss_engine.specs.Laws.{EachHasOne, TextEndingsStay, NeverGoesWrong, OneMeaning, OneProgram, ProgramsAreTyped, ReportsGrow};
 
-use ss_check::kept_programs_resolve;
 use ss_code_instructions::laws::laws_of_pieces;
 use ss_lex::one_list;
 use ss_meaning::laws::laws as laws_of_types;
@@ -19,7 +18,6 @@ pub fn laws()
 {
     one_list();
     one_tree();
-    kept_programs_resolve();
     laws_of_types();
 }
 

@@ -15,8 +15,8 @@ use Rattle.ss_world.specs.State.{State, Members, and_then, members_of, number_in
 use Rattle.ss_world.specs.Sets.{joiner, owner_by, owner_kind, owner, member_class, count_in, first_in, last_in, put_in, put_beside, put_before, put_after, taken_out, filed_first, filed_last, filed_before, filed_after, removed}
 use Rattle.ss_world.specs.Disciplines.{put_ranked, filed, take, first_removed, last_removed}
 use Rattle.ss_program.specs.declared.sections.Subject.TheVariants.{OfCount}
-use Rattle.ss_program.specs.declared.statement.End.{End}
-use Rattle.ss_program.specs.declared.statement.End.TheVariants as ends
+use Rattle.ss_base.specs.declared.words.End.{End}
+use Rattle.ss_base.specs.declared.words.End.TheVariants as ends
 use Rattle.ss_meaning.specs.Values.{Trouble, if_ok, turned, due}
 use Rattle.ss_meaning.specs.Store.{Store}
 use Rattle.ss_meaning.specs.Histories.{noted}

@@ -3,7 +3,7 @@
 ghost use Rattle.std.specs.Prelude.{◌≡◌, ◌<◌, length, true, false};
 ghost use Rattle.ss_program.specs.declared.expression.SetQuery.TheVariants.{FirstMember, LastMember, MemberCount};
 ghost use Rattle.ss_program.specs.declared.expression.MemberQuery.TheVariants.{Predecessor, Successor, Membership};
-ghost use Rattle.ss_program.specs.declared.statement.End.TheVariants as ends;
+ghost use Rattle.ss_base.specs.declared.words.End.TheVariants as ends;
 ghost use Rattle.ss_base.specs.declared.value.Value.TheVariants.{Whole};
 ghost use Rattle.ss_meaning.specs.Sets.{set_answer, Foremost, Hindmost, ByRule, JustBefore, JustAfter};
 ghost use Rattle.ss_machine_world.specs.Numbers.{count_noted};

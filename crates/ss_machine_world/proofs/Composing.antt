@@ -15,7 +15,7 @@ use Rattle.ss_program.specs.declared.expression.Operator.{Operator}
 use Rattle.ss_program.specs.declared.sections.Statistic.{Statistic}
 use Rattle.ss_program.specs.declared.sections.Subject.{Subject}
 use Rattle.ss_program.specs.declared.sections.Subject.TheVariants.{OfAttribute}
-use Rattle.ss_program.specs.declared.statement.End.{End}
+use Rattle.ss_base.specs.declared.words.End.{End}
 use Rattle.ss_world.specs.State.{State, modes_of, and_then, assigned, value_in}
 use Rattle.ss_world.specs.Sets.{joiner, owner, owner_in, member_class, put_in, put_beside, put_before, put_after, taken_out, filed_first, filed_last, filed_before, filed_after, removed}
 use Rattle.ss_world.specs.Disciplines.{put_ranked, filed}

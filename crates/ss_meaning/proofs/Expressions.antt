@@ -14,9 +14,9 @@ use Rattle.ss_input.specs.Words.{is_ended}
 use Rattle.ss_picture.specs.declared.field.Field.{Field}
 use Rattle.ss_picture.specs.declared.items.FieldValue.{FieldValue as Shown}
 use Rattle.ss_picture.specs.declared.items.FieldValue.TheVariants.{Is, Mean}
-use Rattle.ss_program.specs.declared.expression.Sign.{Sign}
+use Rattle.ss_base.specs.declared.words.Sign.{Sign}
 use Rattle.ss_program.specs.declared.expression.Operator.{Operator}
-use Rattle.ss_program.specs.declared.condition.Relation.{Relation}
+use Rattle.ss_base.specs.declared.words.Relation.{Relation}
 use Rattle.ss_program.specs.Program.{Expression, Constant, Fetch, Attribute, OfSystemSet, OfSet, OfMember, Clock, TimeOf, Figure, FigureOf, Signed, Absolute, Calculate, SetOwner, TheSystem, Entity, Test, Compare, DataEnded, Empty, Member, Condition, Guard, Place, ToVariable, ToAttribute, ToCount, Position, ByDiscipline, AsFirst, AsLast, BeforeMember, AfterMember, When, At, In, Now, Item, AValue, AMean, AMeanOf, Program}
 use Rattle.ss_program.specs.WellTyped.{Scope, WellTyped, HasMode, HaveModes, IsSet, OwnerFits, GoodTest, GoodCondition, TakesMode, GoodPosition, GoodWhen, HasSubject, IsAlone, IsOfEntities, TakesItem}
 use Rattle.ss_meaning.specs.Values.{Trouble, if_ok, turned, due, sure, computed, calculated, operator_of, signed, distance, absolute, related, takes, take_all}

@@ -29,8 +29,8 @@ use Rattle.ss_program.specs.declared.expression.Variable.TheVariants.{Global}
 use Rattle.ss_program.specs.declared.sections.Subject.{Subject}
 use Rattle.ss_program.specs.declared.sections.Subject.TheVariants.{OfVariable, OfAttribute, OfCount}
 use Rattle.ss_program.specs.declared.sections.Statistic.{Statistic}
-use Rattle.ss_program.specs.declared.statement.End.{End}
-use Rattle.ss_program.specs.declared.statement.End.TheVariants as ends
+use Rattle.ss_base.specs.declared.words.End.{End}
+use Rattle.ss_base.specs.declared.words.End.TheVariants as ends
 use Rattle.ss_program.specs.Program.{Program}
 use Rattle.ss_program.specs.WellTyped.{WellTyped, IsSet, IsOwned, owner_of_set, GoodDiscipline, GoodKeys, GoodSubject, IsAlone, IsOfEntities}
 use Rattle.ss_stats.specs.History.{History, sum_of, mean_of}

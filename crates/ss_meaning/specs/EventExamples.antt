@@ -16,8 +16,8 @@ use Rattle.ss_picture.specs.Numerals.{numeral}
 use Rattle.ss_picture.specs.Pictures.{picture_fields, filled}
 use Rattle.ss_program.specs.declared.expression.Fold.TheVariants.{Number, Sum, Maximum, Minimum}
 use Rattle.ss_program.specs.declared.sections.Subject.TheVariants.{OfVariable, OfCount}
-use Rattle.ss_program.specs.declared.sections.Weighting.TheVariants.{Tally, Accumulate}
-use Rattle.ss_program.specs.declared.statement.End.TheVariants.{First}
+use Rattle.ss_base.specs.declared.words.Weighting.TheVariants.{Tally, Accumulate}
+use Rattle.ss_base.specs.declared.words.End.TheVariants.{First}
 use Rattle.ss_program.specs.Program.{Expression, Attribute, Clock, TimeOf, Figure, AMean, Print, TheSystem, ByDiscipline, At, In, Statement, Let, Call, Simulate, Create, File, RemoveEnd, ScheduleNew, Schedule, Cancel, Reset, Event, Program}
 use Rattle.ss_meaning.specs.Building.{line, num, global, local, to_global, block, print_line, integers, class_with_fields, bell, program_of_main, workshop, ends, pauses, faults}
 use Rattle.ss_meaning.specs.Meaning.{meaning}

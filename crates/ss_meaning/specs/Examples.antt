@@ -7,10 +7,10 @@ use Rattle.ss_base.specs.Arithmetic.{in_64_bits, plus_of, minus_of, times_of, qu
 use Rattle.ss_picture.specs.Numerals.{numeral}
 use Rattle.ss_picture.specs.Pictures.{picture_fields, filled}
 use Rattle.ss_program.specs.declared.expression.Variable.TheVariants.{Local}
-use Rattle.ss_program.specs.declared.expression.Sign.TheVariants.{Plus, Minus}
+use Rattle.ss_base.specs.declared.words.Sign.TheVariants.{Plus, Minus}
 use Rattle.ss_program.specs.declared.expression.Operator.TheVariants.{Add, Subtract, Multiply, Quotient, Remainder}
-use Rattle.ss_program.specs.declared.condition.Relation.TheVariants.{Equal, Less}
-use Rattle.ss_program.specs.declared.head.GuardKind.TheVariants.{While}
+use Rattle.ss_base.specs.declared.words.Relation.TheVariants.{Equal, Less}
+use Rattle.ss_base.specs.declared.words.GuardKind.TheVariants.{While}
 use Rattle.ss_program.specs.Program.{Expression, Signed, Absolute, Calculate, Constant, Numbers, Compare, DataEnded, Statement, Let, Change, Call, Return, Stop, Read, If, For, Loop, Print, Skip, AValue, Routine, Program, Done}
 use Rattle.ss_meaning.specs.Building.{line, num, local, to_local, block, only, print_line, integers, program_of_main, ends, pauses, faults}
 use Rattle.ss_meaning.specs.Meaning.{meaning, WentWrong}

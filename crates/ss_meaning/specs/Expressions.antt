@@ -2,8 +2,8 @@
 use Rattle.std.specs.Prelude.{ℕ, Bool, true, false, List, [], ◌∷◌, not, ℤ, Option, Some, None, Result, Ok}
 use Rattle.ss_base.specs.declared.value.Value.{Value}
 use Rattle.ss_input.specs.Words.{is_ended}
-use Rattle.ss_program.specs.declared.head.GuardKind.{GuardKind}
-use Rattle.ss_program.specs.declared.head.GuardKind.TheVariants.{While, Until}
+use Rattle.ss_base.specs.declared.words.GuardKind.{GuardKind}
+use Rattle.ss_base.specs.declared.words.GuardKind.TheVariants.{While, Until}
 use Rattle.ss_program.specs.Program.{Expression, Constant, Fetch, Attribute, OfSystemSet, OfSet, OfMember, Clock, TimeOf, Figure, FigureOf, Signed, Absolute, Calculate, SetOwner, TheSystem, Entity, Test, Compare, DataEnded, Empty, Member, Condition, Guard, Place, ToVariable, ToAttribute, ToCount, Position, ByDiscipline, AsFirst, AsLast, BeforeMember, AfterMember, When, At, In, Now, Item, AValue, AMean, AMeanOf}
 use Rattle.ss_picture.specs.declared.items.FieldValue.{FieldValue as Shown}
 use Rattle.ss_picture.specs.declared.items.FieldValue.TheVariants.{Is, Mean}

@@ -14,8 +14,8 @@ use Rattle.ss_program.specs.declared.expression.Fold.{Fold}
 use Rattle.ss_program.specs.declared.expression.Fold.TheVariants.{Number, Sum, Maximum, Minimum}
 use Rattle.ss_program.specs.declared.sections.Subject.{Subject}
 use Rattle.ss_program.specs.declared.sections.Subject.TheVariants.{OfVariable, OfAttribute, OfCount}
-use Rattle.ss_program.specs.declared.sections.Weighting.{Weighting}
-use Rattle.ss_program.specs.declared.sections.Weighting.TheVariants as weightings
+use Rattle.ss_base.specs.declared.words.Weighting.{Weighting}
+use Rattle.ss_base.specs.declared.words.Weighting.TheVariants as weightings
 use Rattle.ss_program.specs.declared.sections.Statistic.{Statistic}
 use Rattle.ss_meaning.specs.Values.{Trouble, Misfit, if_ok, turned, due, sure, unless_fault, number_of}
 use Rattle.ss_meaning.specs.Store.{Column, Store, with_histories}

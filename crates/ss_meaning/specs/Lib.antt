@@ -1,5 +1,5 @@
 pub use Rattle.ss_input.specs.Words
-pub use Rattle.ss_program.specs.declared.statement.End
+pub use Rattle.ss_base.specs.declared.words.End
 pub use Rattle.ss_world.specs.PendingList
 pub use Rattle.ss_world.specs.State
 pub use Rattle.ss_world.specs.declared.ties.TieShape

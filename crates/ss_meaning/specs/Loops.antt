@@ -6,8 +6,8 @@ use Rattle.ss_base.specs.declared.fault.FaultKind.TheVariants.{LoopStep}
 use Rattle.ss_base.specs.declared.value.Value.{Value}
 use Rattle.ss_base.specs.declared.value.Value.TheVariants.{Whole}
 use Rattle.ss_program.specs.declared.expression.Variable.{Variable}
-use Rattle.ss_program.specs.declared.head.PhraseKind.{PhraseKind}
-use Rattle.ss_program.specs.declared.head.PhraseKind.TheVariants as kinds
+use Rattle.ss_base.specs.declared.words.PhraseKind.{PhraseKind}
+use Rattle.ss_base.specs.declared.words.PhraseKind.TheVariants as kinds
 use Rattle.ss_program.specs.Program.{Expression, SetOwner, Head, Numbers, Members, Each, Start, AtEnd, From, After, Phrase, Guard}
 use Rattle.ss_meaning.specs.Values.{Trouble, if_ok, turned, where_fit, unless_fault, number_of}
 use Rattle.ss_meaning.specs.Store.{Store}

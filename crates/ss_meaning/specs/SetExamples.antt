@@ -7,13 +7,13 @@ use Rattle.ss_base.specs.Arithmetic.{in_64_bits, plus_of, quotient_of}
 use Rattle.ss_picture.specs.Numerals.{numeral}
 use Rattle.ss_picture.specs.Pictures.{picture_fields, filled}
 use Rattle.ss_program.specs.declared.expression.Variable.TheVariants.{Global, Local}
-use Rattle.ss_program.specs.declared.expression.Sign.TheVariants.{Plus}
+use Rattle.ss_base.specs.declared.words.Sign.TheVariants.{Plus}
 use Rattle.ss_program.specs.declared.expression.Operator.TheVariants.{Add, Quotient}
 use Rattle.ss_program.specs.declared.expression.SetQuery.TheVariants.{FirstMember, LastMember, MemberCount}
 use Rattle.ss_program.specs.declared.expression.MemberQuery.TheVariants.{Predecessor, Successor}
-use Rattle.ss_program.specs.declared.condition.Relation.TheVariants.{Equal, Less}
-use Rattle.ss_program.specs.declared.head.PhraseKind.TheVariants.{With, Unless, Until}
-use Rattle.ss_program.specs.declared.statement.End.TheVariants as ends_of_sets
+use Rattle.ss_base.specs.declared.words.Relation.TheVariants.{Equal, Less}
+use Rattle.ss_base.specs.declared.words.PhraseKind.TheVariants.{With, Unless, Until}
+use Rattle.ss_base.specs.declared.words.End.TheVariants as ends_of_sets
 use Rattle.ss_program.specs.Program.{Expression, Attribute, OfSystemSet, OfMember, Calculate, TheSystem, Entity, Compare, Numbers, Members, AtEnd, Each, ToAttribute, ToCount, ByDiscipline, At, Statement, Let, Change, Read, For, Find, Create, CreateEvery, Destroy, File, RemoveEnd, Remove, Schedule, Cancel, Program}
 use Rattle.ss_meaning.specs.Building.{line, num, global, local, to_global, to_local, block, only, print_line, machine, job, tool, bell, machines, queue, pool, rack, workshop, workshop_by, ends, faults}
 use Rattle.ss_meaning.specs.Meaning.{meaning}

@@ -4,8 +4,8 @@ use Rattle.ss_base.specs.declared.line.Line.{Line}
 use Rattle.ss_base.specs.declared.value.Value.{Value}
 use Rattle.ss_base.specs.declared.layout.Mode.{Mode}
 use Rattle.ss_input.specs.Words.{Given, value_given}
-use Rattle.ss_program.specs.declared.expression.Sign.{Sign}
-use Rattle.ss_program.specs.declared.statement.End.{End}
+use Rattle.ss_base.specs.declared.words.Sign.{Sign}
+use Rattle.ss_base.specs.declared.words.End.{End}
 use Rattle.ss_program.specs.declared.statement.CountedClass.{CountedClass}
 use Rattle.ss_program.specs.Program.{Expression, Item, SetOwner, Place, Target, Position, When, Restart, Statement, Let, Change, Call, Return, Stop, Read, Simulate, If, Loop, For, Find, Create, CreateEvery, Destroy, File, RemoveEnd, Remove, ScheduleNew, Schedule, Cancel, Reset, Print, Skip, Block, Done, Then}
 use Rattle.ss_meaning.specs.Values.{Trouble, if_ok, turned, due, sure, calculated, operator_of, printed, empty_lines}

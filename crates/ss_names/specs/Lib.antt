@@ -1,11 +1,5 @@
-pub mod Rows
-pub mod Entities
-pub mod Variables
-pub mod Statistics
-pub mod Keys
-pub mod Notices
-pub mod Meanings
-pub mod Histories
+pub mod Modes
+pub mod Entries
 pub mod Table
-pub mod Laws
-pub mod Examples
+pub mod Filling
+pub mod View

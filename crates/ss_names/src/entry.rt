@@ -1,79 +1,59 @@
-//! What the table has of each thing that a program declares.
+//! Entries of the table.
 
-use ss_base::{Line, Owner};
+use ss_base::{Mode, Name, Owner};
 use ss_names_declarations::SetRule;
-use ss_tree::preamble::{ClassKind, Mode, StatisticKind};
 
-/// A class.
-#[derive(Clone, Copy)]
-pub struct Class {
-    pub kind: ClassKind,
-    /// The line of its declaration.
-    pub line: Line,
-}
-
-/// An attribute: the number of its class, its number among the attributes of that class, and its mode, if
-/// a DEFINE or NORMALLY gives it one.
-#[derive(Clone, Copy)]
+/// An attribute: the number of its class, its number in the class, and its mode.
+#[derive(Clone, Copy, Debug, PartialEq, Eq)]
 pub struct Attribute {
     pub class: usize,
     pub field: usize,
-    pub mode: Option<Mode>,
-}
-
-/// How a DEFINE, the statement of this number in the preamble, orders a set.
-#[derive(Clone, Copy)]
-pub struct Ordering {
-    pub statement: usize,
-    pub rule: SetRule,
-}
-
-/// A set: its owner, the number of the class of its members, and how a DEFINE orders it, each if it is
-/// declared.
-#[derive(Clone, Copy)]
-pub struct Set {
-    pub owner: Option<Owner>,
-    pub member: Option<usize>,
-    pub ordering: Option<Ordering>,
-}
-
-/// The kind of a global variable.
-#[derive(Clone, Copy)]
-pub enum VariableKind {
-    /// A variable of a DEFINE.
-    Defined,
-    /// The variable of the class of this number, which has the name of the class.
-    OfClass(usize),
-    /// N. of the class of this number.
-    CountOf(usize),
-}
-
-/// A global variable.
-#[derive(Clone, Copy)]
-pub struct GlobalVariable {
-    pub kind: VariableKind,
     pub mode: Mode,
 }
 
-/// A routine: the number of its section, and how many values it is given and yields.
-#[derive(Clone, Copy)]
+/// How a DEFINE orders a set, and the number of its statement.
+#[derive(Clone, Copy, Debug, PartialEq, Eq)]
+pub struct Order {
+    pub rule: SetRule,
+    pub statement: usize,
+}
+
+/// A set: its owner, the class of its members, and its DEFINE; None for what nothing says.
+#[derive(Clone, Copy, Debug, PartialEq, Eq)]
+pub struct Set {
+    pub owner: Option<Owner>,
+    pub member: Option<usize>,
+    pub order: Option<Order>,
+}
+
+/// A routine: its section, and how many values it is given and yields.
+#[derive(Clone, Copy, Debug, PartialEq, Eq)]
 pub struct RoutineSection {
     pub section: usize,
     pub given: usize,
     pub yielding: usize,
 }
 
-/// The EVENT section of a class: its number, how many values it is given, and whether it saves its notice.
-#[derive(Clone, Copy)]
+/// An event routine: its section, how many values it is given, and whether it saves its notice.
+#[derive(Clone, Copy, Debug, PartialEq, Eq)]
 pub struct EventSection {
     pub section: usize,
     pub given: usize,
     pub saving: bool,
 }
 
-/// A statistic: the number of its history, and its kind.
+/// A key by which the DEFINE of this number ranks its sets.
 #[derive(Clone, Copy)]
-pub struct StatisticEntry {
-    pub history: usize,
-    pub kind: StatisticKind,
+pub struct RankedBy {
+    pub statement: usize,
+    pub attribute: Name,
+    pub high: bool,
+}
+
+/// A key for the ties of a class.
+#[derive(Clone, Copy)]
+pub struct TiedBy {
+    pub class: Name,
+    pub attribute: Name,
+    pub high: bool,
 }

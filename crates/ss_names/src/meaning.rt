@@ -1,55 +1,41 @@
-//! The meanings of the names of a program.
+//! What a name means.
 
-use ss_tree::preamble::Weighting;
+use ss_base::{ClassKind, Mode};
+use ss_program::expression::{Fold, MemberQuery, SetQuery, Variable};
+use ss_program::statement::CountedClass;
 
-/// What a derived name of a set gives.
-#[derive(Clone, Copy)]
-pub enum Derived {
-    /// F., the first member.
-    FirstMember,
-    /// L., the last member.
-    LastMember,
-    /// N., how many members there are.
-    MemberCount,
-    /// P., the member before a member.
-    Predecessor,
-    /// S., the member after a member.
-    Successor,
-    /// M., whether an entity is a member.
-    Membership,
-}
-
-/// What a global or a derived name means, by its number.
-#[derive(Clone, Copy)]
-pub enum GlobalMeaning {
-    /// A global variable of a DEFINE.
-    Variable(usize),
+/// What a name means. Numbers are those of the table.
+#[derive(Clone, Copy, Debug, PartialEq, Eq)]
+pub enum Meaning {
+    /// A local variable, or a global one of a DEFINE.
+    Variable { variable: Variable, mode: Mode },
     /// A class, and the global variable of its name.
-    Class { class: usize, variable: usize },
-    /// N. of a permanent class, and the global variable that it is.
-    Count { class: usize, variable: usize },
-    Attribute(usize),
-    Set(usize),
-    /// A derived name of a set.
-    Derived { derived: Derived, set: usize },
-    Statistic(usize),
-    Routine(usize),
-}
-
-/// The subject of a TALLY or an ACCUMULATE, by its number.
-#[derive(Clone, Copy)]
-pub enum SubjectNumber {
-    /// A global variable of a DEFINE.
-    Variable(usize),
-    Attribute(usize),
-    /// N. of a set.
-    MemberCount(usize),
-}
-
-/// The history of a subject: how TALLY or ACCUMULATE weighs its values, and the subject, if its name
-/// means one.
-#[derive(Clone, Copy)]
-pub struct History {
-    pub weighting: Weighting,
-    pub subject: Option<SubjectNumber>,
+    Class {
+        class: usize,
+        kind: ClassKind,
+        variable: usize,
+    },
+    /// N. of a permanent class.
+    Count { count: CountedClass },
+    /// An attribute of a class.
+    Attribute {
+        class: usize,
+        field: usize,
+        mode: Mode,
+    },
+    Set { set: usize },
+    /// F., L. or N. of a set, which its owner has.
+    OfSet { query: SetQuery, set: usize },
+    /// P., S. or M. of a set, which its members have.
+    OfMember { query: MemberQuery, set: usize },
+    /// A statistic; a MEAN has no fold.
+    Statistic {
+        fold: Option<Fold>,
+        statistic: usize,
+    },
+    Routine { routine: usize },
+    /// TIME.V
+    Clock,
+    /// TIME.A
+    NoticeTime,
 }

@@ -1,49 +1,70 @@
 //! The table of a program.
 
-ghost use Rattle.std.specs.Prelude.{◌≡◌, ◌<◌, [], length, slice_get, get_or, option_map, Some, IfOk};
-ghost use Rattle.std.specs.Map.{keys_of, values_of};
-ghost use Rattle.ss_names.specs.Entities.{classes as classes_said, sets as sets_said};
+ghost use Rattle.std.specs.Prelude.{◌≡◌, ◌<◌, length, map, slice_get, get_or, option_map, Some, [], IfOk};
+ghost use Rattle.std.specs.Map.{keys_of};
 ghost use Rattle.ss_names_declarations.specs.Firsts.{place_in, value_for};
-ghost use Rattle.ss_names.specs.Meanings.{meanings_in, numbered_names};
-ghost use Rattle.ss_names.specs.Notices.{notices as notices_said};
-ghost use Rattle.ss_names.specs.Histories.{histories as histories_said};
-ghost use Rattle.ss_names.specs.Table.{declared};
+ghost use Rattle.ss_names.specs.Modes.{value_mode};
+ghost use Rattle.ss_names.specs.Entries.{row_of};
+ghost use Rattle.ss_names.specs.Table.{declared, owner_of, owner_of_member, owner_of_set, owner_of_statistic, owner_of_subject, owner_or_system};
 
-use crate::classes::usual_mode;
-use crate::entry::{
-    Attribute, Class, EventSection, GlobalVariable, RoutineSection, Set, StatisticEntry,
-};
-use crate::histories::histories_of;
-use crate::keys::{RankedBy, TiedBy};
-use crate::making::beside;
-use crate::meaning::{GlobalMeaning, History};
-use crate::meanings::{Meanings, meanings_of};
-use crate::notices::{Notices, notices_of};
-use crate::numbers::{Numbers, numbers_of};
-use crate::sets::sets_in;
-use ss_base::Name;
-use ss_names_declarations::{Saying, Seed, Table, key_at, spelled_at, value_at};
-use ss_tree::preamble::Mode;
+use crate::entry::{Attribute, EventSection, RankedBy, RoutineSection, Set, TiedBy};
+use crate::filling::{empty, fill};
+use crate::meaning::Meaning;
+use crate::meanings::Meanings;
+use ss_base::{ClassKind, Line, Mode, Name, Owner, Spelling};
+use ss_names_declarations::{Declaration, Keys, Seed, Table};
+use ss_program::sections::Subject;
+use ss_tree::preamble::{Mode as ModeWord, Weighting};
 use std::alloc::{AllocError, Global};
 use std::marker::Model;
 
-// The lists of a table.
-#[derive(Drop)]
-struct Lists {
-    names: Meanings,
-    usual: Option<Mode>,
-    numbers: Box<Numbers>,
-    sets: Vec<Set>,
-    notices: Box<Notices>,
-    histories: Vec<History>,
+/// A global or a derived name, by its place in the table.
+#[derive(Clone, Copy, Debug, PartialEq, Eq)]
+pub struct NameId(pub usize);
+
+/// The mode of a value: REAL, which is refused, counts as INTEGER.
+pub fn value_mode(mode: ModeWord) -> Mode
+    ensures { result ≡ value_mode mode }
+{
+    match mode {
+        ModeWord::Integer => Mode::Integer,
+        ModeWord::Alpha => Mode::Alpha,
+        ModeWord::Real => Mode::Integer,
+    }
 }
 
-/// What a program declares. Each thing is numbered by its place in the order of the text, from 0.
+/// What a program declares. Each thing is numbered by its place in the order of the text, from 0. Of two
+/// declarations of a name the first counts.
 ///
-/// A contract sees a record of lists.
+/// A contract sees a record of lists (`Table`).
 #[derive(Drop)]
 pub struct Names {
-    lists: Box<Lists>,
+    /// Each global and derived name, with what it means.
+    pub meanings: Meanings,
+    /// The first line where a name is declared as two things.
+    pub clash: Option<Line>,
+    /// The mode that NORMALLY gives to every name that has none.
+    pub usual: Option<Mode>,
+    /// The modes that DEFINEs give.
+    pub modes: Table<Name, Mode>,
+    pub classes: Table<Name, ClassKind>,
+    pub attributes: Table<Name, Attribute>,
+    /// The attributes of each class.
+    pub fields: Vec<Vec<Name>>,
+    pub set_names: Keys<Name>,
+    pub sets: Vec<Set>,
+    /// The global variables, with their modes: those of DEFINE, the variable of each class, and N. of each permanent one.
+    pub variables: Table<Spelling, Mode>,
+    pub routines: Table<Name, RoutineSection>,
+    pub events: Table<Name, EventSection>,
+    /// The classes of notices in the order of rank: those of PRIORITY ORDER, then the others as declared.
+    pub ranks: Keys<usize>,
+    /// The subjects of TALLY and ACCUMULATE; each has a history.
+    pub histories: Table<Name, Weighting>,
+    /// What the subjects are; None for what has no history.
+    pub subjects: Vec<Option<Subject>>,
+    pub rank_keys: Vec<RankedBy>,
+    pub tie_keys: Vec<TiedBy>,
 }
 
 impl Model for Names {
@@ -51,78 +72,29 @@ impl Model for Names {
 
     ghost Value = { Table };
 
-    ghost view = { λ n. record { names = n.lists.value.names; usual = n.lists.value.usual; classes = n.lists.value.numbers.value.classes; attributes = n.lists.value.numbers.value.attributes; fields = n.lists.value.numbers.value.fields; set_names = n.lists.value.numbers.value.set_names; sets = n.lists.value.sets.items; variables = n.lists.value.numbers.value.variables; routines = n.lists.value.numbers.value.routines; events = n.lists.value.notices.value.events; ranks = n.lists.value.notices.value.ranks; statistics = n.lists.value.numbers.value.statistics; weighings = n.lists.value.numbers.value.weighings; histories = n.lists.value.histories.items; rank_keys = n.lists.value.notices.value.rank_keys; tie_keys = n.lists.value.notices.value.tie_keys } };
+    ghost use Rattle.ss_names.specs.View.{table_seen};
+
+    ghost view = { table_seen };
 }
 
-/// A global or a derived name, by its place in the table.
-#[derive(Clone, Copy, Debug, PartialEq, Eq)]
-pub struct NameId(pub usize);
-
-// The lists in which things are numbered, and the meanings of names.
-#[derive(Drop)]
-struct Named {
-    numbers: Box<Numbers>,
-    names: Meanings,
-}
-
-// The lists in which things are numbered, and the meanings of names, by these sayings.
-fn named_in(alloc: Global, seed: Seed, sayings: &[Saying]) -> Result<Named, AllocError>
-    ensures numbers { IfOk result (λ n. n.numbers.value ≡ numbered_names sayings.now) }
-    ensures names { IfOk result (λ n. n.names ≡ meanings_in (numbered_names sayings.now) sayings.now) }
+// THE SYSTEM, where no owner is known.
+fn owner_or_system(owner: Option<Owner>) -> Owner
+    ensures { result ≡ owner_or_system owner }
 {
-    let numbers = Box::new(alloc, numbers_of(alloc, seed, sayings)?)?;
-    let names = meanings_of(alloc, &numbers, sayings);
-    let (numbers, names) = beside(numbers, names)?;
-    Ok(Named { numbers, names })
+    match owner {
+        None => Owner::System,
+        Some(owner) => owner,
+    }
 }
 
-// The lists that follow from the numbers and the meanings: sets, notices and histories.
-#[derive(Drop)]
-struct Gathered {
-    sets: Vec<Set>,
-    notices: Box<Notices>,
-    histories: Vec<History>,
-}
-
-// The notices, by these classes.
-fn notices_in(
-    alloc: Global,
-    classes: &Table<Name, Class>,
-    sayings: &[Saying],
-) -> Result<Box<Notices>, AllocError>
-    requires { classes.now ≡ classes_said sayings.now }
-    ensures { IfOk result (λ n. n.value ≡ notices_said sayings.now) }
+// The row of this number, if there is one.
+fn row_at(rows: &[Vec<Name>], class: usize) -> &[Name]
+    ensures { result.now ≡ get_or (map row_of rows.now) class [] }
 {
-    Ok(Box::new(alloc, notices_of(alloc, classes, sayings)?)?)
-}
-
-// The sets, notices and histories, by these numbers and meanings.
-fn gathered_in(
-    alloc: Global,
-    numbers: &Numbers,
-    names: &Meanings,
-    sayings: &[Saying],
-) -> Result<Gathered, AllocError>
-    requires { numbers.now ≡ numbered_names sayings.now }
-    ensures sets { IfOk result (λ t. t.sets.items ≡ sets_said sayings.now) }
-    ensures notices { IfOk result (λ t. t.notices.value ≡ notices_said sayings.now) }
-    ensures histories { IfOk result (λ t. t.histories.items ≡ histories_said names.now sayings.now) }
-{
-    let sets = sets_in(
-        alloc,
-        &numbers.entities.classes,
-        &numbers.others.set_names,
-        sayings,
-    )?;
-    let notices = notices_in(alloc, &numbers.entities.classes, sayings);
-    let (sets, notices) = beside(sets, notices)?;
-    let histories = histories_of(alloc, names, &numbers.others.tellings.weighings);
-    let ((sets, notices), histories) = beside((sets, notices), histories)?;
-    Ok(Gathered {
-        sets,
-        notices,
-        histories,
-    })
+    match rows.get(class) {
+        Some(row) => row,
+        None => &[],
+    }
 }
 
 impl Names {
@@ -131,249 +103,125 @@ impl Names {
         let _released = self;
     }
 
-    /// The table of the program that these sayings are of, also of one that breaks rules: of two
-    /// declarations of a name the first counts. The seed is made from all names in the sayings.
+    /// The table of these declarations. The seed is made from all names in them.
     ///
     /// # Errors
     /// `AllocError` where memory is refused.
-    pub fn of(alloc: Global, seed: Seed, sayings: &[Saying]) -> Result<Names, AllocError>
-        ensures { IfOk result (λ n. n ≡ declared sayings.now) }
+    pub fn of(
+        alloc: Global,
+        seed: Seed,
+        declarations: &[Declaration],
+    ) -> Result<Names, AllocError>
+        ensures { IfOk result (λ n. n ≡ declared declarations.now) }
     {
-        let named = named_in(alloc, seed, sayings)?;
-        let gathered = gathered_in(alloc, &named.numbers, &named.names, sayings);
-        let (named, gathered) = beside(named, gathered)?;
-        let lists = Lists {
-            names: named.names,
-            usual: usual_mode(sayings),
-            numbers: named.numbers,
-            sets: gathered.sets,
-            notices: gathered.notices,
-            histories: gathered.histories,
-        };
-        Ok(Names {
-            lists: Box::new(alloc, lists)?,
-        })
+        let mut names = empty(alloc, seed);
+        fill(alloc, &mut names, declarations)?;
+        Ok(names)
     }
 
     /// The global or derived name of this spelling, in capitals. None where there is none.
     pub fn find(&self, spelling: &[u8]) -> Option<NameId>
-        ensures { option_map (λ id. id.0) result ≡ place_in self.now.names spelling.now }
+        ensures { option_map (λ id. id.0) result ≡ place_in self.now.meanings spelling.now }
     {
-        match self.lists.names.place(spelling) {
-            None => None,
-            Some(place) => Some(NameId(place)),
-        }
+        self.meanings.place(spelling).map(NameId)
     }
 
     /// How many global and derived names there are. Their places are the numbers below that.
     pub fn len(&self) -> usize
-        ensures { result ≡ length self.now.names }
+        ensures { result ≡ length self.now.meanings }
     {
-        self.lists.names.len()
+        self.meanings.len()
     }
 
     /// The spelling of a name, which is one of this table.
     pub fn name(&self, id: NameId) -> &[u8]
-        requires { id.0 < length self.now.names }
-        ensures { slice_get (keys_of self.now.names) id.0 ≡ Some result.now }
+        requires { id.0 < length self.now.meanings }
+        ensures { slice_get (keys_of self.now.meanings) id.0 ≡ Some result.now }
     {
-        self.lists.names.spelling(id.0)
+        self.meanings.spelling(id.0)
     }
 
-    /// The meaning of a name of this table. None if it is none of them.
-    pub fn meaning_of(&self, id: NameId) -> Option<GlobalMeaning>
-        ensures { result ≡ slice_get (values_of self.now.names) id.0 }
+    /// What a name means in the whole program. None if it is no global or derived name.
+    pub fn meaning(&self, name: &Name) -> Option<Meaning>
+        ensures { result ≡ value_for self.now.meanings name.now }
     {
-        self.lists.names.at(id.0)
+        self.meanings.meaning(&Spelling::of_name(name))
     }
 
-    /// The meaning of a name. None if it is no global or derived name.
-    pub fn meaning(&self, name: &Name) -> Option<GlobalMeaning>
-        ensures { result ≡ value_for self.now.names name.now }
-    {
-        self.lists.names.meaning(name)
-    }
-
-    /// The mode that NORMALLY gives to every name that has none.
-    pub fn usual_mode(&self) -> Option<Mode>
-        ensures { result ≡ self.now.usual }
-    {
-        self.lists.usual
-    }
-
-    /// How many classes there are.
-    pub fn classes(&self) -> usize
-        ensures { result ≡ length self.now.classes }
-    {
-        self.lists.numbers.entities.classes.len()
-    }
-
-    /// The class of this number.
-    pub fn class(&self, number: usize) -> Option<Class>
-        ensures { result ≡ slice_get (values_of self.now.classes) number }
-    {
-        value_at(&self.lists.numbers.entities.classes, number)
-    }
-
-    /// The name of the class of this number.
-    pub fn class_name(&self, number: usize) -> Option<Name>
-        ensures { result ≡ slice_get (keys_of self.now.classes) number }
-    {
-        key_at(&self.lists.numbers.entities.classes, number)
-    }
-
-    /// The attribute of this number.
-    pub fn attribute(&self, number: usize) -> Option<Attribute>
-        ensures { result ≡ slice_get (values_of self.now.attributes) number }
-    {
-        value_at(self.lists.numbers.entities.attributes.entries(), number)
-    }
-
-    /// The number of an attribute. None if the name is no attribute.
-    pub fn attribute_number(&self, name: &Name) -> Option<usize>
-        ensures { result ≡ place_in self.now.attributes name.now }
-    {
-        self.lists.numbers.entities.attributes.place(name)
-    }
-
-    /// The attributes of a class, in the order of the text. None if there is no such class.
-    pub fn fields(&self, class: usize) -> &[Name]
+    /// The attributes of a class, in the order of the text.
+    pub fn attributes_of(&self, class: usize) -> &[Name]
         ensures { result.now ≡ get_or self.now.fields class [] }
     {
-        self.lists.numbers.entities.attributes.fields(class)
+        row_at(&self.fields, class)
     }
 
-    /// How many sets there are.
-    pub fn sets(&self) -> usize
-        ensures { result ≡ length self.now.sets }
-    {
-        self.lists.sets.len()
-    }
-
-    /// The set of this number.
-    pub fn set(&self, number: usize) -> Option<Set>
+    /// The set of this number. None if there are not so many.
+    pub fn set_at(&self, number: usize) -> Option<Set>
         ensures { result ≡ slice_get self.now.sets number }
     {
-        self.lists.sets.get(number).copied()
+        self.sets.get(number).copied()
     }
 
-    /// The name of the set of this number.
-    pub fn set_name(&self, number: usize) -> Option<Name>
-        ensures { result ≡ slice_get self.now.set_names number }
+    // What the subject of this number is.
+    fn subject_at(&self, number: usize) -> Option<Option<Subject>>
+        ensures { result ≡ slice_get self.now.subjects number }
     {
-        self.lists
-            .numbers
-            .others
-            .set_names
-            .as_slice()
-            .get(number)
-            .copied()
+        self.subjects.get(number).copied()
     }
 
-    /// How many global variables there are: those of DEFINE, the variable of each class, and N. of each
-    /// permanent class.
-    pub fn variables(&self) -> usize
-        ensures { result ≡ length self.now.variables }
+    // The owner of a set.
+    fn owner_of_set(&self, set: usize) -> Owner
+        ensures { result ≡ owner_of_set (slice_get self.now.sets set) }
     {
-        self.lists.numbers.variables.len()
+        match self.set_at(set) {
+            None => Owner::System,
+            Some(set) => owner_or_system(set.owner),
+        }
     }
 
-    /// The global variable of this number.
-    pub fn variable(&self, number: usize) -> Option<GlobalVariable>
-        ensures { result ≡ slice_get (values_of self.now.variables) number }
+    // The class of the members of a set.
+    fn owner_of_member(&self, set: usize) -> Owner
+        ensures { result ≡ owner_of_member (slice_get self.now.sets set) }
     {
-        spelled_at(&self.lists.numbers.variables, number)
+        match self.set_at(set) {
+            None => Owner::System,
+            Some(set) => owner_or_system(set.member.map(Owner::Class)),
+        }
     }
 
-    /// How many routines there are.
-    pub fn routines(&self) -> usize
-        ensures { result ≡ length self.now.routines }
+    // Who has a subject.
+    fn owner_of_subject(&self, subject: Option<Subject>) -> Owner
+        ensures { result ≡ owner_of_subject self.now subject }
     {
-        self.lists.numbers.others.routines.len()
+        match subject {
+            None => Owner::System,
+            Some(Subject::OfVariable { .. }) => Owner::System,
+            Some(Subject::OfAttribute { class, .. }) => Owner::Class(class),
+            Some(Subject::OfCount { set }) => self.owner_of_set(set),
+        }
     }
 
-    /// The routine of this number.
-    pub fn routine(&self, number: usize) -> Option<RoutineSection>
-        ensures { result ≡ slice_get (values_of self.now.routines) number }
+    // Who has a statistic.
+    fn owner_of_statistic(&self, statistic: usize) -> Owner
+        ensures { result ≡ owner_of_statistic self.now (slice_get self.now.subjects statistic) }
     {
-        value_at(&self.lists.numbers.others.routines, number)
+        match self.subject_at(statistic) {
+            None => Owner::System,
+            Some(subject) => self.owner_of_subject(subject),
+        }
     }
 
-    /// The EVENT section of this name.
-    pub fn event(&self, name: &Name) -> Option<EventSection>
-        ensures { result ≡ value_for self.now.events name.now }
+    /// Who has what a name means: each entity of a class, or else THE SYSTEM.
+    pub fn owner_of(&self, meaning: Meaning) -> Owner
+        ensures { result ≡ owner_of self.now meaning }
     {
-        self.lists.notices.events.get(name).copied()
-    }
-
-    /// How many classes of notices there are.
-    pub fn ranks(&self) -> usize
-        ensures { result ≡ length self.now.ranks }
-    {
-        self.lists.notices.ranks.len()
-    }
-
-    /// The number of the class of notices at this place in the order of rank. The classes of PRIORITY ORDER
-    /// come first, in that order, then the others as declared.
-    pub fn ranked(&self, rank: usize) -> Option<usize>
-        ensures { result ≡ slice_get (values_of self.now.ranks) rank }
-    {
-        value_at(&self.lists.notices.ranks, rank)
-    }
-
-    /// The place of a class of notices in the order of rank.
-    pub fn rank(&self, class: &Name) -> Option<usize>
-        ensures { result ≡ place_in self.now.ranks class.now }
-    {
-        self.lists.notices.ranks.place(class)
-    }
-
-    /// How many statistics there are.
-    pub fn statistics(&self) -> usize
-        ensures { result ≡ length self.now.statistics }
-    {
-        self.lists.numbers.others.tellings.statistics.len()
-    }
-
-    /// The statistic of this number.
-    pub fn statistic(&self, number: usize) -> Option<StatisticEntry>
-        ensures { result ≡ slice_get (values_of self.now.statistics) number }
-    {
-        value_at(&self.lists.numbers.others.tellings.statistics, number)
-    }
-
-    /// How many histories there are: one for each subject of a TALLY or an ACCUMULATE.
-    pub fn histories(&self) -> usize
-        ensures { result ≡ length self.now.histories }
-    {
-        self.lists.histories.len()
-    }
-
-    /// The history of this number.
-    pub fn history(&self, number: usize) -> Option<History>
-        ensures { result ≡ slice_get self.now.histories number }
-    {
-        self.lists.histories.get(number).copied()
-    }
-
-    /// The number of the history of a name, if it is the subject of a TALLY or an ACCUMULATE.
-    pub fn history_of(&self, name: &Name) -> Option<usize>
-        ensures { result ≡ place_in self.now.weighings name.now }
-    {
-        self.lists.numbers.others.tellings.weighings.place(name)
-    }
-
-    /// The keys of ranked sets, in the order of the text, each with the number of its DEFINE.
-    pub fn rank_keys(&self) -> &[RankedBy]
-        ensures { result.now ≡ self.now.rank_keys }
-    {
-        &self.lists.notices.rank_keys
-    }
-
-    /// The keys for the ties of notices, in the order of the text, each with its class.
-    pub fn tie_keys(&self) -> &[TiedBy]
-        ensures { result.now ≡ self.now.tie_keys }
-    {
-        &self.lists.notices.tie_keys
+        match meaning {
+            Meaning::Attribute { class, .. } => Owner::Class(class),
+            Meaning::Set { set } => self.owner_of_set(set),
+            Meaning::OfSet { set, .. } => self.owner_of_set(set),
+            Meaning::OfMember { set, .. } => self.owner_of_member(set),
+            Meaning::Statistic { statistic, .. } => self.owner_of_statistic(statistic),
+            _ => Owner::System,
+        }
     }
 }

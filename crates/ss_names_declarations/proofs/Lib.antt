@@ -1,2 +1,3 @@
 mod Rows
+pub mod EarliestBreach
 pub mod Entries

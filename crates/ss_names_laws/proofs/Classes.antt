@@ -2,8 +2,8 @@
 use Rattle.std.proofs.Common.{◌≡◌, ℕ, ◌+◌, List, [], ◌∷◌, ◌++◌, map, inl, Some, refl, subst}
 use Rattle.std.specs.List.{AllByRecursion as Every, flat_map}
 use Rattle.ss_base.specs.declared.line.Line.{Line}
-use Rattle.ss_tree.specs.declared.preamble.ClassKind.{ClassKind}
-use Rattle.ss_tree.specs.declared.preamble.ClassKind.TheVariants as class_kinds
+use Rattle.ss_base.specs.declared.layout.ClassKind.{ClassKind}
+use Rattle.ss_base.specs.declared.layout.ClassKind.TheVariants as class_kinds
 use Rattle.ss_tree.specs.Tree.{ClauseTree, has, owns, belongs_to, OrderTree, fifo, lifo, ranked, PreambleTree, permanent_entities, temporary_entities, event_notices, every, normally, system_owns, define_variables, define_sets, priority_order, break_ties, statistics, DefinitionTree, SectionKindTree, main, routine, event, SectionTree, ProgramTree}
 use Rattle.ss_names_declarations.specs.declared.saying.Said.{Said}
 use Rattle.ss_names_declarations.specs.declared.saying.Said.TheVariants as said
@@ -79,7 +79,7 @@ order_belongs all line number (ranked keys) = images (rank_says line number) (λ
 preamble_belongs : (number : ℕ) (s : PreambleTree) → AllBelong (preamble_says number s) (preamble_says number s)
 preamble_belongs number (permanent_entities line) = tt
 preamble_belongs number (temporary_entities line) = tt
-preamble_belongs number (event_notices line names) = of_all (said_of_all line (said.Class class_kinds.EventNotice) names) line (said.Class class_kinds.EventNotice) names tt
+preamble_belongs number (event_notices line names) = of_all (said_of_all line (said.Class class_kinds.Notice) names) line (said.Class class_kinds.Notice) names tt
 preamble_belongs number (every line kind class clauses) =
     let all = saying_of_name line (said.Class kind) class ∷ flat_map (clause_says line class) clauses in
     (tt, pieces (clause_says line class) (λ (s : Saying). Belongs all s.said) clauses (all_of (λ c. AllBelong all (clause_says line class c)) (clause_belongs all line class (kind, inl (refl, refl))) clauses))

@@ -4,8 +4,8 @@ use Rattle.std.specs.Prelude.{slice_get, is_some, if◌then◌else◌}
 use Rattle.std.specs.List.{AllByRecursion as Every, flat_map, fold}
 use Rattle.std.specs.Map.{values_of}
 use Rattle.ss_base.specs.declared.line.Line.{Line}
-use Rattle.ss_tree.specs.declared.preamble.ClassKind.{ClassKind}
-use Rattle.ss_tree.specs.declared.preamble.ClassKind.TheVariants as class_kinds
+use Rattle.ss_base.specs.declared.layout.ClassKind.{ClassKind}
+use Rattle.ss_base.specs.declared.layout.ClassKind.TheVariants as class_kinds
 use Rattle.ss_tree.specs.declared.preamble.Mode.TheVariants as modes
 use Rattle.ss_names_declarations.specs.declared.saying.Said.{Said}
 use Rattle.ss_names_declarations.specs.declared.saying.Said.TheVariants as said
@@ -55,13 +55,13 @@ class_plain : (line : Line) (kind : ClassKind) (name : NameBytes) (o : Option �
 class_plain line kind name None = tt
 class_plain line class_kinds.Permanent name (Some n) = (inl (refl, λ x. x), (inr (inl (refl, λ x. x)), tt))
 class_plain line class_kinds.Temporary name (Some n) = (inl (refl, λ x. x), tt)
-class_plain line class_kinds.EventNotice name (Some n) = (inl (refl, λ x. x), tt)
+class_plain line class_kinds.Notice name (Some n) = (inl (refl, λ x. x), tt)
 
 class_differ : (kind : ClassKind) (name : NameBytes) (o : Option ℕ) → Pairwise Differ (class_variables kind name o)
 class_differ kind name None = tt
 class_differ class_kinds.Permanent name (Some n) = ((λ e. not_derived name (sym e), tt), (tt, tt))
 class_differ class_kinds.Temporary name (Some n) = (tt, tt)
-class_differ class_kinds.EventNotice name (Some n) = (tt, tt)
+class_differ class_kinds.Notice name (Some n) = (tt, tt)
 
 define_differ : (b : Bool) (name : NameBytes) (v : GlobalVariable) → Pairwise Differ (if b then [] else (name, v) ∷ [])
 define_differ true name v = tt

@@ -1,7 +1,7 @@
 -- A program that breaks no rule on declarations: all rules together.
 use Rattle.std.proofs.Common.{◌≡◌, true, false, List, [], ◌∷◌, ◌++◌, ◌⊎◌, Some, sym, ap, ◌∙◌}
 use Rattle.std.specs.List.{AllByRecursion as Every}
-use Rattle.ss_tree.specs.declared.preamble.ClassKind.{ClassKind}
+use Rattle.ss_base.specs.declared.layout.ClassKind.{ClassKind}
 use Rattle.ss_tree.specs.Tree.{SectionTree, ProgramTree, main}
 use Rattle.ss_names_declarations.specs.declared.saying.Said.TheVariants as said
 use Rattle.ss_names_declarations.specs.declared.saying.Saying.{Saying}

@@ -2,11 +2,11 @@
 use Rattle.std.proofs.Common.{◌≡◌, ℕ, Bool, true, false, cond, List, [], ◌∷◌, length, ◌⊎◌, ⊎_elim, inl, inr, Option, Some, None, refl, sym, ap, ◌∙◌, arith}
 use Rattle.std.specs.Prelude.{is_some, if◌then◌else◌}
 use Rattle.ss_base.specs.declared.line.Line.{Line}
-use Rattle.ss_tree.specs.declared.preamble.ClassKind.{ClassKind}
-use Rattle.ss_tree.specs.declared.preamble.ClassKind.TheVariants as class_kinds
+use Rattle.ss_base.specs.declared.layout.ClassKind.{ClassKind}
+use Rattle.ss_base.specs.declared.layout.ClassKind.TheVariants as class_kinds
 use Rattle.ss_tree.specs.declared.preamble.Mode.{Mode}
 use Rattle.ss_tree.specs.declared.preamble.Mode.TheVariants as modes
-use Rattle.ss_tree.specs.declared.preamble.Weighting.{Weighting}
+use Rattle.ss_base.specs.declared.words.Weighting.{Weighting}
 use Rattle.ss_names_declarations.specs.declared.saying.Said.{Said}
 use Rattle.ss_names_declarations.specs.declared.saying.Said.TheVariants as said
 use Rattle.ss_tree.specs.Names.{NameBytes}
@@ -114,7 +114,7 @@ class_variable_from class_kinds.Temporary n name (Some class) v h =
     let u : GlobalVariable = record { kind = OfClass class; mode = modes.Integer } in
     let e = only_entry n name u v h in
     inl (class, refl, e.0, ap (λ (x : GlobalVariable). x.kind) (sym e.1), ap (λ (x : GlobalVariable). x.mode) (sym e.1))
-class_variable_from class_kinds.EventNotice n name (Some class) v h =
+class_variable_from class_kinds.Notice n name (Some class) v h =
     let u : GlobalVariable = record { kind = OfClass class; mode = modes.Integer } in
     let e = only_entry n name u v h in
     inl (class, refl, e.0, ap (λ (x : GlobalVariable). x.kind) (sym e.1), ap (λ (x : GlobalVariable). x.mode) (sym e.1))
@@ -140,7 +140,7 @@ class_variable_here class_kinds.Permanent name (Some c) class h =
     let k : GlobalVariable = record { kind = CountOf c; mode = modes.Integer } in
     (u, first_entry name u ((count_name name, k) ∷ []))
 class_variable_here class_kinds.Temporary name (Some c) class h = let u : GlobalVariable = record { kind = OfClass c; mode = modes.Integer } in (u, first_entry name u [])
-class_variable_here class_kinds.EventNotice name (Some c) class h = let u : GlobalVariable = record { kind = OfClass c; mode = modes.Integer } in (u, first_entry name u [])
+class_variable_here class_kinds.Notice name (Some c) class h = let u : GlobalVariable = record { kind = OfClass c; mode = modes.Integer } in (u, first_entry name u [])
 
 -- no name is one of its own derived names
 pub not_derived : (name : NameBytes) → count_name name ≡ name → ⊥

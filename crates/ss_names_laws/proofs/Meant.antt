@@ -4,12 +4,12 @@ use Rattle.std.specs.Prelude.{option_map, is_some, if◌then◌else◌}
 use Rattle.std.specs.List.{AllByRecursion as Every, find, flat_map}
 use Rattle.std.proofs.lemmas.Bool.{both_ways}
 use Rattle.ss_base.specs.declared.line.Line.{Line}
-use Rattle.ss_tree.specs.declared.preamble.ClassKind.{ClassKind}
-use Rattle.ss_tree.specs.declared.preamble.ClassKind.TheVariants as class_kinds
+use Rattle.ss_base.specs.declared.layout.ClassKind.{ClassKind}
+use Rattle.ss_base.specs.declared.layout.ClassKind.TheVariants as class_kinds
 use Rattle.ss_tree.specs.declared.preamble.Mode.{Mode}
 use Rattle.ss_tree.specs.declared.preamble.Mode.TheVariants as modes
 use Rattle.ss_tree.specs.declared.preamble.StatisticKind.{StatisticKind}
-use Rattle.ss_tree.specs.declared.preamble.Weighting.{Weighting}
+use Rattle.ss_base.specs.declared.words.Weighting.{Weighting}
 use Rattle.ss_names_declarations.specs.declared.saying.Said.{Said}
 use Rattle.ss_names_declarations.specs.declared.saying.Said.TheVariants as said
 use Rattle.ss_names_declarations.specs.declared.saying.Saying.{Saying}
@@ -119,9 +119,9 @@ module _ (says : List Saying) (f : Facts says) where
       let c = class_place says f class_kinds.Temporary name h in
       let v = variable_place (said.Class class_kinds.Temporary) name name h (class_variable_here class_kinds.Temporary name (place_in (classes says) name) c.0 c.1) in
       ((meanings.Class c.0 v.0, if_here name (class_name_meaning (numbered_names says) name) (meanings.Class c.0 v.0) (two_placed meanings.Class (place_in (classes says) name) (place_in (variables says) name) c.0 v.0 c.1 v.1)), tt)
-  class_has_meaning line class_kinds.EventNotice name h =
-      let c = class_place says f class_kinds.EventNotice name h in
-      let v = variable_place (said.Class class_kinds.EventNotice) name name h (class_variable_here class_kinds.EventNotice name (place_in (classes says) name) c.0 c.1) in
+  class_has_meaning line class_kinds.Notice name h =
+      let c = class_place says f class_kinds.Notice name h in
+      let v = variable_place (said.Class class_kinds.Notice) name name h (class_variable_here class_kinds.Notice name (place_in (classes says) name) c.0 c.1) in
       ((meanings.Class c.0 v.0, if_here name (class_name_meaning (numbered_names says) name) (meanings.Class c.0 v.0) (two_placed meanings.Class (place_in (classes says) name) (place_in (variables says) name) c.0 v.0 c.1 v.1)), tt)
 
   set_has_meaning : (line : Line) (name : NameBytes) (o : Option ℕ) (k : ℕ) → o ≡ Some k → Every (λ (d : Declaration). (m : GlobalMeaning) × (value_for (set_meanings name o) d.name ≡ Some m)) (set_declares line name)

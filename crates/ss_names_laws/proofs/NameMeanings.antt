@@ -5,8 +5,8 @@ use Rattle.std.specs.Option.{option_or}
 use Rattle.std.specs.List.{AllByRecursion as Every, flat_map}
 use Rattle.std.proofs.lemmas.Bool.{both_ways, cases_Bool}
 use Rattle.ss_base.specs.declared.line.Line.{Line}
-use Rattle.ss_tree.specs.declared.preamble.ClassKind.{ClassKind}
-use Rattle.ss_tree.specs.declared.preamble.ClassKind.TheVariants as class_kinds
+use Rattle.ss_base.specs.declared.layout.ClassKind.{ClassKind}
+use Rattle.ss_base.specs.declared.layout.ClassKind.TheVariants as class_kinds
 use Rattle.ss_names_declarations.specs.declared.saying.Said.{Said}
 use Rattle.ss_names_declarations.specs.declared.saying.Said.TheVariants as said
 use Rattle.ss_names_declarations.specs.declared.saying.Saying.{Saying}
@@ -80,7 +80,7 @@ module _ (t : Numbered) (name : NameBytes) (m : GlobalMeaning) (line : Line) whe
       one_of_two None b e = inr e
       one_of_two (Some a) b e = inl e
   class_entry class_kinds.Temporary n h = let e = entry_where_some n name (class_name_meaning t n) m h in inl (sym e.0, ap (class_name_meaning t) e.0 ∙ e.1)
-  class_entry class_kinds.EventNotice n h = let e = entry_where_some n name (class_name_meaning t n) m h in inl (sym e.0, ap (class_name_meaning t) e.0 ∙ e.1)
+  class_entry class_kinds.Notice n h = let e = entry_where_some n name (class_name_meaning t n) m h in inl (sym e.0, ap (class_name_meaning t) e.0 ∙ e.1)
 
   -- a derived name of a set
   from_set : (d : Derived) (set : NameBytes) (n : ℕ) → place_among t.set_names set ≡ Some n → meanings.Derived d n ≡ m → Fits t standings.OfSet name m

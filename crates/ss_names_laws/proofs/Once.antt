@@ -4,8 +4,8 @@ use Rattle.std.specs.Prelude.{◌&&◌, if◌then◌else◌}
 use Rattle.std.specs.List.{AllByRecursion as Every}
 use Rattle.std.proofs.lemmas.Bool.{and_from, both_ways, cases_Bool}
 use Rattle.ss_base.specs.declared.line.Line.{Line}
-use Rattle.ss_tree.specs.declared.preamble.ClassKind.{ClassKind}
-use Rattle.ss_tree.specs.declared.preamble.ClassKind.TheVariants as class_kinds
+use Rattle.ss_base.specs.declared.layout.ClassKind.{ClassKind}
+use Rattle.ss_base.specs.declared.layout.ClassKind.TheVariants as class_kinds
 use Rattle.ss_names_declarations.specs.declared.saying.Said.{Said}
 use Rattle.ss_names_declarations.specs.declared.saying.Said.TheVariants as said
 use Rattle.ss_names_declarations.specs.declared.saying.Saying.{Saying}
@@ -95,7 +95,7 @@ module _ (says : List Saying) (agree : NamesDeclaredOnce says) where
   class_first : (line : Line) (kind : ClassKind) (name : NameBytes) → (ds : List Declaration) × (class_declares line kind name ≡ declaration line standings.Class name ∷ ds)
   class_first line class_kinds.Permanent name = (_, refl)
   class_first line class_kinds.Temporary name = ([], refl)
-  class_first line class_kinds.EventNotice name = ([], refl)
+  class_first line class_kinds.Notice name = ([], refl)
 
   class_clash : (s t : Saying) → TheyAgree s t → has_topic topics.Class s.said ≡ true → has_topic topics.Class t.said ≡ true → (name : NameBytes) → s.name ≡ Some name → t.name ≡ Some name → ⊥
   unfolding TheyAgree

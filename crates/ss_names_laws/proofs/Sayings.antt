@@ -4,8 +4,8 @@ use Rattle.std.specs.Option.{option_eq}
 use Rattle.std.specs.List.{find}
 use Rattle.std.specs.Cmp.Lexicographic.{pointwise}
 use Rattle.std.proofs.lemmas.Bool.{and_parts, and_from, eqb-true, eq-eqb}
-use Rattle.ss_tree.specs.declared.preamble.ClassKind.{ClassKind}
-use Rattle.ss_tree.specs.declared.preamble.ClassKind.TheVariants as class_kinds
+use Rattle.ss_base.specs.declared.layout.ClassKind.{ClassKind}
+use Rattle.ss_base.specs.declared.layout.ClassKind.TheVariants as class_kinds
 use Rattle.ss_tree.specs.declared.preamble.Mode.{Mode}
 use Rattle.ss_names_declarations.specs.declared.saying.Said.{Said}
 use Rattle.ss_names_declarations.specs.declared.saying.Said.TheVariants as said
@@ -61,8 +61,8 @@ who_says topic says thing h =
 
 -- ---- what a saying on a topic is
 
-pub of_notice : (w : Said) → has_topic topics.Notice w ≡ true → w ≡ said.Class class_kinds.EventNotice
-of_notice (said.Class class_kinds.EventNotice) h = refl
+pub of_notice : (w : Said) → has_topic topics.Notice w ≡ true → w ≡ said.Class class_kinds.Notice
+of_notice (said.Class class_kinds.Notice) h = refl
 of_notice _ h = absurd cc
 
 pub of_class : (w : Said) → has_topic topics.Class w ≡ true → (kind : ClassKind) × (w ≡ said.Class kind)
@@ -111,10 +111,10 @@ module _ (says : List Saying) where
   pub saying_of : (what : Said) (name : NameBytes) → Says says what name → (s : Saying) × ((s.said ≡ what) × (s.name ≡ Some name)) × Among says s
   saying_of what name h = pick (λ (t : Saying). (t.said ≡ what) × (t.name ≡ Some name)) says h
 
-  pub notice_said : (name : NameBytes) → Somewhere (IsOf topics.Notice (global_thing name)) says → Says says (said.Class class_kinds.EventNotice) name
+  pub notice_said : (name : NameBytes) → Somewhere (IsOf topics.Notice (global_thing name)) says → Says says (said.Class class_kinds.Notice) name
   notice_said name h =
       let p = pick (IsOf topics.Notice (global_thing name)) says h in
-      says_so p.0 (said.Class class_kinds.EventNotice) name p.2 (of_notice p.0.said p.1.0) (ap (λ t. t.1) p.1.1)
+      says_so p.0 (said.Class class_kinds.Notice) name p.2 (of_notice p.0.said p.1.0) (ap (λ t. t.1) p.1.1)
 
   pub owner_said : (name : NameBytes) → Somewhere (IsOf topics.Owner (global_thing name)) says → HasOwner says name
   owner_said name h =

@@ -2,7 +2,7 @@
 use Rattle.std.proofs.Common.{◌≡◌, ℕ, ◌+◌, List, [], ◌∷◌, map, Option, Some, None, refl}
 use Rattle.std.specs.List.{AllByRecursion as Every, flat_map}
 use Rattle.ss_base.specs.declared.line.Line.{Line}
-use Rattle.ss_tree.specs.declared.preamble.ClassKind.TheVariants as class_kinds
+use Rattle.ss_base.specs.declared.layout.ClassKind.TheVariants as class_kinds
 use Rattle.ss_tree.specs.Tree.{ClauseTree, has, owns, belongs_to, OrderTree, fifo, lifo, ranked, PreambleTree, permanent_entities, temporary_entities, event_notices, every, normally, system_owns, define_variables, define_sets, priority_order, break_ties, statistics, DefinitionTree, SectionKindTree, main, routine, event, SectionTree, ProgramTree}
 use Rattle.ss_names_declarations.specs.declared.saying.Said.{Said}
 use Rattle.ss_names_declarations.specs.declared.saying.Said.TheVariants as said
@@ -43,7 +43,7 @@ module _ (T : NameBytes → Type 0) (L : ℕ → Type 0) where
   preamble_well : (number : ℕ) (s : PreambleTree) → SubjectWell s → AllWell (preamble_says number s)
   preamble_well number (permanent_entities line) h = tt
   preamble_well number (temporary_entities line) h = tt
-  preamble_well number (event_notices line names) h = of_all line (said.Class class_kinds.EventNotice) names (λ n. tt)
+  preamble_well number (event_notices line names) h = of_all line (said.Class class_kinds.Notice) names (λ n. tt)
   preamble_well number (every line kind class clauses) h =
       (tt, pieces (clause_says line class) (λ (s : Saying). Well s.said s.name) clauses (all_of (λ c. AllWell (clause_says line class c)) (clause_well line class) clauses))
   preamble_well number (normally line mode) h = (refl, tt)

@@ -10,12 +10,12 @@ use Rattle.std.proofs.lemmas.List.FromFn.{get_or-map-range_with_len}
 use Rattle.std.proofs.lemmas.Option.{same_Some, slice_get-map}
 use Rattle.ss_base.specs.declared.layout.Owner.{Owner}
 use Rattle.ss_base.specs.declared.layout.Owner.TheVariants as owners
-use Rattle.ss_tree.specs.declared.preamble.ClassKind.{ClassKind}
-use Rattle.ss_tree.specs.declared.preamble.ClassKind.TheVariants as class_kinds
+use Rattle.ss_base.specs.declared.layout.ClassKind.{ClassKind}
+use Rattle.ss_base.specs.declared.layout.ClassKind.TheVariants as class_kinds
 use Rattle.ss_tree.specs.declared.preamble.Mode.{Mode}
 use Rattle.ss_tree.specs.declared.preamble.Mode.TheVariants as mode_words
 use Rattle.ss_tree.specs.declared.preamble.StatisticKind.{StatisticKind}
-use Rattle.ss_tree.specs.declared.preamble.Weighting.{Weighting}
+use Rattle.ss_base.specs.declared.words.Weighting.{Weighting}
 use Rattle.ss_names_declarations.specs.declared.saying.Said.{Said}
 use Rattle.ss_names_declarations.specs.declared.saying.Said.TheVariants as said
 use Rattle.ss_names_declarations.specs.declared.saying.Saying.{Saying}
@@ -103,7 +103,7 @@ module _ (says : List Saying) where
       (one_class name)
       (entry Numbered (count_name name) (count_meaning (numbered_names says) name) (count_numbered name (place_in (declared says).classes name) (place_in (declared says).variables (count_name name)) refl))
   classes_numbered class_kinds.Temporary name = one_class name
-  classes_numbered class_kinds.EventNotice name = one_class name
+  classes_numbered class_kinds.Notice name = one_class name
 
   set_there : (name : NameBytes) (i : ℕ) → place_among (set_names says) name ≡ Some i → (s : Set) × (slice_get (declared says).sets i ≡ Some s)
   set_there name i h =
@@ -234,7 +234,7 @@ IsClassMode (CountOf class) m = m ≡ mode_words.Integer
 variables_of_class : (kind : ClassKind) (name : NameBytes) (class : Option ℕ) → Entries (λ n (v : GlobalVariable). IsClassMode v.kind v.mode) (class_variables kind name class)
 variables_of_class class_kinds.Permanent name (Some class) = (refl, (refl, tt))
 variables_of_class class_kinds.Temporary name (Some class) = (refl, tt)
-variables_of_class class_kinds.EventNotice name (Some class) = (refl, tt)
+variables_of_class class_kinds.Notice name (Some class) = (refl, tt)
 variables_of_class kind name None = tt
 
 defined_unless : (b : Bool) (name : NameBytes) (mode : Mode) → Entries (λ n (v : GlobalVariable). IsClassMode v.kind v.mode) (if b then [] else (name, record { kind = Defined; mode = mode }) ∷ [])

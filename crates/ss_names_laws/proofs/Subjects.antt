@@ -9,7 +9,7 @@ use Rattle.std.proofs.lemmas.Option.{slice_get-map}
 use Rattle.ss_base.specs.declared.layout.Mode.TheVariants as values
 use Rattle.ss_tree.specs.declared.preamble.Mode.{Mode}
 use Rattle.ss_tree.specs.declared.preamble.Mode.TheVariants as modes
-use Rattle.ss_tree.specs.declared.preamble.Weighting.{Weighting}
+use Rattle.ss_base.specs.declared.words.Weighting.{Weighting}
 use Rattle.ss_tree.specs.Tree.{PreambleTree, ProgramTree}
 use Rattle.ss_tree.specs.Tree as trees
 use Rattle.ss_names_declarations.specs.declared.saying.Said.{Said}

@@ -6,7 +6,7 @@ use Rattle.std.proofs.lemmas.Bool.{eqb-true, ltb-false, not-false, or_parts}
 use Rattle.ss_base.specs.declared.line.Line.{Line}
 use Rattle.ss_base.specs.declared.layout.Mode.{Mode}
 use Rattle.ss_base.specs.declared.layout.Mode.TheVariants as modes
-use Rattle.ss_tree.specs.declared.preamble.ClassKind.TheVariants as class_kinds
+use Rattle.ss_base.specs.declared.layout.ClassKind.TheVariants as class_kinds
 use Rattle.ss_tree.specs.Tree.{PreambleTree, event_notices, every, statistics, SectionKindTree, main, routine, event, SectionTree, ProgramTree}
 use Rattle.ss_names_uses.specs.declared.mention.Mention.{Mention}
 use Rattle.ss_names_uses.specs.Mentions as mentioned
@@ -204,7 +204,7 @@ with_event ss line class h = named_section class ss (not-false (list_any (same_n
 
 declared_with_events : (ss : List SectionTree) (s : PreambleTree) → declares_eventless (lacks_event (event_names ss)) s ≡ [] → Every (λ class. Somewhere (IsEventSectionOf class) ss) (notices_in s)
 declared_with_events ss (event_notices line names) h = each (λ class. eventless line (lacks_event (event_names ss)) class ≡ []) (λ class. Somewhere (IsEventSectionOf class) ss) (with_event ss line) names (each_empty (eventless line (lacks_event (event_names ss))) names h)
-declared_with_events ss (every line class_kinds.EventNotice class clauses) h = (with_event ss line class h, tt)
+declared_with_events ss (every line class_kinds.Notice class clauses) h = (with_event ss line class h, tt)
 declared_with_events ss _ h = tt
 
 pub notices_have_events : (w : Whole) (p : ProgramTree) → KeepsUses w p → Every (λ class. Somewhere (IsEventSectionOf class) p.sections) (flat_map notices_in p.preamble)
@@ -248,9 +248,9 @@ counts_fit w p h =
 
 -- ---- EVENT sections
 
-notice_known : (o : Option Known) → not (if_known is_known_notice o) ≡ false → o ≡ Some (meanings.Class class_kinds.EventNotice)
+notice_known : (o : Option Known) → not (if_known is_known_notice o) ≡ false → o ≡ Some (meanings.Class class_kinds.Notice)
 notice_known None h = absurd cc
-notice_known (Some (meanings.Class class_kinds.EventNotice)) h = refl
+notice_known (Some (meanings.Class class_kinds.Notice)) h = refl
 notice_known (Some _) h = absurd cc
 
 event_fits : (w : Whole) (locals : Moded) (line : Line) (kind : SectionKindTree) → KeptMentions w locals (mentioned.in_kind line kind) → KeptDemands w locals (demanded.in_kind line kind) → EventFits w kind

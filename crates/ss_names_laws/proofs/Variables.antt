@@ -5,8 +5,8 @@ use Rattle.std.specs.Option.{option_or}
 use Rattle.std.specs.List.{IsDistinct, flat_map}
 use Rattle.std.specs.Map.{keys_of, values_of}
 use Rattle.ss_base.specs.declared.line.Line.{Line}
-use Rattle.ss_tree.specs.declared.preamble.ClassKind.{ClassKind}
-use Rattle.ss_tree.specs.declared.preamble.ClassKind.TheVariants as class_kinds
+use Rattle.ss_base.specs.declared.layout.ClassKind.{ClassKind}
+use Rattle.ss_base.specs.declared.layout.ClassKind.TheVariants as class_kinds
 use Rattle.ss_tree.specs.declared.preamble.Mode.{Mode}
 use Rattle.ss_tree.specs.declared.preamble.Mode.TheVariants as modes
 use Rattle.ss_names_declarations.specs.declared.saying.Said.{Said}
@@ -48,12 +48,12 @@ class_entry_first class_kinds.Permanent name says m h =
     value_append (entry_if name (class_name_meaning (numbered_names says) name)) (entry_if (count_name name) (count_meaning (numbered_names says) name)) name
     ∙ ap (λ o. option_or o (value_for (entry_if (count_name name) (count_meaning (numbered_names says) name)) name)) (if_here name (class_name_meaning (numbered_names says) name) m h)
 class_entry_first class_kinds.Temporary name says m h = if_here name (class_name_meaning (numbered_names says) name) m h
-class_entry_first class_kinds.EventNotice name says m h = if_here name (class_name_meaning (numbered_names says) name) m h
+class_entry_first class_kinds.Notice name says m h = if_here name (class_name_meaning (numbered_names says) name) m h
 
 class_declares_it : (kind : ClassKind) (name : NameBytes) (line : Line) → Somewhere (λ (d : Declaration). (d.name ≡ name) × (d.standing ≡ standings.Class)) (class_declares line kind name)
 class_declares_it class_kinds.Permanent name line = inl (refl, refl)
 class_declares_it class_kinds.Temporary name line = inl (refl, refl)
-class_declares_it class_kinds.EventNotice name line = inl (refl, refl)
+class_declares_it class_kinds.Notice name line = inl (refl, refl)
 
 both_placed : (of : ℕ → ℕ → GlobalMeaning) (a b : Option ℕ) (n k : ℕ) → a ≡ Some n → b ≡ Some k → class_meaning of a b ≡ Some (of n k)
 both_placed of a b n k h g = λ i. class_meaning of (h i) (g i)

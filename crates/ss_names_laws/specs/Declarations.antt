@@ -1,11 +1,11 @@
 -- What holds of the sayings of a program that breaks none of the rules 51 to 60.
 use Rattle.std.specs.Prelude.{◌≡◌, ◌≢◌, ℕ, ◌+◌, ◌≤◌, Bool, true, false, List, [], ◌∷◌, ◌++◌, length, ◌⊎◌, Option, Some, None}
 use Rattle.std.specs.List.{AllByRecursion as Every, count_by}
-use Rattle.ss_tree.specs.declared.preamble.ClassKind.{ClassKind}
-use Rattle.ss_tree.specs.declared.preamble.ClassKind.TheVariants as class_kinds
+use Rattle.ss_base.specs.declared.layout.ClassKind.{ClassKind}
+use Rattle.ss_base.specs.declared.layout.ClassKind.TheVariants as class_kinds
 use Rattle.ss_tree.specs.declared.preamble.Mode.{Mode}
 use Rattle.ss_tree.specs.declared.preamble.StatisticKind.{StatisticKind}
-use Rattle.ss_tree.specs.declared.preamble.Weighting.{Weighting}
+use Rattle.ss_base.specs.declared.words.Weighting.{Weighting}
 use Rattle.ss_tree.specs.Tree.{SectionTree, ProgramTree, main}
 use Rattle.ss_names_uses.specs.declared.mention.Mentioned.TheVariants.{Name}
 use Rattle.ss_names_uses.specs.declared.mention.Mention.{Mention}
@@ -165,8 +165,8 @@ HasMembers says set = (class : NameBytes) × Says says (said.MemberSet class) se
 -- names that are used are declared
 pub record ThingsAreThere (says : List Saying) : Type 0 where
   -- PRIORITY ORDER and BREAK name classes of notices
-  pub priorities : (name : NameBytes) → Says says said.Priority name → Says says (said.Class class_kinds.EventNotice) name
-  pub ties : (name : NameBytes) → Says says said.Ties name → Says says (said.Class class_kinds.EventNotice) name
+  pub priorities : (name : NameBytes) → Says says said.Priority name → Says says (said.Class class_kinds.Notice) name
+  pub ties : (name : NameBytes) → Says says said.Ties name → Says says (said.Class class_kinds.Notice) name
   -- a DEFINE as a set names one; each set has an owner and a class of members
   pub disciplines : (statement : ℕ) (rule : SetRule) (set : NameBytes) → Says says (said.Discipline statement rule) set → HasOwner says set
   pub owners : (set : NameBytes) → HasMembers says set → HasOwner says set

@@ -3,7 +3,7 @@ use Rattle.std.specs.Prelude.{◌≡◌, ℕ, ◌+◌, ◌==◌, ◌<◌, ◌≤
 use Rattle.std.specs.List.{AllByRecursion as Every, filter}
 use Rattle.std.specs.Map.{keys_of, values_of}
 use Rattle.ss_base.specs.declared.layout.Owner.{Owner}
-use Rattle.ss_tree.specs.declared.preamble.ClassKind.TheVariants.{Permanent}
+use Rattle.ss_base.specs.declared.layout.ClassKind.TheVariants.{Permanent}
 use Rattle.ss_tree.specs.declared.preamble.Mode.{Mode}
 use Rattle.ss_tree.specs.declared.preamble.Mode.TheVariants as modes
 use Rattle.ss_tree.specs.Tree.{ProgramTree}

@@ -3,8 +3,8 @@ use Rattle.std.specs.Prelude.{◌≡◌, ℕ, ◌≤◌, Bool, true, false, List
 use Rattle.std.specs.List.{AllByRecursion as Every, flat_map}
 use Rattle.ss_base.specs.declared.layout.Mode.{Mode}
 use Rattle.ss_base.specs.declared.layout.Mode.TheVariants as modes
-use Rattle.ss_tree.specs.declared.preamble.ClassKind.{ClassKind}
-use Rattle.ss_tree.specs.declared.preamble.ClassKind.TheVariants as class_kinds
+use Rattle.ss_base.specs.declared.layout.ClassKind.{ClassKind}
+use Rattle.ss_base.specs.declared.layout.ClassKind.TheVariants as class_kinds
 use Rattle.ss_tree.specs.Tree.{PreambleTree, event_notices, every, statistics, SectionKindTree, main, routine, event, SectionTree, ProgramTree}
 use Rattle.ss_names_uses.specs.declared.mention.Mention.{Mention}
 use Rattle.ss_tree.specs.Names.{NameBytes}
@@ -49,7 +49,7 @@ MainIsThere = (w : Whole) (p : ProgramTree) → KeepsUses w p → Somewhere (λ 
 
 -- the class of notices that an EVERY declares, if it is one
 abbrev pub notice_named : ClassKind → NameBytes → List NameBytes
-notice_named class_kinds.EventNotice class = class ∷ []
+notice_named class_kinds.Notice class = class ∷ []
 notice_named _ class = []
 
 -- the classes of notices that a statement of the preamble declares
@@ -94,7 +94,7 @@ abbrev pub EventFits : Whole → SectionKindTree → Type 0
 EventFits w main = Unit
 EventFits w (routine name given yielding) = Unit
 EventFits w (event name given saving) =
-    (w.meanings name ≡ Some (meanings.Class class_kinds.EventNotice)) ×
+    (w.meanings name ≡ Some (meanings.Class class_kinds.Notice)) ×
     ((modes : List Mode) → w.attributes name ≡ Some modes → length given ≤ length modes)
 
 abbrev pub EventsFit : Type 0

@@ -1,28 +1,16 @@
 -- Resolved conditions: each name is replaced by what it means.
-use Rattle.std.specs.Prelude.{List, Option, Some, None}
-use Rattle.ss_tree.specs.declared.condition.Relation.{Relation as RelationWord}
-use Rattle.ss_tree.specs.declared.condition.Relation.TheVariants as words
+use Rattle.std.specs.Prelude.{List, Option, Some}
 use Rattle.ss_tree.specs.Tree.{TestTree, compare, empty, member, data_ended, ConditionTree}
-use Rattle.ss_program.specs.declared.condition.Relation.{Relation}
-use Rattle.ss_program.specs.declared.condition.Relation.TheVariants.{Equal, NotEqual, Less, Greater, LessOrEqual, GreaterOrEqual}
 use Rattle.ss_program.specs.Program.{Test, Compare, DataEnded, Empty, Member, Condition}
 use Rattle.ss_names_meaning.specs.Answers.{◌>>=◌, each}
-use Rattle.ss_names_meaning.specs.Contexts.{Context}
+use Rattle.ss_names_scopes.specs.Scopes.{Scope}
 use Rattle.ss_names_meaning.specs.Expressions.{expression, set_named}
 
-abbrev pub resolved_relation : RelationWord → Relation
-resolved_relation words.Equal = Equal
-resolved_relation words.NotEqual = NotEqual
-resolved_relation words.Less = Less
-resolved_relation words.Greater = Greater
-resolved_relation words.LessOrEqual = LessOrEqual
-resolved_relation words.GreaterOrEqual = GreaterOrEqual
-
-unfoldable pub one_test : Context → TestTree → Option Test
+unfoldable pub one_test : Scope → TestTree → Option Test
 one_test c (compare left relation right) = do
   x ← expression c left
   y ← expression c right
-  Some (Compare (resolved_relation relation) x y)
+  Some (Compare relation x y)
 one_test c (empty set negated) = do
   s ← set_named c set
   Some (Empty negated s.0 s.1)
@@ -33,9 +21,9 @@ one_test c (member e set negated) = do
 one_test c (data_ended negated) = Some (DataEnded negated)
 
 -- tests joined by AND
-abbrev pub conjunction : Context → List TestTree → Option (List Test)
+abbrev pub conjunction : Scope → List TestTree → Option (List Test)
 conjunction c tests = each (one_test c) tests
 
 -- conjunctions joined by OR
-abbrev pub condition : Context → ConditionTree → Option Condition
+abbrev pub condition : Scope → ConditionTree → Option Condition
 condition c alternatives = each (conjunction c) alternatives

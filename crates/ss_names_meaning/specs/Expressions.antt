@@ -1,89 +1,130 @@
 -- Resolved expressions, targets and sets: each name is replaced by what it means.
-use Rattle.std.specs.Prelude.{ℕ, List, [], ◌∷◌, option_map, Option, Some, None}
+use Rattle.std.specs.Prelude.{ℕ, option_map, Option, Some, None}
 use Rattle.ss_base.specs.declared.value.Value.TheVariants.{Whole, Text}
-use Rattle.ss_tree.specs.declared.expression.Sign.{Sign as SignWord}
-use Rattle.ss_tree.specs.declared.expression.Sign.TheVariants as signs
 use Rattle.ss_tree.specs.declared.expression.Function.TheVariants.{Div, Mod, Abs, Min, Max}
 use Rattle.ss_tree.specs.Tree.{ExpressionTree, number, text, named, call, parenthesised, product, signed, sum, ExpressionRow, no_expression, and_expression, TermRow, no_term, and_term, NamedTree}
 use Rattle.ss_program.specs.declared.expression.Variable.{Variable}
 use Rattle.ss_program.specs.declared.expression.Variable.TheVariants.{Global}
-use Rattle.ss_program.specs.declared.expression.Sign.{Sign}
-use Rattle.ss_program.specs.declared.expression.Sign.TheVariants.{Plus, Minus}
+use Rattle.ss_base.specs.declared.words.Sign.{Sign}
+use Rattle.ss_base.specs.declared.words.Sign.TheVariants.{Plus, Minus}
 use Rattle.ss_program.specs.declared.expression.Operator.{Operator}
 use Rattle.ss_program.specs.declared.expression.Operator.TheVariants.{Add, Subtract, Multiply, Quotient, Remainder, Least, Greatest}
-use Rattle.ss_program.specs.Program.{Expression, Constant, Fetch, Attribute, OfSystemSet, OfSet, OfMember, Clock, TimeOf, Figure, FigureOf, Signed, Absolute, Calculate, Item, AValue, AMean, AMeanOf, SetOwner, TheSystem, Entity, Place, ToVariable, ToAttribute, ToCount, Target, Restart}
-use Rattle.ss_names_meaning.specs.declared.meaning.Meaning.{Meaning}
-use Rattle.ss_names_meaning.specs.declared.meaning.Meaning.TheVariants as meanings
-use Rattle.ss_names_meaning.specs.declared.meaning.SetMeant.{SetMeant}
-use Rattle.ss_names_meaning.specs.declared.meaning.SetMeant.TheVariants.{OfSystem, OfEntity}
+use Rattle.ss_program.specs.Program.{Expression, Constant, Fetch, Attribute, OfSystemSet, OfSet, OfMember, Clock, TimeOf, Figure, FigureOf, Signed, Absolute, Calculate, Item, AValue, AMean, AMeanOf, SetOwner, TheSystem, Entity, Place, ToVariable, ToAttribute, ToCount}
+use Rattle.ss_base.specs.declared.layout.Owner.{Owner}
+use Rattle.ss_base.specs.declared.layout.Owner.TheVariants as owners
+use Rattle.ss_tree.specs.declared.expression.Designator.{Designator}
+use Rattle.ss_tree.specs.declared.expression.Designator.TheVariants as designators
+use Rattle.ss_names_declarations.specs.Firsts.{value_for}
+use Rattle.ss_names.specs.declared.meaning.Meaning.{Meaning}
+use Rattle.ss_names.specs.declared.meaning.Meaning.TheVariants as meanings
+use Rattle.ss_names.specs.Table.{owner_of}
+use Rattle.ss_names_scopes.specs.Scopes.{Scope, meaning, meaning_of_class, variable_of}
 use Rattle.ss_names_meaning.specs.Answers.{◌>>=◌}
-use Rattle.ss_names_meaning.specs.Contexts.{Context}
 
 -- ---- words
 
-abbrev pub resolved_sign : SignWord → Sign
-resolved_sign signs.Plus = Plus
-resolved_sign signs.Minus = Minus
-
 -- the operator before a further term of a sum
-abbrev pub resolved_operator : SignWord → Operator
-resolved_operator signs.Plus = Add
-resolved_operator signs.Minus = Subtract
+abbrev pub resolved_operator : Sign → Operator
+resolved_operator Plus = Add
+resolved_operator Minus = Subtract
 
 -- ---- names by what they mean
 
--- the entity: that of the subscript, or else the one in the variable that is implied
-abbrev pub entity_of : Variable → Option Expression → Expression
-entity_of implied None = Fetch implied
-entity_of implied (Some e) = e
+-- the entity in a variable
+abbrev pub fetched : Option Variable → Option Expression
+fetched None = None
+fetched (Some x) = Some (Fetch x)
 
--- something that takes no subscript
-abbrev pub without_subscript : {A : Type 0} → Option Expression → A → Option A
-without_subscript None x = Some x
-without_subscript (Some e) x = None
+-- the entity in the variable of a class
+abbrev pub entity_implied : Scope → ℕ → Option Expression
+entity_implied s class = do
+  m ← meaning_of_class s class
+  fetched (variable_of m)
 
--- TIME.A, which takes a subscript
-abbrev pub resolved_time : Option Expression → Option Expression
-resolved_time None = None
-resolved_time (Some e) = Some (TimeOf e)
+-- of each entity of a class: the one in the subscript, or else the one in the variable of the class
+abbrev pub of_class : Scope → ℕ → Option Expression → Option (Option Expression)
+of_class s class (Some e) = Some (Some e)
+of_class s class None = do
+  e ← entity_implied s class
+  Some (Some e)
 
--- the value of what is named, with the subscript if there is one
+-- of THE SYSTEM: none, and no subscript
+abbrev pub of_system : Option Expression → Option (Option Expression)
+of_system None = Some None
+of_system (Some e) = None
+
+abbrev pub of_owner : Scope → Owner → Option Expression → Option (Option Expression)
+of_owner s owners.System e = of_system e
+of_owner s (owners.Class class) e = of_class s class e
+
+-- the entity that has what a name means, by the subscript if there is one; None for what no entity has. TIME.A takes its
+-- subscript.
+abbrev pub entity_of : Scope → Meaning → Option Expression → Option (Option Expression)
+entity_of s meanings.NoticeTime e = Some e
+entity_of s meaning e = of_owner s (owner_of s.table meaning) e
+
+-- the value of what an entity has; a mean is no value
+abbrev pub value_of_entity : Meaning → Expression → Option Expression
+value_of_entity (meanings.Attribute class field mode) e = Some (Attribute class field e)
+value_of_entity (meanings.OfSet query set) e = Some (OfSet query set e)
+value_of_entity (meanings.OfMember query set) e = Some (OfMember query set e)
+value_of_entity (meanings.Statistic (Some fold) statistic) e = Some (FigureOf fold statistic e)
+value_of_entity meanings.NoticeTime e = Some (TimeOf e)
+value_of_entity _ e = None
+
+-- the value of what there is one of
+abbrev pub value_alone : Meaning → Option Expression
+value_alone (meanings.Variable x mode) = Some (Fetch x)
+value_alone (meanings.Class class kind variable) = Some (Fetch (Global variable))
+value_alone (meanings.Count n) = Some (Fetch (Global n.variable))
+value_alone (meanings.OfSet query set) = Some (OfSystemSet query set)
+value_alone (meanings.Statistic (Some fold) statistic) = Some (Figure fold statistic)
+value_alone meanings.Clock = Some Clock
+value_alone _ = None
+
+-- the value of what a name means, of the entity that has it
 abbrev pub resolved_value : Meaning → Option Expression → Option Expression
-resolved_value (meanings.Variable x mode) e = without_subscript e (Fetch x)
-resolved_value (meanings.Count n) e = without_subscript e (Fetch (Global n.variable))
-resolved_value (meanings.Attribute class field mode implied) e = Some (Attribute class field (entity_of implied e))
-resolved_value (meanings.OfSystemSet query set) e = without_subscript e (OfSystemSet query set)
-resolved_value (meanings.OfSet query set implied) e = Some (OfSet query set (entity_of implied e))
-resolved_value (meanings.OfMember query set implied) e = Some (OfMember query set (entity_of implied e))
-resolved_value (meanings.Figure fold statistic) e = without_subscript e (Figure fold statistic)
-resolved_value (meanings.FigureOf fold statistic implied) e = Some (FigureOf fold statistic (entity_of implied e))
-resolved_value meanings.Clock e = without_subscript e Clock
-resolved_value meanings.NoticeTime e = resolved_time e
--- a mean is no value
-resolved_value (meanings.Mean statistic) e = None
-resolved_value (meanings.MeanOf statistic implied) e = None
+resolved_value meaning (Some e) = value_of_entity meaning e
+resolved_value meaning None = value_alone meaning
 
--- what PRINT shows of a name, with the subscript if there is one
+-- what PRINT shows of it
 abbrev pub resolved_item : Meaning → Option Expression → Option Item
-resolved_item (meanings.Mean statistic) e = without_subscript e (AMean statistic)
-resolved_item (meanings.MeanOf statistic implied) e = Some (AMeanOf statistic (entity_of implied e))
+resolved_item (meanings.Statistic None statistic) None = Some (AMean statistic)
+resolved_item (meanings.Statistic None statistic) (Some e) = Some (AMeanOf statistic e)
 resolved_item meaning e = option_map AValue (resolved_value meaning e)
 
--- a target: a variable, an attribute or N. of a class
+-- a target: a variable, N. of a class or an attribute
 abbrev pub place_of : Meaning → Option Expression → Option Place
-place_of (meanings.Variable x mode) e = without_subscript e (ToVariable x)
-place_of (meanings.Count n) e = without_subscript e (ToCount n)
-place_of (meanings.Attribute class field mode implied) e = Some (ToAttribute class field (entity_of implied e))
-place_of _ e = None
+place_of (meanings.Variable x mode) None = Some (ToVariable x)
+place_of (meanings.Class class kind variable) None = Some (ToVariable (Global variable))
+place_of (meanings.Count n) None = Some (ToCount n)
+place_of (meanings.Attribute class field mode) (Some e) = Some (ToAttribute class field e)
+place_of _ _ = None
 
--- a set and its owner
-abbrev pub resolved_set : SetMeant → Option Expression → Option (ℕ × SetOwner)
-resolved_set (OfSystem set) e = without_subscript e (set, TheSystem)
-resolved_set (OfEntity set implied) e = Some (set, Entity (entity_of implied e))
+-- the owner of a set
+abbrev pub owner_named : Option Expression → SetOwner
+owner_named None = TheSystem
+owner_named (Some e) = Entity e
+
+-- the number of a set, which nothing hides
+abbrev pub set_number : Option Meaning → Option ℕ
+set_number (Some (meanings.Set set)) = Some set
+set_number _ = None
+
+abbrev pub set_of_name : Scope → Designator → Option ℕ
+set_of_name s (designators.Name name) = set_number (value_for s.table.meanings name)
+set_of_name s _ = None
+
+-- what is named, and the entity that has it, by the subscript if there is one
+abbrev pub with_entity : Scope → Designator → Option Expression → Option (Meaning × Option Expression)
+with_entity s place e = do
+  m ← meaning s place
+  of ← entity_of s m e
+  Some (m, of)
 
 -- ---- expressions
 
-module _ (c : Context) where
+module _ (s : Scope) where
   unfoldable mutual
     -- parentheses are left out; sums and products are worked off from left to right
     pub expression : ExpressionTree → Option Expression
@@ -91,8 +132,8 @@ module _ (c : Context) where
     expression (text t) = Some (Constant (Text t))
     expression (named designator subscripts) = do
       e ← subscript subscripts
-      meaning ← c.meaning designator
-      resolved_value meaning e
+      p ← with_entity s designator e
+      resolved_value p.0 p.1
     expression (call Abs arguments) = do
       e ← one arguments
       Some (Absolute e)
@@ -114,7 +155,7 @@ module _ (c : Context) where
       factors left further
     expression (signed sign term) = do
       e ← expression term
-      Some (Signed (resolved_sign sign) e)
+      Some (Signed sign e)
     expression (sum first further) = do
       left ← expression first
       terms left further
@@ -154,25 +195,30 @@ module _ (c : Context) where
       x ← expression e
       terms (Calculate (resolved_operator sign) left x) es
 
+  -- what is named, with its subscripts, and the entity that has it
+  abbrev pub place_named : Designator → ExpressionRow → Option (Meaning × Option Expression)
+  place_named place subscripts = do
+    e ← subscript subscripts
+    with_entity s place e
+
   -- an item of PRINT: a mean if one is named alone, in any parentheses, and else a value
   abbrev pub item : ExpressionTree → Option Item
   item (parenthesised e) = item e
   item (named designator subscripts) = do
-    e ← subscript subscripts
-    meaning ← c.meaning designator
-    resolved_item meaning e
+    p ← place_named designator subscripts
+    resolved_item p.0 p.1
   item e = option_map AValue (expression e)
 
   -- a target
   abbrev pub target : NamedTree → Option Place
   target n = do
-    e ← subscript n.subscripts
-    meaning ← c.meaning n.designator
-    place_of meaning e
+    p ← place_named n.designator n.subscripts
+    place_of p.0 p.1
 
   -- a set and its owner
   abbrev pub set_named : NamedTree → Option (ℕ × SetOwner)
   set_named n = do
+    set ← set_of_name s n.designator
     e ← subscript n.subscripts
-    set ← c.set n.designator
-    resolved_set set e
+    of ← entity_of s (meanings.Set set) e
+    Some (set, owner_named of)

@@ -1,48 +1,27 @@
 -- Resolved heads of loops: each name is replaced by what it means.
 use Rattle.std.specs.Prelude.{List, Option, Some, None}
-use Rattle.ss_tree.specs.declared.expression.Designator.TheVariants.{Name}
-use Rattle.ss_tree.specs.declared.head.PhraseKind.{PhraseKind as PhraseWord}
-use Rattle.ss_tree.specs.declared.head.PhraseKind.TheVariants as phrase_words
-use Rattle.ss_tree.specs.declared.head.GuardKind.{GuardKind as GuardWord}
-use Rattle.ss_tree.specs.declared.head.GuardKind.TheVariants as guard_words
 use Rattle.ss_tree.specs.Tree.{PhraseTree, GuardTree, StartTree, from_end, from_member, after_member, HeadTree, over_range, over_members, over_class}
 use Rattle.ss_tree.specs.Names.{NameBytes}
 use Rattle.ss_program.specs.declared.expression.Variable.{Variable}
-use Rattle.ss_program.specs.declared.head.PhraseKind.{PhraseKind}
-use Rattle.ss_program.specs.declared.head.PhraseKind.TheVariants as phrase_kinds
-use Rattle.ss_program.specs.declared.head.GuardKind.{GuardKind}
-use Rattle.ss_program.specs.declared.head.GuardKind.TheVariants as guard_kinds
 use Rattle.ss_program.specs.Program.{Start, AtEnd, From, After, Head, Numbers, Members, Each, Phrase, Guard}
-use Rattle.ss_names_meaning.specs.declared.meaning.Meaning.{Meaning}
-use Rattle.ss_names_meaning.specs.declared.meaning.Meaning.TheVariants as meanings
+use Rattle.ss_names_uses.specs.declared.used.ClassNeed.TheVariants as needs
+use Rattle.ss_names_scopes.specs.Scopes.{Scope}
+use Rattle.ss_names_meaning.specs.Classes.{class_named, variable_named}
 use Rattle.ss_names_meaning.specs.Answers.{◌>>=◌, each, if_there}
-use Rattle.ss_names_meaning.specs.Contexts.{Context, permanent_class}
 use Rattle.ss_names_meaning.specs.Expressions.{expression, set_named}
 use Rattle.ss_names_meaning.specs.Conditions.{condition}
 
--- ---- words
-
-abbrev pub phrase_kind_of : PhraseWord → PhraseKind
-phrase_kind_of phrase_words.With = phrase_kinds.With
-phrase_kind_of phrase_words.Unless = phrase_kinds.Unless
-phrase_kind_of phrase_words.While = phrase_kinds.While
-phrase_kind_of phrase_words.Until = phrase_kinds.Until
-
-abbrev pub guard_kind_of : GuardWord → GuardKind
-guard_kind_of guard_words.While = guard_kinds.While
-guard_kind_of guard_words.Until = guard_kinds.Until
-
 -- ---- conditions of loops
 
-abbrev pub resolved_phrase : Context → PhraseTree → Option Phrase
+abbrev pub resolved_phrase : Scope → PhraseTree → Option Phrase
 resolved_phrase c p = do
   tests ← condition c p.condition
-  Some (record { kind = phrase_kind_of p.kind; condition = tests })
+  Some (record { kind = p.kind; condition = tests })
 
-abbrev pub guard : Context → GuardTree → Option Guard
+abbrev pub guard : Scope → GuardTree → Option Guard
 guard c g = do
   tests ← condition c g.condition
-  Some (record { kind = guard_kind_of g.kind; condition = tests })
+  Some (record { kind = g.kind; condition = tests })
 
 -- the phrases of a FOR
 abbrev pub phrases_of : HeadTree → List PhraseTree
@@ -52,17 +31,7 @@ phrases_of (over_class class called phrases) = phrases
 
 -- ---- what a FOR goes over
 
-abbrev pub if_variable : Meaning → Option Variable
-if_variable (meanings.Variable x mode) = Some x
-if_variable _ = None
-
--- the variable that takes the items of a loop
-abbrev pub loop_variable : Context → NameBytes → Option Variable
-loop_variable c name = do
-  meaning ← c.meaning (Name name)
-  if_variable meaning
-
-abbrev pub resolved_start : Context → StartTree → Option Start
+abbrev pub resolved_start : Scope → StartTree → Option Start
 resolved_start c from_end = Some AtEnd
 resolved_start c (from_member e) = do
   x ← expression c e
@@ -72,24 +41,24 @@ resolved_start c (after_member e) = do
   Some (After x)
 
 -- the variable after CALLED, or else that of the class
-abbrev pub called_variable : Context → Variable → Option NameBytes → Option Variable
+abbrev pub called_variable : Scope → Variable → Option NameBytes → Option Variable
 called_variable c implied None = Some implied
-called_variable c implied (Some name) = loop_variable c name
+called_variable c implied (Some name) = variable_named c name
 
 -- what a FOR goes over
-unfoldable pub head : Context → HeadTree → Option Head
+unfoldable pub head : Scope → HeadTree → Option Head
 head c (over_range variable from to step phrases) = do
-  v ← loop_variable c variable
+  v ← variable_named c variable
   x ← expression c from
   y ← expression c to
   z ← if_there (expression c) step
   Some (Numbers v x y z)
 head c (over_members variable set from reverse phrases) = do
-  v ← loop_variable c variable
+  v ← variable_named c variable
   s ← set_named c set
   x ← resolved_start c from
   Some (Members v s.0 s.1 x reverse)
 head c (over_class name called phrases) = do
-  class ← permanent_class c name
+  class ← class_named c needs.Permanent name
   v ← called_variable c class.variable called
   Some (Each v class.class)

@@ -1,11 +1,9 @@
 pub mod Answers
-pub mod Contexts
 pub mod Expressions
 pub mod Conditions
+pub mod Classes
 pub mod Heads
 pub mod Statements
-pub mod Words
-pub mod Meanings
 pub mod Layouts
 pub mod Resolved
 pub mod View

@@ -1,24 +1,22 @@
 -- A resolved program: each name is replaced by what it means.
-use Rattle.std.specs.Prelude.{ℕ, nat_le, Bool, true, false, is_some, List, [], length, take, drop, slice_get, get_or, Option, Some, None}
-use Rattle.std.specs.List.{find, list_all, position}
-use Rattle.std.specs.Map.{keys_of, lookup, values_of}
+use Rattle.std.specs.Prelude.{ℕ, map, nat_eq, nat_le, Bool, true, false, List, [], length, take, drop, slice_get, get_or, Option, Some, None}
+use Rattle.std.specs.List.{list_all, list_any, position}
+use Rattle.std.specs.Map.{keys_of, values_of}
 use Rattle.ss_base.specs.declared.layout.Mode.{Mode}
 use Rattle.ss_base.specs.declared.layout.RankKey.{RankKey}
 use Rattle.ss_base.specs.declared.line.Line.{Line}
 use Rattle.ss_tree.specs.Tree.{SectionKindTree, main, routine, event, SectionTree, statement_row}
 use Rattle.ss_tree.specs.Names.{NameBytes}
 use Rattle.ss_names.specs.declared.entry.EventSection.{EventSection}
-use Rattle.ss_names.specs.declared.meaning.GlobalMeaning.{GlobalMeaning as Global}
-use Rattle.ss_names.specs.declared.meaning.GlobalMeaning.TheVariants as globals
-use Rattle.ss_names_declarations.specs.Firsts.{place_in, value_for, same_name}
+use Rattle.ss_names_declarations.specs.Firsts.{place_in, value_for}
+use Rattle.ss_names.specs.declared.entry.RoutineSection.{RoutineSection}
+use Rattle.ss_names.specs.declared.meaning.Meaning.{Meaning}
+use Rattle.ss_names.specs.declared.meaning.Meaning.TheVariants as meanings
 use Rattle.ss_names.specs.Table.{Table}
-use Rattle.ss_check_scopes.specs.Locals.{Moded}
-use Rattle.ss_check_scopes.specs.Whole.{Whole, locals_of}
+use Rattle.ss_names_scopes.specs.Locals.{Moded, locals_of}
 use Rattle.ss_program.specs.Program.{Block, Routine, Event, Program}
 use Rattle.ss_names_meaning.specs.Answers.{◌>>=◌, each, upto, where_holds}
 use Rattle.ss_names_meaning.specs.Layouts.{ResolvedLayout, laid_out, tie_keys}
-use Rattle.ss_names_meaning.specs.Meanings.{context_in}
-use Rattle.ss_names_meaning.specs.Words.{mode_given}
 use Rattle.ss_names_meaning.specs.Statements.{statements}
 
 -- ---- sections
@@ -26,17 +24,12 @@ use Rattle.ss_names_meaning.specs.Statements.{statements}
 -- the mode of the local variable of this number
 abbrev pub local_mode : Moded → ℕ → Option Mode
 local_mode locals n = do
-  name ← slice_get (keys_of locals) n
-  mode ← lookup (same_name name) locals
-  mode_given mode
+  known ← slice_get (values_of locals) n
+  known
 
 -- the modes of the local variables, in the order of their numbers
 abbrev pub local_modes : Moded → Option (List Mode)
 local_modes locals = each (local_mode locals) (upto (length locals))
-
--- the statements of a section with these local variables
-abbrev pub body : Table → Moded → SectionTree → Option Block
-body t locals s = statements (context_in t locals) (statement_row s.body)
 
 -- a resolved section: the line of its head, the modes of its local variables, and its statements
 pub record Parts : Type 0 where
@@ -44,28 +37,23 @@ pub record Parts : Type 0 where
   pub modes : List Mode
   pub body : Block
 
--- a section with these local variables
-abbrev pub parts_with : Table → Moded → SectionTree → Option Parts
-parts_with t locals s = do
+-- the statements of a section, where sections have these local variables, and it has these
+abbrev pub body_with : Table → List Moded → Moded → SectionTree → Option Block
+body_with t all locals s = statements (record { table = t; locals = locals; sections = all }) (statement_row s.body)
+
+-- the section
+abbrev pub parts_with : Table → List Moded → Moded → SectionTree → Option Parts
+parts_with t all locals s = do
   modes ← local_modes locals
-  done ← body t locals s
+  done ← body_with t all locals s
   Some (record { line = s.line; modes = modes; body = done })
 
-abbrev pub parts_of : Table → Whole → SectionTree → Option Parts
-parts_of t w s = parts_with t (locals_of w s) s
-
--- the section of this number
-abbrev pub parts_at : Table → Whole → List SectionTree → ℕ → Option Parts
-parts_at t w sections n = do
-  s ← slice_get sections n
-  parts_of t w s
-
--- the section of this number, with given lists of local variables
+-- the section of this number, where sections have these local variables
 abbrev pub parts_with_locals : Table → List Moded → List SectionTree → ℕ → Option Parts
-parts_with_locals t locals sections n = do
+parts_with_locals t all sections n = do
   s ← slice_get sections n
-  its ← slice_get locals n
-  parts_with t its s
+  locals ← slice_get all n
+  parts_with t all locals s
 
 -- ---- routines
 
@@ -79,27 +67,23 @@ routine_of given yielding parts = record {
 }
 
 -- the routine of this number, by a function that resolves each section
-abbrev pub routine_from : Table → (ℕ → Option Parts) → ℕ → Option Routine
-routine_from t section n = do
-  known ← slice_get (values_of t.routines) n
+abbrev pub routine_from : (ℕ → Option Parts) → RoutineSection → Option Routine
+routine_from section known = do
   parts ← section known.section
   Some (routine_of known.given known.yielding parts)
 
-abbrev pub resolved_routine : Table → Whole → List SectionTree → ℕ → Option Routine
-resolved_routine t w sections n = routine_from t (parts_at t w sections) n
-
 -- ---- event routines
 
-abbrev pub class_variable : Global → Option (Option ℕ)
-class_variable (globals.Class class variable) = Some (Some variable)
+abbrev pub class_variable : Meaning → Option (Option ℕ)
+class_variable (meanings.Class class kind variable) = Some (Some variable)
 class_variable _ = None
 
 -- the global variable that gets the number of the notice, also if the routine has a local one of its name
 abbrev pub saved : Table → NameBytes → Bool → Option (Option ℕ)
 saved t name false = Some None
 saved t name true = do
-  global ← value_for t.names name
-  class_variable global
+  meaning ← value_for t.meanings name
+  class_variable meaning
 
 -- the event routine of a class that is given so many values
 abbrev pub event_of_class : ℕ → List RankKey → ℕ → Option ℕ → Parts → Event
@@ -123,25 +107,22 @@ class_event_from t section class name known = do
   parts ← section known.section
   Some (event_of_class class keys given variable parts)
 
-abbrev pub class_event : Table → Whole → List SectionTree → ℕ → NameBytes → EventSection → Option Event
-class_event t w sections class name known = class_event_from t (parts_at t w sections) class name known
-
--- the notice class at this place in the order of rank, by a function that resolves each section
+-- the notice class of this number, by a function that resolves each section
 abbrev pub event_from : Table → (ℕ → Option Parts) → ℕ → Option Event
-event_from t section rank = do
-  class ← slice_get (values_of t.ranks) rank
+event_from t section class = do
   name ← slice_get (keys_of t.classes) class
   known ← value_for t.events name
   class_event_from t section class name known
 
-abbrev pub resolved_event : Table → Whole → List SectionTree → ℕ → Option Event
-resolved_event t w sections rank = event_from t (parts_at t w sections) rank
+abbrev pub is_ranked : Table → Option ℕ → Bool
+is_ranked t None = false
+is_ranked t (Some class) = list_any (nat_eq class) t.ranks
 
 -- whether the class of an EVENT section is a notice class
 abbrev pub is_known_kind : Table → SectionKindTree → Bool
 is_known_kind t main = true
 is_known_kind t (routine name given yielding) = true
-is_known_kind t (event name given saving) = is_some (place_in t.ranks name)
+is_known_kind t (event name given saving) = is_ranked t (place_in t.classes name)
 
 abbrev pub is_known : Table → SectionTree → Bool
 is_known t s = is_known_kind t s.kind
@@ -156,13 +137,7 @@ is_main_kind (event name given saving) = false
 abbrev pub has_main_kind : SectionTree → Bool
 has_main_kind s = is_main_kind s.kind
 
--- MAIN, the first if there are several
-abbrev pub main_parts : Table → Whole → List SectionTree → Option Parts
-main_parts t w sections = do
-  s ← find has_main_kind sections
-  parts_of t w s
-
--- MAIN, by a function that resolves each section
+-- MAIN, the first if there are several, by a function that resolves each section
 abbrev pub main_from : (ℕ → Option Parts) → List SectionTree → Option Parts
 main_from section sections = do
   n ← position has_main_kind sections
@@ -171,8 +146,8 @@ main_from section sections = do
 -- the program with this layout, by a function that resolves each section, and MAIN
 abbrev pub put_together : Table → ResolvedLayout → (ℕ → Option Parts) → Option Parts → Option Program
 put_together t laid section of_main = do
-  routines ← each (routine_from t section) (upto (length t.routines))
-  events ← each (event_from t section) (upto (length t.ranks))
+  routines ← each (routine_from section) (values_of t.routines)
+  events ← each (event_from t section) t.ranks
   parts ← of_main
   Some (record {
     layout = laid.layout;
@@ -186,19 +161,14 @@ put_together t laid section of_main = do
     main = parts.body;
   })
 
--- the program with these sections
-abbrev pub program_from : Table → (List SectionTree → ℕ → Option Parts) → (List SectionTree → Option Parts) → List SectionTree → Option Program
-program_from t section of_main sections = do
+-- the program with these sections, where they have these local variables
+unfoldable pub resolved_with_locals : Table → List Moded → List SectionTree → Option Program
+resolved_with_locals t all sections = do
   laid ← laid_out t
   known ← where_holds (list_all (is_known t) sections) sections
-  put_together t laid (section known) (of_main known)
+  put_together t laid (parts_with_locals t all known) (main_from (parts_with_locals t all known) known)
 
--- The program with these sections, by its table and its names, with each name replaced by what it means. None if a name
--- isn't of the kind that its place needs. None if a subscript is missing or too many, or a count of arguments doesn't fit.
-unfoldable pub resolved : Table → Whole → List SectionTree → Option Program
-resolved t w sections = program_from t (parts_at t w) (main_parts t w) sections
-
--- the program with these sections, with given lists of local variables
-unfoldable pub resolved_with_locals : Table → List Moded → List SectionTree → Option Program
-resolved_with_locals t locals sections =
-    program_from t (parts_with_locals t locals) (λ known. main_from (parts_with_locals t locals known) known) sections
+-- The program with these sections, by its table, with each name replaced by what it means. None if a name isn't of the kind
+-- that its place needs. None if a subscript is missing or too many, or a count of arguments doesn't fit.
+abbrev pub resolved : Table → List SectionTree → Option Program
+resolved t sections = resolved_with_locals t (map (locals_of t) sections) sections

@@ -1,84 +1,71 @@
 -- Resolved statements: each name is replaced by what it means.
-use Rattle.std.specs.Prelude.{nat_le, ◌&&◌, ◌==◌, List, [], ◌∷◌, length, Option, Some, None}
+use Rattle.std.specs.Prelude.{ℕ, slice_get, nat_le, ◌&&◌, ◌==◌, List, length, Option, Some, None}
 use Rattle.ss_base.specs.declared.line.Line.{Line}
-use Rattle.ss_base.specs.declared.layout.Mode.{Mode}
-use Rattle.ss_base.specs.declared.layout.Mode.TheVariants.{Integer}
-use Rattle.ss_tree.specs.declared.statement.SetEnd.{SetEnd}
-use Rattle.ss_tree.specs.declared.statement.SetEnd.TheVariants as end_words
 use Rattle.ss_tree.specs.declared.statement.FindOutcome.{FindOutcome}
 use Rattle.ss_tree.specs.declared.statement.FindOutcome.TheVariants as outcomes
 use Rattle.ss_tree.specs.Tree.{ConditionTree, ExpressionTree, NamedTree, HeadTree, LoopHeadTree, for_head, guarded, PositionTree, by_discipline, at_first, at_last, before, after, WhenTree, at_time, in_units, now, StatementTree, let_statement, add_statement, subtract_statement, call_statement, return_statement, stop_statement, read_statement, start_simulation, if_statement, loop_statement, find_statement, find_if_statement, create_statement, create_every, destroy_statement, file_statement, remove_end, remove_statement, schedule_new, schedule_statement, cancel_statement, reset_statement, print_statement, skip_statement, StatementRow, no_statement, and_statement}
 use Rattle.ss_tree.specs.Names.{NameBytes}
 use Rattle.ss_program.specs.declared.expression.Variable.{Variable}
-use Rattle.ss_program.specs.declared.expression.Variable.TheVariants.{Global, Local}
-use Rattle.ss_program.specs.declared.expression.Sign.TheVariants.{Plus, Minus}
-use Rattle.ss_program.specs.declared.statement.End.{End}
-use Rattle.ss_program.specs.declared.statement.End.TheVariants as ends
+use Rattle.ss_base.specs.declared.words.Sign.TheVariants.{Plus, Minus}
 use Rattle.ss_program.specs.Program.{Expression, Fetch, Place, ToVariable, Target, Position, ByDiscipline, AsFirst, AsLast, BeforeMember, AfterMember, When, At, In, Now, Restart, Statement, Let, Change, Call, Return, Stop, Read, Simulate, If, Loop, For, Find, Create, CreateEvery, Destroy, File, RemoveEnd, Remove, ScheduleNew, Schedule, Cancel, Reset, Print, Skip, Block, Done, Then}
-use Rattle.ss_names_meaning.specs.declared.meaning.ClassMeant.{ClassMeant}
-use Rattle.ss_names_meaning.specs.declared.meaning.Meaning.{Meaning}
-use Rattle.ss_names_meaning.specs.declared.meaning.Meaning.TheVariants as meanings
-use Rattle.ss_names_meaning.specs.declared.meaning.RoutineMeant.{RoutineMeant}
+use Rattle.std.specs.Map.{values_of}
+use Rattle.ss_tree.specs.declared.expression.Designator.{Designator}
+use Rattle.ss_tree.specs.declared.expression.Designator.TheVariants as designators
+use Rattle.ss_names_declarations.specs.Firsts.{place_in, value_for}
+use Rattle.ss_names_uses.specs.declared.used.ClassNeed.TheVariants as needs
+use Rattle.ss_names.specs.declared.entry.RoutineSection.{RoutineSection}
+use Rattle.ss_names.specs.declared.meaning.Meaning.{Meaning}
+use Rattle.ss_names.specs.declared.meaning.Meaning.TheVariants as meanings
+use Rattle.ss_names_scopes.specs.Scopes.{Scope, mode_of}
+use Rattle.ss_names_meaning.specs.declared.classes.NamedClass.{NamedClass}
+use Rattle.ss_names_meaning.specs.Classes.{class_named, counted}
 use Rattle.ss_names_meaning.specs.Answers.{◌>>=◌, each, where_holds}
-use Rattle.ss_names_meaning.specs.Contexts.{Context, single_class, notice_class, counted}
-use Rattle.ss_names_meaning.specs.Expressions.{entity_of, without_subscript, expression, item, subscript, target, set_named}
+use Rattle.ss_names_meaning.specs.Expressions.{expression, item, place_named, place_of, set_named, target}
 use Rattle.ss_names_meaning.specs.Conditions.{condition}
 use Rattle.ss_names_meaning.specs.Heads.{resolved_phrase, guard, phrases_of, head}
 
--- ---- words
-
-abbrev pub resolved_end : SetEnd → End
-resolved_end end_words.First = ends.First
-resolved_end end_words.Last = ends.Last
-
 -- ---- targets
 
--- the mode of a target
-abbrev pub mode_of_target : Meaning → Option Mode
-mode_of_target (meanings.Variable x mode) = mode
-mode_of_target (meanings.Attribute class field mode implied) = mode
-mode_of_target (meanings.Count n) = Some Integer
-mode_of_target _ = None
-
 -- the variable or attribute that READ reads into, with its mode
-abbrev pub reader : Context → NamedTree → Option Target
+abbrev pub reader : Scope → NamedTree → Option Target
 reader c n = do
-  place ← target c n
-  meaning ← c.meaning n.designator
-  mode ← mode_of_target meaning
+  p ← place_named c n.designator n.subscripts
+  place ← place_of p.0 p.1
+  mode ← mode_of p.0
   Some (record { place = place; mode = mode })
 
 -- the target of the number of a new entity: the one after CALLED, or else the variable of the class
-abbrev pub new_place : Context → Variable → Option NamedTree → Option Place
+abbrev pub new_place : Scope → Variable → Option NamedTree → Option Place
 new_place c variable None = Some (ToVariable variable)
 new_place c variable (Some n) = target c n
 
 -- the entity after CALLED, or else the one in the variable of the class
-abbrev pub entity_called : Context → Variable → Option ExpressionTree → Option Expression
+abbrev pub entity_called : Scope → Variable → Option ExpressionTree → Option Expression
 entity_called c variable None = Some (Fetch variable)
 entity_called c variable (Some e) = expression c e
 
 -- ---- statistics
 
--- the owner of the statistic that RESET starts afresh: None for a global variable and for N. of THE SYSTEM's set
-abbrev pub owner_of_statistic : Meaning → Option Expression → Option (Option Expression)
-owner_of_statistic (meanings.Variable (Global n) mode) e = without_subscript e None
-owner_of_statistic (meanings.Attribute class field mode implied) e = Some (Some (entity_of implied e))
-owner_of_statistic (meanings.OfSystemSet query set) e = without_subscript e None
-owner_of_statistic (meanings.OfSet query set implied) e = Some (Some (entity_of implied e))
-owner_of_statistic _ e = None
+-- a name that a local variable hides has no history
+abbrev pub unless_hidden : Option ℕ → Option ℕ → Option ℕ
+unless_hidden (Some local) found = None
+unless_hidden None found = found
 
-abbrev pub restart : Context → NamedTree → Option Restart
+-- the number of the history of what is named
+abbrev pub history_of : Scope → Designator → Option ℕ
+history_of c (designators.Name name) = unless_hidden (place_in c.locals name) (place_in c.table.histories name)
+history_of c _ = None
+
+-- the statistic that RESET starts afresh, and of which entity, if of one
+abbrev pub restart : Scope → NamedTree → Option Restart
 restart c n = do
-  e ← subscript c n.subscripts
-  meaning ← c.meaning n.designator
-  of ← owner_of_statistic meaning e
-  statistic ← c.statistic n.designator
-  Some (record { statistic = statistic; of = of })
+  statistic ← history_of c n.designator
+  p ← place_named c n.designator n.subscripts
+  Some (record { statistic = statistic; of = p.1 })
 
 -- ---- parts of statements
 
-abbrev pub position : Context → PositionTree → Option Position
+abbrev pub position : Scope → PositionTree → Option Position
 position c by_discipline = Some ByDiscipline
 position c at_first = Some AsFirst
 position c at_last = Some AsLast
@@ -89,7 +76,7 @@ position c (after e) = do
   x ← expression c e
   Some (AfterMember x)
 
-abbrev pub when : Context → WhenTree → Option When
+abbrev pub when : Scope → WhenTree → Option When
 when c (at_time e) = do
   x ← expression c e
   Some (At x)
@@ -101,78 +88,143 @@ when c now = Some Now
 -- ---- statements
 
 -- a FIND, with the statements for a case that was found, and those for none
-abbrev pub find : Line → Context → HeadTree → Block → Block → Option Statement
+abbrev pub find : Line → Scope → HeadTree → Block → Block → Option Statement
 find line c over found none = do
   h ← head c over
   phrases ← each (resolved_phrase c) (phrases_of over)
   Some (Find line h phrases found none)
 
 -- a FIND, by which of its two lists of statements comes first: that for a case that was found, or that for none
-abbrev pub find_by : FindOutcome → Line → Context → HeadTree → Block → Block → Option Statement
+abbrev pub find_by : FindOutcome → Line → Scope → HeadTree → Block → Block → Option Statement
 find_by outcomes.Found line c over first second = find line c over first second
 find_by outcomes.None line c over first second = find line c over second first
 
 -- a FOR with its body
-abbrev pub for_over : Line → Context → HeadTree → Block → Option Statement
+abbrev pub for_over : Line → Scope → HeadTree → Block → Option Statement
 for_over line c over body = do
   h ← head c over
   phrases ← each (resolved_phrase c) (phrases_of over)
   Some (For line h phrases body)
 
 -- a loop with its body
-abbrev pub resolved_loop : Line → Context → LoopHeadTree → Block → Option Statement
+abbrev pub resolved_loop : Line → Scope → LoopHeadTree → Block → Option Statement
 resolved_loop line c (for_head over) body = for_over line c over body
 resolved_loop line c (guarded guards) body = do
   gs ← each (guard c) guards
   Some (Loop line gs body)
 
 -- an IF with its sides
-abbrev pub if_over : Line → Context → ConditionTree → Block → Block → Option Statement
+abbrev pub if_over : Line → Scope → ConditionTree → Block → Block → Option Statement
 if_over line c test first second = do
   tests ← condition c test
   Some (If line tests first second)
 
 -- a CALL, if the routine is given and yields as many values
-abbrev pub call_of : Line → RoutineMeant → List Expression → List Place → Option Statement
-call_of line routine given yielding =
-    where_holds ((length given == routine.given) && (length yielding == routine.yielding))
-    (Call line routine.routine given yielding)
+abbrev pub call_of : Line → ℕ → RoutineSection → List Expression → List Place → Option Statement
+call_of line routine section given yielding =
+    where_holds ((length given == section.given) && (length yielding == section.yielding))
+    (Call line routine given yielding)
+
+abbrev pub routine_number : Option Meaning → Option ℕ
+routine_number (Some (meanings.Routine routine)) = Some routine
+routine_number _ = None
+
+-- a routine, which nothing hides, by its number
+abbrev pub routine_named : Scope → NameBytes → Option (ℕ × RoutineSection)
+routine_named c name = do
+  routine ← routine_number (value_for c.table.meanings name)
+  section ← slice_get (values_of c.table.routines) routine
+  Some (routine, section)
 
 -- SCHEDULE A and SCHEDULE THE, if the class has at least as many attributes as values are given
-abbrev pub new_notice : Line → ClassMeant → Place → List Expression → When → Option Statement
+abbrev pub new_notice : Line → NamedClass → Place → List Expression → When → Option Statement
 new_notice line class place given due =
     where_holds (nat_le (length given) class.attributes) (ScheduleNew line class.class place given due)
 
-abbrev pub old_notice : Line → ClassMeant → Expression → List Expression → When → Option Statement
+abbrev pub old_notice : Line → NamedClass → Expression → List Expression → When → Option Statement
 old_notice line class notice given due =
     where_holds (nat_le (length given) class.attributes) (Schedule line class.class notice given due)
 
-module _ (c : Context) where
+-- a statement without statements in it; None for another
+unfoldable pub simple_statement : Scope → StatementTree → Option Statement
+simple_statement c (let_statement line n e) = do
+  place ← target c n
+  value ← expression c e
+  Some (Let line place value)
+simple_statement c (add_statement line e n) = do
+  value ← expression c e
+  place ← target c n
+  Some (Change line Plus place value)
+simple_statement c (subtract_statement line e n) = do
+  value ← expression c e
+  place ← target c n
+  Some (Change line Minus place value)
+simple_statement c (call_statement line name given yielding) = do
+  routine ← routine_named c name
+  values ← each (expression c) given
+  places ← each (target c) yielding
+  call_of line routine.0 routine.1 values places
+simple_statement c (return_statement line) = Some Return
+simple_statement c (stop_statement line) = Some Stop
+simple_statement c (read_statement line targets) = do
+  readers ← each (reader c) targets
+  Some (Read line readers)
+simple_statement c (start_simulation line) = Some Simulate
+simple_statement c (find_statement line over) = find line c over Done Done
+simple_statement c (create_statement line name called) = do
+  class ← class_named c needs.Single name
+  place ← new_place c class.variable called
+  Some (Create line class.class place)
+simple_statement c (create_every line names) = do
+  classes ← each (counted c) names
+  Some (CreateEvery line classes)
+simple_statement c (destroy_statement line name called) = do
+  class ← class_named c needs.Single name
+  entity ← entity_called c class.variable called
+  Some (Destroy line class.class entity)
+simple_statement c (file_statement line e position_tree n) = do
+  x ← expression c e
+  at ← position c position_tree
+  set ← set_named c n
+  Some (File line set.0 x at set.1)
+simple_statement c (remove_end line end n m) = do
+  place ← target c n
+  set ← set_named c m
+  Some (RemoveEnd line end set.0 place set.1)
+simple_statement c (remove_statement line e n) = do
+  x ← expression c e
+  set ← set_named c n
+  Some (Remove line set.0 x set.1)
+simple_statement c (schedule_new line name called given time) = do
+  class ← class_named c needs.Notice name
+  place ← new_place c class.variable called
+  values ← each (expression c) given
+  due ← when c time
+  new_notice line class place values due
+simple_statement c (schedule_statement line name called given time) = do
+  class ← class_named c needs.Notice name
+  notice ← entity_called c class.variable called
+  values ← each (expression c) given
+  due ← when c time
+  old_notice line class notice values due
+simple_statement c (cancel_statement line name called) = do
+  class ← class_named c needs.Notice name
+  notice ← entity_called c class.variable called
+  Some (Cancel line class.class notice)
+simple_statement c (reset_statement line targets) = do
+  restarts ← each (restart c) targets
+  Some (Reset line restarts)
+simple_statement c (print_statement line items pictures) = do
+  shown ← each (item c) items
+  Some (Print line shown pictures)
+simple_statement c (skip_statement line e) = do
+  count ← expression c e
+  Some (Skip line count)
+simple_statement c _ = None
+
+module _ (c : Scope) where
   unfoldable mutual
     pub statement : StatementTree → Option Statement
-    statement (let_statement line n e) = do
-      place ← target c n
-      value ← expression c e
-      Some (Let line place value)
-    statement (add_statement line e n) = do
-      value ← expression c e
-      place ← target c n
-      Some (Change line Plus place value)
-    statement (subtract_statement line e n) = do
-      value ← expression c e
-      place ← target c n
-      Some (Change line Minus place value)
-    statement (call_statement line name given yielding) = do
-      routine ← c.routine name
-      values ← each (expression c) given
-      places ← each (target c) yielding
-      call_of line routine values places
-    statement (return_statement line) = Some Return
-    statement (stop_statement line) = Some Stop
-    statement (read_statement line targets) = do
-      readers ← each (reader c) targets
-      Some (Read line readers)
-    statement (start_simulation line) = Some Simulate
     statement (if_statement line test first second) = do
       a ← statements first
       b ← statements second
@@ -180,60 +232,11 @@ module _ (c : Context) where
     statement (loop_statement line over row) = do
       body ← statements row
       resolved_loop line c over body
-    statement (find_statement line over) = find line c over Done Done
     statement (find_if_statement line over outcome first second) = do
       a ← statements first
       b ← statements second
       find_by outcome line c over a b
-    statement (create_statement line name called) = do
-      class ← single_class c name
-      place ← new_place c class.variable called
-      Some (Create line class.class place)
-    statement (create_every line names) = do
-      classes ← each (counted c) names
-      Some (CreateEvery line classes)
-    statement (destroy_statement line name called) = do
-      class ← single_class c name
-      entity ← entity_called c class.variable called
-      Some (Destroy line class.class entity)
-    statement (file_statement line e position_tree n) = do
-      x ← expression c e
-      at ← position c position_tree
-      set ← set_named c n
-      Some (File line set.0 x at set.1)
-    statement (remove_end line end n m) = do
-      place ← target c n
-      set ← set_named c m
-      Some (RemoveEnd line (resolved_end end) set.0 place set.1)
-    statement (remove_statement line e n) = do
-      x ← expression c e
-      set ← set_named c n
-      Some (Remove line set.0 x set.1)
-    statement (schedule_new line name called given time) = do
-      class ← notice_class c name
-      place ← new_place c class.variable called
-      values ← each (expression c) given
-      due ← when c time
-      new_notice line class place values due
-    statement (schedule_statement line name called given time) = do
-      class ← notice_class c name
-      notice ← entity_called c class.variable called
-      values ← each (expression c) given
-      due ← when c time
-      old_notice line class notice values due
-    statement (cancel_statement line name called) = do
-      class ← notice_class c name
-      notice ← entity_called c class.variable called
-      Some (Cancel line class.class notice)
-    statement (reset_statement line targets) = do
-      restarts ← each (restart c) targets
-      Some (Reset line restarts)
-    statement (print_statement line items pictures) = do
-      shown ← each (item c) items
-      Some (Print line shown pictures)
-    statement (skip_statement line e) = do
-      count ← expression c e
-      Some (Skip line count)
+    statement s = simple_statement c s
 
     pub statements : StatementRow → Option Block
     statements no_statement = Some Done
@@ -241,20 +244,3 @@ module _ (c : Context) where
       first ← statement s
       rest ← statements ss
       Some (Then first rest)
-
--- ---- the bodies in a statement
-
--- the resolved bodies in a statement: one of a loop, two of an IF and of the IF after a FIND, none of others
-abbrev pub inner : Context → StatementTree → Option (Block × Block)
-inner c (if_statement line test first second) = do
-  a ← statements c first
-  b ← statements c second
-  Some (a, b)
-inner c (loop_statement line over row) = do
-  body ← statements c row
-  Some (body, Done)
-inner c (find_if_statement line over outcome first second) = do
-  a ← statements c first
-  b ← statements c second
-  Some (a, b)
-inner c _ = Some (Done, Done)

@@ -1,85 +1,98 @@
-//! Global variables.
+//! N. of permanent classes, and statistics.
 
-ghost use Rattle.std.specs.Prelude.{◌≡◌, length, IfOk};
+ghost use Rattle.std.specs.Prelude.{◌≡◌, ◌++◌, slice_get, IfOk, OnOk};
+ghost use Rattle.std.specs.List.{flat_map};
+ghost use Rattle.std.specs.Map.{values_of};
 ghost use Rattle.ss_names_meaning.specs.Answers.{Gives, each, upto};
-ghost use Rattle.ss_names_meaning.specs.Layouts.{counted_kind, counted_variable, counts, global_mode};
+ghost use Rattle.ss_names_meaning.specs.Layouts.{count_by, counts, statistic_kept, statistics};
 
 use crate::error::ResolveError;
-use crate::words::mode_said;
-use ss_base::Mode;
-use ss_names::{Names, VariableKind};
+use ss_base::Weighting;
+use ss_names::{Meaning, Names};
+use ss_program::sections::{Statistic, Subject};
 use ss_program::statement::CountedClass;
 use std::alloc::{AllocError, Global};
 
-// The mode of the global variable of this number.
-fn global_mode(names: &Names, number: usize) -> Result<Mode, ResolveError>
-    ensures { Gives (λ x. x) result (global_mode names.now number) }
+// Adds the permanent class whose N. this is, if it is one.
+fn add_count(counted: &mut Vec<CountedClass>, meaning: &Meaning) -> Result<(), AllocError>
+    ensures { OnOk result (counted.new.items ≡ counted.old.items ++ count_by meaning.now) }
 {
-    let Some(known) = names.variable(number) else {
-        return Err(ResolveError::Unresolved);
-    };
-    match mode_said(known.mode) {
-        Some(mode) => Ok(mode),
-        None => Err(ResolveError::Unresolved),
+    match meaning {
+        Meaning::Count { count } => counted.push(*count),
+        _ => Ok(()),
     }
 }
 
-/// The modes of the global variables.
-pub(crate) fn resolve_globals(alloc: Global, names: &Names) -> Result<Vec<Mode>, ResolveError>
-    ensures { Gives (λ v. v.items) result (each (global_mode names.now) (upto (length names.now.variables))) }
+// The permanent classes whose N. is among these.
+fn counts_among(alloc: Global, meanings: &[Meaning]) -> Result<Vec<CountedClass>, AllocError>
+    ensures { IfOk result (λ v. v.items ≡ flat_map count_by meanings.now) }
+{
+    let mut counted = Vec::new(alloc);
+    for meaning in meanings {
+        add_count(&mut counted, meaning)?;
+    }
+    Ok(counted)
+}
+
+/// N. of each permanent class, in the order of the text.
+pub(crate) fn resolve_counts(alloc: Global, names: &Names) -> Result<Vec<CountedClass>, AllocError>
+    ensures { IfOk result (λ v. v.items ≡ counts names.now) }
+{
+    counts_among(alloc, names.meanings.values())
+}
+
+// How the history of this number is weighted.
+fn weighting_at(names: &Names, number: usize) -> Option<Weighting>
+    ensures { result ≡ slice_get (values_of names.now.histories) number }
+{
+    names.histories.values().get(number).copied()
+}
+
+// What the history of this number is of.
+fn subject_at(names: &Names, number: usize) -> Option<Option<Subject>>
+    ensures { result ≡ slice_get names.now.subjects number }
+{
+    names.subjects.get(number).copied()
+}
+
+// The statistic of the history of this number.
+fn statistic_kept(names: &Names, number: usize) -> Result<Statistic, ResolveError>
+    ensures { Gives (λ x. x) result (statistic_kept names.now number) }
+{
+    let Some(weighting) = weighting_at(names, number) else {
+        return Err(ResolveError::Unresolved);
+    };
+    let Some(known) = subject_at(names, number) else {
+        return Err(ResolveError::Unresolved);
+    };
+    let Some(subject) = known else {
+        return Err(ResolveError::Unresolved);
+    };
+    Ok(Statistic { subject, weighting })
+}
+
+// The statistics of so many histories.
+fn statistics_upto(
+    alloc: Global,
+    names: &Names,
+    count: usize,
+) -> Result<Vec<Statistic>, ResolveError>
+    ensures { Gives (λ v. v.items) result (each (statistic_kept names.now) (upto count)) }
 {
     let mut resolved = Vec::new(alloc);
-    for number in 0..names.variables() {
-        let one = global_mode(names, number)?;
+    for number in 0..count {
+        let one = statistic_kept(names, number)?;
         resolved.push(one)?;
     }
     Ok(resolved)
 }
 
-// The permanent class whose N. this variable is, if it is one.
-fn counted_kind(
-    alloc: Global,
-    number: usize,
-    kind: VariableKind,
-) -> Result<Vec<CountedClass>, AllocError>
-    ensures { IfOk result (λ v. v.items ≡ counted_kind number kind) }
-{
-    let mut counted = Vec::new(alloc);
-    if let VariableKind::CountOf(class) = kind {
-        counted.push(CountedClass {
-            class,
-            variable: number,
-        })?;
-    }
-    Ok(counted)
-}
-
-// N. of a permanent class, if the variable of this number is that.
-fn counted_variable(
+/// The statistics, one for each history.
+pub(crate) fn resolve_statistics(
     alloc: Global,
     names: &Names,
-    number: usize,
-) -> Result<Vec<CountedClass>, ResolveError>
-    ensures { Gives (λ v. v.items) result (counted_variable names.now number) }
+) -> Result<Vec<Statistic>, ResolveError>
+    ensures { Gives (λ v. v.items) result (statistics names.now) }
 {
-    let Some(known) = names.variable(number) else {
-        return Err(ResolveError::Unresolved);
-    };
-    let counted = counted_kind(alloc, number, known.kind)?;
-    Ok(counted)
-}
-
-/// N. of each permanent class.
-pub(crate) fn resolve_counts(
-    alloc: Global,
-    names: &Names,
-) -> Result<Vec<CountedClass>, ResolveError>
-    ensures { Gives (λ v. v.items) result (counts names.now) }
-{
-    let mut resolved = Vec::new(alloc);
-    for number in 0..names.variables() {
-        let mut one = counted_variable(alloc, names, number)?;
-        resolved.append(&mut one)?;
-    }
-    Ok(resolved)
+    statistics_upto(alloc, names, names.histories.len())
 }

@@ -5,10 +5,9 @@ ghost use Rattle.ss_names_meaning.specs.Layouts.{laid_out};
 ghost use Rattle.ss_names_meaning.specs.View.{view_laid};
 
 use crate::error::ResolveError;
-use crate::globals::{resolve_counts, resolve_globals};
+use crate::globals::{resolve_counts, resolve_statistics};
 use crate::layouts::resolve_layout;
 use crate::ranking::resolve_disciplines;
-use crate::statistics::resolve_statistics;
 use ss_base::{Discipline, Layout, Mode};
 use ss_names::Names;
 use ss_program::sections::Statistic;
@@ -31,7 +30,7 @@ pub fn lay_out(alloc: Global, names: &Names) -> Result<Laid, ResolveError>
 {
     let layout = resolve_layout(alloc, names)?;
     let disciplines = resolve_disciplines(alloc, names)?;
-    let globals = resolve_globals(alloc, names)?;
+    let globals = Vec::from_slice(alloc, names.variables.values())?;
     let counts = resolve_counts(alloc, names)?;
     let statistics = resolve_statistics(alloc, names)?;
     Ok(Laid {

@@ -1,34 +1,29 @@
 //! Classes and sets.
 
-ghost use Rattle.std.specs.Prelude.{◌≡◌, length, IfOk};
+ghost use Rattle.std.specs.Prelude.{◌≡◌, IfOk};
+ghost use Rattle.ss_names_declarations.specs.Firsts.{value_for};
 ghost use Rattle.ss_names_meaning.specs.Answers.{Gives, each, upto};
-ghost use Rattle.ss_names_meaning.specs.Layouts.{attribute_named, class_laid, field_mode, layout, set_laid};
+ghost use Rattle.ss_names_meaning.specs.Layouts.{class_laid, field_mode, layout, set_laid};
 
 use crate::error::ResolveError;
-use crate::words::{class_kind, mode_given};
 use ss_base::{ClassLayout, Layout, Mode, Name, SetLayout};
-use ss_names::{Attribute, Names};
+use ss_names::{Attribute, Names, Set};
+use ss_names_declarations::value_at;
 use std::alloc::{AllocError, Global};
 
-// An attribute by its name.
-pub(crate) fn attribute_named(names: &Names, name: Name) -> Option<Attribute>
-    ensures { result ≡ attribute_named names.now name }
+/// An attribute by its name.
+pub(crate) fn attribute_named(names: &Names, name: &Name) -> Option<Attribute>
+    ensures { result ≡ value_for names.now.attributes name.now }
 {
-    match names.attribute_number(&name) {
-        Some(number) => names.attribute(number),
-        None => None,
-    }
+    names.attributes.get(name).copied()
 }
 
 // The mode of an attribute.
-fn field_mode(names: &Names, name: Name) -> Result<Mode, ResolveError>
-    ensures { Gives (λ x. x) result (field_mode names.now name) }
+fn field_mode(names: &Names, name: &Name) -> Result<Mode, ResolveError>
+    ensures { Gives (λ x. x) result (field_mode names.now name.now) }
 {
-    let Some(known) = attribute_named(names, name) else {
-        return Err(ResolveError::Unresolved);
-    };
-    match mode_given(known.mode) {
-        Some(mode) => Ok(mode),
+    match attribute_named(names, name) {
+        Some(attribute) => Ok(attribute.mode),
         None => Err(ResolveError::Unresolved),
     }
 }
@@ -39,7 +34,7 @@ fn field_modes(alloc: Global, names: &Names, trees: &[Name]) -> Result<Vec<Mode>
 {
     let mut resolved = Vec::new(alloc);
     for tree in trees {
-        let one = field_mode(names, *tree)?;
+        let one = field_mode(names, tree)?;
         resolved.push(one)?;
     }
     Ok(resolved)
@@ -49,35 +44,33 @@ fn field_modes(alloc: Global, names: &Names, trees: &[Name]) -> Result<Vec<Mode>
 fn class_laid(alloc: Global, names: &Names, number: usize) -> Result<ClassLayout, ResolveError>
     ensures { Gives (λ x. x) result (class_laid names.now number) }
 {
-    let Some(known) = names.class(number) else {
+    let Some(kind) = value_at(&names.classes, number) else {
         return Err(ResolveError::Unresolved);
     };
-    let fields = field_modes(alloc, names, names.fields(number))?;
-    Ok(ClassLayout {
-        kind: class_kind(known.kind),
-        fields,
-    })
+    let fields = field_modes(alloc, names, names.attributes_of(number))?;
+    Ok(ClassLayout { kind, fields })
 }
 
-// The classes.
-fn classes_laid(alloc: Global, names: &Names) -> Result<Vec<ClassLayout>, ResolveError>
-    ensures { Gives (λ v. v.items) result (each (class_laid names.now) (upto (length names.now.classes))) }
+// So many classes.
+fn classes_laid(
+    alloc: Global,
+    names: &Names,
+    count: usize,
+) -> Result<Vec<ClassLayout>, ResolveError>
+    ensures { Gives (λ v. v.items) result (each (class_laid names.now) (upto count)) }
 {
     let mut resolved = Vec::new(alloc);
-    for number in 0..names.classes() {
+    for number in 0..count {
         let one = class_laid(alloc, names, number)?;
         resolved.push(one)?;
     }
     Ok(resolved)
 }
 
-// The set of this number.
-fn set_laid(names: &Names, number: usize) -> Result<SetLayout, ResolveError>
-    ensures { Gives (λ x. x) result (set_laid names.now number) }
+// A set.
+fn set_laid(set: &Set) -> Result<SetLayout, ResolveError>
+    ensures { Gives (λ x. x) result (set_laid set.now) }
 {
-    let Some(set) = names.set(number) else {
-        return Err(ResolveError::Unresolved);
-    };
     let Some(owner) = set.owner else {
         return Err(ResolveError::Unresolved);
     };
@@ -87,13 +80,13 @@ fn set_laid(names: &Names, number: usize) -> Result<SetLayout, ResolveError>
     Ok(SetLayout { owner, member })
 }
 
-// The sets.
-fn sets_laid(alloc: Global, names: &Names) -> Result<Vec<SetLayout>, ResolveError>
-    ensures { Gives (λ v. v.items) result (each (set_laid names.now) (upto (length names.now.sets))) }
+// Sets.
+fn sets_laid(alloc: Global, trees: &[Set]) -> Result<Vec<SetLayout>, ResolveError>
+    ensures { Gives (λ v. v.items) result (each set_laid trees.now) }
 {
     let mut resolved = Vec::new(alloc);
-    for number in 0..names.sets() {
-        let one = set_laid(names, number)?;
+    for tree in trees {
+        let one = set_laid(tree)?;
         resolved.push(one)?;
     }
     Ok(resolved)
@@ -103,13 +96,13 @@ fn sets_laid(alloc: Global, names: &Names) -> Result<Vec<SetLayout>, ResolveErro
 pub(crate) fn resolve_layout(alloc: Global, names: &Names) -> Result<Layout, ResolveError>
     ensures { Gives (λ x. x) result (layout names.now) }
 {
-    let classes = classes_laid(alloc, names)?;
-    let sets = sets_laid(alloc, names)?;
+    let classes = classes_laid(alloc, names, names.classes.len())?;
+    let sets = sets_laid(alloc, &names.sets)?;
     Layout::new(classes, sets).ok_or(ResolveError::Unresolved)
 }
 
-/// The classes and the sets, by their numbers. None if an attribute has no mode, or the mode REAL. None if a
-/// set has no owner or no class of members. None if they are too many for a layout.
+/// The classes and the sets, by their numbers. None if a set has no owner or no class of members. None if they are too many
+/// for a layout.
 ///
 /// # Errors
 /// `AllocError` where memory is refused.

@@ -1,5 +1,2 @@
-pub mod Mentions
-pub mod MentionExamples
-pub mod Demands
-pub mod Noted
-pub mod DemandExamples
+pub mod Uses
+pub mod Examples

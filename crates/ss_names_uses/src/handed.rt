@@ -1,114 +1,113 @@
-//! The demands of values that are passed, each by its place.
+//! The uses of values that are passed, each with the mode that is wanted in its place.
 
 ghost use Rattle.std.specs.Prelude.{◌≡◌, ◌++◌, map, IfOk};
 ghost use Rattle.ss_tree.specs.View.{view_expression, view_named};
-ghost use Rattle.ss_names_uses.specs.Demands.{handed, in_places, parameter, received, yield_demands};
+ghost use Rattle.ss_names_uses.specs.Uses.{as_attribute, for_attribute, for_given, for_yielded, in_places, in_target, in_value};
 
-use crate::demand::{Aspect, Demands};
-use crate::expression_demands::{note, note_named, note_of_mode, target_mode};
+use crate::expressions::{add_expression, add_named, add_same, mode_of, mode_of_target};
+use crate::used::{ModeOf, Role, Use};
 use ss_base::{Line, Name};
 use ss_tree::expression::{Expression, Named};
 use std::alloc::AllocError;
 
-/// Where the values go that a statement passes, each by its place.
-#[derive(Clone, Copy)]
-pub(crate) enum Receiver {
-    /// To the parameters that a routine is given.
-    Given(Name),
-    /// To the parameters that a routine yields.
-    Yielding(Name),
-    /// To the attributes of a class.
-    Attributes(Name),
-}
-
-// The aspect with which the value in a place is compared.
-fn received(by: &Receiver, place: usize) -> Aspect
-    ensures { result ≡ received by.now place }
-{
-    match by {
-        Receiver::Given(routine) => Aspect::Given {
-            routine: *routine,
-            place,
-        },
-        Receiver::Yielding(routine) => Aspect::Yielded {
-            routine: *routine,
-            place,
-        },
-        Receiver::Attributes(class) => Aspect::Attribute {
-            class: *class,
-            number: place,
-        },
-    }
-}
-
-// Adds the demands of a value in a place.
-fn note_value(
-    into: &mut Demands,
+// Adds the uses of a value that has this mode.
+fn add_value(
+    into: &mut Vec<Use>,
     line: Line,
-    by: &Receiver,
-    place: usize,
+    wanted: ModeOf,
     value: &Expression,
 ) -> Result<(), AllocError>
-    ensures { IfOk result (λ _. into.new ≡ into.old ++ handed line by.now place (view_expression value.now)) }
+    ensures { IfOk result (λ _. into.new.items ≡ into.old.items ++ in_value line wanted (view_expression value.now)) }
 {
-    note_of_mode(into, line, value, received(by, place))
+    add_same(into, line, mode_of(value), wanted)?;
+    add_expression(into, line, false, value)
 }
 
-// Adds the demands of values in the places from the first on.
-pub(crate) fn note_handed(
-    into: &mut Demands,
+// Adds the uses of a target that takes a value of this mode.
+pub(crate) fn add_target(
+    into: &mut Vec<Use>,
     line: Line,
-    by: &Receiver,
-    values: &[Expression],
-) -> Result<(), AllocError>
-    ensures { IfOk result (λ _. into.new ≡ into.old ++ in_places (handed line by.now) 0 (map view_expression values.now)) }
-{
-    for (place, value) in values.iter().enumerate() {
-        note_value(into, line, by, place, value)?;
-    }
-    Ok(())
-}
-
-// Adds the demands of a target in a place.
-fn note_target(
-    into: &mut Demands,
-    line: Line,
-    by: &Receiver,
-    place: usize,
+    wanted: ModeOf,
     target: &Named,
 ) -> Result<(), AllocError>
-    ensures { IfOk result (λ _. into.new ≡ into.old ++ yield_demands line by.now place (view_named target.now)) }
+    ensures { IfOk result (λ _. into.new.items ≡ into.old.items ++ in_target line wanted (view_named target.now)) }
 {
-    note(into, line, target_mode(target), received(by, place))?;
-    note_named(into, line, target)
+    add_same(into, line, mode_of_target(target), wanted)?;
+    add_named(into, line, Role::Target, false, target)
 }
 
-// Adds the demands of targets in the places from the first on.
-pub(crate) fn note_taken(
-    into: &mut Demands,
+// Adds the uses of values for the attributes of a class.
+pub(crate) fn add_for_attributes(
+    into: &mut Vec<Use>,
     line: Line,
-    by: &Receiver,
-    targets: &[Named],
+    class: &Name,
+    values: &[Expression],
 ) -> Result<(), AllocError>
-    ensures { IfOk result (λ _. into.new ≡ into.old ++ in_places (yield_demands line by.now) 0 (map view_named targets.now)) }
+    ensures { IfOk result (λ _. into.new.items ≡ into.old.items ++ in_places (for_attribute line class.now) 0 (map view_expression values.now)) }
 {
-    for (place, target) in targets.iter().enumerate() {
-        note_target(into, line, by, place, target)?;
+    for (place, value) in values.iter().enumerate() {
+        let wanted = ModeOf::Attribute {
+            class: *class,
+            place,
+        };
+        add_value(into, line, wanted, value)?;
     }
     Ok(())
 }
 
-// Adds the demands that parameters have the modes of the attributes in their places.
-pub(crate) fn note_parameters(
-    into: &mut Demands,
+// Adds the uses of values that a routine is given.
+pub(crate) fn add_for_given(
+    into: &mut Vec<Use>,
     line: Line,
-    by: &Receiver,
+    routine: &Name,
+    values: &[Expression],
+) -> Result<(), AllocError>
+    ensures { IfOk result (λ _. into.new.items ≡ into.old.items ++ in_places (for_given line routine.now) 0 (map view_expression values.now)) }
+{
+    for (place, value) in values.iter().enumerate() {
+        let wanted = ModeOf::Given {
+            routine: *routine,
+            place,
+        };
+        add_value(into, line, wanted, value)?;
+    }
+    Ok(())
+}
+
+// Adds the uses of targets of what a routine yields.
+pub(crate) fn add_for_yielded(
+    into: &mut Vec<Use>,
+    line: Line,
+    routine: &Name,
+    targets: &[Named],
+) -> Result<(), AllocError>
+    ensures { IfOk result (λ _. into.new.items ≡ into.old.items ++ in_places (for_yielded line routine.now) 0 (map view_named targets.now)) }
+{
+    for (place, target) in targets.iter().enumerate() {
+        let wanted = ModeOf::Yielded {
+            routine: *routine,
+            place,
+        };
+        add_target(into, line, wanted, target)?;
+    }
+    Ok(())
+}
+
+// Adds the uses of the parameters of an EVENT section as attributes of its class.
+pub(crate) fn add_as_attributes(
+    into: &mut Vec<Use>,
+    line: Line,
+    class: &Name,
     names: &[Name],
 ) -> Result<(), AllocError>
-    ensures { IfOk result (λ _. into.new ≡ into.old ++ in_places (parameter line by.now) 0 names.now) }
+    ensures { IfOk result (λ _. into.new.items ≡ into.old.items ++ in_places (as_attribute line class.now) 0 names.now) }
 {
     for (place, name) in names.iter().enumerate() {
-        note(into, line, Aspect::Named(*name), received(by, place))?;
+        let wanted = ModeOf::Attribute {
+            class: *class,
+            place,
+        };
+        add_same(into, line, ModeOf::Named(*name), wanted)?;
     }
     Ok(())
 }

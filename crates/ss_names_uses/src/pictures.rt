@@ -1,15 +1,15 @@
 //! The items of a PRINT and the fields of its pictures.
 
 ghost use Rattle.std.specs.Prelude.{◌≡◌, ◌++◌, map, slice_get, IfOk};
-ghost use Rattle.ss_tree.specs.View.{view_expression};
 ghost use Rattle.ss_picture.specs.Pictures.{picture_fields};
-ghost use Rattle.ss_names_uses.specs.Demands.{fields_of_pictures, in_field, in_field_at, in_fields, in_item, in_items, in_places, in_print, mean_designated, mean_aspect};
+ghost use Rattle.ss_tree.specs.View.{view_expression};
+ghost use Rattle.ss_names_uses.specs.Uses.{as_mean, fields_of, in_field, in_field_at, in_item, in_item_at, in_items, in_places, in_print, of_decimals, of_fit};
 
-use crate::demand::{Aspect, Demands};
-use crate::expression_demands::{note, note_expression, note_named};
+use crate::expressions::{add, add_expression, add_named};
+use crate::used::{Role, Use, Used};
 use ss_base::{Line, PictureLine};
 use ss_picture::{Field, Picture};
-use ss_tree::expression::{Designator, Expression};
+use ss_tree::expression::Expression;
 use std::alloc::{AllocError, Global};
 
 // Adds the fields of a picture.
@@ -21,8 +21,8 @@ fn add_fields(alloc: Global, into: &mut Vec<Field>, picture: &PictureLine) -> Re
 }
 
 // The fields of some pictures, from the left, one picture after another.
-fn fields_of_pictures(alloc: Global, pictures: &[PictureLine]) -> Result<Vec<Field>, AllocError>
-    ensures { IfOk result (λ fields. fields.items ≡ fields_of_pictures pictures.now) }
+fn fields_of(alloc: Global, pictures: &[PictureLine]) -> Result<Vec<Field>, AllocError>
+    ensures { IfOk result (λ fields. fields.items ≡ fields_of pictures.now) }
 {
     let mut fields = Vec::new(alloc);
     for picture in pictures {
@@ -31,52 +31,49 @@ fn fields_of_pictures(alloc: Global, pictures: &[PictureLine]) -> Result<Vec<Fie
     Ok(fields)
 }
 
-// Whether a named place means a MEAN.
-fn mean_designated(designator: Designator) -> Aspect
-    ensures { result ≡ mean_designated designator }
-{
-    match designator {
-        Designator::Name(name) => Aspect::Mean(name),
-        Designator::TimeV | Designator::TimeA => Aspect::Fits(false),
-    }
-}
-
-// Whether an item is a MEAN.
+// What an item is in a field with decimals: it has to be a MEAN.
 #[tactic(auto, unfolding(ss_tree::specs::View::view_expression))]
-fn mean_aspect(item: &Expression) -> Aspect
-    ensures { result ≡ mean_aspect (view_expression item.now) }
+fn as_mean(item: &Expression) -> Used
+    ensures { result ≡ as_mean (view_expression item.now) }
 {
     match item {
-        Expression::Named(named) => mean_designated(named.designator),
-        Expression::Parenthesised(inner) => mean_aspect(inner),
+        Expression::Named(named) => Used::Mean {
+            place: named.designator,
+        },
+        Expression::Parenthesised(inner) => as_mean(inner),
         Expression::Number(_)
         | Expression::Text(_)
         | Expression::Call { .. }
         | Expression::Product { .. }
         | Expression::Signed { .. }
-        | Expression::Sum { .. } => Aspect::Fits(false),
+        | Expression::Sum { .. } => Used::Unfit,
     }
 }
 
-// Adds the demands of a field on its item.
-fn note_field(
-    into: &mut Demands,
+// What an item is in a field of so many decimals, which may be at most 9.
+fn of_decimals(item: &Expression, decimals: usize) -> Used
+    ensures { result ≡ of_decimals (view_expression item.now) decimals }
+{
+    if decimals <= 9 {
+        as_mean(item)
+    } else {
+        Used::Unfit
+    }
+}
+
+// Adds the use of an item in its field, if that has decimals.
+fn add_field(
+    into: &mut Vec<Use>,
     line: Line,
     item: &Expression,
     field: Field,
 ) -> Result<(), AllocError>
-    ensures { IfOk result (λ _. into.new ≡ into.old ++ in_field line (view_expression item.now) field) }
+    ensures { IfOk result (λ _. into.new.items ≡ into.old.items ++ in_field line (view_expression item.now) field) }
 {
     if field.decimals == 0 {
         return Ok(());
     }
-    note(
-        into,
-        line,
-        Aspect::Fits(field.decimals <= 9),
-        Aspect::Fits(true),
-    )?;
-    note(into, line, mean_aspect(item), Aspect::Fits(true))
+    add(into, line, of_decimals(item, field.decimals))
 }
 
 // The field in a place, if there is one.
@@ -86,89 +83,103 @@ fn field_at(fields: &[Field], place: usize) -> Option<Field>
     fields.get(place).copied()
 }
 
-// Adds the demands of the field in the same place on an item.
-fn note_field_at(
-    into: &mut Demands,
+// Adds the use of an item in the field in the same place, if there is one.
+fn add_field_at(
+    into: &mut Vec<Use>,
     line: Line,
     fields: &[Field],
     place: usize,
     item: &Expression,
 ) -> Result<(), AllocError>
-    ensures { IfOk result (λ _. into.new ≡ into.old ++ in_field_at line fields.now place (view_expression item.now)) }
+    ensures { IfOk result (λ _. into.new.items ≡ into.old.items ++ in_field_at line fields.now place (view_expression item.now)) }
 {
     match field_at(fields, place) {
-        Some(field) => note_field(into, line, item, field),
+        Some(field) => add_field(into, line, item, field),
         None => Ok(()),
     }
 }
 
-// Adds the demands of fields on items, each on the item in its place.
-fn note_places(
-    into: &mut Demands,
-    line: Line,
-    fields: &[Field],
-    items: &[Expression],
-) -> Result<(), AllocError>
-    ensures { IfOk result (λ _. into.new ≡ into.old ++ in_places (in_field_at line fields.now) 0 (map view_expression items.now)) }
-{
-    for (place, item) in items.iter().enumerate() {
-        note_field_at(into, line, fields, place, item)?;
-    }
-    Ok(())
-}
-
-// Adds the demands of an item.
+// Adds the uses of an item: a place named alone, in any parentheses, may be a MEAN.
 #[tactic(auto, unfolding(ss_tree::specs::View::view_expression))]
-fn note_item(into: &mut Demands, line: Line, item: &Expression) -> Result<(), AllocError>
-    ensures { IfOk result (λ _. into.new ≡ into.old ++ in_item line (view_expression item.now)) }
+fn add_item(into: &mut Vec<Use>, line: Line, item: &Expression) -> Result<(), AllocError>
+    ensures { IfOk result (λ _. into.new.items ≡ into.old.items ++ in_item line (view_expression item.now)) }
 {
     match item {
-        Expression::Named(named) => note_named(into, line, named),
-        Expression::Parenthesised(inner) => note_item(into, line, inner),
+        Expression::Named(named) => add_named(into, line, Role::Item, false, named),
+        Expression::Parenthesised(inner) => add_item(into, line, inner),
         Expression::Number(_)
         | Expression::Text(_)
         | Expression::Call { .. }
         | Expression::Product { .. }
         | Expression::Signed { .. }
-        | Expression::Sum { .. } => note_expression(into, line, item),
+        | Expression::Sum { .. } => add_expression(into, line, false, item),
     }
 }
 
-// Adds the demands of items.
-fn note_items(into: &mut Demands, line: Line, items: &[Expression]) -> Result<(), AllocError>
-    ensures { IfOk result (λ _. into.new ≡ into.old ++ in_items line (map view_expression items.now)) }
+// Adds the uses of an item and of its field.
+fn add_item_at(
+    into: &mut Vec<Use>,
+    line: Line,
+    fields: &[Field],
+    place: usize,
+    item: &Expression,
+) -> Result<(), AllocError>
+    ensures { IfOk result (λ _. into.new.items ≡ into.old.items ++ in_item_at line fields.now place (view_expression item.now)) }
 {
-    for item in items {
-        note_item(into, line, item)?;
+    add_field_at(into, line, fields, place, item)?;
+    add_item(into, line, item)
+}
+
+// Adds the uses of items, each with the field in its place.
+fn add_placed_items(
+    into: &mut Vec<Use>,
+    line: Line,
+    fields: &[Field],
+    items: &[Expression],
+) -> Result<(), AllocError>
+    ensures { IfOk result (λ _. into.new.items ≡ into.old.items ++ in_places (in_item_at line fields.now) 0 (map view_expression items.now)) }
+{
+    for (place, item) in items.iter().enumerate() {
+        add_item_at(into, line, fields, place, item)?;
     }
     Ok(())
 }
 
-// Adds the demands of items with fields.
-fn note_fields(
-    into: &mut Demands,
+// Adds the use of fields that don't fit their items, if they don't.
+fn add_fit(into: &mut Vec<Use>, line: Line, fits: bool) -> Result<(), AllocError>
+    ensures { IfOk result (λ _. into.new.items ≡ into.old.items ++ of_fit line fits) }
+{
+    if fits {
+        Ok(())
+    } else {
+        add(into, line, Used::Unfit)
+    }
+}
+
+// Adds the uses of items with fields.
+fn add_items(
+    into: &mut Vec<Use>,
     line: Line,
     items: &[Expression],
     fields: &[Field],
 ) -> Result<(), AllocError>
-    ensures { IfOk result (λ _. into.new ≡ into.old ++ in_fields line (map view_expression items.now) fields.now) }
+    ensures { IfOk result (λ _. into.new.items ≡ into.old.items ++ in_items line (map view_expression items.now) fields.now) }
 {
     let fits = items.len() == fields.len();
-    note(into, line, Aspect::Fits(fits), Aspect::Fits(true))?;
-    note_places(into, line, fields, items)?;
-    note_items(into, line, items)
+    add_fit(into, line, fits)?;
+    add_placed_items(into, line, fields, items)
 }
 
-// Adds the demands of a PRINT.
-pub(crate) fn note_print(
+// Adds the uses of a PRINT.
+pub(crate) fn add_print(
     alloc: Global,
-    into: &mut Demands,
+    into: &mut Vec<Use>,
     line: Line,
     items: &[Expression],
     pictures: &[PictureLine],
 ) -> Result<(), AllocError>
-    ensures { IfOk result (λ _. into.new ≡ into.old ++ in_print line (map view_expression items.now) pictures.now) }
+    ensures { IfOk result (λ _. into.new.items ≡ into.old.items ++ in_print line (map view_expression items.now) pictures.now) }
 {
-    let fields = fields_of_pictures(alloc, pictures)?;
-    note_fields(into, line, items, &fields)
+    let fields = fields_of(alloc, pictures)?;
+    add_items(into, line, items, &fields)
 }

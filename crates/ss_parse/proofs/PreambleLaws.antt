@@ -9,10 +9,10 @@ use Rattle.ss_lex.specs.declared.token.TokenKind.{TokenKind}
 use Rattle.ss_lex.specs.declared.token.TokenKind.TheVariants as kinds
 use Rattle.ss_lex.specs.declared.token.Token.{Token}
 use Rattle.ss_tree.specs.declared.preamble.Mode.{Mode}
-use Rattle.ss_tree.specs.declared.preamble.ClassKind.{ClassKind}
+use Rattle.ss_base.specs.declared.layout.ClassKind.{ClassKind}
 use Rattle.ss_tree.specs.declared.preamble.Key.{Key}
-use Rattle.ss_tree.specs.declared.preamble.Weighting.{Weighting}
-use Rattle.ss_tree.specs.declared.preamble.Weighting.TheVariants as weightings
+use Rattle.ss_base.specs.declared.words.Weighting.{Weighting}
+use Rattle.ss_base.specs.declared.words.Weighting.TheVariants as weightings
 use Rattle.ss_tree.specs.declared.preamble.StatisticKind.{StatisticKind}
 use Rattle.ss_tree.specs.declared.preamble.Statistic.{Statistic}
 use Rattle.ss_tree.specs.declared.preamble.PreambleStatement.{PreambleStatement}

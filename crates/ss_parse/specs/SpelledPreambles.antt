@@ -4,11 +4,11 @@ use Rattle.ss_base.specs.declared.line.Line.{Line}
 use Rattle.ss_lex.specs.declared.word.Word.{Word}
 use Rattle.ss_lex.specs.declared.word.Word.TheVariants as words
 use Rattle.ss_tree.specs.declared.preamble.Mode.{Mode}
-use Rattle.ss_tree.specs.declared.preamble.ClassKind.{ClassKind}
-use Rattle.ss_tree.specs.declared.preamble.ClassKind.TheVariants as classes
+use Rattle.ss_base.specs.declared.layout.ClassKind.{ClassKind}
+use Rattle.ss_base.specs.declared.layout.ClassKind.TheVariants as classes
 use Rattle.ss_tree.specs.declared.preamble.Key.{Key}
-use Rattle.ss_tree.specs.declared.preamble.Weighting.{Weighting}
-use Rattle.ss_tree.specs.declared.preamble.Weighting.TheVariants as weightings
+use Rattle.ss_base.specs.declared.words.Weighting.{Weighting}
+use Rattle.ss_base.specs.declared.words.Weighting.TheVariants as weightings
 use Rattle.ss_tree.specs.declared.preamble.Statistic.{Statistic}
 use Rattle.ss_tree.specs.Tree.{ClauseTree, has, owns, belongs_to, OrderTree, fifo, lifo, ranked, PreambleTree, permanent_entities, temporary_entities, event_notices, every, normally, system_owns, define_variables, define_sets, priority_order, break_ties, statistics}
 use Rattle.ss_parse_expressions.specs.declared.classes.WordClass.TheVariants as alike
@@ -108,7 +108,7 @@ Preamble_from group s = at (preamble_line s) (Word_is (preamble_first s) ▷ Pre
 abbrev pub group_after : Option ClassKind → PreambleTree → Option ClassKind
 group_after group (permanent_entities line) = Some classes.Permanent
 group_after group (temporary_entities line) = Some classes.Temporary
-group_after group (event_notices line included) = Some classes.EventNotice
+group_after group (event_notices line included) = Some classes.Notice
 group_after group _ = group
 
 abbrev pub Preambles_are : Option ClassKind → List PreambleTree → Shape

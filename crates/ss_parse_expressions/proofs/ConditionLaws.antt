@@ -6,8 +6,8 @@ use Rattle.ss_lex.specs.declared.token.Symbol.TheVariants.{Equals}
 use Rattle.ss_lex.specs.declared.token.TokenKind.{TokenKind}
 use Rattle.ss_lex.specs.declared.token.TokenKind.TheVariants as kinds
 use Rattle.ss_lex.specs.declared.token.Token.{Token}
-use Rattle.ss_tree.specs.declared.condition.Relation.{Relation}
-use Rattle.ss_tree.specs.declared.condition.Relation.TheVariants as relations
+use Rattle.ss_base.specs.declared.words.Relation.{Relation}
+use Rattle.ss_base.specs.declared.words.Relation.TheVariants as relations
 use Rattle.ss_tree.specs.declared.expression.Designator.{Designator}
 use Rattle.ss_tree.specs.declared.expression.Designator.TheVariants as designators
 use Rattle.ss_tree.specs.Tree.{ExpressionTree, named, ExpressionRow, no_expression, and_expression, NamedTree, TestTree, compare, empty, member, data_ended, ConditionTree}

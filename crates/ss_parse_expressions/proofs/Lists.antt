@@ -1,6 +1,6 @@
 -- Lists that aren't empty.
 use Rattle.std.proofs.Common.{◌≡◌, ◌==◌, ℕ, false, List, [], ◌∷◌, length, map, refl, sym, subst}
-use Rattle.ss_tree.specs.declared.expression.Sign.{Sign}
+use Rattle.ss_base.specs.declared.words.Sign.{Sign}
 use Rattle.ss_tree.specs.Tree.{ExpressionTree, product, sum, expression_row, term_row}
 use Rattle.ss_parse_expressions.specs.ReadExpressions.{sum_of_terms, product_of}
 

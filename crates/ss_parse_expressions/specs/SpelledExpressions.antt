@@ -3,8 +3,8 @@ use Rattle.std.specs.Prelude.{ℕ}
 use Rattle.ss_lex.specs.declared.token.TokenKind.TheVariants as kinds
 use Rattle.ss_lex.specs.declared.token.Symbol.TheVariants.{OpenParenthesis, CloseParenthesis, Plus, Minus, Star}
 use Rattle.ss_lex.specs.declared.word.Word.TheVariants as words
-use Rattle.ss_tree.specs.declared.expression.Sign.{Sign}
-use Rattle.ss_tree.specs.declared.expression.Sign.TheVariants as signs
+use Rattle.ss_base.specs.declared.words.Sign.{Sign}
+use Rattle.ss_base.specs.declared.words.Sign.TheVariants as signs
 use Rattle.ss_tree.specs.declared.expression.Designator.{Designator}
 use Rattle.ss_tree.specs.declared.expression.Designator.TheVariants as designators
 use Rattle.ss_tree.specs.Tree.{ExpressionTree, number, text, named, call, parenthesised, product, signed, sum, ExpressionRow, no_expression, and_expression, TermRow, no_term, and_term, NamedTree}

@@ -7,9 +7,9 @@ use Rattle.ss_lex.specs.declared.token.Symbol.TheVariants.{Equals}
 use Rattle.ss_lex.specs.declared.token.TokenKind.{TokenKind}
 use Rattle.ss_lex.specs.declared.token.TokenKind.TheVariants as kinds
 use Rattle.ss_lex.specs.declared.token.Token.{Token}
-use Rattle.ss_tree.specs.declared.head.GuardKind.{GuardKind}
-use Rattle.ss_tree.specs.declared.head.GuardKind.TheVariants as guards
-use Rattle.ss_tree.specs.declared.statement.SetEnd.{SetEnd}
+use Rattle.ss_base.specs.declared.words.GuardKind.{GuardKind}
+use Rattle.ss_base.specs.declared.words.GuardKind.TheVariants as guards
+use Rattle.ss_base.specs.declared.words.End.{End}
 use Rattle.ss_tree.specs.Tree.{ExpressionTree, NamedTree, PositionTree, WhenTree, LoopHeadTree, for_head, guarded, StatementTree, let_statement, add_statement, subtract_statement, call_statement, return_statement, stop_statement, read_statement, start_simulation, if_statement, loop_statement, find_statement, find_if_statement, create_statement, create_every, destroy_statement, file_statement, remove_end, remove_statement, schedule_new, schedule_statement, cancel_statement, reset_statement, print_statement, skip_statement}
 use Rattle.ss_parse_expressions.specs.declared.classes.WordClass.TheVariants as classes
 use Rattle.ss_parse_expressions.specs.Shapes.{Shape, ◌▷◌, nothing, either_shape, optional, provided, Token_is, Word_is, Symbol_is, Name_is, Word_for, separated_list}
@@ -104,7 +104,7 @@ sum_no_end : (ts : List Token) → begins_sum ts ≡ true → begins_by (in_tabl
 sum_no_end [] e = refl
 sum_no_end (t ∷ ts) e = value_no_end t.kind e
 
-end_no_the : (w : Word) (end : SetEnd) → end_of w ≡ Some end → is (word words.The) (kinds.Word w) ≡ false
+end_no_the : (w : Word) (end : End) → end_of w ≡ Some end → is (word words.The) (kinds.Word w) ≡ false
 end_no_the words.First end e = refl
 end_no_the words.Last end e = refl
 end_no_the _ end e = absurd cc
@@ -282,7 +282,7 @@ module _ (n m : ℕ) (le : n ≤ m) where
       from (file_statement l e position set) u w at ts rest s = ((e, (position, set)), ap (λ (l : Line). file_statement l e position set) (sym at), s)
       from _ u w at ts rest s = absurd cc
 
-  abbrev End_parts : SetEnd × (NamedTree × NamedTree) → Shape
+  abbrev End_parts : End × (NamedTree × NamedTree) → Shape
   End_parts p = Word_for end_of p.0 ▷ Target_is n p.1.0 ▷ Word_is words.From ▷ the ▷ Reference_is n p.1.1
 
   end_item : (line : Line) → Item (suc n) (begins_by (in_table end_of)) (remove_end_at line (suc n)) (remove_end_at line (suc m)) (Made (λ p. remove_end line p.0 p.1.0 p.1.1) End_parts) continues_place

@@ -7,8 +7,8 @@ use Rattle.ss_lex.specs.declared.token.Span.{Span}
 use Rattle.ss_lex.specs.declared.token.TokenKind.{TokenKind}
 use Rattle.ss_lex.specs.declared.token.TokenKind.TheVariants as kinds
 use Rattle.ss_lex.specs.declared.token.Token.{Token}
-use Rattle.ss_tree.specs.declared.head.GuardKind.{GuardKind}
-use Rattle.ss_tree.specs.declared.head.GuardKind.TheVariants as guards
+use Rattle.ss_base.specs.declared.words.GuardKind.{GuardKind}
+use Rattle.ss_base.specs.declared.words.GuardKind.TheVariants as guards
 use Rattle.ss_tree.specs.declared.statement.FindOutcome.{FindOutcome}
 use Rattle.ss_tree.specs.Tree.{ConditionTree, HeadTree, LoopHeadTree, for_head, guarded, StatementTree, let_statement, add_statement, subtract_statement, call_statement, return_statement, stop_statement, read_statement, start_simulation, if_statement, loop_statement, find_statement, find_if_statement, create_statement, create_every, destroy_statement, file_statement, remove_end, remove_statement, schedule_new, schedule_statement, cancel_statement, reset_statement, print_statement, skip_statement, StatementRow, no_statement, and_statement, statement_row}
 use Rattle.ss_parse_expressions.specs.Openers.{opens, openers}

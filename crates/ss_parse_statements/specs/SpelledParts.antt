@@ -3,8 +3,8 @@ use Rattle.std.specs.Prelude.{ℕ, List, Option, Some, None}
 use Rattle.ss_lex.specs.declared.token.TokenKind.TheVariants as kinds
 use Rattle.ss_lex.specs.declared.word.Word.{Word}
 use Rattle.ss_lex.specs.declared.word.Word.TheVariants as words
-use Rattle.ss_tree.specs.declared.statement.SetEnd.{SetEnd}
-use Rattle.ss_tree.specs.declared.statement.SetEnd.TheVariants as ends
+use Rattle.ss_base.specs.declared.words.End.{End}
+use Rattle.ss_base.specs.declared.words.End.TheVariants as ends
 use Rattle.ss_tree.specs.Tree.{ExpressionTree, PositionTree, by_discipline, at_first, at_last, before, after, WhenTree, at_time, in_units, now}
 use Rattle.ss_parse_expressions.specs.declared.classes.WordClass.TheVariants as classes
 use Rattle.ss_parse_expressions.specs.Shapes.{Shape, ◌▷◌, nothing, either_shape, Token_is, Word_is, perhaps}
@@ -22,7 +22,7 @@ Picture_is bytes = Token_is (kinds.Picture bytes)
 abbrev pub CalledName : {X : Type 0} → (X → Shape) → Option X → Shape
 CalledName S = perhaps (λ x. Word_is words.Called ▷ S x)
 
-abbrev pub end_of : Word → Option SetEnd
+abbrev pub end_of : Word → Option End
 end_of words.First = Some ends.First
 end_of words.Last = Some ends.Last
 end_of _ = None

@@ -18,21 +18,21 @@ use ss_parse_expressions::steps::beside;
 use ss_parse_expressions::tables::WordTable;
 use ss_parse_expressions::tokens::{begins_word, expect_symbol, expect_word, skip_word, syntax};
 use ss_tree::expression::{Expression, Named};
-use ss_tree::statement::{Position, SetEnd, When};
+use ss_tree::statement::{Position, End, When};
 use std::alloc::Global;
 
 /// FIRST and LAST.
 pub struct EndWords;
 
 impl WordTable for EndWords {
-    type Means = SetEnd;
+    type Means = End;
 
     ghost table = { end_of };
 
-    fn meaning_of(word: Word) -> Option<SetEnd> {
+    fn meaning_of(word: Word) -> Option<End> {
         match word {
-            Word::First => Some(SetEnd::First),
-            Word::Last => Some(SetEnd::Last),
+            Word::First => Some(End::First),
+            Word::Last => Some(End::Last),
             _ => None,
         }
     }

@@ -1,17 +1,8 @@
 //! Conditions.
 
-use crate::expression::{Expression, SetOwner};
+pub use ss_base::Relation;
 
-/// How two values compare: numbers by their size, texts by their bytes.
-#[derive(Clone, Copy, Debug, PartialEq, Eq)]
-pub enum Relation {
-    Equal,
-    NotEqual,
-    Less,
-    Greater,
-    LessOrEqual,
-    GreaterOrEqual,
-}
+use crate::expression::{Expression, SetOwner};
 
 /// A test, which holds or does not.
 #[derive(Drop)]

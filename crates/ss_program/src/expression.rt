@@ -1,5 +1,6 @@
 //! Expressions, and the questions in them.
 
+pub use ss_base::Sign;
 use ss_base::Value;
 
 /// A variable: a global one by its number among all of them, or a local one by its number in its
@@ -8,13 +9,6 @@ use ss_base::Value;
 pub enum Variable {
     Global { number: usize },
     Local { number: usize },
-}
-
-/// The sign before a term, and whether a statement adds or subtracts.
-#[derive(Clone, Copy, Debug, PartialEq, Eq)]
-pub enum Sign {
-    Plus,
-    Minus,
 }
 
 /// What makes one whole number of two.

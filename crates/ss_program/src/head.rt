@@ -1,29 +1,9 @@
 //! What loops go over, and what ends them.
 
+pub use ss_base::GuardKind;
+pub use ss_base::PhraseKind;
 use crate::condition::Condition;
 use crate::expression::{Expression, SetOwner, Variable};
-
-/// How a condition of a loop that begins with WHILE or UNTIL ends it.
-#[derive(Clone, Copy, Debug, PartialEq, Eq)]
-pub enum GuardKind {
-    /// WHILE: ends the loop where the condition doesn't hold.
-    While,
-    /// UNTIL: ends the loop where the condition holds.
-    Until,
-}
-
-/// What a phrase does with an item of a FOR, by its condition.
-#[derive(Clone, Copy, Debug, PartialEq, Eq)]
-pub enum PhraseKind {
-    /// WITH or WHEN: passes an item where the condition holds.
-    With,
-    /// UNLESS: passes an item where the condition doesn't hold.
-    Unless,
-    /// WHILE: ends the loop where the condition doesn't hold.
-    While,
-    /// UNTIL: ends the loop where the condition holds.
-    Until,
-}
 
 /// A condition of a loop that begins with WHILE or UNTIL.
 #[derive(Drop)]

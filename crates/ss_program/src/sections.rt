@@ -1,5 +1,6 @@
 //! Programs and their parts.
 
+pub use ss_base::Weighting;
 use crate::statement::{CountedClass, Statement};
 use ss_base::{Discipline, Layout, Line, Mode, RankKeys};
 
@@ -12,13 +13,6 @@ pub enum Subject {
     OfAttribute { class: usize, field: usize },
     /// N. of the sets of a name.
     OfCount { set: usize },
-}
-
-/// Whether each value of a statistic's subject counts once, or by the time for which it lasted.
-#[derive(Clone, Copy, Debug, PartialEq, Eq)]
-pub enum Weighting {
-    Tally,
-    Accumulate,
 }
 
 /// A statistic: what it is of, and how it weighs values.

@@ -1,16 +1,10 @@
 //! Statements.
 
+pub use ss_base::End;
 use crate::condition::Condition;
 use crate::expression::{Expression, SetOwner, Sign, Variable};
 use crate::head::{Guard, Head, Phrase};
 use ss_base::{Line, Mode};
-
-/// An end of a set.
-#[derive(Clone, Copy, Debug, PartialEq, Eq)]
-pub enum End {
-    First,
-    Last,
-}
 
 /// A permanent class, and the number of the global variable N. of the class, which says how many
 /// entities of it are to be made.

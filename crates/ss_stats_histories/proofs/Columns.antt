@@ -8,8 +8,8 @@ use Rattle.std.proofs.Math.Seq.{take-length}
 use Rattle.std.proofs.Math.ListN.{drop_of_length-le}
 use Rattle.ss_base.specs.declared.layout.Owner.{Owner}
 use Rattle.ss_base.specs.declared.layout.Layout.{Layout}
-use Rattle.ss_program.specs.declared.sections.Weighting.{Weighting}
-use Rattle.ss_program.specs.declared.sections.Weighting.TheVariants as weightings
+use Rattle.ss_base.specs.declared.words.Weighting.{Weighting}
+use Rattle.ss_base.specs.declared.words.Weighting.TheVariants as weightings
 use Rattle.ss_stats.specs.History.{History, Tally, Accumulate, Change, last_of, last_moment, is_full, with_noted_value, restarted}
 use Rattle.ss_meaning.specs.Store.{Column}
 use Rattle.ss_meaning.specs.Histories.{at_start, begun_in, ended_in}

@@ -1,26 +1,21 @@
 //! The tables of a program.
 
-ghost use Rattle.std.specs.Prelude.{◌≡◌, ◌<◌, length, map, slice_get, option_map, is_some, Some, None, IfSome, IfOk, IfErr, OnOk};
+ghost use Rattle.std.specs.Prelude.{◌≡◌, ◌<◌, length, slice_get, option_map, is_some, Some, IfSome, IfOk, IfErr};
 ghost use Rattle.std.specs.Map.{keys_of};
 ghost use Rattle.ss_tree.specs.Tree.{ProgramTree};
-ghost use Rattle.ss_tree.specs.View.{view_program, view_section};
-ghost use Rattle.ss_tables_rules.specs.Broken.{refusal_of_declarations, refusal_by};
+ghost use Rattle.ss_tree.specs.View.{view_program};
+ghost use Rattle.ss_names_declarations.specs.Declarations.{declarations as declarations_seen};
 ghost use Rattle.ss_names_declarations.specs.Firsts.{place_in};
-ghost use Rattle.ss_names.specs.Table.{declared};
-ghost use Rattle.ss_names_laws.specs.Names.{is_declared};
+ghost use Rattle.ss_tables_rules.specs.Broken.{refusal_of_declarations};
 ghost use Rattle.ss_names_meaning.specs.Layouts.{layout};
-ghost use Rattle.ss_tables.specs.Tables.{AreTables, AreTablesOf, ReportsTableError};
+ghost use Rattle.ss_tables.specs.Tables.{AreTablesOf, NamesUnless, ReportsTableError, is_declared};
 
-use crate::error::{TableError, error_of};
 use ss_base::Layout;
-use ss_names::laws::names_have_one_entry;
 use ss_names::{NameId, Names};
-use ss_names_declarations::{Saying, sayings_of};
-use ss_names_laws::layout_laws::layouts_are_there;
-use ss_names_laws::table_laws::names_are_declared;
+use ss_names_declarations::{Declaration, declarations_of};
 use ss_names_meaning::layout;
-use ss_tables_rules::{refusal_of, seed_of};
-use ss_tree::program::{Program, Section};
+use ss_tables_rules::{TableError, refusal_of, seed_of};
+use ss_tree::program::Program;
 use std::alloc::{AllocError, Global};
 use std::marker::Model;
 
@@ -43,17 +38,40 @@ impl Model for Tables {
     ghost invariant = { λ t. AreTables t.names };
 }
 
-// The table of names of a program with these sayings and sections, where it breaks no rule.
-fn names_of(alloc: Global, sayings: &[Saying], sections: &[Section]) -> Result<Names, TableError>
-    ensures kept { OnOk result (refusal_by sayings.now (map view_section sections.now) ≡ None) }
-    ensures made { IfOk result (λ names. names ≡ declared sayings.now) }
-    ensures refused { IfErr result (λ e. ReportsTableError e (refusal_by sayings.now (map view_section sections.now))) }
+// The names, unless a rule is broken or memory was refused.
+fn names_unless(
+    names: Names,
+    broken: Result<Option<TableError>, AllocError>,
+) -> Result<Names, TableError>
+    ensures { NamesUnless names broken result }
 {
-    let seed = seed_of(sayings);
-    match refusal_of(alloc, seed, sayings, sections)? {
-        Some(broken) => Err(error_of(broken)),
-        None => Ok(Names::of(alloc, seed, sayings)?),
+    match broken {
+        Ok(None) => Ok(names),
+        Ok(Some(error)) => {
+            names.release();
+            Err(error)
+        }
+        Err(_) => {
+            names.release();
+            Err(TableError::Memory)
+        }
     }
+}
+
+// The table of names of a program with these declarations, if it breaks no rule.
+fn names_of(
+    alloc: Global,
+    program: &Program,
+    declarations: &[Declaration],
+) -> Result<Names, TableError>
+    requires { declarations.now ≡ declarations_seen (view_program program.now) }
+    ensures made { IfOk result (λ names. AreTablesOf (view_program program.now) names) }
+    ensures refused { IfErr result (λ e. ReportsTableError e (refusal_of_declarations (view_program program.now))) }
+{
+    let seed = seed_of(declarations);
+    let names = Names::of(alloc, seed, declarations)?;
+    let broken = refusal_of(alloc, seed, &names, declarations, program);
+    names_unless(names, broken)
 }
 
 impl Tables {
@@ -66,35 +84,33 @@ impl Tables {
         ensures made { IfOk result (λ t. AreTablesOf (view_program program.now) t) }
         ensures refused { IfErr result (λ e. ReportsTableError e (refusal_of_declarations (view_program program.now))) }
     {
-        let sayings = sayings_of(alloc, program)?;
-        let names = names_of(alloc, &sayings, &program.sections)?;
+        let declarations = declarations_of(alloc, program)?;
+        let names = names_of(alloc, program, &declarations)?;
         Ok(Tables { names })
     }
 
     /// The global or derived name of this spelling, in capitals. None just where the program declares none.
     pub fn find(&self, spelling: &[u8]) -> Option<NameId>
         ensures declared { (p : ProgramTree) → AreTablesOf p self.now → is_some result ≡ is_declared p spelling.now }
-        ensures place { option_map (λ id. id.0) result ≡ place_in self.now.names spelling.now }
-        ensures named { IfSome result (λ id. slice_get (keys_of self.now.names) id.0 ≡ Some spelling.now) }
+        ensures place { option_map (λ id. id.0) result ≡ place_in self.now.meanings spelling.now }
+        ensures named { IfSome result (λ id. slice_get (keys_of self.now.meanings) id.0 ≡ Some spelling.now) }
     {
-        names_are_declared();
         self.names.find(spelling)
     }
 
     /// How many global and derived names there are. They have the places below that.
     pub fn len(&self) -> usize
-        ensures { result ≡ length self.now.names }
+        ensures { result ≡ length self.now.meanings }
     {
         self.names.len()
     }
 
     /// The spelling of a name, which is one of these tables. It is found there again.
     pub fn name(&self, id: NameId) -> &[u8]
-        requires { id.0 < length self.now.names }
-        ensures spelled { slice_get (keys_of self.now.names) id.0 ≡ Some result.now }
-        ensures found { place_in self.now.names result.now ≡ Some id.0 }
+        requires { id.0 < length self.now.meanings }
+        ensures spelled { slice_get (keys_of self.now.meanings) id.0 ≡ Some result.now }
+        ensures found { place_in self.now.meanings result.now ≡ Some id.0 }
     {
-        names_have_one_entry();
         self.names.name(id)
     }
 
@@ -106,7 +122,6 @@ impl Tables {
     pub fn layout(&self, alloc: Global) -> Result<Layout, AllocError>
         ensures { IfOk result (λ laid. layout self.now ≡ Some laid) }
     {
-        layouts_are_there();
         match layout(alloc, &self.names)? {
             Some(laid) => Ok(laid),
             None => unreachable!(),

@@ -2,19 +2,18 @@
 use Rattle.std.specs.Prelude.{◌≡◌, ℕ, suc, zero, ◌+◌, ◌/◌, ◌%◌, pos, true, false, List, [], ◌∷◌, ◌++◌, Option, Some, None, codes, refl}
 use Rattle.ss_base.specs.declared.line.Line.{Line}
 use Rattle.ss_tree.specs.declared.expression.Designator.TheVariants.{Name}
-use Rattle.ss_tree.specs.declared.preamble.ClassKind.TheVariants.{Permanent, Temporary, EventNotice}
+use Rattle.ss_base.specs.declared.layout.ClassKind.TheVariants.{Permanent, Temporary, Notice}
 use Rattle.ss_tree.specs.declared.preamble.Key.{Key}
 use Rattle.ss_tree.specs.declared.preamble.Mode.{Mode}
 use Rattle.ss_tree.specs.declared.preamble.Mode.TheVariants.{Integer, Alpha, Real}
 use Rattle.ss_tree.specs.declared.preamble.Statistic.{Statistic}
 use Rattle.ss_tree.specs.declared.preamble.StatisticKind.TheVariants.{Sum}
-use Rattle.ss_tree.specs.declared.preamble.Weighting.TheVariants.{Tally, Accumulate}
+use Rattle.ss_base.specs.declared.words.Weighting.TheVariants.{Tally, Accumulate}
 use Rattle.ss_tree.specs.Tree.{ClauseTree, has, owns, belongs_to, fifo, lifo, ranked, PreambleTree, temporary_entities, event_notices, every, normally, system_owns, define_variables, define_sets, priority_order, break_ties, statistics, DefinitionTree, SectionKindTree, main, routine, event, SectionTree, ProgramTree, ExpressionTree, ExpressionRow, no_expression, and_expression, number, NamedTree, over_range, over_class, for_head, StatementTree, let_statement, reset_statement, loop_statement, no_statement}
 use Rattle.ss_tree.specs.Names.{NameBytes}
-use Rattle.ss_tables_rules.specs.declared.rule.DeclarationRule.{DeclarationRule}
-use Rattle.ss_tables_rules.specs.declared.rule.DeclarationRule.TheVariants.{Twice, RealMode, UnknownClass, UnknownSet, NoOwner, NoMember, RankKey, TallyTwice, TooMany, TieKey}
-use Rattle.ss_tables_rules.specs.declared.rule.BrokenDeclaration.{BrokenDeclaration}
-use Rattle.ss_tables_rules.specs.Broken.{broken, refusal_of_declarations}
+use Rattle.ss_tables_rules.specs.Broken.{refusal_of_declarations}
+use Rattle.ss_tables_rules.specs.declared.error.TableError.{TableError}
+use Rattle.ss_tables_rules.specs.declared.error.TableError.TheVariants.{Twice, RealMode, UnknownClass, UnknownSet, NoOwner, NoMember, RankKey, TallyTwice, TooMany, TieKey}
 
 -- ---- words for small programs
 
@@ -22,8 +21,8 @@ abbrev line : ℕ → Line
 line n = record { 0 = n }
 
 -- a rule is broken in this line
-abbrev at : DeclarationRule → ℕ → Option BrokenDeclaration
-at rule n = Some (record { rule = rule; line = line n })
+abbrev at : (Line → TableError) → ℕ → Option TableError
+at rule n = Some (rule (line n))
 
 abbrev names1 : NameBytes → List NameBytes
 names1 a = a ∷ []
@@ -66,7 +65,7 @@ abbrev class : ℕ → NameBytes → List ClauseTree → PreambleTree
 class n name clauses = every (line n) Temporary name clauses
 
 abbrev notice : ℕ → NameBytes → List ClauseTree → PreambleTree
-notice n name clauses = every (line n) EventNotice name clauses
+notice n name clauses = every (line n) Notice name clauses
 
 abbrev system_pool : ℕ → PreambleTree
 system_pool n = system_owns (line n) (names1 pool)
@@ -365,24 +364,24 @@ abbrev many_classes : ℕ → List PreambleTree
 many_classes zero = []
 many_classes (suc n) = many_classes n ++ class (n + 1) ((65 + n / 26) ∷ (65 + n % 26) ∷ []) [] ∷ []
 
-pub classes_enough : broken TooMany (declares (many_classes 64)) ≡ []
+pub classes_enough : refusal_of_declarations (declares (many_classes 64)) ≡ None
 classes_enough = refl
 
-pub classes_too_many : broken TooMany (declares (many_classes 66)) ≡ line 65 ∷ line 66 ∷ []
+pub classes_too_many : refusal_of_declarations (declares (many_classes 66)) ≡ at TooMany 65
 classes_too_many = refl
 
 -- a set counts once, with its owner and its members
-pub sets_enough : broken TooMany (declares (system_owns (line 1) (many_names 64) ∷ class 2 job (belongs_to (many_names 64) ∷ []) ∷ [])) ≡ []
+pub sets_enough : refusal_of_declarations (declares (system_owns (line 1) (many_names 64) ∷ class 2 job (belongs_to (many_names 64) ∷ []) ∷ [])) ≡ None
 sets_enough = refl
 
-pub sets_too_many : broken TooMany (declares (system_owns (line 1) (many_names 64) ∷ class 2 job (belongs_to (many_names 65) ∷ []) ∷ [])) ≡ line 2 ∷ []
+pub sets_too_many : refusal_of_declarations (declares (system_owns (line 1) (many_names 64) ∷ class 2 job (belongs_to (many_names 65) ∷ []) ∷ [])) ≡ at TooMany 2
 sets_too_many = refl
 
 -- each class has its own attributes
-pub attributes_enough : broken TooMany (declares (class 1 job (has (many_names 64) ∷ []) ∷ class 2 tool (has (names1 rank) ∷ []) ∷ [])) ≡ []
+pub attributes_enough : refusal_of_declarations (declares (integers ∷ class 1 job (has (many_names 64) ∷ []) ∷ class 2 tool (has (names1 rank) ∷ []) ∷ [])) ≡ None
 attributes_enough = refl
 
-pub attributes_too_many : broken TooMany (declares (class 1 job (has (many_names 64) ∷ has (names1 rank) ∷ []) ∷ class 2 tool (has (names1 size) ∷ []) ∷ [])) ≡ line 1 ∷ []
+pub attributes_too_many : refusal_of_declarations (declares (integers ∷ class 1 job (has (many_names 64) ∷ has (names1 rank) ∷ []) ∷ class 2 tool (has (names1 size) ∷ []) ∷ [])) ≡ at TooMany 1
 attributes_too_many = refl
 
 -- ---- two rules at once

@@ -1,124 +1,85 @@
 //! The first rule that a program breaks by what it declares.
 
-ghost use Rattle.std.specs.Prelude.{◌≡◌, map, IfOk};
-ghost use Rattle.ss_tree.specs.View.{view_section};
-ghost use Rattle.ss_tables_rules.specs.Broken.{broken_by, broken_at, first_of_two, first_broken_rule, refusal_by};
-ghost use Rattle.ss_tables_rules.specs.Declarations.{declarations};
-ghost use Rattle.ss_tables_rules.specs.Globals.{IsGlobalsOf};
-ghost use Rattle.ss_tables_rules.specs.Lines.{first_line};
+ghost use Rattle.std.specs.Prelude.{◌≡◌, option_map, IfOk};
+ghost use Rattle.ss_tables_rules.specs.declared.error.TableError.TheVariants as e;
+ghost use Rattle.ss_tree.specs.View.{view_program};
+ghost use Rattle.ss_names.specs.Table.{declared};
+ghost use Rattle.ss_names_declarations.specs.Declarations.{declarations as declarations_seen};
+ghost use Rattle.ss_tables_rules.specs.Broken.{refusal_of_declarations};
 
-use crate::globals::{DeclaredNames, globals_of};
-use crate::rule::{BrokenDeclaration, DeclarationRule};
-use crate::rules::{
-    no_member, no_owner, rank_key, real_mode, tie_key, twice, unknown_class, unknown_set,
-};
-use crate::tally_twice::tally_twice;
-use crate::too_many::too_many;
-use ss_base::Line;
-use ss_names_declarations::{Saying, Seed};
-use ss_tree::program::Section;
+use crate::declarations::declared_breaks;
+use crate::error::TableError;
+use crate::keys::misranked;
+use crate::modes::unmoded;
+use crate::once::repeated;
+use ss_base::{Line, Name};
+use ss_names::Names;
+use ss_names_declarations::{Declaration, Declared, Seed};
+use ss_tree::program::Program;
 use std::alloc::{AllocError, Global};
+use std::hash::{DefaultHasher, Hash};
 
-/// The first line where a rule is broken.
-fn place_of(
-    alloc: Global,
-    globals: &DeclaredNames,
-    rule: DeclarationRule,
-    sayings: &[Saying],
-    sections: &[Section],
-) -> Result<Option<Line>, AllocError>
-    requires { IsGlobalsOf (declarations sayings.now) globals.now }
-    ensures { IfOk result (λ line. line ≡ first_line (broken_by sayings.now (map view_section sections.now) rule)) }
-{
-    match rule {
-        DeclarationRule::Twice => twice(alloc, globals, sayings),
-        DeclarationRule::RealMode => real_mode(alloc, globals, sayings, sections),
-        DeclarationRule::UnknownClass => unknown_class(alloc, globals.seed(), sayings),
-        DeclarationRule::UnknownSet => unknown_set(alloc, globals.seed(), sayings),
-        DeclarationRule::NoOwner => no_owner(alloc, globals.seed(), sayings),
-        DeclarationRule::NoMember => no_member(alloc, globals.seed(), sayings),
-        DeclarationRule::RankKey => rank_key(alloc, globals.seed(), sayings),
-        DeclarationRule::TallyTwice => tally_twice(alloc, globals.seed(), sayings),
-        DeclarationRule::TooMany => too_many(alloc, globals.seed(), sayings),
-        DeclarationRule::TieKey => tie_key(alloc, globals.seed(), sayings),
+// The name that a declaration is of.
+fn name_of(what: &Declared) -> Option<Name> {
+    match what {
+        Declared::Class { class: name, .. }
+        | Declared::Attribute { attribute: name, .. }
+        | Declared::Owner { set: name, .. }
+        | Declared::Member { set: name, .. }
+        | Declared::Variable { variable: name, .. }
+        | Declared::Order { set: name, .. }
+        | Declared::RankKey { attribute: name, .. }
+        | Declared::Priority { class: name }
+        | Declared::Ties { class: name }
+        | Declared::TieKey { attribute: name, .. }
+        | Declared::Subject { subject: name, .. }
+        | Declared::Statistic { statistic: name, .. }
+        | Declared::Routine { routine: name, .. }
+        | Declared::Event { class: name, .. }
+        | Declared::Parameter { parameter: name, .. }
+        | Declared::Local { variable: name, .. } => Some(*name),
+        Declared::Normally { .. } | Declared::PriorityOrder | Declared::Main => None,
     }
 }
 
-/// A rule with the line where it is broken first.
-fn broken_at(rule: DeclarationRule, line: Option<Line>) -> Option<BrokenDeclaration>
-    ensures { result ≡ broken_at rule line }
+/// The seed for tables of the names of these declarations.
+pub fn seed_of(declarations: &[Declaration]) -> Seed {
+    let mut names = DefaultHasher::new();
+    for declaration in declarations {
+        name_of(&declaration.what).hash(&mut names);
+    }
+    Seed::of(&names)
+}
+
+// The breach of a name that is declared as two things.
+fn clash_breach(clash: Option<Line>) -> Option<TableError>
+    ensures { result ≡ option_map e.Twice clash }
 {
-    match line {
+    match clash {
+        Some(line) => Some(TableError::Twice(line)),
         None => None,
-        Some(line) => Some(BrokenDeclaration { rule, line }),
     }
 }
 
-/// What was found so far, or else a rule, where it is broken.
-fn or_broken(
-    alloc: Global,
-    globals: &DeclaredNames,
-    rule: DeclarationRule,
-    sayings: &[Saying],
-    sections: &[Section],
-    found: Option<BrokenDeclaration>,
-) -> Result<Option<BrokenDeclaration>, AllocError>
-    requires { IsGlobalsOf (declarations sayings.now) globals.now }
-    ensures { IfOk result (λ b. b ≡ first_of_two found (broken_at rule (first_line (broken_by sayings.now (map view_section sections.now) rule)))) }
-{
-    match found {
-        Some(broken) => Ok(Some(broken)),
-        None => {
-            let line = place_of(alloc, globals, rule, sayings, sections)?;
-            Ok(broken_at(rule, line))
-        }
-    }
-}
-
-/// The first of some rules that is broken.
-fn first_broken_rule(
-    alloc: Global,
-    globals: &DeclaredNames,
-    rules: &[DeclarationRule],
-    sayings: &[Saying],
-    sections: &[Section],
-) -> Result<Option<BrokenDeclaration>, AllocError>
-    requires { IsGlobalsOf (declarations sayings.now) globals.now }
-    ensures { IfOk result (λ b. b ≡ first_broken_rule sayings.now (map view_section sections.now) rules.now) }
-{
-    let mut found = None;
-    for rule in rules {
-        found = or_broken(alloc, globals, *rule, sayings, sections, found)?;
-    }
-    Ok(found)
-}
-
-/// The first rule that a program breaks by what it declares, in the order of the rules' numbers, with the
-/// first line where it does; None where it breaks none. The sayings are those of the program
-/// (`sayings_of` of ss_names_declarations), the seed is made from them (`seed_of`), the sections are its sections.
+/// The first rule that a program breaks by what it declares, in the order of the rules' numbers, with the first line where
+/// it does; None where it breaks none. The declarations are those of the program, and the table is made from them.
 ///
 /// # Errors
 /// `AllocError` where memory is refused.
 pub fn refusal_of(
     alloc: Global,
     seed: Seed,
-    sayings: &[Saying],
-    sections: &[Section],
-) -> Result<Option<BrokenDeclaration>, AllocError>
-    ensures { IfOk result (λ b. b ≡ refusal_by sayings.now (map view_section sections.now)) }
+    names: &Names,
+    declarations: &[Declaration],
+    program: &Program,
+) -> Result<Option<TableError>, AllocError>
+    requires declarations { declarations.now ≡ declarations_seen (view_program program.now) }
+    requires names { names.now ≡ declared declarations.now }
+    ensures { IfOk result (λ b. b ≡ refusal_of_declarations (view_program program.now)) }
 {
-    let globals = globals_of(alloc, seed, sayings)?;
-    let rules = [
-        DeclarationRule::Twice,
-        DeclarationRule::RealMode,
-        DeclarationRule::UnknownClass,
-        DeclarationRule::UnknownSet,
-        DeclarationRule::NoOwner,
-        DeclarationRule::NoMember,
-        DeclarationRule::RankKey,
-        DeclarationRule::TallyTwice,
-        DeclarationRule::TooMany,
-        DeclarationRule::TieKey,
-    ];
-    first_broken_rule(alloc, &globals, &rules, sayings, sections)
+    let clash = clash_breach(names.clash);
+    let once = repeated(alloc, seed, names, declarations, clash)?;
+    let by_table = declared_breaks(names, declarations, once);
+    let by_keys = misranked(names, &program.preamble, by_table);
+    unmoded(alloc, names, &program.sections, by_keys)
 }

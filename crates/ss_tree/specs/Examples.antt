@@ -1,12 +1,12 @@
 -- How many nodes small trees have, counted by hand.
 use Rattle.std.specs.Prelude.{◌≡◌, pos, true, false, [], ◌∷◌, Some, codes, refl}
 use Rattle.ss_base.specs.declared.line.Line.{Line}
-use Rattle.ss_tree.specs.declared.expression.Sign.TheVariants.{Plus, Minus}
+use Rattle.ss_base.specs.declared.words.Sign.TheVariants.{Plus, Minus}
 use Rattle.ss_tree.specs.declared.expression.Designator.TheVariants.{Name}
 use Rattle.ss_tree.specs.declared.expression.Function.TheVariants.{Mod}
-use Rattle.ss_tree.specs.declared.condition.Relation.TheVariants.{Equal, Greater}
-use Rattle.ss_tree.specs.declared.head.PhraseKind.TheVariants.{With}
-use Rattle.ss_tree.specs.declared.head.GuardKind.TheVariants.{Until}
+use Rattle.ss_base.specs.declared.words.Relation.TheVariants.{Equal, Greater}
+use Rattle.ss_base.specs.declared.words.PhraseKind.TheVariants.{With}
+use Rattle.ss_base.specs.declared.words.GuardKind.TheVariants.{Until}
 use Rattle.ss_tree.specs.declared.preamble.Mode.TheVariants.{Integer}
 use Rattle.ss_tree.specs.Tree.{ExpressionTree, number, text, named, call, parenthesised, product, signed, sum, no_expression, and_expression, no_term, and_term, NamedTree, compare, data_ended, over_range, for_head, guarded, let_statement, call_statement, stop_statement, if_statement, loop_statement, print_statement, no_statement, and_statement, define_variables, main}
 use Rattle.ss_tree.specs.Nodes.{expression_nodes, condition_nodes, statement_nodes, nodes}

@@ -1,18 +1,18 @@
 -- The tree of a program, without where it lies in memory.
 use Rattle.std.specs.Prelude.{ℕ, ℤ, Bool, List, [], ◌∷◌, Option}
 use Rattle.ss_base.specs.declared.line.Line.{Line}
-use Rattle.ss_tree.specs.declared.expression.Sign.{Sign}
+use Rattle.ss_base.specs.declared.words.Sign.{Sign}
 use Rattle.ss_tree.specs.declared.expression.Function.{Function}
 use Rattle.ss_tree.specs.declared.expression.Designator.{Designator}
-use Rattle.ss_tree.specs.declared.condition.Relation.{Relation}
-use Rattle.ss_tree.specs.declared.head.PhraseKind.{PhraseKind}
-use Rattle.ss_tree.specs.declared.head.GuardKind.{GuardKind}
-use Rattle.ss_tree.specs.declared.statement.SetEnd.{SetEnd}
+use Rattle.ss_base.specs.declared.words.Relation.{Relation}
+use Rattle.ss_base.specs.declared.words.PhraseKind.{PhraseKind}
+use Rattle.ss_base.specs.declared.words.GuardKind.{GuardKind}
+use Rattle.ss_base.specs.declared.words.End.{End}
 use Rattle.ss_tree.specs.declared.statement.FindOutcome.{FindOutcome}
 use Rattle.ss_tree.specs.declared.preamble.Mode.{Mode}
-use Rattle.ss_tree.specs.declared.preamble.ClassKind.{ClassKind}
+use Rattle.ss_base.specs.declared.layout.ClassKind.{ClassKind}
 use Rattle.ss_tree.specs.declared.preamble.Key.{Key}
-use Rattle.ss_tree.specs.declared.preamble.Weighting.{Weighting}
+use Rattle.ss_base.specs.declared.words.Weighting.{Weighting}
 use Rattle.ss_tree.specs.declared.preamble.Statistic.{Statistic}
 
 -- ---- expressions
@@ -123,7 +123,7 @@ mutual
     create_every : Line → List (List ℕ) → StatementTree
     destroy_statement : Line → List ℕ → Option ExpressionTree → StatementTree
     file_statement : Line → ExpressionTree → PositionTree → NamedTree → StatementTree
-    remove_end : Line → SetEnd → NamedTree → NamedTree → StatementTree
+    remove_end : Line → End → NamedTree → NamedTree → StatementTree
     remove_statement : Line → ExpressionTree → NamedTree → StatementTree
     schedule_new : Line → List ℕ → Option NamedTree → List ExpressionTree → WhenTree → StatementTree
     schedule_statement : Line → List ℕ → Option ExpressionTree → List ExpressionTree → WhenTree → StatementTree

@@ -1,7 +1,7 @@
 -- The tree that a program's value is, without where it lies in memory.
 use Rattle.std.specs.Prelude.{ℕ, List, map, Option, Some, None}
 use Rattle.ss_tree.specs.declared.expression.Expression.{Expression, Number, Text, Named', Call', Parenthesised', Product', Signed', Sum', Row_of-Expression, end_of-Expression, more_of-Expression, Row_of-Term, end_of-Term, more_of-Term}
-use Rattle.ss_tree.specs.declared.expression.Sign.{Sign}
+use Rattle.ss_base.specs.declared.words.Sign.{Sign}
 use Rattle.ss_tree.specs.declared.expression.Term.{Term}
 use Rattle.ss_tree.specs.declared.expression.Named.{Named}
 use Rattle.ss_tree.specs.declared.condition.Test.{Test}

@@ -2,7 +2,7 @@
 use Rattle.std.specs.Prelude.{◌≡◌, ℕ, ℤ, List, [], ◌∷◌, map, refl}
 use Rattle.std.proofs.Common.{sym, ap, ◌∙◌}
 use Rattle.std.specs.Global.{Vec, Box}
-use Rattle.ss_tree.specs.declared.expression.Sign.{Sign}
+use Rattle.ss_base.specs.declared.words.Sign.{Sign}
 use Rattle.ss_tree.specs.declared.expression.Function.{Function}
 use Rattle.ss_tree.specs.declared.expression.Named.{Named}
 use Rattle.ss_tree.specs.declared.expression.Term.{Term}

@@ -1,17 +1,8 @@
 //! Conditions.
 
-use crate::expression::{Expression, Named};
+pub use ss_base::Relation;
 
-/// How two values compare.
-#[derive(Clone, Copy)]
-pub enum Relation {
-    Equal,
-    NotEqual,
-    Less,
-    Greater,
-    LessOrEqual,
-    GreaterOrEqual,
-}
+use crate::expression::{Expression, Named};
 
 /// A test. A negated one has the word NOT.
 #[derive(Drop)]

@@ -1,13 +1,7 @@
 //! Expressions, and the places that a program names.
 
+pub use ss_base::Sign;
 use ss_base::{Alpha, Name};
-
-/// The sign before a term.
-#[derive(Clone, Copy)]
-pub enum Sign {
-    Plus,
-    Minus,
-}
 
 /// A function of the language.
 #[derive(Clone, Copy)]

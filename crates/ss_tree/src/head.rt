@@ -1,36 +1,16 @@
 //! The heads of loops.
 
+pub use ss_base::GuardKind;
+pub use ss_base::PhraseKind;
 use crate::condition::Condition;
 use crate::expression::{Expression, Named};
 use ss_base::Name;
-
-/// What a phrase does with a candidate, by its condition.
-#[derive(Clone, Copy)]
-pub enum PhraseKind {
-    /// WITH or WHEN: passes a candidate where the condition holds.
-    With,
-    /// UNLESS: passes a candidate where the condition doesn't hold.
-    Unless,
-    /// WHILE: ends the loop where the condition doesn't hold.
-    While,
-    /// UNTIL: ends the loop where the condition holds.
-    Until,
-}
 
 /// A phrase of a FOR.
 #[derive(Drop)]
 pub struct Phrase {
     pub kind: PhraseKind,
     pub condition: Condition,
-}
-
-/// How the condition of a loop that begins with WHILE or UNTIL ends it.
-#[derive(Clone, Copy)]
-pub enum GuardKind {
-    /// WHILE: ends the loop where the condition doesn't hold.
-    While,
-    /// UNTIL: ends the loop where the condition holds.
-    Until,
 }
 
 /// A condition of a loop that begins with WHILE or UNTIL.

@@ -1,5 +1,6 @@
 //! The statements of a preamble.
 
+pub use ss_base::{ClassKind, Weighting};
 use ss_base::{Line, Name};
 
 /// What a value is.
@@ -8,14 +9,6 @@ pub enum Mode {
     Integer,
     Alpha,
     Real,
-}
-
-/// A kind of class.
-#[derive(Clone, Copy)]
-pub enum ClassKind {
-    Permanent,
-    Temporary,
-    EventNotice,
 }
 
 /// What an EVERY says of its class.
@@ -61,15 +54,6 @@ pub enum StatisticKind {
 pub struct Statistic {
     pub name: Name,
     pub kind: StatisticKind,
-}
-
-/// How statistics weigh the values of their subject.
-#[derive(Clone, Copy)]
-pub enum Weighting {
-    /// TALLY: each value once.
-    Tally,
-    /// ACCUMULATE: each value by the time for which it lasted.
-    Accumulate,
 }
 
 /// A statement of the preamble. The head of a group of declarations is one.

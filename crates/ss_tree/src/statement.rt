@@ -1,5 +1,6 @@
 //! Statements.
 
+pub use ss_base::End;
 use crate::condition::Condition;
 use crate::expression::{Expression, Named};
 use crate::head::{Head, LoopHead};
@@ -14,13 +15,6 @@ pub enum Position {
     Last,
     Before(Expression),
     After(Expression),
-}
-
-/// An end of a set.
-#[derive(Clone, Copy)]
-pub enum SetEnd {
-    First,
-    Last,
 }
 
 /// When a notice is due.
@@ -126,7 +120,7 @@ pub enum Statement {
     /// REMOVE FIRST or LAST.
     RemoveEnd {
         line: Line,
-        end: SetEnd,
+        end: End,
         target: Named,
         set: Named,
     },

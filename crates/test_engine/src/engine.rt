@@ -1,7 +1,10 @@
 //! The words for outcomes, refusals and listings, and a whole run whose memory is refused.
 
 use ss_base::{FaultKind, Line, MemoryRead, MemoryWrite, Plan, WriteFailure};
-use ss_engine::{Model, Outcome, Refusal, Stop, compile, outcome_line, outcome_status, simulate};
+use ss_engine::{
+    CheckError, LexError, Model, Outcome, ParseError, Refusal, Stop, TableError, compile, outcome_line,
+    outcome_status, simulate,
+};
 use std::alloc::Global;
 use std::test::Fail;
 
@@ -96,7 +99,7 @@ fn the_listing_of_the_manual(rt: HostRuntime) {
 static OUTCOMES: [(Outcome, u8, &[u8]); 10] = [
     (Outcome::Stopped(Stop::Ended, 0), 0, b""),
     (
-        Outcome::Refused(Refusal::PictureCut(Line(2))),
+        Outcome::Refused(Refusal::Lexed(LexError::PictureCut(Line(2)))),
         1,
         b"refused 36 PictureCut at line 2\n",
     ),
@@ -150,34 +153,34 @@ fn statuses_and_lines(rt: HostRuntime) {
 }
 
 static REFUSALS: [(Refusal, u32, &str, u32); 30] = [
-    (Refusal::TooLong(Line(0)), 31, "TooLong", 0),
-    (Refusal::NotAscii(Line(1)), 32, "NotAscii", 1),
-    (Refusal::BadNumber(Line(2)), 33, "BadNumber", 2),
-    (Refusal::OpenText(Line(3)), 34, "OpenText", 3),
-    (Refusal::AlphaTooLong(Line(4)), 35, "AlphaTooLong", 4),
-    (Refusal::PictureCut(Line(5)), 36, "PictureCut", 5),
-    (Refusal::NameTooLong(Line(6)), 37, "NameTooLong", 6),
-    (Refusal::Syntax(Line(2)), 41, "Syntax", 2),
-    (Refusal::TooDeep(Line(3)), 42, "TooDeep", 3),
-    (Refusal::Twice(Line(1)), 51, "Twice", 1),
-    (Refusal::RealMode(Line(7)), 52, "RealMode", 7),
-    (Refusal::UnknownClass(Line(2)), 53, "UnknownClass", 2),
-    (Refusal::UnknownSet(Line(3)), 54, "UnknownSet", 3),
-    (Refusal::NoOwner(Line(4)), 55, "NoOwner", 4),
-    (Refusal::NoMember(Line(5)), 56, "NoMember", 5),
-    (Refusal::RankKey(Line(6)), 57, "RankKey", 6),
-    (Refusal::TallyTwice(Line(7)), 58, "TallyTwice", 7),
-    (Refusal::TooMany(Line(8)), 59, "TooMany", 8),
-    (Refusal::TieKey(Line(9)), 60, "TieKey", 9),
-    (Refusal::NoMain(Line(0)), 71, "NoMain", 0),
-    (Refusal::NoEventRoutine(Line(5)), 72, "NoEventRoutine", 5),
-    (Refusal::Mode(Line(1)), 73, "Mode", 1),
-    (Refusal::Arguments(Line(2)), 74, "Arguments", 2),
-    (Refusal::Subscript(Line(3)), 75, "Subscript", 3),
-    (Refusal::NotAssignable(Line(4)), 76, "NotAssignable", 4),
-    (Refusal::Fields(Line(8)), 77, "Fields", 8),
-    (Refusal::StartPlace(Line(5)), 78, "StartPlace", 5),
-    (Refusal::Unknown(Line(6)), 79, "Unknown", 6),
+    (Refusal::Lexed(LexError::TooLong(Line(0))), 31, "TooLong", 0),
+    (Refusal::Lexed(LexError::NotAscii(Line(1))), 32, "NotAscii", 1),
+    (Refusal::Lexed(LexError::BadNumber(Line(2))), 33, "BadNumber", 2),
+    (Refusal::Lexed(LexError::OpenText(Line(3))), 34, "OpenText", 3),
+    (Refusal::Lexed(LexError::AlphaTooLong(Line(4))), 35, "AlphaTooLong", 4),
+    (Refusal::Lexed(LexError::PictureCut(Line(5))), 36, "PictureCut", 5),
+    (Refusal::Lexed(LexError::NameTooLong(Line(6))), 37, "NameTooLong", 6),
+    (Refusal::Parsed(ParseError::Syntax(Line(2))), 41, "Syntax", 2),
+    (Refusal::Parsed(ParseError::TooDeep(Line(3))), 42, "TooDeep", 3),
+    (Refusal::Declared(TableError::Twice(Line(1))), 51, "Twice", 1),
+    (Refusal::Declared(TableError::RealMode(Line(7))), 52, "RealMode", 7),
+    (Refusal::Declared(TableError::UnknownClass(Line(2))), 53, "UnknownClass", 2),
+    (Refusal::Declared(TableError::UnknownSet(Line(3))), 54, "UnknownSet", 3),
+    (Refusal::Declared(TableError::NoOwner(Line(4))), 55, "NoOwner", 4),
+    (Refusal::Declared(TableError::NoMember(Line(5))), 56, "NoMember", 5),
+    (Refusal::Declared(TableError::RankKey(Line(6))), 57, "RankKey", 6),
+    (Refusal::Declared(TableError::TallyTwice(Line(7))), 58, "TallyTwice", 7),
+    (Refusal::Declared(TableError::TooMany(Line(8))), 59, "TooMany", 8),
+    (Refusal::Declared(TableError::TieKey(Line(9))), 60, "TieKey", 9),
+    (Refusal::Used(CheckError::NoMain(Line(0))), 71, "NoMain", 0),
+    (Refusal::Used(CheckError::NoEventRoutine(Line(5))), 72, "NoEventRoutine", 5),
+    (Refusal::Used(CheckError::Mode(Line(1))), 73, "Mode", 1),
+    (Refusal::Used(CheckError::Arguments(Line(2))), 74, "Arguments", 2),
+    (Refusal::Used(CheckError::Subscript(Line(3))), 75, "Subscript", 3),
+    (Refusal::Used(CheckError::NotAssignable(Line(4))), 76, "NotAssignable", 4),
+    (Refusal::Used(CheckError::Fields(Line(8))), 77, "Fields", 8),
+    (Refusal::Used(CheckError::StartPlace(Line(5))), 78, "StartPlace", 5),
+    (Refusal::Used(CheckError::Unknown(Line(6))), 79, "Unknown", 6),
     (Refusal::CodeTooLong, 81, "CodeTooLong", 0),
     (Refusal::Memory, 0, "Memory", 0),
 ];

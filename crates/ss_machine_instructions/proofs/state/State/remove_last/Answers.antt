@@ -1,5 +1,5 @@
 use Rattle.std.proofs.Common.{rules, ◌≡◌, ℤ, Ok, Err, ap, sym, subst, to_z, of_z, w64}
-use Rattle.ss_program.specs.declared.statement.End.TheVariants as ends
+use Rattle.ss_base.specs.declared.words.End.TheVariants as ends
 use Rattle.ss_code_instructions.specs.declared.instruction.Instruction.TheVariants.{RemoveLast as Runs}
 use Rattle.ss_code_instructions.specs.Machine.{act, is_due}
 use Rattle.ss_machine_instructions.specs.Doing.{Delivers, as_value}

@@ -1,7 +1,7 @@
 use Rattle.std.proofs.Common.{arith, rules, ◌≡◌, Some}
 use Rattle.ss_base.specs.declared.layout.Mode.TheVariants.{Integer}
 use Rattle.ss_base.specs.declared.value.Value.TheVariants.{Whole}
-use Rattle.ss_program.specs.declared.condition.Relation.TheVariants.{NotEqual}
+use Rattle.ss_base.specs.declared.words.Relation.TheVariants.{NotEqual}
 use Rattle.ss_code_instructions.specs.declared.instruction.Instruction.TheVariants.{UnlessNotEqual as Runs}
 use Rattle.ss_meaning.specs.Values.{related}
 use Rattle.ss_machine_frames.specs.Rows.{place_at}

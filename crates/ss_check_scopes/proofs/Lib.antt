@@ -1,2 +1,0 @@
-mod Entering
-mod Placing

@@ -1,8 +1,0 @@
-use Rattle.std.proofs.Common.{◌≡◌, ◌++◌, map, take}
-use Rattle.std.specs.List.{flat_map}
-use Rattle.ss_tree.specs.View.{view_clause}
-use Rattle.ss_names_declarations.specs.Sayings.{clause_says}
-use Rattle.ss_names_declarations.proofs.sayings.say_clauses.Given as goal
-
-abbrev pub invariant-loop-clause : goal.invariant-loop-clause
-invariant-loop-clause l = l.out.items ≡ l.initial.out.items ++ flat_map (clause_says l.line l.class) (map view_clause (take l.clause-index l.clauses))

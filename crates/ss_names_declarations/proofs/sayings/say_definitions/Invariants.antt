@@ -1,8 +1,0 @@
-use Rattle.std.proofs.Common.{◌≡◌, ◌++◌, map, take}
-use Rattle.std.specs.List.{flat_map}
-use Rattle.ss_tree.specs.View.{view_definition}
-use Rattle.ss_names_declarations.specs.Sayings.{definition_says}
-use Rattle.ss_names_declarations.proofs.sayings.say_definitions.Given as goal
-
-abbrev pub invariant-loop-definition : goal.invariant-loop-definition
-invariant-loop-definition l = l.out.items ≡ l.initial.out.items ++ flat_map (definition_says l.number) (map view_definition (take l.definition-index l.definitions))

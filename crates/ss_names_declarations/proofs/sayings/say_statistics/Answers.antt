@@ -1,7 +1,0 @@
-use Rattle.ss_names_declarations.specs.Sayings.{statistic_says}
-use Rattle.ss_names_declarations.proofs.Rows.{adds_one}
-use Rattle.ss_names_declarations.proofs.sayings.say_statistics.Goals as goal
-
-pub loop-statistic-preserved : goal.loop-statistic-preserved
-loop-statistic-preserved c =
-    adds_one (statistic_says c.args.line c.args.weighting c.args.subject) c.args.statistics.now c.loop-statistic.statistic-index c.statistic-item.result _ _ _ c.loop-statistic-test.true c.statistic-item.is c.loop-statistic.invariant c.in_ok-say.ensures

@@ -1,0 +1,483 @@
+//! The list of what a program declares.
+
+ghost use Rattle.std.specs.Prelude.{◌≡◌, [], ◌∷◌, ◌++◌, map, OnOk, IfOk};
+ghost use Rattle.std.specs.List.{flat_map};
+ghost use Rattle.ss_tree.specs.View.{view_clause, view_order, view_preamble, view_definition, view_kind, view_section, view_program};
+ghost use Rattle.ss_names_declarations.specs.Declarations.{at_line, attribute, owned_set, member_set, notice, variable, ordered_set, rank_key, priority, tie_key, statistic, parameter, local, in_clause, rule_of, in_order, in_statement, in_head, in_definition, in_section, flat_map_from, declarations};
+
+use crate::declaration::{Declaration, Declared, SetRule};
+use ss_base::{Line, Name};
+use ss_tree::preamble::{ClassKind, Clause, Key, Mode, PreambleStatement, SetOrder, Statistic};
+use ss_tree::program::{LocalDefinition, Program, Section, SectionKind};
+use std::alloc::{AllocError, Global};
+
+// Adds one declaration.
+fn add(out: &mut Vec<Declaration>, line: Line, what: Declared) -> Result<(), AllocError>
+    ensures { OnOk result (out.new.items ≡ out.old.items ++ at_line line what ∷ []) }
+{
+    // The checker needs to see the type of the class that may own a set.
+    let _none: Option<Name> = None;
+    out.push(Declaration { line, what })?;
+    Ok(())
+}
+
+// Adds attributes of a class.
+fn add_attributes(
+    out: &mut Vec<Declaration>,
+    line: Line,
+    class: Name,
+    names: &[Name],
+) -> Result<(), AllocError>
+    ensures { OnOk result (out.new.items ≡ out.old.items ++ map (attribute line class) names.now) }
+{
+    for name in names {
+        let attribute = Declared::Attribute {
+            attribute: *name,
+            class,
+        };
+        add(out, line, attribute)?;
+    }
+    Ok(())
+}
+
+// Adds the sets of an owner.
+fn add_owned_sets(
+    out: &mut Vec<Declaration>,
+    line: Line,
+    class: &Option<Name>,
+    names: &[Name],
+) -> Result<(), AllocError>
+    ensures { OnOk result (out.new.items ≡ out.old.items ++ map (owned_set line class.now) names.now) }
+{
+    for name in names {
+        let owner = Declared::Owner {
+            set: *name,
+            class: *class,
+        };
+        add(out, line, owner)?;
+    }
+    Ok(())
+}
+
+// Adds the sets that the entities of a class may belong to.
+fn add_member_sets(
+    out: &mut Vec<Declaration>,
+    line: Line,
+    class: Name,
+    names: &[Name],
+) -> Result<(), AllocError>
+    ensures { OnOk result (out.new.items ≡ out.old.items ++ map (member_set line class) names.now) }
+{
+    for name in names {
+        add(out, line, Declared::Member { set: *name, class })?;
+    }
+    Ok(())
+}
+
+// Adds what a clause of an EVERY declares, of its class.
+fn add_clause(
+    out: &mut Vec<Declaration>,
+    line: Line,
+    class: Name,
+    clause: &Clause,
+) -> Result<(), AllocError>
+    ensures { OnOk result (out.new.items ≡ out.old.items ++ in_clause line class (view_clause clause.now)) }
+{
+    match clause {
+        Clause::Has(names) => add_attributes(out, line, class, names),
+        Clause::Owns(names) => add_owned_sets(out, line, &Some(class), names),
+        Clause::BelongsTo(names) => add_member_sets(out, line, class, names),
+    }
+}
+
+// Adds what the clauses of an EVERY declare, of its class.
+fn add_clauses(
+    out: &mut Vec<Declaration>,
+    line: Line,
+    class: Name,
+    clauses: &[Clause],
+) -> Result<(), AllocError>
+    ensures { OnOk result (out.new.items ≡ out.old.items ++ flat_map (in_clause line class) (map view_clause clauses.now)) }
+{
+    for clause in clauses {
+        add_clause(out, line, class, clause)?;
+    }
+    Ok(())
+}
+
+// Adds the classes of notices after INCLUDE.
+fn add_notices(out: &mut Vec<Declaration>, line: Line, names: &[Name]) -> Result<(), AllocError>
+    ensures { OnOk result (out.new.items ≡ out.old.items ++ map (notice line) names.now) }
+{
+    for name in names {
+        let notice = Declared::Class {
+            class: *name,
+            kind: ClassKind::Notice,
+        };
+        add(out, line, notice)?;
+    }
+    Ok(())
+}
+
+// Adds variables of a mode.
+fn add_variables(
+    out: &mut Vec<Declaration>,
+    line: Line,
+    mode: Mode,
+    names: &[Name],
+) -> Result<(), AllocError>
+    ensures { OnOk result (out.new.items ≡ out.old.items ++ map (variable line mode) names.now) }
+{
+    for name in names {
+        let variable = Declared::Variable {
+            variable: *name,
+            mode,
+        };
+        add(out, line, variable)?;
+    }
+    Ok(())
+}
+
+// How a DEFINE orders its sets.
+fn rule_of(order: &SetOrder) -> SetRule
+    ensures { result ≡ rule_of (view_order order.now) }
+{
+    match order {
+        SetOrder::Fifo => SetRule::Fifo,
+        SetOrder::Lifo => SetRule::Lifo,
+        SetOrder::Ranked(_) => SetRule::Ranked,
+    }
+}
+
+// Adds the sets that the statement of this number orders.
+fn add_ordered_sets(
+    out: &mut Vec<Declaration>,
+    line: Line,
+    rule: SetRule,
+    statement: usize,
+    names: &[Name],
+) -> Result<(), AllocError>
+    ensures { OnOk result (out.new.items ≡ out.old.items ++ map (ordered_set line rule statement) names.now) }
+{
+    for name in names {
+        let order = Declared::Order {
+            set: *name,
+            rule,
+            statement,
+        };
+        add(out, line, order)?;
+    }
+    Ok(())
+}
+
+// Adds the keys of the statement of this number.
+fn add_rank_keys(
+    out: &mut Vec<Declaration>,
+    line: Line,
+    statement: usize,
+    keys: &[Key],
+) -> Result<(), AllocError>
+    ensures { OnOk result (out.new.items ≡ out.old.items ++ map (rank_key line statement) keys.now) }
+{
+    for key in keys {
+        let rank_key = Declared::RankKey {
+            attribute: key.name,
+            high: key.high,
+            statement,
+        };
+        add(out, line, rank_key)?;
+    }
+    Ok(())
+}
+
+// Adds the keys by which the statement of this number ranks its sets, if it does.
+fn add_order(
+    out: &mut Vec<Declaration>,
+    line: Line,
+    statement: usize,
+    order: &SetOrder,
+) -> Result<(), AllocError>
+    ensures { OnOk result (out.new.items ≡ out.old.items ++ in_order line statement (view_order order.now)) }
+{
+    match order {
+        SetOrder::Fifo => Ok(()),
+        SetOrder::Lifo => Ok(()),
+        SetOrder::Ranked(keys) => add_rank_keys(out, line, statement, keys),
+    }
+}
+
+// Adds the sets that the statement of this number orders, and its keys.
+fn add_sets(
+    out: &mut Vec<Declaration>,
+    line: Line,
+    statement: usize,
+    names: &[Name],
+    order: &SetOrder,
+) -> Result<(), AllocError>
+    ensures { OnOk result (out.new.items ≡ out.old.items ++ (map (ordered_set line (rule_of (view_order order.now)) statement) names.now ++ in_order line statement (view_order order.now))) }
+{
+    let rule = rule_of(order);
+    add_ordered_sets(out, line, rule, statement, names)?;
+    add_order(out, line, statement, order)
+}
+
+// Adds the classes of the priority order.
+fn add_priorities(out: &mut Vec<Declaration>, line: Line, names: &[Name]) -> Result<(), AllocError>
+    ensures { OnOk result (out.new.items ≡ out.old.items ++ map (priority line) names.now) }
+{
+    for name in names {
+        add(out, line, Declared::Priority { class: *name })?;
+    }
+    Ok(())
+}
+
+// Adds the keys for the ties of a class.
+fn add_tie_keys(
+    out: &mut Vec<Declaration>,
+    line: Line,
+    class: Name,
+    keys: &[Key],
+) -> Result<(), AllocError>
+    ensures { OnOk result (out.new.items ≡ out.old.items ++ map (tie_key line class) keys.now) }
+{
+    for key in keys {
+        let tie_key = Declared::TieKey {
+            class,
+            attribute: key.name,
+            high: key.high,
+        };
+        add(out, line, tie_key)?;
+    }
+    Ok(())
+}
+
+// Adds the statistics of a subject.
+fn add_statistics(
+    out: &mut Vec<Declaration>,
+    line: Line,
+    subject: Name,
+    statistics: &[Statistic],
+) -> Result<(), AllocError>
+    ensures { OnOk result (out.new.items ≡ out.old.items ++ map (statistic line subject) statistics.now) }
+{
+    for statistic in statistics {
+        let what = Declared::Statistic {
+            statistic: statistic.name,
+            kind: statistic.kind,
+            subject,
+        };
+        add(out, line, what)?;
+    }
+    Ok(())
+}
+
+// Adds what the statement of this number in the preamble declares.
+fn add_statement(
+    out: &mut Vec<Declaration>,
+    number: usize,
+    statement: &PreambleStatement,
+) -> Result<(), AllocError>
+    ensures { OnOk result (out.new.items ≡ out.old.items ++ in_statement number (view_preamble statement.now)) }
+{
+    match statement {
+        PreambleStatement::PermanentEntities { .. } => Ok(()),
+        PreambleStatement::TemporaryEntities { .. } => Ok(()),
+        PreambleStatement::EventNotices { line, included } => add_notices(out, *line, included),
+        PreambleStatement::Every {
+            line,
+            kind,
+            class,
+            clauses,
+        } => {
+            let every = Declared::Class {
+                class: *class,
+                kind: *kind,
+            };
+            add(out, *line, every)?;
+            add_clauses(out, *line, *class, clauses)
+        }
+        PreambleStatement::Normally { line, mode } => {
+            add(out, *line, Declared::Normally { mode: *mode })
+        }
+        PreambleStatement::SystemOwns { line, sets } => add_owned_sets(out, *line, &None, sets),
+        PreambleStatement::DefineVariables { line, names, mode } => {
+            add_variables(out, *line, *mode, names)
+        }
+        PreambleStatement::DefineSets { line, names, order } => {
+            add_sets(out, *line, number, names, order)
+        }
+        PreambleStatement::PriorityOrder { line, classes } => {
+            add(out, *line, Declared::PriorityOrder)?;
+            add_priorities(out, *line, classes)
+        }
+        PreambleStatement::BreakTies { line, class, keys } => {
+            add(out, *line, Declared::Ties { class: *class })?;
+            add_tie_keys(out, *line, *class, keys)
+        }
+        PreambleStatement::Statistics {
+            line,
+            weighting,
+            statistics,
+            subject,
+        } => {
+            add_statistics(out, *line, *subject, statistics)?;
+            let what = Declared::Subject {
+                subject: *subject,
+                weighting: *weighting,
+            };
+            add(out, *line, what)
+        }
+    }
+}
+
+// Adds what a preamble declares.
+fn add_preamble(
+    out: &mut Vec<Declaration>,
+    preamble: &[PreambleStatement],
+) -> Result<(), AllocError>
+    ensures { OnOk result (out.new.items ≡ out.old.items ++ flat_map_from in_statement 0 (map view_preamble preamble.now)) }
+{
+    for (number, statement) in preamble.iter().enumerate() {
+        add_statement(out, number, statement)?;
+    }
+    Ok(())
+}
+
+// Adds the parameters of the section of this number.
+fn add_parameters(
+    out: &mut Vec<Declaration>,
+    line: Line,
+    section: usize,
+    names: &[Name],
+) -> Result<(), AllocError>
+    ensures { OnOk result (out.new.items ≡ out.old.items ++ map (parameter line section) names.now) }
+{
+    for name in names {
+        let parameter = Declared::Parameter {
+            parameter: *name,
+            section,
+        };
+        add(out, line, parameter)?;
+    }
+    Ok(())
+}
+
+// Adds what the head of the section of this number declares.
+fn add_head(
+    out: &mut Vec<Declaration>,
+    line: Line,
+    section: usize,
+    kind: &SectionKind,
+) -> Result<(), AllocError>
+    ensures { OnOk result (out.new.items ≡ out.old.items ++ in_head line section (view_kind kind.now)) }
+{
+    match kind {
+        SectionKind::Main => add(out, line, Declared::Main),
+        SectionKind::Routine {
+            name,
+            given,
+            yielding,
+        } => {
+            let routine = Declared::Routine {
+                routine: *name,
+                section,
+                given: given.len(),
+                yielding: yielding.len(),
+            };
+            add(out, line, routine)?;
+            add_parameters(out, line, section, given)?;
+            add_parameters(out, line, section, yielding)
+        }
+        SectionKind::Event {
+            name,
+            given,
+            saving,
+        } => {
+            let event = Declared::Event {
+                class: *name,
+                section,
+                given: given.len(),
+                saving: *saving,
+            };
+            add(out, line, event)?;
+            add_parameters(out, line, section, given)
+        }
+    }
+}
+
+// Adds local variables of the section of this number.
+fn add_locals(
+    out: &mut Vec<Declaration>,
+    line: Line,
+    section: usize,
+    mode: Mode,
+    names: &[Name],
+) -> Result<(), AllocError>
+    ensures { OnOk result (out.new.items ≡ out.old.items ++ map (local line section mode) names.now) }
+{
+    for name in names {
+        let local = Declared::Local {
+            variable: *name,
+            section,
+            mode,
+        };
+        add(out, line, local)?;
+    }
+    Ok(())
+}
+
+// Adds what the DEFINEs at the head of the section of this number declare.
+fn add_definitions(
+    out: &mut Vec<Declaration>,
+    section: usize,
+    definitions: &[LocalDefinition],
+) -> Result<(), AllocError>
+    ensures { OnOk result (out.new.items ≡ out.old.items ++ flat_map (in_definition section) (map view_definition definitions.now)) }
+{
+    for definition in definitions {
+        add_locals(
+            out,
+            definition.line,
+            section,
+            definition.mode,
+            &definition.names,
+        )?;
+    }
+    Ok(())
+}
+
+// Adds what the section of this number declares.
+fn add_section(
+    out: &mut Vec<Declaration>,
+    number: usize,
+    section: &Section,
+) -> Result<(), AllocError>
+    ensures { OnOk result (out.new.items ≡ out.old.items ++ in_section number (view_section section.now)) }
+{
+    add_head(out, section.line, number, &section.kind)?;
+    add_definitions(out, number, &section.definitions)
+}
+
+// Adds what the sections of a program declare.
+fn add_sections(out: &mut Vec<Declaration>, sections: &[Section]) -> Result<(), AllocError>
+    ensures { OnOk result (out.new.items ≡ out.old.items ++ flat_map_from in_section 0 (map view_section sections.now)) }
+{
+    for (number, section) in sections.iter().enumerate() {
+        add_section(out, number, section)?;
+    }
+    Ok(())
+}
+
+/// What a program declares, in the order of the text. Nothing is left out that its preamble or the head of a section
+/// declares.
+///
+/// # Errors
+/// `AllocError` where memory is refused.
+pub fn declarations_of(alloc: Global, program: &Program) -> Result<Vec<Declaration>, AllocError>
+    ensures { IfOk result (λ out. out.items ≡ declarations (view_program program.now)) }
+{
+    let mut out = Vec::new(alloc);
+    add_preamble(&mut out, &program.preamble)?;
+    add_sections(&mut out, &program.sections)?;
+    Ok(out)
+}

@@ -1,0 +1,98 @@
+-- What a name means in a section.
+use Rattle.std.specs.Prelude.{ℕ, List, map, Option, Some, None, slice_get}
+use Rattle.std.specs.List.{position}
+use Rattle.std.specs.Map.{keys_of, values_of, lookup}
+use Rattle.ss_base.specs.declared.layout.Mode.{Mode}
+use Rattle.ss_base.specs.declared.layout.Mode.TheVariants.{Integer}
+use Rattle.ss_base.specs.declared.layout.Owner.{Owner}
+use Rattle.ss_base.specs.declared.layout.Owner.TheVariants as owners
+use Rattle.ss_program.specs.declared.expression.Variable.{Variable}
+use Rattle.ss_program.specs.declared.expression.Variable.TheVariants as variables
+use Rattle.ss_tree.specs.Names.{NameBytes}
+use Rattle.ss_tree.specs.Tree.{SectionTree}
+use Rattle.ss_tree.specs.declared.expression.Designator.{Designator}
+use Rattle.ss_tree.specs.declared.expression.Designator.TheVariants as designators
+use Rattle.ss_names_declarations.specs.Firsts.{same_name, value_for}
+use Rattle.ss_names.specs.declared.meaning.Meaning.{Meaning}
+use Rattle.ss_names.specs.declared.meaning.Meaning.TheVariants as meanings
+use Rattle.ss_names.specs.Table.{Table, owner_of}
+use Rattle.ss_names_scopes.specs.Locals.{Moded, locals_of}
+
+-- a section: the table, its local variables, and those of all sections
+pub record Scope : Type 0 where
+  pub table : Table
+  pub locals : Moded
+  pub sections : List Moded
+
+-- the scope of a section of a program with this table
+abbrev pub scope_of : Table → List SectionTree → SectionTree → Scope
+scope_of t sections s = record { table = t; locals = locals_of t s; sections = map (locals_of t) sections }
+
+-- ---- the meaning of a name
+
+-- the mode of a local variable; a name without any is refused, and counts as INTEGER
+abbrev pub known_mode : Option (Option Mode) → Mode
+known_mode (Some (Some mode)) = mode
+known_mode _ = Integer
+
+-- a local variable hides what its name means in the whole program
+abbrev pub hidden_by : Moded → NameBytes → Option ℕ → Option Meaning → Option Meaning
+hidden_by locals name (Some number) global =
+    Some (meanings.Variable (variables.Local number) (known_mode (lookup (same_name name) locals)))
+hidden_by locals name None global = global
+
+abbrev pub meaning_of_name : Scope → NameBytes → Option Meaning
+meaning_of_name s name =
+    hidden_by s.locals name (position (same_name name) (keys_of s.locals)) (value_for s.table.meanings name)
+
+-- what is named; None for a name that means nothing
+abbrev pub meaning : Scope → Designator → Option Meaning
+meaning s (designators.Name name) = meaning_of_name s name
+meaning s designators.TimeV = Some meanings.Clock
+meaning s designators.TimeA = Some meanings.NoticeTime
+
+-- ---- what has a mode, is a variable, or is of an entity
+
+-- the mode of what a name means; a set and a routine have none
+abbrev pub mode_of : Meaning → Option Mode
+mode_of (meanings.Variable variable mode) = Some mode
+mode_of (meanings.Attribute class field mode) = Some mode
+mode_of (meanings.Set set) = None
+mode_of (meanings.Routine routine) = None
+mode_of _ = Some Integer
+
+-- the variable that a name means: a local or a global one, or that of a class
+abbrev pub variable_of : Meaning → Option Variable
+variable_of (meanings.Variable variable mode) = Some variable
+variable_of (meanings.Class class kind variable) = Some (variables.Global variable)
+variable_of _ = None
+
+-- what the name of a class means here: the variable that has an entity of the class where none is named
+abbrev pub named_class : Scope → Option NameBytes → Option Meaning
+named_class s None = None
+named_class s (Some name) = meaning_of_name s name
+
+abbrev pub meaning_of_class : Scope → ℕ → Option Meaning
+meaning_of_class s class = named_class s (slice_get (keys_of s.table.classes) class)
+
+abbrev pub of_owner : Scope → Owner → Option Meaning
+of_owner s owners.System = None
+of_owner s (owners.Class class) = meaning_of_class s class
+
+-- the variable that has the entity of what a name means, where no subscript is written; None where it is of no entity
+abbrev pub implied : Scope → Meaning → Option Meaning
+implied s m = of_owner s (owner_of s.table m)
+
+-- ---- parameters
+
+abbrev pub mode_given : Option (Option Mode) → Option Mode
+mode_given (Some mode) = mode
+mode_given None = None
+
+abbrev pub mode_at : Option Moded → ℕ → Option Mode
+mode_at None number = None
+mode_at (Some locals) number = mode_given (slice_get (values_of locals) number)
+
+-- the mode of a parameter of the routine of a section: the given ones come before those that it yields
+abbrev pub parameter_mode : Scope → ℕ → ℕ → Option Mode
+parameter_mode s section number = mode_at (slice_get s.sections section) number

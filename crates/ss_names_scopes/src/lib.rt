@@ -1,0 +1,8 @@
+//! Local variables, and what a name means in a section.
+#![tactic(auto)]
+
+mod locals;
+mod scope;
+
+pub use locals::{Locals, all_locals, local_of};
+pub use scope::{Scope, mode_of, variable_of};
