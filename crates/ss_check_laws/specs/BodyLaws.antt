@@ -1,118 +1,120 @@
--- Expressions, statements and sections that keep the rules on uses resolve, and are well typed.
-use Rattle.std.specs.Prelude.{◌≡◌, ℕ, List, Some}
+-- Expressions, statements and bodies whose uses break no rule resolve, and are well typed.
+use Rattle.std.specs.Prelude.{◌≡◌, ℕ, Bool, true, false, List, [], ◌∷◌, Some}
 use Rattle.std.specs.List.{AllByRecursion as Every}
 use Rattle.ss_base.specs.declared.line.Line.{Line}
+use Rattle.ss_base.specs.declared.layout.ClassKind.{ClassKind}
 use Rattle.ss_base.specs.declared.layout.Mode.{Mode}
+use Rattle.ss_base.specs.declared.layout.Mode.TheVariants.{Integer}
 use Rattle.ss_picture.specs.declared.field.Field.{Field}
-use Rattle.ss_tree.specs.Tree.{ExpressionTree, NamedTree, ConditionTree, HeadTree, LoopHeadTree, for_head, guarded, StatementTree, statement_row, SectionTree}
-use Rattle.ss_names_uses.specs.declared.mention.Role.TheVariants as roles
-use Rattle.ss_names_uses.specs.Mentions as mentioned
-use Rattle.ss_names_uses.specs.Demands as demanded
-use Rattle.ss_check_scopes.specs.Locals.{Moded}
-use Rattle.ss_check_scopes.specs.Whole.{Whole, locals_of}
-use Rattle.ss_check_rules.specs.Modes.{aspect_mode}
-use Rattle.ss_check_rules.specs.Uses.{is_main}
-use Rattle.ss_program.specs.Program.{Expression, Item, SetOwner, Condition, Place, Head, Phrase, Guard, Block}
-use Rattle.ss_program.specs.WellTyped.{Scope, HasMode, TakesMode, TakesItem, OwnerFits, GoodCondition, GoodHead, GoodPhrase, GoodBlock}
-use Rattle.ss_names_meaning.specs.declared.meaning.Meaning.{Meaning}
-use Rattle.ss_names_meaning.specs.Contexts.{Context}
-use Rattle.ss_names_meaning.specs.Expressions.{expression, item, target, set_named}
-use Rattle.ss_names_meaning.specs.Conditions.{condition}
+use Rattle.ss_tree.specs.Names.{NameBytes}
+use Rattle.ss_tree.specs.Tree.{ExpressionTree, NamedTree, ConditionTree, HeadTree, LoopHeadTree, for_head, guarded, StatementTree, statement_row}
+use Rattle.ss_names_uses.specs.declared.used.ClassNeed.{ClassNeed}
+use Rattle.ss_names_uses.specs.declared.used.Role.TheVariants as roles
+use Rattle.ss_names_uses.specs.Uses as uses
+use Rattle.ss_names_scopes.specs.Scopes.{Scope}
+use Rattle.ss_check_rules.specs.Kinds.{is_kind}
+use Rattle.ss_check_rules.specs.Modes.{mode_said}
+use Rattle.ss_program.specs.Program.{Expression, Item, SetOwner, Condition, Place as Target, ToVariable, Restart, Head, Phrase, Guard, Block}
+use Rattle.ss_program.specs.WellTyped.{Scope as Place, HasMode, TakesMode, TakesItem, OwnerFits, GoodCondition, GoodHead, GoodPhrase, GoodRestart, GoodBlock, kind_of_class}
+use Rattle.ss_names_meaning.specs.declared.classes.NamedClass.{NamedClass}
 use Rattle.ss_names_meaning.specs.Answers.{each}
-use Rattle.ss_names_meaning.specs.Heads.{head, resolved_phrase, guard, phrases_of}
-use Rattle.ss_names_meaning.specs.Statements.{mode_of_target, statements}
-use Rattle.ss_names_laws.specs.Rules.{KeptMentions, KeptDemands}
-use Rattle.ss_names_laws.specs.Uses.{KeptSection}
-use Rattle.ss_check_laws.specs.Rules.{KeptStarts}
-use Rattle.ss_check_laws.specs.Links.{ContextAgrees}
+use Rattle.ss_names_meaning.specs.Classes.{class_named}
+use Rattle.ss_names_meaning.specs.Expressions.{expression, item, set_named, target}
+use Rattle.ss_names_meaning.specs.Conditions.{condition}
+use Rattle.ss_names_meaning.specs.Heads.{guard, head, phrases_of, resolved_phrase}
+use Rattle.ss_names_meaning.specs.Statements.{reader, restart, statements}
+use Rattle.ss_check_laws.specs.Links.{IsLinked, Kept}
 
--- the expression has a resolved form, of the mode that the rules give it
-abbrev pub Resolves : Whole → Moded → Context → Scope → ExpressionTree → Type 0
-Resolves w locals c s e = (x : Expression) × (m : Mode) × (expression c e ≡ Some x) × (aspect_mode w locals (demanded.mode_of_expression e) ≡ Some m) × HasMode s x m
+-- the expression has a resolved form, of the mode that the rules say, which is Integer where it has to be a number
+abbrev pub Resolves : Scope → Place → (is_number : Bool) → ExpressionTree → Type 0
+Resolves s g is_number e =
+    (x : Expression) × (m : Mode) × (expression s e ≡ Some x) × HasMode g x m × (mode_said s (uses.mode_of e) ≡ Some m) × (is_number ≡ true → m ≡ Integer)
 
--- the target has a resolved form, which takes values of the mode that the rules give it; READ finds the same mode
-abbrev pub TargetResolves : Whole → Moded → Context → Scope → NamedTree → Type 0
-TargetResolves w locals c s n =
-    (x : Place) × (m : Mode) × (target c n ≡ Some x) × (aspect_mode w locals (demanded.target_mode n) ≡ Some m) × TakesMode s x m ×
-    (referent : Meaning) × (c.meaning n.designator ≡ Some referent) × (mode_of_target referent ≡ Some m)
+-- the target has a resolved form, which takes values of the mode that the rules say; READ finds the same mode
+abbrev pub TargetResolves : Scope → Place → (is_number : Bool) → NamedTree → Type 0
+TargetResolves s g is_number n =
+    (x : Target) × (m : Mode) × (target s n ≡ Some x) × TakesMode g x m × (mode_said s (uses.designated n.designator) ≡ Some m) × (is_number ≡ true → m ≡ Integer)
+    × (reader s n ≡ Some (record { place = x; mode = m }))
 
 -- the set has a resolved form, with an owner such as its sets have
-abbrev pub SetResolves : Context → Scope → NamedTree → Type 0
-SetResolves c s n = (p : ℕ × SetOwner) × (set_named c n ≡ Some p) × OwnerFits s p.0 p.1
+abbrev pub SetResolves : Scope → Place → NamedTree → Type 0
+SetResolves s g n = (p : ℕ × SetOwner) × (set_named s n ≡ Some p) × OwnerFits g p.0 p.1
 
 -- the item of PRINT has a resolved form, which the field takes
-abbrev pub ItemResolves : Context → Scope → Field → ExpressionTree → Type 0
-ItemResolves c s field e = (x : Item) × (item c e ≡ Some x) × TakesItem s field x
+abbrev pub ItemResolves : Scope → Place → Field → ExpressionTree → Type 0
+ItemResolves s g field e = (x : Item) × (item s e ≡ Some x) × TakesItem g field x
+
+-- the subject of a RESET has a resolved form
+abbrev pub RestartResolves : Scope → Place → NamedTree → Type 0
+RestartResolves s g n = (r : Restart) × (restart s n ≡ Some r) × GoodRestart g r.statistic r.of
+
+-- the class is there, of a kind that its place needs, and its variable takes numbers where no entity is named
+abbrev pub ClassResolves : Scope → Place → ClassNeed → NameBytes → (is_called : Bool) → Type 0
+ClassResolves s g need name is_called =
+    (c : NamedClass) × (kind : ClassKind) × (class_named s need name ≡ Some c) × (kind_of_class g.program c.class ≡ Some kind) × (is_kind need kind ≡ true)
+    × (is_called ≡ false → TakesMode g (ToVariable c.variable) Integer)
 
 -- the condition has a resolved form, which is well typed
-abbrev pub ConditionResolves : Context → Scope → ConditionTree → Type 0
-ConditionResolves c s t = (x : Condition) × (condition c t ≡ Some x) × GoodCondition s x
+abbrev pub ConditionResolves : Scope → Place → ConditionTree → Type 0
+ConditionResolves s g t = (x : Condition) × (condition s t ≡ Some x) × GoodCondition g x
 
 -- the head of a FOR and its phrases have resolved forms, which are well typed
-abbrev pub ForResolves : Context → Scope → HeadTree → Type 0
-ForResolves c s over =
-    (h : Head) × (head c over ≡ Some h) × GoodHead s h × (ps : List Phrase) × (each (resolved_phrase c) (phrases_of over) ≡ Some ps) × Every (GoodPhrase s) ps
+abbrev pub ForResolves : Scope → Place → HeadTree → Type 0
+ForResolves s g over =
+    (h : Head) × (head s over ≡ Some h) × GoodHead g h × (ps : List Phrase) × (each (resolved_phrase s) (phrases_of over) ≡ Some ps) × Every (GoodPhrase g) ps
 
 -- the head of a loop has a resolved form, which is well typed; one that begins with WHILE or UNTIL has conditions alone
-abbrev pub HeadResolves : Context → Scope → LoopHeadTree → Type 0
-HeadResolves c s (for_head over) = ForResolves c s over
-HeadResolves c s (guarded guards) = (gs : List Guard) × (each (guard c) guards ≡ Some gs) × Every (λ g. GoodCondition s g.condition) gs
+abbrev pub HeadResolves : Scope → Place → LoopHeadTree → Type 0
+HeadResolves s g (for_head over) = ForResolves s g over
+HeadResolves s g (guarded guards) = (gs : List Guard) × (each (guard s) guards ≡ Some gs) × Every (λ x. GoodCondition g x.condition) gs
 
 -- the statements have a resolved form, which is well typed
-abbrev pub BodyResolves : Context → Scope → List StatementTree → Type 0
-BodyResolves c s body = (b : Block) × (statements c (statement_row body) ≡ Some b) × GoodBlock s b
+abbrev pub BodyResolves : Scope → Place → List StatementTree → Type 0
+BodyResolves s g body = (b : Block) × (statements s (statement_row body) ≡ Some b) × GoodBlock g b
 
--- an expression without a broken mention or demand resolves, to one of the mode that the rules give it
-abbrev pub KeptExpressionsResolve : Type 0
-KeptExpressionsResolve =
-    (w : Whole) (locals : Moded) (c : Context) (s : Scope) → ContextAgrees w locals c s → (line : Line) (e : ExpressionTree) →
-    KeptMentions w locals (mentioned.in_expression line e) → KeptDemands w locals (demanded.in_expression line e) →
-    Resolves w locals c s e
+-- ---- laws
 
--- a target without a broken mention or demand resolves
-abbrev pub KeptTargetsResolve : Type 0
-KeptTargetsResolve =
-    (w : Whole) (locals : Moded) (c : Context) (s : Scope) → ContextAgrees w locals c s → (line : Line) (n : NamedTree) →
-    KeptMentions w locals (mentioned.in_named line roles.Target n) → KeptDemands w locals (demanded.in_named line n) →
-    TargetResolves w locals c s n
+abbrev pub ExpressionsResolve : Type 0
+ExpressionsResolve =
+    (s : Scope) (g : Place) → IsLinked s g → (line : Line) (is_number : Bool) (e : ExpressionTree) →
+    Kept s g.is_main (uses.in_expression line is_number e) → Resolves s g is_number e
 
--- a set without a broken mention or demand resolves
-abbrev pub KeptSetsResolve : Type 0
-KeptSetsResolve =
-    (w : Whole) (locals : Moded) (c : Context) (s : Scope) → ContextAgrees w locals c s → (line : Line) (n : NamedTree) →
-    KeptMentions w locals (mentioned.in_named line roles.Set n) → KeptDemands w locals (demanded.in_named line n) →
-    SetResolves c s n
+abbrev pub TargetsResolve : Type 0
+TargetsResolve =
+    (s : Scope) (g : Place) → IsLinked s g → (line : Line) (is_number : Bool) (n : NamedTree) →
+    Kept s g.is_main (uses.in_named line roles.Target is_number n) → TargetResolves s g is_number n
 
--- an item of PRINT without a broken mention or demand resolves, to one that its field takes
-abbrev pub KeptItemsResolve : Type 0
-KeptItemsResolve =
-    (w : Whole) (locals : Moded) (c : Context) (s : Scope) → ContextAgrees w locals c s → (line : Line) (field : Field) (e : ExpressionTree) →
-    KeptMentions w locals (mentioned.in_expression line e) → KeptDemands w locals (demanded.in_field line e field) → KeptDemands w locals (demanded.in_item line e) →
-    ItemResolves c s field e
+abbrev pub SetsResolve : Type 0
+SetsResolve =
+    (s : Scope) (g : Place) → IsLinked s g → (line : Line) (n : NamedTree) →
+    Kept s g.is_main (uses.in_named line roles.Set false n) → SetResolves s g n
 
--- a condition without a broken mention or demand resolves
-abbrev pub KeptConditionsResolve : Type 0
-KeptConditionsResolve =
-    (w : Whole) (locals : Moded) (c : Context) (s : Scope) → ContextAgrees w locals c s → (line : Line) (t : ConditionTree) →
-    KeptMentions w locals (mentioned.in_condition line t) → KeptDemands w locals (demanded.in_condition line t) →
-    ConditionResolves c s t
+abbrev pub ItemsResolve : Type 0
+ItemsResolve =
+    (s : Scope) (g : Place) → IsLinked s g → (line : Line) (field : Field) (e : ExpressionTree) →
+    Kept s g.is_main (uses.in_field line e field) → Kept s g.is_main (uses.in_item line e) → ItemResolves s g field e
 
--- the head of a loop without a broken mention or demand resolves
-abbrev pub KeptHeadsResolve : Type 0
-KeptHeadsResolve =
-    (w : Whole) (locals : Moded) (c : Context) (s : Scope) → ContextAgrees w locals c s → (line : Line) (over : LoopHeadTree) →
-    KeptMentions w locals (mentioned.in_loop_head line over) → KeptDemands w locals (demanded.in_loop_head line over) →
-    HeadResolves c s over
+abbrev pub RestartsResolve : Type 0
+RestartsResolve =
+    (s : Scope) (g : Place) → IsLinked s g → (line : Line) (n : NamedTree) →
+    Kept s g.is_main (uses.in_named line roles.Reset false n) → RestartResolves s g n
 
--- statements without a broken mention or demand resolve, with those in them
-abbrev pub KeptBodiesResolve : Type 0
-KeptBodiesResolve =
-    (w : Whole) (locals : Moded) (c : Context) (s : Scope) → ContextAgrees w locals c s → (body : List StatementTree) →
-    KeptMentions w locals (mentioned.in_body body) → KeptStarts s.is_main (mentioned.in_body body) → KeptDemands w locals (demanded.in_body body) →
-    BodyResolves c s body
+abbrev pub ClassesResolve : Type 0
+ClassesResolve =
+    (s : Scope) (g : Place) → IsLinked s g → (line : Line) (need : ClassNeed) (name : NameBytes) (is_called : Bool) →
+    Kept s g.is_main (uses.class_used line need name is_called ∷ []) → ClassResolves s g need name is_called
 
--- a section that keeps the rules on uses resolves
-abbrev pub KeptSectionsResolve : Type 0
-KeptSectionsResolve =
-    (w : Whole) (section : SectionTree) (c : Context) (s : Scope) → ContextAgrees w (locals_of w section) c s → s.is_main ≡ is_main section.kind →
-    KeptSection w section → BodyResolves c s section.body
+abbrev pub ConditionsResolve : Type 0
+ConditionsResolve =
+    (s : Scope) (g : Place) → IsLinked s g → (line : Line) (t : ConditionTree) →
+    Kept s g.is_main (uses.in_condition line t) → ConditionResolves s g t
+
+abbrev pub HeadsResolve : Type 0
+HeadsResolve =
+    (s : Scope) (g : Place) → IsLinked s g → (line : Line) (over : LoopHeadTree) →
+    Kept s g.is_main (uses.in_loop_head line over) → HeadResolves s g over
+
+abbrev pub BodiesResolve : Type 0
+BodiesResolve =
+    (s : Scope) (g : Place) → IsLinked s g → (body : List StatementTree) →
+    Kept s g.is_main (uses.in_body body) → BodyResolves s g body

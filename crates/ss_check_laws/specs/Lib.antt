@@ -1,9 +1,4 @@
-pub mod Rules
 pub mod Links
 pub mod BodyLaws
-pub mod Parameters
-pub mod Signed
-pub mod Programs
-pub mod ProgramLaws
-pub mod Examples
 pub mod SizeLaws
+pub mod ProgramLaws

@@ -1,10 +1,9 @@
-//! Laws of the nodes of programs.
+//! Laws of the sizes of resolved programs.
 
 ghost use Rattle.ss_check_laws.specs.SizeLaws.{BodiesStaySmall, ProgramsStaySmall};
 
-/// What is proved of a body and of a whole program with each name replaced by what it refers to: it has no
-/// more nodes than its tree.
-pub fn laws()
+/// A resolved body, and a resolved program, have no more nodes than their trees.
+pub fn laws_of_sizes()
     ensures bodies { BodiesStaySmall }
     ensures programs { ProgramsStaySmall }
 {}

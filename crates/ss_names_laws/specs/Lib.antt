@@ -1,12 +1,2 @@
-pub mod Lists
-pub mod Rules
-pub mod Uses
-pub mod Parts
-pub mod Declarations
-pub mod Names
-pub mod Tables
-pub mod Subjects
-pub mod Locals
 pub mod ValidTables
-pub mod LaidOut
 pub mod Laws

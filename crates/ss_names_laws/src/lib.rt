@@ -1,6 +1,4 @@
-//! Laws of the names and the table of a program that breaks no rule.
+//! Laws of the table of a program that breaks no rule.
 #![tactic(auto)]
 
-pub mod layout_laws;
 pub mod table_laws;
-pub mod use_laws;

@@ -1,21 +1,18 @@
-//! Laws of the table of a program that breaks no rule.
+//! Laws of the table of a program that breaks no rule, and of the local variables of its sections.
 
-ghost use Rattle.ss_names_laws.specs.Locals.{LocalsAreKept};
-ghost use Rattle.ss_names_laws.specs.Names.{NamesAreDeclared};
-ghost use Rattle.ss_names_laws.specs.Subjects.{SubjectsAreWhole};
-ghost use Rattle.ss_names_laws.specs.Tables.{TablesAreKept};
+ghost use Rattle.ss_names_laws.specs.Laws.{LayoutsAreThere, LayoutsAreWellTyped, RoutinesAreThere, SectionsAreValid, TablesAreThere, TablesAreValid};
 
-/// What is proved of the table of a program that breaks no rule on declarations, and of the local
-/// variables of its sections. If it breaks no rule on uses either, the subjects of TALLY and ACCUMULATE
-/// are whole numbers.
+/// What is proved of the table of a program that breaks no rule: it has a layout, which is well typed, and each of
+/// its names means something that is there.
 pub fn laws_of_tables()
-    ensures tables { TablesAreKept }
-    ensures subjects { SubjectsAreWhole }
-    ensures locals { LocalsAreKept }
+    ensures layouts { LayoutsAreThere }
+    ensures there { TablesAreThere }
+    ensures valid { TablesAreValid }
+    ensures typed { LayoutsAreWellTyped }
 {}
 
-/// The table of a program that breaks no rule on declarations has just the global and derived names that the
-/// program declares.
-pub fn names_are_declared()
-    ensures { NamesAreDeclared }
+/// What is proved of the local variables of the sections of such a program: each has a mode, and parameters come first.
+pub fn laws_of_sections()
+    ensures sections { SectionsAreValid }
+    ensures routines { RoutinesAreThere }
 {}
