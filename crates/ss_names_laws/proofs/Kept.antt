@@ -1,5 +1,5 @@
 -- What holds where a program breaks no rule on declarations.
-use Rattle.std.proofs.Common.{◌≡◌, ℕ, Bool, true, false, cond, List, [], ◌∷◌, ◌++◌, map, Option, Some, None, ◌⊎◌, inl, inr, ⊎_elim, refl, sym, ap, subst, ◌∙◌, append_assoc}
+use Rattle.std.proofs.Common.{◌≡◌, ℕ, Bool, true, false, cond, List, [], ◌∷◌, ◌++◌, map, Option, Some, None, ◌⊎◌, inl, inr, ⊎_elim, refl, sym, ap, subst, ◌∙◌, append-nil, append_assoc}
 use Rattle.std.specs.List.{AllByRecursion as Every, IsDistinct, flat_map}
 use Rattle.std.specs.Option.{option_or}
 use Rattle.std.specs.Cmp.Lexicographic.{bytes_decides}
@@ -28,6 +28,8 @@ use Rattle.ss_tables_rules.specs.Keys.{misranked}
 use Rattle.ss_tables_rules.specs.Once.{is_among, once_of, repeats, repeats_after, said_again, same_once, again, with_said}
 use Rattle.ss_tables_rules.specs.Order.{order_of}
 use Rattle.ss_tables_rules.specs.Rules.{broken_by}
+use Rattle.ss_names_laws.proofs.Firsts.{has_value}
+use Rattle.ss_names_laws.proofs.Items.{Among, in_image, in_pieces, in_right}
 
 -- ---- nothing is found
 
@@ -71,38 +73,12 @@ unbroken t (x ∷ ds) h =
     let parts = both_empty (breaks t x) (flat_map (breaks t) ds) h in
     (none_listed (broken_by t x) parts.0, unbroken t ds parts.1)
 
--- ---- items of a list
-
--- an item is one of a list
-abbrev pub Among : {A : Type 0} → List A → A → Type 0
-Among [] x = ⊥
-Among (y ∷ ys) x = (y ≡ x) ⊎ Among ys x
-
-pub in_left : {A : Type 0} (xs ys : List A) (x : A) → Among xs x → Among (xs ++ ys) x
-in_left [] ys x a = absurd a
-in_left (y ∷ xs) ys x (inl same) = inl same
-in_left (y ∷ xs) ys x (inr later) = inr (in_left xs ys x later)
-
-pub in_right : {A : Type 0} (xs ys : List A) (x : A) → Among ys x → Among (xs ++ ys) x
-in_right [] ys x a = a
-in_right (y ∷ xs) ys x a = inr (in_right xs ys x a)
-
-pub in_image : {A B : Type 0} (f : A → B) (xs : List A) (x : A) → Among xs x → Among (map f xs) (f x)
-in_image f [] x a = absurd a
-in_image f (y ∷ xs) x (inl same) = inl (ap f same)
-in_image f (y ∷ xs) x (inr later) = inr (in_image f xs x later)
-
--- what an item gives is among what all give
-pub in_pieces : {A B : Type 0} (f : A → List B) (xs : List A) (x : A) (y : B) → Among xs x → Among (f x) y → Among (flat_map f xs) y
-in_pieces f [] x y a b = absurd a
-in_pieces f (z ∷ xs) x y (inl same) b = in_left (f z) (flat_map f xs) y (subst (λ w. Among (f w) y) (sym same) b)
-in_pieces f (z ∷ xs) x y (inr later) b = in_right (f z) (flat_map f xs) y (in_pieces f xs x y later b)
-
 -- ---- a name that is declared again
 
--- the first that a name means is this, or both are of one set
-abbrev pub FirstFits : List (NameBytes × Meaning) → NameBytes → Meaning → Type 0
-FirstFits ms name meaning = (first : Meaning) × (value_for ms name ≡ Some first) × ((first ≡ meaning) ⊎ (same_of_set first meaning ≡ true))
+-- before some entries and with them, the first that a name means is this, or both are of one set
+abbrev Fits : List (NameBytes × Meaning) → List (NameBytes × Meaning) → NameBytes → Meaning → Type 0
+Fits before more name meaning =
+    (first : Meaning) × (value_for (before ++ more) name ≡ Some first) × (((value_for before name ≡ None) × (first ≡ meaning)) ⊎ (same_of_set first meaning ≡ true))
 
 abbrev pair_of : Entered → NameBytes × Meaning
 pair_of e = (e.name, e.meaning)
@@ -111,45 +87,90 @@ no_line : (b : Bool) (line : Line) → line_if b line ≡ [] → b ≡ false
 no_line true line h = absurd cc
 no_line false line h = refl
 
+none_before : (o rest : Option Meaning) → option_or o rest ≡ None → o ≡ None
+none_before None rest h = refl
+none_before (Some first) rest h = h
+
 first_here : (before after : List (NameBytes × Meaning)) (name : NameBytes) (meaning : Meaning) (o : Option Meaning) →
-    value_for before name ≡ o → is_another o meaning ≡ false → FirstFits (before ++ (name, meaning) ∷ after) name meaning
+    value_for before name ≡ o → is_another o meaning ≡ false → Fits before ((name, meaning) ∷ after) name meaning
 first_here before after name meaning None is h =
     let rest : List (NameBytes × Meaning) = (name, meaning) ∷ after in
     (meaning,
     value_append before rest name ∙ ap (λ (o : Option Meaning). option_or o (value_for rest name)) is
     ∙ ap (λ (b : Bool). cond b (Some meaning) (value_for after name)) ((bytes_decides name name).1 refl),
-    inl refl)
+    inl (is, refl))
 first_here before after name meaning (Some known) is h =
     let rest : List (NameBytes × Meaning) = (name, meaning) ∷ after in
     (known, value_append before rest name ∙ ap (λ (o : Option Meaning). option_or o (value_for rest name)) is, inr (not-false (same_of_set known meaning) h))
 
-first_fits : (before : List (NameBytes × Meaning)) (es : List Entered) (e : Entered) → clashes_after before es ≡ [] → Among es e → FirstFits (before ++ map pair_of es) e.name e.meaning
+first_fits : (before : List (NameBytes × Meaning)) (es : List Entered) (e : Entered) → clashes_after before es ≡ [] → Among es e → Fits before (map pair_of es) e.name e.meaning
 first_fits before [] e h a = absurd a
 first_fits before (x ∷ es) e h (inl same) =
     let clash = is_another (value_for before x.name) x.meaning in
     let parts = both_empty (line_if clash x.line) (clashes_after (before ++ pair_of x ∷ []) es) h in
-    subst (λ (y : Entered). FirstFits (before ++ pair_of x ∷ map pair_of es) y.name y.meaning) same
+    subst (λ (y : Entered). Fits before (pair_of x ∷ map pair_of es) y.name y.meaning) same
     (first_here before (map pair_of es) x.name x.meaning (value_for before x.name) refl (no_line clash x.line parts.0))
 first_fits before (x ∷ es) e h (inr later) =
     let clash = is_another (value_for before x.name) x.meaning in
     let parts = both_empty (line_if clash x.line) (clashes_after (before ++ pair_of x ∷ []) es) h in
-    subst (λ (ms : List (NameBytes × Meaning)). FirstFits ms e.name e.meaning) (append_assoc before (pair_of x ∷ []) (map pair_of es))
-    (first_fits (before ++ pair_of x ∷ []) es e parts.1 later)
+    let found = first_fits (before ++ pair_of x ∷ []) es e parts.1 later in
+    (found.0,
+    ap (λ (ms : List (NameBytes × Meaning)). value_for ms e.name) (sym (append_assoc before (pair_of x ∷ []) (map pair_of es))) ∙ found.1,
+    ⊎_elim
+    (λ (r : (value_for (before ++ pair_of x ∷ []) e.name ≡ None) × (found.0 ≡ e.meaning)).
+    inl (none_before (value_for before e.name) (value_for (pair_of x ∷ []) e.name) (sym (value_append before (pair_of x ∷ []) e.name) ∙ r.0), r.1))
+    inr found.2)
 
-pairs_back : (line : Line) (es : List (NameBytes × Meaning)) → map pair_of (map (entered_at line) es) ≡ es
-pairs_back line [] = refl
-pairs_back line (e ∷ es) = ap (λ l. e ∷ l) (pairs_back line es)
-
-pairs_of_all : (t : Table) (ds : List Declaration) → map pair_of (flat_map (entered_by t) ds) ≡ given_by (declares t) ds
-pairs_of_all t [] = refl
-pairs_of_all t (x ∷ ds) = map-append pair_of (entered_by t x) (flat_map (entered_by t) ds) ∙ (λ i. pairs_back x.line (declares t x.what) i ++ pairs_of_all t ds i)
-
--- a meaning that isn't of a set is the same of_set as none
+-- a meaning that isn't of a set is no other's
 apart : (first meaning : Meaning) → same_of_set meaning meaning ≡ false → same_of_set first meaning ≡ false
 apart (m.Set set) (m.Set other) h = h
 apart (m.OfSet query set) (m.OfSet asked other) h = h
 apart (m.OfMember query set) (m.OfMember asked other) h = h
 apart _ _ h = refl
+
+-- what comes after these entries
+after_these : (before : List (NameBytes × Meaning)) (xs ys : List Entered) → clashes_after before (xs ++ ys) ≡ [] → clashes_after (before ++ map pair_of xs) ys ≡ []
+after_these before [] ys h = ap (λ (ms : List (NameBytes × Meaning)). clashes_after ms ys) (append-nil before) ∙ h
+after_these before (x ∷ xs) ys h =
+    let parts = both_empty (line_if (is_another (value_for before x.name) x.meaning) x.line) (clashes_after (before ++ pair_of x ∷ []) (xs ++ ys)) h in
+    ap (λ (ms : List (NameBytes × Meaning)). clashes_after ms ys) (sym (append_assoc before (pair_of x ∷ []) (map pair_of xs)))
+    ∙ after_these (before ++ pair_of x ∷ []) xs ys parts.1
+
+pairs_back : (line : Line) (es : List (NameBytes × Meaning)) → map pair_of (map (entered_at line) es) ≡ es
+pairs_back line [] = refl
+pairs_back line (e ∷ es) = ap (λ l. e ∷ l) (pairs_back line es)
+
+module _ (t : Table) where
+  pairs_of_all : (ds : List Declaration) → map pair_of (flat_map (entered_by t) ds) ≡ given_by (declares t) ds
+  pairs_of_all [] = refl
+  pairs_of_all (x ∷ ds) = map-append pair_of (entered_by t x) (flat_map (entered_by t) ds) ∙ (λ i. pairs_back x.line (declares t x.what) i ++ pairs_of_all ds i)
+
+  is_entered : (ds : List Declaration) (x : Declaration) (name : NameBytes) (meaning : Meaning) → Among ds x → Among (declares t x.what) (name, meaning) → Among (flat_map (entered_by t) ds) (entered_at x.line (name, meaning))
+  is_entered ds x name meaning a b = in_pieces (entered_by t) ds x (entered_at x.line (name, meaning)) a (in_image (entered_at x.line) (declares t x.what) (name, meaning) b)
+
+  -- a name that a declaration declares isn't declared by a later one as something that isn't of a set
+  never_later : (before : List (NameBytes × Meaning)) (x y : Declaration) (ds : List Declaration) (name : NameBytes) (first second : Meaning) → clashes_after before (entered_by t x ++ flat_map (entered_by t) ds) ≡ [] →
+      same_of_set second second ≡ false → Among (declares t x.what) (name, first) → Among ds y → Among (declares t y.what) (name, second) → ⊥
+  never_later before x y ds name first second h alone a b c =
+      let passed = before ++ map pair_of (entered_by t x) in
+      let found = first_fits passed (flat_map (entered_by t) ds) (entered_at y.line (name, second)) (after_these before (entered_by t x) (flat_map (entered_by t) ds) h) (is_entered ds y name second b c) in
+      let here = subst (λ (l : List (NameBytes × Meaning)). Among l (name, first)) (sym (pairs_back x.line (declares t x.what))) a in
+      let known = has_value passed name first (in_right before (map pair_of (entered_by t x)) (name, first) here) in
+      ⊎_elim
+      (λ (r : (value_for passed name ≡ None) × (found.0 ≡ second)). none-some known.0 (sym r.0 ∙ known.1))
+      (λ (r : same_of_set found.0 second ≡ true). both_ways (same_of_set found.0 second) (apart found.0 second alone) r)
+      found.2
+
+  only_one : (before : List (NameBytes × Meaning)) (ds : List Declaration) (x y : Declaration) (name : NameBytes) (first second : Meaning) → clashes_after before (flat_map (entered_by t) ds) ≡ [] →
+      same_of_set first first ≡ false → same_of_set second second ≡ false → Among ds x → Among ds y → Among (declares t x.what) (name, first) → Among (declares t y.what) (name, second) → x ≡ y
+  only_one before [] x y name first second h f g a b c d = absurd a
+  only_one before (z ∷ ds) x y name first second h f g (inl a) (inl b) c d = sym a ∙ b
+  only_one before (z ∷ ds) x y name first second h f g (inl a) (inr b) c d =
+      absurd (never_later before z y ds name first second h g (subst (λ (w : Declaration). Among (declares t w.what) (name, first)) (sym a) c) b d)
+  only_one before (z ∷ ds) x y name first second h f g (inr a) (inl b) c d =
+      absurd (never_later before z x ds name second first h f (subst (λ (w : Declaration). Among (declares t w.what) (name, second)) (sym b) d) a c)
+  only_one before (z ∷ ds) x y name first second h f g (inr a) (inr b) c d =
+      only_one (before ++ map pair_of (entered_by t z)) ds x y name first second (after_these before (entered_by t z) (flat_map (entered_by t) ds) h) f g a b c d
 
 -- ---- what is said again
 
@@ -229,14 +250,16 @@ module _ (p : ProgramTree) (kept : refusal_of_declarations p ≡ None) where
   pub said_once : IsDistinct (λ (b a : Once). same_once a b) (onces (table p) (declarations p))
   said_once = (never_again (table p) [] (declarations p) no_repeats).1
 
-  -- what a declaration declares its name as is the first that the name means, or both are of one set
-  pub first_meant : (x : Declaration) (name : NameBytes) (meaning : Meaning) → Among (declarations p) x → Among (declares (numbered (declarations p)) x.what) (name, meaning) → FirstFits (table p).meanings name meaning
+  -- the first that a name means is what a declaration declares it as, or both are of one set
+  pub first_meant : (x : Declaration) (name : NameBytes) (meaning : Meaning) → Among (declarations p) x → Among (declares (numbered (declarations p)) x.what) (name, meaning) →
+      (first : Meaning) × (value_for (table p).meanings name ≡ Some first) × ((first ≡ meaning) ⊎ (same_of_set first meaning ≡ true))
   first_meant x name meaning a b =
       let ds = declarations p in
       let t = numbered ds in
-      let e = entered_at x.line (name, meaning) in
-      let found = first_fits [] (flat_map (entered_by t) ds) e no_clash (in_pieces (entered_by t) ds x e a (in_image (entered_at x.line) (declares t x.what) (name, meaning) b)) in
-      (found.0, value_in_firsts (given_by (declares t) ds) name ∙ ap (λ (ms : List (NameBytes × Meaning)). value_for ms name) (sym (pairs_of_all t ds)) ∙ found.1, found.2)
+      let found = first_fits [] (flat_map (entered_by t) ds) (entered_at x.line (name, meaning)) no_clash (is_entered t ds x name meaning a b) in
+      (found.0,
+      value_in_firsts (given_by (declares t) ds) name ∙ ap (λ (ms : List (NameBytes × Meaning)). value_for ms name) (sym (pairs_of_all t ds)) ∙ found.1,
+      ⊎_elim (λ (r : (value_for {V = Meaning} [] name ≡ None) × (found.0 ≡ meaning)). inl r.1) inr found.2)
 
   -- a name that is declared as something that isn't of a set means that
   pub meant : (x : Declaration) (name : NameBytes) (meaning : Meaning) → same_of_set meaning meaning ≡ false → Among (declarations p) x → Among (declares (numbered (declarations p)) x.what) (name, meaning) → value_for (table p).meanings name ≡ Some meaning
@@ -245,3 +268,8 @@ module _ (p : ProgramTree) (kept : refusal_of_declarations p ≡ None) where
       let same : found.0 ≡ meaning =
       ⊎_elim (λ (it : found.0 ≡ meaning). it) (λ (alike : same_of_set found.0 meaning ≡ true). absurd (both_ways (same_of_set found.0 meaning) (apart found.0 meaning alone) alike)) found.2 in
       found.1 ∙ ap Some same
+
+  -- and no other declaration declares it
+  pub declared_once : (x y : Declaration) (name : NameBytes) (first second : Meaning) → same_of_set first first ≡ false → same_of_set second second ≡ false → Among (declarations p) x → Among (declarations p) y →
+      Among (declares (numbered (declarations p)) x.what) (name, first) → Among (declares (numbered (declarations p)) y.what) (name, second) → x ≡ y
+  declared_once x y name first second = only_one (numbered (declarations p)) [] (declarations p) x y name first second no_clash
