@@ -1,1 +1,10 @@
+mod Items
+mod Firsts
 mod Kept
+mod Known
+mod Classes
+mod Variables
+mod Attributes
+mod Steps
+mod Parts
+mod Meanings
