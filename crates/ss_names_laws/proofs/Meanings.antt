@@ -1,5 +1,5 @@
 -- Each name of a program that breaks no rule on declarations means something that is there.
-use Rattle.std.proofs.Common.{◌≡◌, ℕ, ◌<◌, List, [], length, get_or, slice_get, Option, Some, option_map, inl, refl, sym, ap, subst, ◌∙◌}
+use Rattle.std.proofs.Common.{◌≡◌, ℕ, ◌<◌, List, [], length, get_or, slice_get, Option, Some, None, option_map, inl, refl, sym, ap, subst, ◌∙◌}
 use Rattle.std.specs.Map.{keys_of, values_of}
 use Rattle.std.proofs.lemmas.List.{length-map}
 use Rattle.std.proofs.lemmas.Option.{same_Some, slice_get-map, slice_get_within}
@@ -13,19 +13,16 @@ use Rattle.ss_base.specs.Plain.{PlainClass}
 use Rattle.ss_program.specs.declared.expression.Variable.TheVariants.{Global, Local}
 use Rattle.ss_program.specs.declared.sections.Statistic.{Statistic}
 use Rattle.ss_program.specs.declared.sections.Subject.{Subject}
-use Rattle.ss_program.specs.declared.statement.CountedClass.{CountedClass}
 use Rattle.ss_tree.specs.Names.{NameBytes}
 use Rattle.ss_tree.specs.Tree.{ProgramTree}
 use Rattle.ss_names_declarations.specs.Declarations.{declarations}
 use Rattle.ss_names_declarations.specs.Firsts.{place_in, value_for}
-use Rattle.ss_names_declarations.specs.declared.declaration.Declaration.{Declaration}
 use Rattle.ss_names_declarations.proofs.Entries.{firsts_once, key_at, place_from, there, value_at, value_by_place, value_from_place}
 use Rattle.ss_names.specs.declared.entry.Attribute.{Attribute}
-use Rattle.ss_names.specs.declared.entry.RoutineSection.{RoutineSection}
 use Rattle.ss_names.specs.declared.meaning.Meaning.{Meaning}
 use Rattle.ss_names.specs.declared.meaning.Meaning.TheVariants as m
-use Rattle.ss_names.specs.Entries.{class_by, classes, count_name, given_by, routines, set_names, set_of, sets, variables}
-use Rattle.ss_names.specs.Table.{Table, numbered, subject_of, table}
+use Rattle.ss_names.specs.Entries.{class_by, classes, given_by, routines, set_names, set_of, sets, variables}
+use Rattle.ss_names.specs.Table.{numbered, subject_of, table}
 use Rattle.ss_names_scopes.specs.Scopes.{mode_of}
 use Rattle.ss_tables_rules.specs.Broken.{refusal_of_declarations}
 use Rattle.ss_names_meaning.specs.Answers.{◌>>=◌, each, upto}
@@ -65,7 +62,7 @@ module _ (p : ProgramTree) (kept : refusal_of_declarations p ≡ None) (cs : Lis
       let place = attribute_there (declarations p) name a h in
       let c = class_at a.class place.0 in
       let mode = each_at (field_mode (table p)) (get_or (table p).fields a.class []) c.0.fields a.field name c.3 place.1 in
-      let known : field_mode (table p) name ≡ Some a.mode = ap (λ (o : Option Attribute). o >>= λ y. Some y.mode) h in
+      let known : field_mode (table p) name ≡ Some a.mode = ap (λ (o : Option Attribute). o >>= λ (y : Attribute). Some y.mode) h in
       (c.0, c.1, mode.1 ∙ sym mode.2 ∙ known)
 
   set_at : (set : ℕ) → set < length (set_names (declarations p)) → IsSetAt (table p) x set

@@ -1,8 +1,8 @@
 -- Global variables: their modes, and which of them are N. of a class.
-use Rattle.std.proofs.Common.{◌≡◌, ◌≢◌, ℕ, Bool, true, false, cond, List, [], ◌∷◌, slice_get, Option, Some, None, option_map, is_some, inl, inr, refl, sym, ap, subst, ◌∙◌}
+use Rattle.std.proofs.Common.{◌≡◌, ◌≢◌, ℕ, Bool, true, false, cond, [], ◌∷◌, slice_get, Some, None, option_map, is_some, inl, inr, refl, sym, ap, subst, ◌∙◌}
 use Rattle.std.specs.List.{AllByRecursion as Every}
 use Rattle.std.specs.Map.{values_of}
-use Rattle.std.proofs.lemmas.Option.{same_Some}
+use Rattle.std.proofs.lemmas.Option.{same_Some, some_pair_parts}
 use Rattle.ss_base.specs.declared.layout.ClassKind.{ClassKind}
 use Rattle.ss_base.specs.declared.layout.ClassKind.TheVariants.{Permanent, Temporary, Notice}
 use Rattle.ss_base.specs.declared.layout.Mode.{Mode}
@@ -20,7 +20,7 @@ use Rattle.ss_names_declarations.specs.declared.declaration.Declared.TheVariants
 use Rattle.ss_names_declarations.proofs.Entries.{place_of_value, value_at, value_by_place}
 use Rattle.ss_names.specs.declared.meaning.Meaning.{Meaning}
 use Rattle.ss_names.specs.declared.meaning.Meaning.TheVariants as m
-use Rattle.ss_names.specs.Entries.{attributes, class_variables, count_name, given_by, variable_by, variables}
+use Rattle.ss_names.specs.Entries.{attributes, class_variables, given_by, variable_by, variables}
 use Rattle.ss_names.specs.Modes.{value_mode}
 use Rattle.ss_names.specs.Table.{declares, numbered, table, variable_meaning}
 use Rattle.ss_names_scopes.specs.Scopes.{mode_of}
@@ -61,7 +61,7 @@ module _ (p : ProgramTree) (kept : refusal_of_declarations p ≡ None) where
       let ds = declarations p in
       let x = at_line line (d.Variable name word) in
       let mode = value_mode word in
-      let entry : Among (variable_by (attributes ds) (d.Variable name word)) (name, mode) = subst (λ (b : Bool). Among (cond b [] ((name, mode) ∷ [])) (name, mode)) (sym is) (inl refl) in
+      let entry : Among (variable_by (attributes ds) (d.Variable name word)) (name, mode) = subst (λ (b : Bool). Among {A = NameBytes × Mode} (cond b [] ((name, mode) ∷ [])) (name, mode)) (sym is) (inl refl) in
       let v = declared_value (variable_by (attributes ds)) ds x name mode a entry in
       let place = place_of_value (variables ds) name v.0 v.1 in
       let meaning : Meaning = m.Variable (Global place.0) mode in
@@ -98,7 +98,7 @@ module _ (p : ProgramTree) (kept : refusal_of_declarations p ≡ None) where
       let means : value_for ms e.0.0 ≡ Some (m.Count c) = value_of_entry (given_by (declares (numbered ds)) ds) e.0.0 e.0.1 e.1 ∙ ap Some (e.2 ∙ count_from from.0 c from.2) in
       let there = value_by_place (variables ds) e.0.0 k ((name_known ds e.0.0 (m.Count c) means).4 ∙ ap Some same) in
       let here = value_by_place (variables ds) name k at in
-      let one : (e.0.0, there.0) ≡ (name, here.0) = same_Some (e.0.0, there.0) (name, here.0) (sym there.2 ∙ here.2) in
-      let alike : m.Count c ≡ meaning = same_Some (m.Count c) meaning (sym means ∙ ap (λ (f : NameBytes × Mode). value_for ms f.0) one ∙ h) in
+      let one : e.0.0 ≡ name = (some_pair_parts e.0.0 name there.0 here.0 (sym there.2 ∙ here.2)).0 in
+      let alike : m.Count c ≡ meaning = same_Some (m.Count c) meaning (sym means ∙ ap (value_for ms) one ∙ h) in
       let empty : c ∷ [] ≡ [] = ap count_by alike ∙ none in
       cc)
