@@ -1,10 +1,10 @@
 -- Lists, item by item, and lists that come of items with their numbers.
 use Rattle.std.proofs.Common.{◌≡◌, ℕ, zero, suc, ◌+◌, Bool, true, false, cond, List, [], ◌∷◌, ◌++◌, map, Option, Some, None, inl, inr, refl, sym, subst, ◌∙◌, arith}
-use Rattle.std.specs.Prelude.{slice_get, if◌then◌else◌}
-use Rattle.std.specs.List.{AllByRecursion as Every, filter, flat_map, fold}
+use Rattle.std.specs.Prelude.{slice_get}
+use Rattle.std.specs.List.{AllByRecursion as Every, filter, flat_map}
 use Rattle.ss_tree.specs.Names.{NameBytes}
 use Rattle.ss_names_declarations.specs.Declarations.{flat_map_from}
-use Rattle.ss_names_declarations.specs.Firsts.{each_once, firsts, is_one_of, with_name}
+use Rattle.ss_names_declarations.specs.Firsts.{entry_if, firsts}
 use Rattle.ss_names_declarations.proofs.Entries.{value_in_firsts}
 use Rattle.ss_names_scopes.specs.Locals.{as_list}
 use Rattle.ss_names_laws.proofs.Firsts.{value_among, value_of_entry}
@@ -55,26 +55,15 @@ pub each_empty : {A B : Type 0} (f : A → List B) (xs : List A) → flat_map f 
 each_empty f [] h = tt
 each_empty f (x ∷ xs) h = let parts = both_empty (f x) (flat_map f xs) h in (parts.0, each_empty f xs parts.1)
 
--- ---- names
+-- ---- entries of names
 
 -- of each name the first entry is one of all
 pub every_first : {V : Type 0} (P : NameBytes × V → Type 0) (all : List (NameBytes × V)) → Every P all → Every P (firsts all)
 every_first P all h = each_item P (firsts all) (λ e a. at_item P all e h (value_among all e.0 e.1 (sym (value_in_firsts all e.0) ∙ value_of_entry all e.0 e.1 a)))
 
-module _ (P : NameBytes → Type 0) where
-  one_more : (names : List NameBytes) (name : NameBytes) → Every P names → P name → Every P (with_name names name)
-  one_more names name h k = by (is_one_of names name)
-    where
-      by : (b : Bool) → Every P (if b then names else names ++ name ∷ [])
-      by true = h
-      by false = joined P names (name ∷ []) h (k, tt)
-
-  folded : (start all : List NameBytes) → Every P start → Every P all → Every P (fold with_name start all)
-  folded start [] h k = h
-  folded start (name ∷ all) h k = folded (with_name start name) all (one_more start name h k.0) k.1
-
-  pub every_once : (all : List NameBytes) → Every P all → Every P (each_once all)
-  every_once all h = folded [] all tt h
+pub every_if : {V : Type 0} (P : NameBytes × V → Type 0) (name : NameBytes) (o : Option V) → ((v : V) → o ≡ Some v → P (name, v)) → Every P (entry_if name o)
+every_if P name None h = tt
+every_if P name (Some v) h = (h v refl, tt)
 
 -- ---- items with their numbers
 

@@ -1,11 +1,11 @@
 -- The local variables of a section: each has a mode, and none hides what may not be hidden.
-use Rattle.std.proofs.Common.{◌≡◌, ℕ, Bool, true, false, List, [], ◌∷◌, ◌++◌, length, map, Option, Some, None, refl, sym, ap, subst, ◌∙◌}
-use Rattle.std.specs.Prelude.{not, ◌&&◌, ◌==◌, is_none, is_some, slice_get, if◌then◌else◌}
+use Rattle.std.proofs.Common.{◌≡◌, ℕ, Bool, true, false, List, [], ◌++◌, length, map, Option, Some, None, refl, sym, ap, subst, ◌∙◌}
+use Rattle.std.specs.Prelude.{not, ◌&&◌, ◌==◌, is_none, is_some, slice_get}
 use Rattle.std.specs.List.{AllByRecursion as Every, flat_map}
 use Rattle.std.specs.Map.{lookup, values_of}
 use Rattle.std.specs.Option.{option_or}
 use Rattle.std.proofs.lemmas.Bool.{and_parts, cond-false}
-use Rattle.std.proofs.lemmas.Option.{same_Some}
+use Rattle.std.proofs.lemmas.Option.{cond_some, same_Some}
 use Rattle.ss_base.specs.declared.line.Line.{Line}
 use Rattle.ss_base.specs.declared.layout.Mode.{Mode}
 use Rattle.ss_tree.specs.Names.{NameBytes}
@@ -25,10 +25,9 @@ use Rattle.ss_names_uses.specs.Uses.{as_attribute, in_body, in_kind, in_places, 
 use Rattle.ss_names.specs.declared.meaning.Meaning.{Meaning}
 use Rattle.ss_names.specs.Table.{Table, table}
 use Rattle.ss_names_scopes.specs.Locals.{Moded, defined, is_local_place, is_variable, local_of, local_place, local_used, locals, locals_of, moded_in}
-use Rattle.ss_tables_rules.specs.declared.error.TableError.{TableError}
 use Rattle.ss_tables_rules.specs.declared.error.TableError.TheVariants as errors
 use Rattle.ss_tables_rules.specs.Broken.{refusal_of_declarations}
-use Rattle.ss_tables_rules.specs.Rules.{broken_by, has_no_mode, is_real, lacks_mode, may_be_hidden, unless, unmoded_in, unmoded_use}
+use Rattle.ss_tables_rules.specs.Rules.{broken_by, has_no_mode, is_real, lacks_mode, may_be_hidden, unmoded_in, unmoded_use}
 use Rattle.ss_names_meaning.specs.Answers.{each, upto}
 use Rattle.ss_names_meaning.specs.Resolved.{local_mode, local_modes}
 use Rattle.ss_names_laws.proofs.Bodies.{IsSilent, body_silent, declares_local, places}
@@ -36,7 +35,7 @@ use Rattle.ss_names_laws.proofs.Each.{at_number, at_place, each_empty, every_fir
 use Rattle.ss_names_laws.proofs.Items.{at_item, each_item, in_image, in_pieces}
 use Rattle.ss_names_laws.proofs.Kept.{none_broken, none_unmoded}
 use Rattle.ss_names_laws.proofs.Results.{each_made, goes, upto_every}
-use Rattle.ss_names_laws.proofs.Unbroken.{both_fit, fits}
+use Rattle.ss_names_laws.proofs.Unbroken.{fits, none_breaks, two_fit}
 
 -- ---- entries
 
@@ -55,15 +54,7 @@ mode_there : (o : Option Mode) → has_no_mode (Some o) ≡ false → (mode : Mo
 mode_there None h = absurd cc
 mode_there (Some mode) h = (mode, refl)
 
-none_breaks : (b : Bool) (breach : TableError) → (if b then breach ∷ [] else []) ≡ [] → b ≡ false
-none_breaks true breach h = absurd cc
-none_breaks false breach h = refl
-
 -- ---- names that are only used
-
-named_so : (b : Bool) (n name : NameBytes) → (if b then Some n else None) ≡ Some name → (b ≡ true) × (n ≡ name)
-named_so true n name h = (refl, same_Some n name h)
-named_so false n name h = absurd cc
 
 nothing_hidden : (o : Option Meaning) → is_none o ≡ true → may_be_hidden o ≡ true
 nothing_hidden None h = refl
@@ -86,7 +77,7 @@ module _ (p : ProgramTree) where
   of_place : (role : Role) (place : Designator) (subscripts : ℕ) (name : NameBytes) → local_place (table p) role place subscripts ≡ Some name → IsHidable name
   of_place role (designators.Name n) subscripts name h =
       let meant : Option Meaning = value_for (table p).meanings n in
-      let found = named_so (is_local_place (table p) role n subscripts) n name h in
+      let found = cond_some (is_local_place (table p) role n subscripts) n name h in
       subst IsHidable found.1 (nothing_hidden meant (and_parts (is_variable role && (subscripts == 0)) (is_none meant) found.0).1)
   of_place role designators.TimeV subscripts name h = absurd cc
   of_place role designators.TimeA subscripts name h = absurd cc
@@ -128,7 +119,7 @@ module _ (p : ProgramTree) (kept : refusal_of_declarations p ≡ None) where
       (λ n b.
       let here = at_item Unbroken (flat_map (in_definition k) ds) (local x.line k x.mode n) h (in_pieces (in_definition k) ds x (local x.line k x.mode n) a (in_image (local x.line k x.mode) x.names n b)) in
       let hidable : Bool = may_be_hidden (value_for (table p).meanings n) in
-      this_one p n (fits hidable (errors.Twice x.line) (both_fit (unless hidable (errors.Twice x.line)) (unless (not (is_real x.mode)) (errors.RealMode x.line)) here).0)))
+      this_one p n (two_fit hidable (not (is_real x.mode)) (errors.Twice x.line) (errors.RealMode x.line) here).0))
 
   section_hides : (k : ℕ) (s : SectionTree) → slice_get p.sections k ≡ Some s → Every (Hides p) (uses s)
   section_hides k s at =
