@@ -1,0 +1,178 @@
+-- The keys of ranked sets and of ties are attributes of their classes, so each set has a discipline and each class its keys.
+use Rattle.std.proofs.Common.{◌≡◌, ℕ, ◌==◌, nat_eq, Bool, true, false, List, [], ◌∷◌, Option, Some, None, refl, sym, ap, subst, ◌∙◌}
+use Rattle.std.specs.Prelude.{slice_get}
+use Rattle.std.specs.List.{AllByRecursion as Every, filter, list_any}
+use Rattle.std.specs.Map.{keys_of}
+use Rattle.std.specs.Cmp.Lexicographic.{bytes_decides}
+use Rattle.std.proofs.lemmas.Bool.{eqb-true, not-false, or_parts}
+use Rattle.std.proofs.lemmas.Option.{same_Some}
+use Rattle.ss_base.specs.declared.line.Line.{Line}
+use Rattle.ss_base.specs.declared.layout.Discipline.{Discipline}
+use Rattle.ss_base.specs.declared.layout.Discipline.TheVariants as disciplines_of
+use Rattle.ss_base.specs.declared.layout.RankKey.{RankKey}
+use Rattle.ss_tree.specs.Names.{NameBytes}
+use Rattle.ss_tree.specs.Tree.{OrderTree, ranked, PreambleTree, define_sets, ProgramTree}
+use Rattle.ss_tree.specs.declared.preamble.Key.{Key}
+use Rattle.ss_names_declarations.specs.Declarations.{declarations}
+use Rattle.ss_names_declarations.specs.Firsts.{place_in, same_name, value_for}
+use Rattle.ss_names_declarations.specs.declared.declaration.Declared.{Declared}
+use Rattle.ss_names_declarations.specs.declared.declaration.Declared.TheVariants as d
+use Rattle.ss_names_declarations.specs.declared.declaration.Declaration.{Declaration}
+use Rattle.ss_names_declarations.specs.declared.declaration.SetRule.{SetRule}
+use Rattle.ss_names_declarations.specs.declared.declaration.SetRule.TheVariants as rules
+use Rattle.ss_names_declarations.proofs.Entries.{entry_of_key, firsts_once, place_from}
+use Rattle.ss_names.specs.declared.entry.Attribute.{Attribute}
+use Rattle.ss_names.specs.declared.entry.Order.{Order}
+use Rattle.ss_names.specs.declared.entry.RankedBy.{RankedBy}
+use Rattle.ss_names.specs.declared.entry.Set.{Set}
+use Rattle.ss_names.specs.declared.entry.TiedBy.{TiedBy}
+use Rattle.ss_names.specs.Entries.{class_by, classes, given_by, order_by, rank_key_by, set_names, set_of, tie_key_by}
+use Rattle.ss_names.specs.Table.{Table, table}
+use Rattle.ss_tables_rules.specs.declared.error.TableError.TheVariants as errors
+use Rattle.ss_tables_rules.specs.Broken.{refusal_of_declarations}
+use Rattle.ss_tables_rules.specs.Keys.{class_of, is_foreign, is_foreign_to_any, member_named, member_of, misranked_in, misranked_key}
+use Rattle.ss_tables_rules.specs.Rules.{broken_in, is_attribute_of, is_class_of}
+use Rattle.ss_names_meaning.specs.Answers.{where_holds}
+use Rattle.ss_names_meaning.specs.Layouts.{discipline, disciplines, key_of, ordered, rank_keys, ranked_by, ruled, tie_keys, tied_by}
+use Rattle.ss_names_laws.proofs.Each.{at_place, each_empty, every_image, every_passed, every_piece}
+use Rattle.ss_names_laws.proofs.Firsts.{value_among}
+use Rattle.ss_names_laws.proofs.Items.{Among, at_item}
+use Rattle.ss_names_laws.proofs.Kept.{none_misranked}
+use Rattle.ss_names_laws.proofs.Owners.{IsOwned, all_owned}
+use Rattle.ss_names_laws.proofs.Results.{each_made, goes}
+use Rattle.ss_names_laws.proofs.Sources.{IsMade, Made, all_made}
+use Rattle.ss_names_laws.proofs.Unbroken.{every_given, fits, none_breaks}
+
+-- ---- one key
+
+-- the name is that of an attribute of this class
+abbrev IsKeyOf : Table → ℕ → NameBytes → Type 0
+IsKeyOf t class name = (a : Attribute) × (value_for t.attributes name ≡ Some a) × (nat_eq a.class class ≡ true)
+
+key_there : (t : Table) (class : ℕ) (high : Bool) (name : NameBytes) → IsKeyOf t class name → (key : RankKey) × (key_of t class high name ≡ Some key) × Unit {0}
+key_there t class high name h =
+    let key : RankKey = record { field = h.0.field; high = high } in
+    (key,
+    goes (value_for t.attributes name) (λ (a : Attribute). where_holds (a.class == class) (record { field = a.field; high = high })) h.0 key h.1 (ap (λ (b : Bool). where_holds b key) h.2), tt)
+
+own_key : (o : Option Attribute) (class : ℕ) → is_foreign (class_of o) (Some class) ≡ false → (a : Attribute) × (o ≡ Some a) × (nat_eq a.class class ≡ true)
+own_key None class h = absurd cc
+own_key (Some a) class h = (a, refl, not-false (nat_eq a.class class) h)
+
+tied_key : (o : Option Attribute) (class : ℕ) → is_class_of o (Some class) ≡ true → (a : Attribute) × (o ≡ Some a) × (nat_eq a.class class ≡ true)
+tied_key None class h = absurd cc
+tied_key (Some a) class h = (a, refl, h)
+
+none_of_any : {A : Type 0} (test : A → Bool) (xs : List A) → list_any test xs ≡ false → Every (λ x. test x ≡ false) xs
+none_of_any test [] h = tt
+none_of_any test (x ∷ xs) h = let parts = or_parts (test x) (list_any test xs) h in (parts.0, none_of_any test xs parts.1)
+
+-- ---- where orders and keys come from
+
+-- a DEFINE of the text orders a set
+abbrev IsOrdered : ProgramTree → NameBytes × Order → Type 0
+IsOrdered p e = IsMade p (d.Order e.0 e.1.rule e.1.statement)
+
+order_made : (p : ProgramTree) (w : Declared) → IsMade p w → Every (IsOrdered p) (order_by w)
+order_made p (d.Order set rule statement) h = (h, tt)
+order_made p _ h = tt
+
+-- a DEFINE of the text has this key
+abbrev IsRanked : ProgramTree → RankedBy → Type 0
+IsRanked p k = IsMade p (d.RankKey k.attribute k.high k.statement)
+
+rank_key_made : (p : ProgramTree) (w : Declared) → IsMade p w → Every (IsRanked p) (rank_key_by w)
+rank_key_made p (d.RankKey attribute high statement) h = (h, tt)
+rank_key_made p _ h = tt
+
+-- a key of a DEFINE is foreign to none of its sets
+never_foreign : (t : Table) (line : Line) (sets : List NameBytes) (keys : List Key) (key : Key) (set : NameBytes) → misranked_in t (define_sets line sets (ranked keys)) ≡ [] → Among keys key → Among sets set →
+    is_foreign (class_of (value_for t.attributes key.name)) (member_named t set) ≡ false
+never_foreign t line sets keys key set h a b =
+    let class = class_of (value_for t.attributes key.name) in
+    let own = at_item (λ (k : Key). misranked_key t line sets k ≡ []) keys key (each_empty (misranked_key t line sets) keys h) a in
+    let none = none_breaks (is_foreign_to_any t sets class) (errors.RankKey line) own in
+    at_item (λ (s : NameBytes). is_foreign class (member_named t s) ≡ false) sets set (none_of_any (λ (s : NameBytes). is_foreign class (member_named t s)) sets none) b
+
+-- one statement has one list of sets
+same_sets : (line other : Line) (sets more : List NameBytes) (order : OrderTree) (keys : List Key) (o : Option PreambleTree) → o ≡ Some (define_sets line sets order) → o ≡ Some (define_sets other more (ranked keys)) → sets ≡ more
+same_sets line other sets more order keys o e f =
+    let same : define_sets line sets order ≡ define_sets other more (ranked keys) = same_Some (define_sets line sets order) (define_sets other more (ranked keys)) (sym e ∙ f) in
+    cc
+
+ranked_step : (t : Table) (member : Option ℕ) (class statement : ℕ) (keys : List RankKey) → member ≡ Some class → rank_keys t class statement ≡ Some keys → ruled t member statement rules.Ranked ≡ Some (disciplines_of.Ranked keys)
+ranked_step t member class statement keys e h = rw (e, h) refl
+
+module _ (p : ProgramTree) (kept : refusal_of_declarations p ≡ None) where
+  -- ---- disciplines
+
+  all_ranked : Every (IsRanked p) (table p).rank_keys
+  all_ranked = every_piece (IsRanked p) (λ (x : Declaration). rank_key_by x.what) (declarations p) (λ x a. rank_key_made p x.what (at_item (Made p) (declarations p) x (all_made p) a))
+
+  -- a key of the DEFINE of a set is an attribute of the class of its members
+  key_owned : (name : NameBytes) (set : IsOwned p name) (o : Order) → IsOrdered p (name, o) → (k : RankedBy) → IsRanked p k → nat_eq k.statement o.statement ≡ true → IsKeyOf (table p) set.member k.attribute
+  key_owned name set o made k key is =
+      let t = table p in
+      let at : slice_get p.preamble o.statement ≡ Some (define_sets key.0 key.1 (ranked key.2)) = ap (slice_get p.preamble) (sym (eqb-true k.statement o.statement is)) ∙ key.4 in
+      let sets : made.1 ≡ key.1 = same_sets made.0 key.0 made.1 key.1 made.2 key.2 (slice_get p.preamble o.statement) made.3 at in
+      let none = at_place (λ (s : PreambleTree). misranked_in t s ≡ []) p.preamble k.statement (define_sets key.0 key.1 (ranked key.2)) (each_empty (misranked_in t) p.preamble (none_misranked p kept)) key.4 in
+      let free = never_foreign t key.0 key.1 key.2 key.3 name none key.5 (subst (λ (l : List NameBytes). Among l name) sets made.4) in
+      let member : member_named t name ≡ Some set.member = ap member_of set.known ∙ set.filled in
+      own_key (value_for t.attributes k.attribute) set.member
+      (ap (λ (n : NameBytes). is_foreign (class_of (value_for t.attributes n)) (Some set.member)) (sym key.6) ∙ ap (is_foreign (class_of (value_for t.attributes key.3.name))) (sym member) ∙ free)
+
+  keys_there : (name : NameBytes) (set : IsOwned p name) (o : Order) → IsOrdered p (name, o) → (keys : List RankKey) × (rank_keys (table p) set.member o.statement ≡ Some keys)
+  keys_there name set o made =
+      let t = table p in
+      let of_order : RankedBy → Bool = λ k. k.statement == o.statement in
+      let HasKey = λ (k : RankedBy). (key : RankKey) × (ranked_by t set.member k ≡ Some key) × Unit {0} in
+      let all = every_passed (IsRanked p) HasKey of_order (λ k key is. key_there t set.member k.high k.attribute (key_owned name set o made k key is)) t.rank_keys all_ranked in
+      let found = each_made (ranked_by t set.member) (λ (key : RankKey). Unit {0}) (filter of_order t.rank_keys) all in
+      (found.0, found.1)
+
+  by_rule : (name : NameBytes) (set : IsOwned p name) (o : Order) → IsOrdered p (name, o) → (rule : SetRule) → (x : Discipline) × (ruled (table p) (set_of (classes (declarations p)) (declarations p) name).member o.statement rule ≡ Some x)
+  by_rule name set o made rules.Fifo = (disciplines_of.Fifo, refl)
+  by_rule name set o made rules.Lifo = (disciplines_of.Lifo, refl)
+  by_rule name set o made rules.Ranked =
+      let keys = keys_there name set o made in
+      (disciplines_of.Ranked keys.0, ranked_step (table p) (set_of (classes (declarations p)) (declarations p) name).member set.member o.statement keys.0 set.filled keys.1)
+
+  discipline_there : (name : NameBytes) → IsOwned p name → (x : Discipline) × (discipline (table p) (set_of (classes (declarations p)) (declarations p) name) ≡ Some x) × Unit {0}
+  discipline_there name set = by (value_for (given_by order_by (declarations p)) name) refl
+    where
+      by : (o : Option Order) → value_for (given_by order_by (declarations p)) name ≡ o → (x : Discipline) × (ordered (table p) (set_of (classes (declarations p)) (declarations p) name).member o ≡ Some x) × Unit {0}
+      by None is = (disciplines_of.Fifo, refl, tt)
+      by (Some o) is =
+          let orders = every_piece (IsOrdered p) (λ (x : Declaration). order_by x.what) (declarations p) (λ x a. order_made p x.what (at_item (Made p) (declarations p) x (all_made p) a)) in
+          let made = at_item (IsOrdered p) (given_by order_by (declarations p)) (name, o) orders (value_among (given_by order_by (declarations p)) name o is) in
+          let found = by_rule name set o made o.rule in
+          (found.0, found.1, tt)
+
+  pub disciplines_there : (xs : List Discipline) × (disciplines (table p) ≡ Some xs)
+  disciplines_there =
+      let ds = declarations p in
+      let HasDiscipline = λ (s : Set). (x : Discipline) × (discipline (table p) s ≡ Some x) × Unit {0} in
+      let all = every_image HasDiscipline (set_of (classes ds) ds) (set_names ds) (λ name a. discipline_there name (at_item (IsOwned p) (set_names ds) name (all_owned p kept) a)) in
+      let found = each_made (discipline (table p)) (λ (x : Discipline). Unit {0}) (table p).sets all in
+      (found.0, found.1)
+
+  -- ---- ties
+
+  tie_says : (line : Line) (w : Declared) → broken_in (table p) line w ≡ None → Every (λ (k : TiedBy). is_attribute_of (table p) k.class k.attribute ≡ true) (tie_key_by w)
+  tie_says line (d.TieKey class attribute high) h = (fits (is_attribute_of (table p) class attribute) (errors.TieKey line) h, tt)
+  tie_says line _ h = tt
+
+  pub ties_there : (class : ℕ) (name : NameBytes) → slice_get (keys_of (table p).classes) class ≡ Some name → (keys : List RankKey) × (tie_keys (table p) class name ≡ Some keys)
+  ties_there class name at =
+      let t = table p in
+      let entry = entry_of_key t.classes class name at in
+      let place : place_in t.classes name ≡ Some class = place_from t.classes class name entry.0 (firsts_once (given_by class_by (declarations p))) entry.1 in
+      let of_class : TiedBy → Bool = λ k. same_name k.class name in
+      let HasKey = λ (k : TiedBy). (key : RankKey) × (tied_by t class k ≡ Some key) × Unit {0} in
+      let IsOfClass = λ (k : TiedBy). is_attribute_of t k.class k.attribute ≡ true in
+      let all = every_passed IsOfClass HasKey of_class (λ k says is.
+      let known : is_class_of (value_for t.attributes k.attribute) (Some class) ≡ true =
+      ap (is_class_of (value_for t.attributes k.attribute)) (sym (ap (place_in t.classes) ((bytes_decides k.class name).0 is) ∙ place)) ∙ says in
+      key_there t class k.high k.attribute (tied_key (value_for t.attributes k.attribute) class known)) t.tie_keys (every_given p kept IsOfClass tie_key_by tie_says) in
+      let found = each_made (tied_by t class) (λ (key : RankKey). Unit {0}) (filter of_class t.tie_keys) all in
+      (found.0, found.1)

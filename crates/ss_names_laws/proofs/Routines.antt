@@ -1,0 +1,55 @@
+-- The sections of routines, and what holds of the local variables of each section.
+use Rattle.std.proofs.Common.{◌≡◌, ◌+◌, length, take, Option, Some, option_map, ap, ◌∙◌, arith, length-take}
+use Rattle.std.specs.Prelude.{slice_get}
+use Rattle.std.specs.List.{AllByRecursion as Every}
+use Rattle.std.specs.Map.{keys_of}
+use Rattle.std.proofs.lemmas.List.{length-map}
+use Rattle.std.proofs.lemmas.Option.{slice_get-map}
+use Rattle.ss_base.specs.declared.layout.Mode.{Mode}
+use Rattle.ss_tree.specs.Names.{NameBytes}
+use Rattle.ss_tree.specs.Tree.{SectionTree, ProgramTree}
+use Rattle.ss_names_declarations.specs.Declarations.{declarations}
+use Rattle.ss_names_declarations.specs.declared.declaration.Declared.{Declared}
+use Rattle.ss_names_declarations.specs.declared.declaration.Declared.TheVariants as d
+use Rattle.ss_names_declarations.specs.declared.declaration.Declaration.{Declaration}
+use Rattle.ss_names_declarations.proofs.Entries.{entry_of_value}
+use Rattle.ss_names.specs.declared.entry.RoutineSection.{RoutineSection}
+use Rattle.ss_names.specs.Entries.{given_by, routine_by}
+use Rattle.ss_names.specs.Table.{table}
+use Rattle.ss_names_scopes.specs.Locals.{Moded, locals_of}
+use Rattle.ss_names_laws.specs.Laws.{RoutinesAreThere, SectionsAreValid}
+use Rattle.ss_names_laws.specs.ValidTables.{IsValidSection, parameters_of}
+use Rattle.ss_names_laws.proofs.Each.{at_place, every_first, every_piece, from_places}
+use Rattle.ss_names_laws.proofs.Items.{at_item}
+use Rattle.ss_names_laws.proofs.Locals.{hides, modes_there}
+use Rattle.ss_names_laws.proofs.Parameters.{parameters_there}
+use Rattle.ss_names_laws.proofs.Sources.{IsMade, Made, all_made}
+
+pub sections_are_valid : SectionsAreValid
+sections_are_valid p kept =
+    from_places (λ (s : SectionTree). IsValidSection (table p) s.kind (locals_of (table p) s)) p.sections (λ k s at.
+    let found = modes_there p kept k s at in
+    record { modes = found.0; moded = found.1; hides = hides p kept k s at; parameters = parameters_there p kept k s at })
+
+-- ---- routines
+
+-- a routine has a section with as many parameters
+abbrev HasSection : ProgramTree → RoutineSection → Type 0
+HasSection p known = (s : SectionTree) × (slice_get p.sections known.section ≡ Some s) × (length (parameters_of s.kind) ≡ known.given + known.yielding)
+
+routine_made : (p : ProgramTree) (w : Declared) → IsMade p w → Every (λ (e : NameBytes × RoutineSection). HasSection p e.1) (routine_by w)
+routine_made p (d.Routine name section given yielding) h = (h, tt)
+routine_made p _ h = tt
+
+pub routines_are_there : RoutinesAreThere
+routines_are_there p kept k known at =
+    let ds = declarations p in
+    let Has = λ (e : NameBytes × RoutineSection). HasSection p e.1 in
+    let entry = entry_of_value (table p).routines k known at in
+    let all = every_first Has (given_by routine_by ds) (every_piece Has (λ (x : Declaration). routine_by x.what) ds (λ x a. routine_made p x.what (at_item (Made p) ds x (all_made p) a))) in
+    let s = at_place Has (table p).routines k (entry.0, known) all entry.1 in
+    let locals : Moded = locals_of (table p) s.0 in
+    let first : length (take (length (parameters_of s.0.kind)) (keys_of locals)) ≡ length (parameters_of s.0.kind) = ap length (parameters_there p kept known.section s.0 s.1) in
+    let taken = length-take (length (parameters_of s.0.kind)) (keys_of locals) in
+    let count : length (keys_of locals) ≡ length locals = length-map locals (λ (e : NameBytes × Option Mode). e.0) in
+    (locals, slice_get-map (locals_of (table p)) p.sections known.section ∙ ap (option_map (locals_of (table p))) s.1, omega (arith, first, taken, count, s.2))

@@ -1,0 +1,105 @@
+-- The subjects of TALLY and ACCUMULATE: each is there and a whole number, so each history has a statistic.
+use Rattle.std.proofs.Common.{◌≡◌, ℕ, not, Bool, true, false, [], ◌++◌, List, length, Option, Some, None, option_map, refl, ap, ◌∙◌}
+use Rattle.std.specs.Prelude.{slice_get, if◌then◌else◌}
+use Rattle.std.specs.List.{AllByRecursion as Every, flat_map}
+use Rattle.std.specs.Map.{keys_of, values_of}
+use Rattle.std.proofs.lemmas.Option.{slice_get-map}
+use Rattle.ss_base.specs.declared.line.Line.{Line}
+use Rattle.ss_base.specs.declared.words.Weighting.{Weighting}
+use Rattle.ss_program.specs.declared.expression.SetQuery.TheVariants.{MemberCount}
+use Rattle.ss_program.specs.declared.expression.Variable.TheVariants.{Global, Local}
+use Rattle.ss_program.specs.declared.sections.Statistic.{Statistic}
+use Rattle.ss_program.specs.declared.sections.Subject.{Subject}
+use Rattle.ss_program.specs.declared.sections.Subject.TheVariants.{OfVariable, OfAttribute, OfCount}
+use Rattle.ss_tree.specs.Names.{NameBytes}
+use Rattle.ss_tree.specs.Tree.{PreambleTree, statistics, ProgramTree}
+use Rattle.ss_names_declarations.specs.Declarations.{declarations}
+use Rattle.ss_names_declarations.specs.Firsts.{value_for}
+use Rattle.ss_names_declarations.specs.declared.declaration.Declared.{Declared}
+use Rattle.ss_names_declarations.specs.declared.declaration.Declared.TheVariants as d
+use Rattle.ss_names_declarations.specs.declared.declaration.Declaration.{Declaration}
+use Rattle.ss_names_declarations.proofs.Entries.{key_at, there, value_at}
+use Rattle.ss_names.specs.declared.meaning.Meaning.{Meaning}
+use Rattle.ss_names.specs.declared.meaning.Meaning.TheVariants as m
+use Rattle.ss_names.specs.Entries.{given_by, history_by}
+use Rattle.ss_names.specs.Table.{Table, numbered, subject_of, table}
+use Rattle.ss_names_scopes.specs.Locals.{as_list}
+use Rattle.ss_check_rules.specs.declared.error.CheckError.{CheckError}
+use Rattle.ss_check_rules.specs.declared.error.CheckError.TheVariants as errors
+use Rattle.ss_check_rules.specs.Kinds.{may_be_watched}
+use Rattle.ss_check_rules.specs.Modes.{is_text}
+use Rattle.ss_check_rules.specs.Order.{order_of}
+use Rattle.ss_check_rules.specs.Refusal.{breaches, in_preamble, in_program, in_section, refusal_of_uses, subject_breaks, unless}
+use Rattle.ss_names_meaning.specs.Answers.{upto}
+use Rattle.ss_names_meaning.specs.Layouts.{statistic_kept, statistics as statistics_of}
+use Rattle.ss_names_laws.proofs.Each.{at_place, each_empty, every_first, every_piece}
+use Rattle.ss_names_laws.proofs.Items.{at_item}
+use Rattle.ss_names_laws.proofs.Kept.{both_empty, nothing_found}
+use Rattle.ss_names_laws.proofs.Known.{IsKnown, name_known}
+use Rattle.ss_names_laws.proofs.Results.{each_made, upto_every}
+use Rattle.ss_names_laws.proofs.Sources.{IsMade, Made, all_made}
+
+-- a meaning that may have a history, and is a whole number
+abbrev pub IsWhole : Option Meaning → Type 0
+IsWhole o = (meaning : Meaning) × (o ≡ Some meaning) × (may_be_watched meaning ≡ true) × (is_text (Some meaning) ≡ false)
+
+no_text : (line : Line) (b : Bool) → unless (not b) (errors.Mode line) ≡ None → b ≡ false
+no_text line true h = absurd cc
+no_text line false h = refl
+
+whole_so : (line : Line) (o : Option Meaning) → subject_breaks line o ≡ None → IsWhole o
+whole_so line None h = absurd cc
+whole_so line (Some meaning) h = by (may_be_watched meaning) refl h
+  where
+    by : (b : Bool) → may_be_watched meaning ≡ b → (if b then unless (not (is_text (Some meaning))) (errors.Mode line) else Some (errors.Unknown line)) ≡ None → IsWhole (Some meaning)
+    by true is g = (meaning, refl, is, no_text line (is_text (Some meaning)) g)
+    by false is g = absurd cc
+
+none_listed : (o : Option CheckError) → as_list o ≡ [] → o ≡ None
+none_listed None h = refl
+none_listed (Some breach) h = absurd cc
+
+-- what may have a history is a subject
+subject_there : (t : Table) (name : NameBytes) (meaning : Meaning) → IsKnown t name meaning → may_be_watched meaning ≡ true → (subject : Subject) × (subject_of (Some meaning) ≡ Some subject)
+subject_there t name (m.Variable (Global k) mode) known h = (OfVariable k, refl)
+subject_there t name (m.Variable (Local k) mode) known h = absurd known
+subject_there t name (m.Attribute class field mode) known h = (OfAttribute class field, refl)
+subject_there t name (m.OfSet MemberCount set) known h = (OfCount set, refl)
+subject_there t name _ known h = absurd cc
+
+statistic_there : (t : Table) (n : ℕ) (weighting : Weighting) (subject : Subject) → slice_get (values_of t.histories) n ≡ Some weighting → slice_get t.subjects n ≡ Some (Some subject) → (s : Statistic) × (statistic_kept t n ≡ Some s) × Unit {0}
+statistic_there t n weighting subject e f =
+    let made : Statistic = record { subject = subject; weighting = weighting } in
+    (made, rw (e, f) refl, tt)
+
+module _ (p : ProgramTree) (kept : refusal_of_uses p ≡ None) where
+  -- the name means a whole number that may have a history
+  abbrev pub IsWatched : NameBytes × Weighting → Type 0
+  IsWatched e = IsWhole (value_for (table p).meanings e.0)
+
+  subject_whole : (w : Declared) → IsMade p w → Every IsWatched (history_by w)
+  subject_whole (d.Subject name weighting) h =
+      let t = table p in
+      let rest = in_program p.sections ++ flat_map (in_section t p.sections) p.sections in
+      let none = (both_empty (flat_map (in_preamble t) p.preamble) rest (nothing_found order_of (breaches t p) kept)).0 in
+      let own = at_place (λ (s : PreambleTree). in_preamble t s ≡ []) p.preamble h.0 (statistics h.1 weighting h.2 name) (each_empty (in_preamble t) p.preamble none) h.3 in
+      (whole_so h.1 (value_for t.meanings name) (none_listed (subject_breaks h.1 (value_for t.meanings name)) own), tt)
+  subject_whole _ h = tt
+
+  pub all_watched : Every IsWatched (table p).histories
+  all_watched =
+      let ds = declarations p in
+      every_first IsWatched (given_by history_by ds) (every_piece IsWatched (λ (x : Declaration). history_by x.what) ds (λ x a. subject_whole x.what (at_item (Made p) ds x (all_made p) a)))
+
+  pub statistics_there : (xs : List Statistic) × (statistics_of (table p) ≡ Some xs)
+  statistics_there =
+      let t = table p in
+      let of_name : NameBytes → Option Subject = λ n. subject_of (value_for t.meanings n) in
+      let all = upto_every (λ (n : ℕ). (s : Statistic) × (statistic_kept t n ≡ Some s) × Unit {0}) (length t.histories) (λ n lt.
+      let e = there t.histories n lt in
+      let whole = at_place IsWatched t.histories n e.0 all_watched e.1 in
+      let subject = subject_there (numbered (declarations p)) e.0.0 whole.0 (name_known (declarations p) e.0.0 whole.0 whole.1) whole.2 in
+      let named : slice_get t.subjects n ≡ Some (of_name e.0.0) = slice_get-map of_name (keys_of t.histories) n ∙ ap (option_map of_name) (key_at t.histories n e.0.0 e.0.1 e.1) in
+      statistic_there t n e.0.1 subject.0 (value_at t.histories n e.0.0 e.0.1 e.1) (named ∙ ap Some (ap subject_of whole.1 ∙ subject.1))) in
+      let found = each_made (statistic_kept t) (λ (s : Statistic). Unit {0}) (upto (length t.histories)) all in
+      (found.0, found.1)

@@ -1,0 +1,38 @@
+-- What rules on declarations say where they aren't broken.
+use Rattle.std.proofs.Common.{◌≡◌, Bool, true, false, List, [], ◌∷◌, None, refl}
+use Rattle.std.specs.Prelude.{if◌then◌else◌}
+use Rattle.std.specs.List.{AllByRecursion as Every}
+use Rattle.std.specs.Option.{option_or}
+use Rattle.ss_base.specs.declared.line.Line.{Line}
+use Rattle.ss_tree.specs.Tree.{ProgramTree}
+use Rattle.ss_names_declarations.specs.Declarations.{declarations}
+use Rattle.ss_names_declarations.specs.declared.declaration.Declared.{Declared}
+use Rattle.ss_names_declarations.specs.declared.declaration.Declaration.{Declaration}
+use Rattle.ss_names.specs.Entries.{given_by}
+use Rattle.ss_names.specs.Table.{table}
+use Rattle.ss_tables_rules.specs.declared.error.TableError.{TableError}
+use Rattle.ss_tables_rules.specs.Broken.{refusal_of_declarations}
+use Rattle.ss_tables_rules.specs.Rules.{broken_by, broken_in, unless}
+use Rattle.ss_names_laws.proofs.Each.{every_piece}
+use Rattle.ss_names_laws.proofs.Items.{at_item}
+use Rattle.ss_names_laws.proofs.Kept.{none_broken}
+
+pub fits : (b : Bool) (breach : TableError) → unless b breach ≡ None → b ≡ true
+fits true breach h = refl
+fits false breach h = absurd cc
+
+-- of two rules
+pub two_fit : (a b : Bool) (first second : TableError) → option_or (unless a first) (unless b second) ≡ None → (a ≡ true) × (b ≡ true)
+two_fit true b first second h = (refl, fits b second h)
+two_fit false b first second h = absurd cc
+
+pub none_breaks : (b : Bool) (breach : TableError) → (if b then breach ∷ [] else []) ≡ [] → b ≡ false
+none_breaks true breach h = absurd cc
+none_breaks false breach h = refl
+
+-- what declarations that break no rule give
+pub every_given : (p : ProgramTree) → refusal_of_declarations p ≡ None → {A : Type 0} (P : A → Type 0) (f : Declared → List A) →
+    ((line : Line) (w : Declared) → broken_in (table p) line w ≡ None → Every P (f w)) → Every P (given_by f (declarations p))
+every_given p kept P f rule =
+    every_piece P (λ (x : Declaration). f x.what) (declarations p)
+    (λ x a. rule x.line x.what (at_item (λ (y : Declaration). broken_by (table p) y ≡ None) (declarations p) x (none_broken p kept) a))
