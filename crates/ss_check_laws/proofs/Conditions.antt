@@ -1,5 +1,5 @@
 -- Conditions whose uses break no rule resolve, and are well typed.
-use Rattle.std.proofs.Common.{◌≡◌, true, false, List, Some, refl, subst}
+use Rattle.std.proofs.Common.{true, false, List, Some, refl, subst}
 use Rattle.std.specs.List.{AllByRecursion as Every, flat_map}
 use Rattle.ss_base.specs.declared.line.Line.{Line}
 use Rattle.ss_tree.specs.Tree.{TestTree, compare, empty, member, data_ended, ConditionTree}
@@ -12,10 +12,9 @@ use Rattle.ss_check_rules.specs.Modes.{mode_said}
 use Rattle.ss_check_rules.specs.declared.error.CheckError.TheVariants as errors
 use Rattle.ss_names_meaning.specs.Conditions.{conjunction, one_test}
 use Rattle.ss_names_meaning.specs.Expressions.{expression, set_named}
-use Rattle.ss_names_laws.proofs.Steps.{goes}
 use Rattle.ss_check_laws.specs.BodyLaws.{ConditionResolves, ConditionsResolve}
 use Rattle.ss_check_laws.specs.Links.{IsLinked, Kept}
-use Rattle.ss_check_laws.proofs.Steps.{GoesWell, agree, each_resolves, two_parts, two_steps}
+use Rattle.ss_check_laws.proofs.Steps.{GoesWell, agree, each_resolves, goes, two_parts, two_steps}
 use Rattle.ss_check_laws.proofs.Expressions.{number_kept, resolves}
 use Rattle.ss_check_laws.proofs.Targets.{set_resolves}
 

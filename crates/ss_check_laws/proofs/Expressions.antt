@@ -29,10 +29,9 @@ use Rattle.ss_check_rules.specs.Refusal.{use_breaks}
 use Rattle.ss_check_rules.specs.declared.error.CheckError.TheVariants as errors
 use Rattle.ss_names_meaning.specs.Answers.{◌>>=◌}
 use Rattle.ss_names_meaning.specs.Expressions.{expression, factors, one, resolved_operator, resolved_value, subscript, terms, two, with_entity}
-use Rattle.ss_names_laws.proofs.Steps.{goes}
 use Rattle.ss_check_laws.specs.BodyLaws.{ExpressionsResolve, Resolves}
 use Rattle.ss_check_laws.specs.Links.{IsLinked, Kept}
-use Rattle.ss_check_laws.proofs.Steps.{holds_unless, two_parts, two_steps}
+use Rattle.ss_check_laws.proofs.Steps.{goes, holds_unless, two_parts, two_steps}
 use Rattle.ss_check_laws.proofs.Linked.{IsHere}
 use Rattle.ss_check_laws.proofs.Places.{EntityFits, Number, Numbers, NumberTerms, OwnerHas, in_role, named_statistic_fits, named_with, number_mode, owner_fits, said_is}
 

@@ -1,5 +1,5 @@
 -- Heads of loops whose uses break no rule resolve, and are well typed.
-use Rattle.std.proofs.Common.{◌≡◌, Bool, true, false, List, ◌++◌, Option, Some, None, refl, subst}
+use Rattle.std.proofs.Common.{◌≡◌, true, false, List, ◌++◌, Option, Some, None, refl, subst}
 use Rattle.std.specs.Prelude.{is_some, IfSome}
 use Rattle.std.specs.List.{AllByRecursion as Every, flat_map}
 use Rattle.ss_base.specs.declared.line.Line.{Line}
@@ -12,7 +12,7 @@ use Rattle.ss_tree.specs.declared.expression.Designator.TheVariants.{Name}
 use Rattle.ss_program.specs.Program.{ToVariable, AtEnd, From, After, Head, Numbers, Members, Each, Phrase, Guard}
 use Rattle.ss_program.specs.WellTyped.{Scope as Place, GoodCondition, GoodPhrase, GoodStart, HasMode, TakesMode, kind_of_class}
 use Rattle.ss_program.specs.declared.expression.Variable.{Variable}
-use Rattle.ss_names_uses.specs.Uses.{in_condition, in_expression, in_guard, in_head, in_loop_head, in_named, in_option, in_phrase, in_start, loop_variable}
+use Rattle.ss_names_uses.specs.Uses.{in_expression, in_guard, in_head, in_loop_head, in_named, in_option, in_phrase, in_start, loop_variable}
 use Rattle.ss_names_uses.specs.declared.used.ClassNeed.TheVariants as needs
 use Rattle.ss_names_uses.specs.declared.used.Role.TheVariants as roles
 use Rattle.ss_names_scopes.specs.Scopes.{Scope, meaning_of_name, variable_of}
@@ -22,10 +22,9 @@ use Rattle.ss_names_meaning.specs.Classes.{class_named, variable_named}
 use Rattle.ss_names_meaning.specs.Conditions.{condition}
 use Rattle.ss_names_meaning.specs.Expressions.{expression, set_named}
 use Rattle.ss_names_meaning.specs.Heads.{called_variable, guard, head, resolved_phrase, resolved_start}
-use Rattle.ss_names_laws.proofs.Steps.{goes}
 use Rattle.ss_check_laws.specs.BodyLaws.{ForResolves, HeadResolves, HeadsResolve}
 use Rattle.ss_check_laws.specs.Links.{IsLinked, Kept}
-use Rattle.ss_check_laws.proofs.Steps.{GoesWell, each_resolves, three_parts, two_parts, two_steps}
+use Rattle.ss_check_laws.proofs.Steps.{GoesWell, each_resolves, goes, three_parts, two_parts}
 use Rattle.ss_check_laws.proofs.Linked.{variable_here}
 use Rattle.ss_check_laws.proofs.Places.{in_role, number_mode}
 use Rattle.ss_check_laws.proofs.Expressions.{number_kept}
@@ -75,7 +74,7 @@ module _ (s : Scope) (g : Place) (k : IsLinked s g) (line : Line) where
   phrases_resolve : (ps : List PhraseTree) → Kept s g.is_main (flat_map (in_phrase line) ps) → GoesWell (Every (GoodPhrase g)) (each (resolved_phrase s) ps)
   phrases_resolve ps h = each_resolves s g.is_main (resolved_phrase s) (in_phrase line) (GoodPhrase g) phrase_resolves ps h
 
-  guard_resolves : (t : GuardTree) → Kept s g.is_main (in_guard line t) → GoesWell (λ x. GoodCondition g x.condition) (guard s t)
+  guard_resolves : (t : GuardTree) → Kept s g.is_main (in_guard line t) → GoesWell (λ (x : Guard). GoodCondition g x.condition) (guard s t)
   guard_resolves t h =
       let r = condition_resolves s g k line t.condition h in
       let made : Guard = record { kind = t.kind; condition = r.0 } in
@@ -152,7 +151,7 @@ module _ (s : Scope) (g : Place) (k : IsLinked s g) (line : Line) where
 
   head_resolves : (over : LoopHeadTree) → Kept s g.is_main (in_loop_head line over) → HeadResolves s g over
   head_resolves (for_head over) h = for_resolves over h
-  head_resolves (guarded guards) h = each_resolves s g.is_main (guard s) (in_guard line) (λ x. GoodCondition g x.condition) guard_resolves guards h
+  head_resolves (guarded guards) h = each_resolves s g.is_main (guard s) (in_guard line) (λ (x : Guard). GoodCondition g x.condition) guard_resolves guards h
 
 pub heads_resolve : HeadsResolve
 heads_resolve s g k line over h = head_resolves s g k line over h

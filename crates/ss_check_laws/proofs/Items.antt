@@ -20,10 +20,9 @@ use Rattle.ss_check_rules.specs.Kinds.{has_value, if_means, is_mean}
 use Rattle.ss_check_rules.specs.Refusal.{use_breaks, used_breaks}
 use Rattle.ss_check_rules.specs.declared.error.CheckError.TheVariants as errors
 use Rattle.ss_names_meaning.specs.Expressions.{expression, item, place_named, resolved_item}
-use Rattle.ss_names_laws.proofs.Steps.{goes}
 use Rattle.ss_check_laws.specs.BodyLaws.{ItemResolves, ItemsResolve, Resolves}
 use Rattle.ss_check_laws.specs.Links.{IsLinked, Kept}
-use Rattle.ss_check_laws.proofs.Steps.{holds_unless}
+use Rattle.ss_check_laws.proofs.Steps.{goes, holds_unless}
 use Rattle.ss_check_laws.proofs.Linked.{IsHere}
 use Rattle.ss_check_laws.proofs.Places.{EntityFits, Numbers, in_role, named_statistic_fits, placed}
 use Rattle.ss_check_laws.proofs.Expressions.{meant_value, numbers, resolves}

@@ -29,9 +29,8 @@ use Rattle.ss_check_rules.specs.Refusal.{meant_breaks, place_breaks, unless}
 use Rattle.ss_check_rules.specs.declared.error.CheckError.TheVariants as errors
 use Rattle.ss_names_meaning.specs.Answers.{◌>>=◌}
 use Rattle.ss_names_meaning.specs.Expressions.{entity_of, expression, fetched, of_owner, owner_named, place_named, subscript, with_entity}
-use Rattle.ss_names_laws.proofs.Steps.{goes}
 use Rattle.ss_check_laws.specs.Links.{IsLinked}
-use Rattle.ss_check_laws.proofs.Steps.{alike, first_fails, first_holds, holds_unless, meant}
+use Rattle.ss_check_laws.proofs.Steps.{alike, first_fails, first_holds, goes, holds_unless, meant}
 use Rattle.ss_check_laws.proofs.Linked.{IsHere, IsOwner, IsSetHere, IsStatisticHere, IsSubjectHere, implied_here, meaning_here, owner_here}
 
 -- ---- modes

@@ -53,6 +53,9 @@ agree a b m n x h e f = alike a b m n (not-true (differ a b) (holds_unless (not 
 abbrev pub GoesWell : {B : Type 0} → (B → Type 0) → Option B → Type 0
 GoesWell {B = B} Q o = (b : B) × (o ≡ Some b) × Q b
 
+pub goes : {A B : Type 0} (o : Option A) (next : A → Option B) (a : A) (x : B) → o ≡ Some a → next a ≡ Some x → (o >>= next) ≡ Some x
+goes o next a x h e = rw h e
+
 pub two_steps : {A B C : Type 0} (o : Option A) (p : Option B) (next : A → B → Option C) (a : A) (b : B) (x : C) →
     o ≡ Some a → p ≡ Some b → next a b ≡ Some x → (o >>= λ u. p >>= λ v. next u v) ≡ Some x
 two_steps o p next a b x h e f = rw (h, e) f

@@ -1,6 +1,6 @@
 -- Targets, sets and subjects of a RESET whose uses break no rule resolve, and are well typed.
 use Rattle.std.proofs.Common.{◌≡◌, ℕ, Bool, true, false, Option, Some, None, refl, sym, ap, subst, ◌∙◌}
-use Rattle.std.specs.Prelude.{◌&&◌, is_none, is_some}
+use Rattle.std.specs.Prelude.{is_none, is_some}
 use Rattle.std.specs.Map.{lookup}
 use Rattle.std.proofs.lemmas.Bool.{and_parts, not-false}
 use Rattle.std.proofs.lemmas.Option.{none-some}
@@ -30,10 +30,9 @@ use Rattle.ss_check_rules.specs.declared.error.CheckError.TheVariants as errors
 use Rattle.ss_names_meaning.specs.Answers.{◌>>=◌}
 use Rattle.ss_names_meaning.specs.Expressions.{entity_of, owner_named, place_named, place_of, set_number, set_of_name, subscript}
 use Rattle.ss_names_meaning.specs.Statements.{history_of, unless_hidden}
-use Rattle.ss_names_laws.proofs.Steps.{goes}
 use Rattle.ss_check_laws.specs.BodyLaws.{RestartResolves, RestartsResolve, SetResolves, SetsResolve, TargetResolves, TargetsResolve}
 use Rattle.ss_check_laws.specs.Links.{IsLinked, Kept}
-use Rattle.ss_check_laws.proofs.Steps.{first_holds, meant, two_steps}
+use Rattle.ss_check_laws.proofs.Steps.{first_holds, goes, meant, two_steps}
 use Rattle.ss_check_laws.proofs.Linked.{IsHere, meant_here, named_here, seen, watched_here}
 use Rattle.ss_check_laws.proofs.Places.{EntityFits, Numbers, OwnerHas, has_entity, in_role, number_mode, owner_fits, placed, said_is, statistic_fits, unbroken}
 use Rattle.ss_check_laws.proofs.Expressions.{numbers}
