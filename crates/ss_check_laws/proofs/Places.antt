@@ -44,6 +44,12 @@ said_is s designators.TimeA = refl
 pub number_mode : (b : Bool) (m : Meaning) (mode : Mode) → mode_of m ≡ Some mode → (b && is_text (Some m)) ≡ false → b ≡ true → mode ≡ Integer
 number_mode b m mode e h t = alike (mode_of m) (Some Integer) mode Integer (subst (λ c. (c && is_text (Some m)) ≡ false) t h) e refl
 
+-- ---- rules
+
+-- what is named is of the kind that its role needs, and what it means breaks nothing
+pub place_kept : (s : Scope) (line : Line) (role : Role) (d : Designator) (n : ℕ) (b : Bool) → place_breaks s line role d n b ≡ None → (suits s role d ≡ true) × (meant_breaks s line role n b (meaning_in_role s role d) ≡ None)
+place_kept s line role d n b h = first_holds (suits s role d) (meant_breaks s line role n b (meaning_in_role s role d)) (errors.Unknown line) h
+
 -- ---- entities
 
 -- the entity in a variable that a class's name means
@@ -115,7 +121,7 @@ module _ (s : Scope) (g : Place) where
     pub value : is_mean_as_value role m ≡ false
     pub entity : ((n == 0) && is_text (implied s m)) ≡ false
 
-  pub unbroken : (line : Line) (role : Role) (n : ℕ) (is_number : Bool) (m : Meaning) → meant_breaks s line role n is_number (Some m) ≡ None → IsUnbroken role n is_number m
+  unbroken : (line : Line) (role : Role) (n : ℕ) (is_number : Bool) (m : Meaning) → meant_breaks s line role n is_number (Some m) ≡ None → IsUnbroken role n is_number m
   unbroken line role n is_number m h =
       let a = first_fails (not (suits_subscripts s.table m n))
       (if is_target role && not (takes_values m) then Some (errors.NotAssignable line) else unless (not (mixes_modes s role m n is_number)) (errors.Mode line))
@@ -150,7 +156,7 @@ module _ (s : Scope) (g : Place) (k : IsLinked s g) where
   meant_entity meanings.NoticeTime i n (Some x) f h t = (Some x, refl, f.1)
   meant_entity m i n e f h t = owner_entity (owner_of s.table m) (owner_here s g k m i) n e f h t
 
-  pub has_entity : (es : ExpressionRow) (m : Meaning) → IsHere s g k m → Numbers s g es → suits_subscripts s.table m (row_length es) ≡ true → ((row_length es == 0) && is_text (implied s m)) ≡ false → HasEntity s g es m
+  has_entity : (es : ExpressionRow) (m : Meaning) → IsHere s g k m → Numbers s g es → suits_subscripts s.table m (row_length es) ≡ true → ((row_length es == 0) && is_text (implied s m)) ≡ false → HasEntity s g es m
   has_entity es m i n h t =
       let e = subscripted s g es (few_subscripts m (row_length es) h) n in
       let of = meant_entity m i (row_length es) e.0 e.2 h t in
@@ -160,14 +166,19 @@ module _ (s : Scope) (g : Place) (k : IsLinked s g) where
   abbrev pub InRole : Role → (kind : Meaning → Bool) → Designator → ExpressionRow → Bool → Type 0
   InRole role kind d es b = (m : Meaning) × (meaning s d ≡ Some m) × (kind m ≡ true) × IsHere s g k m × IsUnbroken s g role (row_length es) b m × HasEntity s g es m
 
+  pub in_place : (line : Line) (role : Role) (d : Designator) (es : ExpressionRow) (b : Bool) (m : Meaning) → IsHere s g k m → meaning_in_role s role d ≡ Some m → place_breaks s line role d (row_length es) b ≡ None → Numbers s g es →
+      IsUnbroken s g role (row_length es) b m × HasEntity s g es m
+  in_place line role d es b m i e h n =
+      let u = unbroken s g line role (row_length es) b m (subst (λ o. meant_breaks s line role (row_length es) b o ≡ None) e (place_kept s line role d (row_length es) b h).1) in
+      (u, has_entity es m i n u.subscripts u.entity)
+
   pub in_role : (line : Line) (role : Role) (kind : Meaning → Bool) (d : Designator) (es : ExpressionRow) (b : Bool) → suits s role d ≡ if_means kind (meaning s d) → meaning_in_role s role d ≡ meaning s d →
       place_breaks s line role d (row_length es) b ≡ None → Numbers s g es → InRole role kind d es b
   in_role line role kind d es b asked means h n =
-      let kept = first_holds (suits s role d) (meant_breaks s line role (row_length es) b (meaning_in_role s role d)) (errors.Unknown line) h in
-      let m = meant (meaning s d) kind (sym asked ∙ kept.0) in
-      let here = meaning_here s g k d m.0 m.1 in
-      let u = unbroken s g line role (row_length es) b m.0 (subst (λ o. meant_breaks s line role (row_length es) b o ≡ None) (means ∙ m.1) kept.1) in
-      (m.0, m.1, m.2, here, u, has_entity es m.0 here n u.subscripts u.entity)
+      let m = meant (meaning s d) kind (sym asked ∙ (place_kept s line role d (row_length es) b h).0) in
+      let i = meaning_here s g k d m.0 m.1 in
+      let p = in_place line role d es b m.0 i (means ∙ m.1) h n in
+      (m.0, m.1, m.2, i, p.0, p.1)
 
   -- ---- sets and statistics
 

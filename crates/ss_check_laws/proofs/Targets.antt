@@ -23,18 +23,18 @@ use Rattle.ss_names.specs.declared.meaning.Meaning.{Meaning}
 use Rattle.ss_names.specs.declared.meaning.Meaning.TheVariants as meanings
 use Rattle.ss_names.specs.Table.{owner_of_subject, subject_of}
 use Rattle.ss_names_scopes.specs.Scopes.{Scope, meaning_of_name, mode_of}
-use Rattle.ss_check_rules.specs.Kinds.{has_value, is_set, is_watched_here, suits, takes_values}
+use Rattle.ss_check_rules.specs.Kinds.{has_value, is_set, takes_values}
 use Rattle.ss_check_rules.specs.Modes.{mode_meant}
-use Rattle.ss_check_rules.specs.Refusal.{meant_breaks, place_breaks}
+use Rattle.ss_check_rules.specs.Refusal.{place_breaks}
 use Rattle.ss_check_rules.specs.declared.error.CheckError.TheVariants as errors
 use Rattle.ss_names_meaning.specs.Answers.{◌>>=◌}
 use Rattle.ss_names_meaning.specs.Expressions.{entity_of, owner_named, place_named, place_of, set_number, set_of_name, subscript}
 use Rattle.ss_names_meaning.specs.Statements.{history_of, unless_hidden}
 use Rattle.ss_check_laws.specs.BodyLaws.{RestartResolves, RestartsResolve, SetResolves, SetsResolve, TargetResolves, TargetsResolve}
 use Rattle.ss_check_laws.specs.Links.{IsLinked, Kept}
-use Rattle.ss_check_laws.proofs.Steps.{first_holds, goes, meant, two_steps}
+use Rattle.ss_check_laws.proofs.Steps.{goes, meant, two_steps}
 use Rattle.ss_check_laws.proofs.Linked.{IsHere, meant_here, named_here, seen, watched_here}
-use Rattle.ss_check_laws.proofs.Places.{EntityFits, Numbers, OwnerHas, has_entity, in_role, number_mode, owner_fits, placed, said_is, statistic_fits, unbroken}
+use Rattle.ss_check_laws.proofs.Places.{EntityFits, Numbers, OwnerHas, in_place, in_role, number_mode, owner_fits, place_kept, placed, said_is, statistic_fits}
 use Rattle.ss_check_laws.proofs.Expressions.{numbers}
 
 -- ---- meanings
@@ -99,13 +99,11 @@ module _ (s : Scope) (g : Place) (k : IsLinked s g) where
   set_by : (line : Line) (d : Designator) (es : ExpressionRow) → place_breaks s line roles.Set d (row_length es) false ≡ None → Numbers s g es → SetResolves s g (record { designator = d; subscripts = es })
   set_by line (Name name) es h n =
       let global = value_for s.table.meanings name in
-      let kept = first_holds (suits s roles.Set (Name name)) (meant_breaks s line roles.Set (row_length es) false global) (errors.Unknown line) h in
-      let m = meant global is_set kept.0 in
+      let m = meant global is_set (place_kept s line roles.Set (Name name) (row_length es) false h).0 in
       let set = set_meant m.0 m.2 in
       let e : global ≡ Some (meanings.Set set.0) = m.1 ∙ ap Some set.1 in
       let here = meant_here s g k (meanings.Set set.0) (k.table.meanings name (meanings.Set set.0) e) in
-      let u = unbroken s g line roles.Set (row_length es) false (meanings.Set set.0) (subst (λ o. meant_breaks s line roles.Set (row_length es) false o ≡ None) e kept.1) in
-      let p = has_entity s g k es (meanings.Set set.0) here n u.subscripts u.entity in
+      let p = (in_place s g k line roles.Set (Name name) es false (meanings.Set set.0) here e h n).1 in
       let made : ℕ × SetOwner = (set.0, owner_named p.1) in (
         made,
         goes (set_of_name s (Name name)) (λ x. subscript s es >>= λ y. entity_of s (meanings.Set x) y >>= λ of. with_owner x of) set.0 made (ap set_number e)
@@ -130,7 +128,7 @@ module _ (s : Scope) (g : Place) (k : IsLinked s g) where
 
   restart_by : (line : Line) (d : Designator) (es : ExpressionRow) → place_breaks s line roles.Reset d (row_length es) false ≡ None → Numbers s g es → RestartResolves s g (record { designator = d; subscripts = es })
   restart_by line (Name name) es h n =
-      let kept = first_holds (is_watched_here s (Name name)) (meant_breaks s line roles.Reset (row_length es) false (meaning_of_name s name)) (errors.Unknown line) h in
+      let kept = place_kept s line roles.Reset (Name name) (row_length es) false h in
       let both = and_parts (is_some (value_for s.table.histories name)) (is_none (lookup (same_name name) s.locals)) kept.0 in
       let history = is_there (value_for s.table.histories name) both.0 in
       let number = place_of_value s.table.histories name history.0 history.1 in
@@ -139,8 +137,7 @@ module _ (s : Scope) (g : Place) (k : IsLinked s g) where
       let here = watched_here s g k name w in
       let m = subject_meant (value_for s.table.meanings name) w.statistic.subject w.meant in
       let means : meaning_of_name s name ≡ Some m.0 = seen s g k name None alone ∙ m.1 in
-      let u = unbroken s g line roles.Reset (row_length es) false m.0 (subst (λ o. meant_breaks s line roles.Reset (row_length es) false o ≡ None) means kept.1) in
-      let p = has_entity s g k es m.0 (named_here s g k name m.0 means) n u.subscripts u.entity in
+      let p = (in_place s g k line roles.Reset (Name name) es false m.0 (named_here s g k name m.0 means) means h n).1 in
       let q : Meaning × Option Expression = (m.0, p.1) in
       let made : Restart = record { statistic = w.number; of = p.1 } in (
         made,
