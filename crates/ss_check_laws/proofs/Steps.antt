@@ -1,0 +1,87 @@
+-- Uses that break no rule, and steps that go well.
+use Rattle.std.proofs.Common.{◌≡◌, Bool, true, false, not, List, [], ◌∷◌, ◌++◌, Option, Some, None, refl, subst}
+use Rattle.std.specs.Prelude.{if◌then◌else◌}
+use Rattle.std.specs.List.{AllByRecursion as Every, flat_map}
+use Rattle.std.proofs.lemmas.Bool.{not-true}
+use Rattle.ss_base.specs.declared.layout.Mode.{Mode}
+use Rattle.ss_base.specs.declared.layout.Mode.TheVariants.{Integer, Alpha}
+use Rattle.ss_names_uses.specs.declared.used.Use.{Use}
+use Rattle.ss_names.specs.declared.meaning.Meaning.{Meaning}
+use Rattle.ss_names_scopes.specs.Scopes.{Scope}
+use Rattle.ss_check_rules.specs.Kinds.{if_means}
+use Rattle.ss_check_rules.specs.Modes.{differ}
+use Rattle.ss_check_rules.specs.Refusal.{unless}
+use Rattle.ss_check_rules.specs.declared.error.CheckError.{CheckError}
+use Rattle.ss_names_meaning.specs.Answers.{◌>>=◌, each}
+use Rattle.ss_check_laws.specs.Links.{Kept}
+
+-- ---- tests that break nothing
+
+pub holds_unless : (b : Bool) (x : CheckError) → unless b x ≡ None → b ≡ true
+holds_unless true x h = refl
+holds_unless false x h = absurd cc
+
+pub first_holds : (b : Bool) (o : Option CheckError) (x : CheckError) → (if b then o else Some x) ≡ None → (b ≡ true) × (o ≡ None)
+first_holds true o x h = (refl, h)
+first_holds false o x h = absurd cc
+
+pub first_fails : (b : Bool) (o : Option CheckError) (x : CheckError) → (if b then Some x else o) ≡ None → (b ≡ false) × (o ≡ None)
+first_fails true o x h = absurd cc
+first_fails false o x h = (refl, h)
+
+-- what has to mean something of a kind
+pub meant : (o : Option Meaning) (kind : Meaning → Bool) → if_means kind o ≡ true → (m : Meaning) × (o ≡ Some m) × (kind m ≡ true)
+meant None kind h = absurd cc
+meant (Some m) kind h = (m, refl, h)
+
+same_mode : (m n : Mode) → differ (Some m) (Some n) ≡ false → m ≡ n
+same_mode Integer Integer h = refl
+same_mode Integer Alpha h = absurd cc
+same_mode Alpha Integer h = absurd cc
+same_mode Alpha Alpha h = refl
+
+-- two modes that don't differ are one
+pub alike : (a b : Option Mode) (m n : Mode) → differ a b ≡ false → a ≡ Some m → b ≡ Some n → m ≡ n
+alike a b m n h e f = same_mode m n (subst (λ o. differ o (Some n) ≡ false) e (subst (λ o. differ a o ≡ false) f h))
+
+pub agree : (a b : Option Mode) (m n : Mode) (x : CheckError) → unless (not (differ a b)) x ≡ None → a ≡ Some m → b ≡ Some n → m ≡ n
+agree a b m n x h e f = alike a b m n (not-true (differ a b) (holds_unless (not (differ a b)) x h)) e f
+
+-- ---- steps
+
+-- a step has a result, of which something holds
+abbrev pub GoesWell : {B : Type 0} → (B → Type 0) → Option B → Type 0
+GoesWell {B = B} Q o = (b : B) × (o ≡ Some b) × Q b
+
+pub goes : {A B : Type 0} (o : Option A) (next : A → Option B) (a : A) (x : B) → o ≡ Some a → next a ≡ Some x → (o >>= next) ≡ Some x
+goes o next a x h e = rw h e
+
+pub two_steps : {A B C : Type 0} (o : Option A) (p : Option B) (next : A → B → Option C) (a : A) (b : B) (x : C) →
+    o ≡ Some a → p ≡ Some b → next a b ≡ Some x → (o >>= λ u. p >>= λ v. next u v) ≡ Some x
+two_steps o p next a b x h e f = rw (h, e) f
+
+-- ---- lists of uses
+
+module _ (s : Scope) (in_main : Bool) where
+  pub two_parts : (xs ys : List Use) → Kept s in_main (xs ++ ys) → Kept s in_main xs × Kept s in_main ys
+  two_parts [] ys h = (tt, h)
+  two_parts (x ∷ xs) ys h =
+      let r = two_parts xs ys h.1 in
+      ((h.0, r.0), r.1)
+
+  pub three_parts : (xs ys zs : List Use) → Kept s in_main (xs ++ ys ++ zs) → Kept s in_main xs × Kept s in_main ys × Kept s in_main zs
+  three_parts xs ys zs h =
+      let r = two_parts (xs ++ ys) zs h in
+      let q = two_parts xs ys r.0 in
+      (q.0, q.1, r.1)
+
+  -- the items of a list
+  pub each_resolves : {A B : Type 0} (act : A → Option B) (uses : A → List Use) (Q : B → Type 0) → ((a : A) → Kept s in_main (uses a) → GoesWell Q (act a)) →
+      (xs : List A) → Kept s in_main (flat_map uses xs) → GoesWell (Every Q) (each act xs)
+  unfolding each
+  each_resolves act uses Q good [] h = ([], refl, tt)
+  each_resolves act uses Q good (a ∷ xs) h =
+      let p = two_parts (uses a) (flat_map uses xs) h in
+      let first = good a p.0 in
+      let rest = each_resolves act uses Q good xs p.1 in
+      (first.0 ∷ rest.0, two_steps (act a) (each act xs) (λ y ys. Some (y ∷ ys)) first.0 rest.0 (first.0 ∷ rest.0) first.1 rest.1 refl, (first.2, rest.2))

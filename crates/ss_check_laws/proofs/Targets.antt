@@ -1,0 +1,158 @@
+-- Targets, sets and subjects of a RESET whose uses break no rule resolve, and are well typed.
+use Rattle.std.proofs.Common.{◌≡◌, ℕ, Bool, true, false, Option, Some, None, refl, sym, ap, subst, ◌∙◌}
+use Rattle.std.specs.Prelude.{is_none, is_some}
+use Rattle.std.specs.Map.{lookup}
+use Rattle.std.proofs.lemmas.Bool.{and_parts, not-false}
+use Rattle.std.proofs.lemmas.Option.{none-some}
+use Rattle.ss_base.specs.declared.line.Line.{Line}
+use Rattle.ss_base.specs.declared.layout.Mode.{Mode}
+use Rattle.ss_base.specs.declared.layout.Mode.TheVariants.{Integer}
+use Rattle.ss_tree.specs.Tree.{ExpressionRow, NamedTree}
+use Rattle.ss_tree.specs.declared.expression.Designator.{Designator}
+use Rattle.ss_tree.specs.declared.expression.Designator.TheVariants.{Name, TimeV, TimeA}
+use Rattle.ss_program.specs.Program.{Expression, Place as Target, ToVariable, ToAttribute, ToCount, Target as ReadTarget, SetOwner, Restart}
+use Rattle.ss_program.specs.WellTyped.{Scope as Place, TakesMode}
+use Rattle.ss_program.specs.declared.expression.SetQuery.TheVariants.{MemberCount}
+use Rattle.ss_program.specs.declared.expression.Variable.TheVariants.{Global}
+use Rattle.ss_program.specs.declared.sections.Subject.{Subject}
+use Rattle.ss_names_declarations.specs.Firsts.{place_in, same_name, value_for}
+use Rattle.ss_names_declarations.proofs.Entries.{no_place, place_of_value}
+use Rattle.ss_names_uses.specs.Uses.{in_named, row_length}
+use Rattle.ss_names_uses.specs.declared.used.Role.TheVariants as roles
+use Rattle.ss_names.specs.declared.meaning.Meaning.{Meaning}
+use Rattle.ss_names.specs.declared.meaning.Meaning.TheVariants as meanings
+use Rattle.ss_names.specs.Table.{owner_of_subject, subject_of}
+use Rattle.ss_names_scopes.specs.Scopes.{Scope, meaning_of_name, mode_of}
+use Rattle.ss_check_rules.specs.Kinds.{has_value, is_set, takes_values}
+use Rattle.ss_check_rules.specs.Modes.{mode_meant}
+use Rattle.ss_check_rules.specs.Refusal.{place_breaks}
+use Rattle.ss_check_rules.specs.declared.error.CheckError.TheVariants as errors
+use Rattle.ss_names_meaning.specs.Answers.{◌>>=◌}
+use Rattle.ss_names_meaning.specs.Expressions.{entity_of, owner_named, place_named, place_of, set_number, set_of_name, subscript}
+use Rattle.ss_names_meaning.specs.Statements.{history_of, unless_hidden}
+use Rattle.ss_check_laws.specs.BodyLaws.{RestartResolves, RestartsResolve, SetResolves, SetsResolve, TargetResolves, TargetsResolve}
+use Rattle.ss_check_laws.specs.Links.{IsLinked, Kept}
+use Rattle.ss_check_laws.proofs.Steps.{goes, meant, two_steps}
+use Rattle.ss_check_laws.proofs.Linked.{IsHere, meant_here, named_here, seen, watched_here}
+use Rattle.ss_check_laws.proofs.Places.{EntityFits, Numbers, OwnerHas, in_place, in_role, number_mode, owner_fits, place_kept, placed, said_is, statistic_fits}
+use Rattle.ss_check_laws.proofs.Expressions.{numbers}
+
+-- ---- meanings
+
+set_meant : (m : Meaning) → is_set m ≡ true → (set : ℕ) × (m ≡ meanings.Set set)
+set_meant (meanings.Set set) h = (set, refl)
+set_meant _ h = absurd cc
+
+subject_meant : (o : Option Meaning) (p : Subject) → subject_of o ≡ Some p → (m : Meaning) × (o ≡ Some m)
+subject_meant None p h = absurd cc
+subject_meant (Some m) p h = (m, refl)
+
+is_there : {A : Type 0} (o : Option A) → is_some o ≡ true → (x : A) × (o ≡ Some x)
+is_there None h = absurd cc
+is_there (Some x) h = (x, refl)
+
+is_nowhere : {A : Type 0} (o : Option A) → is_none o ≡ true → o ≡ None
+is_nowhere None h = refl
+is_nowhere (Some x) h = absurd cc
+
+module _ (s : Scope) (g : Place) (k : IsLinked s g) where
+  -- ---- targets
+
+  abbrev HasPlace : Meaning → Option Expression → Type 0
+  HasPlace m of = (x : Target) × (mode : Mode) × (place_of m of ≡ Some x) × (mode_of m ≡ Some mode) × TakesMode g x mode
+
+  meant_place : (m : Meaning) (of : Option Expression) → IsHere s g k m → EntityFits s g m of → takes_values m ≡ true → HasPlace m of
+  meant_place (meanings.Variable v mode) None i f h = (ToVariable v, mode, refl, refl, i)
+  meant_place (meanings.Variable v mode) (Some e) i f h = absurd f
+  meant_place (meanings.Class class kind variable) None i f h = (ToVariable (Global variable), Integer, refl, refl, i.0)
+  meant_place (meanings.Class class kind variable) (Some e) i f h = absurd f
+  meant_place (meanings.Count count) None i f h = (ToCount count, Integer, refl, refl, (refl, i.0))
+  meant_place (meanings.Count count) (Some e) i f h = absurd f
+  meant_place (meanings.Attribute class field mode) None i f h = absurd f
+  meant_place (meanings.Attribute class field mode) (Some e) i f h = (ToAttribute class field e, mode, refl, refl, (i.0, f))
+  meant_place _ of i f h = absurd cc
+
+  target_resolves : (line : Line) (b : Bool) (n : NamedTree) → Kept s g.is_main (in_named line roles.Target b n) → TargetResolves s g b n
+  target_resolves line b n h =
+      let d = n.designator in
+      let es = n.subscripts in
+      let p = in_role s g k line roles.Target has_value d es b refl refl h.0 (numbers s g k line es h.1) in
+      let v = meant_place p.0 p.5.1 p.3 p.5.4 (not-false (takes_values p.0) p.4.target) in
+      let q : Meaning × Option Expression = (p.0, p.5.1) in
+      let found : place_named s d es ≡ Some q = placed s g d es p.0 p.5 p.1 in
+      let read : ReadTarget = record { place = v.0; mode = v.1 } in (
+        v.0,
+        v.1,
+        goes (place_named s d es) (λ r. place_of r.0 r.1) q v.0 found v.2,
+        v.4,
+        said_is s d ∙ ap mode_meant p.1 ∙ v.3,
+        number_mode b p.0 v.1 v.3 p.4.mode,
+        goes (place_named s d es) (λ r. place_of r.0 r.1 >>= λ x. mode_of r.0 >>= λ m. Some (record { place = x; mode = m })) q read found
+            (two_steps (place_of p.0 p.5.1) (mode_of p.0) (λ x m. Some (record { place = x; mode = m })) v.0 v.1 read v.2 v.3 refl),
+      )
+
+  -- ---- sets
+
+  abbrev with_owner : ℕ → Option Expression → Option (ℕ × SetOwner)
+  with_owner set of = Some (set, owner_named of)
+
+  set_by : (line : Line) (d : Designator) (es : ExpressionRow) → place_breaks s line roles.Set d (row_length es) false ≡ None → Numbers s g es → SetResolves s g (record { designator = d; subscripts = es })
+  set_by line (Name name) es h n =
+      let global = value_for s.table.meanings name in
+      let m = meant global is_set (place_kept s line roles.Set (Name name) (row_length es) false h).0 in
+      let set = set_meant m.0 m.2 in
+      let e : global ≡ Some (meanings.Set set.0) = m.1 ∙ ap Some set.1 in
+      let here = meant_here s g k (meanings.Set set.0) (k.table.meanings name (meanings.Set set.0) e) in
+      let p = (in_place s g k line roles.Set (Name name) es false (meanings.Set set.0) here e h n).1 in
+      let made : ℕ × SetOwner = (set.0, owner_named p.1) in (
+        made,
+        goes (set_of_name s (Name name)) (λ x. subscript s es >>= λ y. entity_of s (meanings.Set x) y >>= λ of. with_owner x of) set.0 made (ap set_number e)
+            (goes (subscript s es) (λ y. entity_of s (meanings.Set set.0) y >>= λ of. with_owner set.0 of) p.0 made p.2
+            (goes (entity_of s (meanings.Set set.0) p.0) (λ of. with_owner set.0 of) p.1 made p.3 refl)),
+        owner_fits s g k set.0 here p.1 p.4,
+      )
+  set_by line TimeV es h n = absurd (none-some (errors.Unknown line) (sym h))
+  set_by line TimeA es h n = absurd (none-some (errors.Unknown line) (sym h))
+
+  pub set_resolves : (line : Line) (n : NamedTree) → Kept s g.is_main (in_named line roles.Set false n) → SetResolves s g n
+  set_resolves line n h = set_by line n.designator n.subscripts h.0 (numbers s g k line n.subscripts h.1)
+
+  -- ---- subjects
+
+  -- the entity of a subject is that of its name
+  subject_owned : (m : Meaning) (p : Subject) (of : Option Expression) → subject_of (Some m) ≡ Some p → EntityFits s g m of → OwnerHas s g (owner_of_subject s.table (Some p)) of
+  subject_owned (meanings.Variable (Global n) mode) p of e f = subst (λ o. OwnerHas s g o of) (ap (owner_of_subject s.table) e) f
+  subject_owned (meanings.Attribute class field mode) p of e f = subst (λ o. OwnerHas s g o of) (ap (owner_of_subject s.table) e) f
+  subject_owned (meanings.OfSet MemberCount set) p of e f = subst (λ o. OwnerHas s g o of) (ap (owner_of_subject s.table) e) f
+  subject_owned _ p of e f = absurd cc
+
+  restart_by : (line : Line) (d : Designator) (es : ExpressionRow) → place_breaks s line roles.Reset d (row_length es) false ≡ None → Numbers s g es → RestartResolves s g (record { designator = d; subscripts = es })
+  restart_by line (Name name) es h n =
+      let kept = place_kept s line roles.Reset (Name name) (row_length es) false h in
+      let both = and_parts (is_some (value_for s.table.histories name)) (is_none (lookup (same_name name) s.locals)) kept.0 in
+      let history = is_there (value_for s.table.histories name) both.0 in
+      let number = place_of_value s.table.histories name history.0 history.1 in
+      let alone : place_in s.locals name ≡ None = no_place s.locals name (is_nowhere (value_for s.locals name) both.1) in
+      let w = k.table.watched name number.0 number.1.0 in
+      let here = watched_here s g k name w in
+      let m = subject_meant (value_for s.table.meanings name) w.statistic.subject w.meant in
+      let means : meaning_of_name s name ≡ Some m.0 = seen s g k name None alone ∙ m.1 in
+      let p = (in_place s g k line roles.Reset (Name name) es false m.0 (named_here s g k name m.0 means) means h n).1 in
+      let q : Meaning × Option Expression = (m.0, p.1) in
+      let made : Restart = record { statistic = w.number; of = p.1 } in (
+        made,
+        two_steps (history_of s (Name name)) (place_named s (Name name) es) (λ x r. Some (record { statistic = x; of = r.1 })) w.number q made
+            (ap (λ o. unless_hidden o (place_in s.table.histories name)) alone ∙ w.there) (placed s g (Name name) es m.0 p means) refl,
+        statistic_fits s g k w.number w.statistic p.1 here.0 here.1 (subject_owned m.0 w.statistic.subject p.1 (ap subject_of (sym m.1) ∙ w.meant) p.4),
+      )
+  restart_by line TimeV es h n = absurd (none-some (errors.Unknown line) (sym h))
+  restart_by line TimeA es h n = absurd (none-some (errors.Unknown line) (sym h))
+
+pub targets_resolve : TargetsResolve
+targets_resolve s g k line b n h = target_resolves s g k line b n h
+
+pub sets_resolve : SetsResolve
+sets_resolve s g k line n h = set_resolves s g k line n h
+
+pub restarts_resolve : RestartsResolve
+restarts_resolve s g k line n h = restart_by s g k line n.designator n.subscripts h.0 (numbers s g k line n.subscripts h.1)
