@@ -1,5 +1,5 @@
 -- Classes by what their names mean, and CREATE, DESTROY, FILE and REMOVE.
-use Rattle.std.proofs.Common.{◌≡◌, ℕ, Bool, true, List, [], ◌∷◌, ◌++◌, length, get_or, map, Option, Some, None, is_some, Contains, refl, sym, ap, subst, ◌∙◌}
+use Rattle.std.proofs.Common.{◌≡◌, ℕ, Bool, true, false, List, [], ◌∷◌, ◌++◌, length, get_or, map, Option, Some, None, is_some, Contains, refl, sym, ap, subst, ◌∙◌}
 use Rattle.std.specs.List.{AllByRecursion as Every}
 use Rattle.std.proofs.lemmas.Option.{same_Some}
 use Rattle.ss_base.specs.declared.layout.ClassKind.{ClassKind}
@@ -25,11 +25,11 @@ use Rattle.ss_program.specs.declared.statement.CountedClass.{CountedClass}
 use Rattle.ss_program.specs.Program.{Fetch, ToVariable, ByDiscipline, AsFirst, AsLast, BeforeMember, AfterMember, Create, CreateEvery, Destroy, File, RemoveEnd, Remove}
 use Rattle.ss_program.specs.WellTyped.{Scope as Place, HasMode, TakesMode, GoodPosition, Good, is_created_singly}
 use Rattle.ss_names_meaning.specs.declared.classes.NamedClass.{NamedClass}
-use Rattle.ss_names_meaning.specs.Answers.{◌>>=◌, each}
+use Rattle.ss_names_meaning.specs.Answers.{◌>>=◌, each, where_holds}
 use Rattle.ss_names_meaning.specs.Classes.{class_named, class_number, count_of, counted, suits, variable_named}
 use Rattle.ss_names_meaning.specs.Expressions.{expression, set_named, target}
 use Rattle.ss_names_meaning.specs.Statements.{entity_called, new_place, position, simple_statement}
-use Rattle.ss_names_laws.proofs.Steps.{got, held}
+use Rattle.ss_names_laws.proofs.Steps.{got}
 use Rattle.ss_check_laws.specs.Links.{IsLinked, Kept}
 use Rattle.ss_check_laws.specs.BodyLaws.{ClassResolves}
 use Rattle.ss_check_laws.proofs.Steps.{GoesWell, two_parts, three_parts}
@@ -51,6 +51,10 @@ permanent_kind kinds.Temporary h = absurd cc
 permanent_kind kinds.Notice h = absurd cc
 
 -- ---- names of classes
+
+held : {A : Type 0} (b : Bool) (x y : A) → where_holds b x ≡ Some y → (b ≡ true) × (x ≡ y)
+held true x y e = (refl, same_Some x y e)
+held false x y e = absurd cc
 
 class_meant : (need : ClassNeed) (o : Option Meaning) (n : ℕ) → class_number need o ≡ Some n → (kind : ClassKind) × (x : ℕ) × (o ≡ Some (meanings.Class n kind x)) × (suits kind need ≡ true)
 class_meant need (Some (meanings.Class class kind x)) n e =

@@ -32,11 +32,11 @@ use Rattle.ss_names_meaning.specs.Classes.{class_named}
 use Rattle.ss_names_meaning.specs.Expressions.{expression}
 use Rattle.ss_names_meaning.specs.Layouts.{field_mode}
 use Rattle.ss_names_meaning.specs.Statements.{entity_called, new_notice, new_place, old_notice, restart, simple_statement, when}
-use Rattle.ss_names_laws.proofs.Steps.{each_at, each_length, holds}
+use Rattle.ss_names_laws.proofs.Steps.{each_at}
 use Rattle.ss_check_laws.specs.Links.{IsLinked, Kept}
 use Rattle.ss_check_laws.specs.BodyLaws.{ClassResolves}
 use Rattle.ss_check_laws.proofs.Steps.{GoesWell, each_resolves, holds_unless, three_parts}
-use Rattle.ss_check_laws.proofs.Lists.{after, after_one, in_order}
+use Rattle.ss_check_laws.proofs.Lists.{after, after_one, each_length, holds, in_order}
 use Rattle.ss_check_laws.proofs.Parts.{classes_resolve, restarts_resolve}
 use Rattle.ss_check_laws.proofs.Values.{number_resolves, value_resolves}
 use Rattle.ss_check_laws.proofs.Entities.{class_is, new_resolves, old_resolves}

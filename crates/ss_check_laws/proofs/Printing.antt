@@ -1,15 +1,17 @@
 -- PRINT: each item is such as its field takes, and there are as many as fields.
-use Rattle.std.proofs.Common.{◌≡◌, ℕ, ◌≤◌, Bool, true, false, List, [], ◌∷◌, length, Option, Some, refl, subst, arith, eqb-true, take_all}
+use Rattle.std.proofs.Common.{◌≡◌, ℕ, Bool, true, false, List, [], ◌∷◌, length, Option, refl, sym, subst, arith, eqb-true, take_all}
 use Rattle.std.specs.Prelude.{◌==◌}
 use Rattle.std.specs.List.{AllZip}
+use Rattle.std.proofs.lemmas.Option.{none-some}
 use Rattle.ss_base.specs.declared.line.Line.{Line}
 use Rattle.ss_picture.specs.declared.field.Field.{Field}
 use Rattle.ss_tree.specs.Tree.{ExpressionTree, print_statement}
 use Rattle.ss_names_uses.specs.Uses as uses
 use Rattle.ss_names_scopes.specs.Scopes.{Scope}
+use Rattle.ss_check_rules.specs.declared.error.CheckError.TheVariants as errors
 use Rattle.ss_program.specs.Program.{Item, Print}
 use Rattle.ss_program.specs.WellTyped.{Scope as Place, TakesItem, Good}
-use Rattle.ss_names_meaning.specs.Answers.{◌>>=◌, each}
+use Rattle.ss_names_meaning.specs.Answers.{each}
 use Rattle.ss_names_meaning.specs.Expressions.{item}
 use Rattle.ss_names_meaning.specs.Statements.{simple_statement}
 use Rattle.ss_check_laws.specs.Links.{IsLinked, Kept}
@@ -25,9 +27,7 @@ turned Q (x ∷ xs) (y ∷ ys) h = (h.0, turned Q xs ys h.1)
 
 fits : (s : Scope) (in_main : Bool) (line : Line) (b : Bool) → Kept s in_main (uses.of_fit line b) → b ≡ true
 fits s in_main line true k = refl
-fits s in_main line false k =
-    let broken = k.0 in
-    absurd cc
+fits s in_main line false k = absurd (none-some (errors.Fields line) (sym k.0))
 
 module _ (s : Scope) (g : Place) (linked : IsLinked s g) (line : Line) where
   -- a field takes an item

@@ -1,5 +1,5 @@
 -- Heads of FOR and FIND, and statements without statements in them.
-use Rattle.std.proofs.Common.{◌≡◌, true, List, Option, Some, refl}
+use Rattle.std.proofs.Common.{List, Some, refl}
 use Rattle.std.specs.List.{AllByRecursion as Every}
 use Rattle.ss_base.specs.declared.words.Sign.TheVariants.{Plus, Minus}
 use Rattle.ss_tree.specs.Tree.{HeadTree, for_head, StatementTree, let_statement, add_statement, subtract_statement, call_statement, return_statement, stop_statement, read_statement, start_simulation, if_statement, loop_statement, find_statement, find_if_statement, create_statement, create_every, destroy_statement, file_statement, remove_end, remove_statement, schedule_new, schedule_statement, cancel_statement, reset_statement, print_statement, skip_statement}

@@ -1,5 +1,5 @@
 -- Values and targets of the modes that their places want: LET, ADD, SUBTRACT, READ and CALL.
-use Rattle.std.proofs.Common.{◌≡◌, ℕ, ◌+◌, ◌<◌, Bool, true, false, List, ◌++◌, length, take, drop, Option, Some, None, refl, sym, ap, subst, arith, ◌∙◌, length-drop, eq-eqb, eqb-true}
+use Rattle.std.proofs.Common.{◌≡◌, ℕ, ◌+◌, ◌<◌, true, false, List, ◌++◌, length, take, drop, Option, Some, None, refl, sym, ap, subst, arith, ◌∙◌, length-drop, eq-eqb, eqb-true}
 use Rattle.std.specs.Prelude.{◌&&◌, ◌==◌, slice_get}
 use Rattle.std.specs.List.{AllZip}
 use Rattle.std.specs.Map.{values_of}
@@ -28,14 +28,14 @@ use Rattle.ss_check_rules.specs.Modes.{given_mode, mode_said, yielded_mode}
 use Rattle.ss_check_rules.specs.Refusal.{unless}
 use Rattle.ss_program.specs.Program.{Statement, Let, Change, Call, Read, Target}
 use Rattle.ss_program.specs.WellTyped.{Scope as Place, HasMode, TakesMode, Good}
-use Rattle.ss_names_meaning.specs.Answers.{◌>>=◌, each}
+use Rattle.ss_names_meaning.specs.Answers.{◌>>=◌, each, upto}
 use Rattle.ss_names_meaning.specs.Expressions.{expression, target}
 use Rattle.ss_names_meaning.specs.Resolved.{local_mode, local_modes}
 use Rattle.ss_names_meaning.specs.Statements.{call_of, reader, routine_named, routine_number, simple_statement}
-use Rattle.ss_names_laws.proofs.Steps.{holds, numbers_at, numbers_length}
+use Rattle.ss_names_laws.proofs.Steps.{numbers_at, upto_length}
 use Rattle.ss_check_laws.specs.Links.{IsLinked, IsRoutineAt, Kept}
 use Rattle.ss_check_laws.proofs.Steps.{GoesWell, agree, each_resolves, holds_unless, two_parts}
-use Rattle.ss_check_laws.proofs.Lists.{after, after_first, after_one, after_two, in_order}
+use Rattle.ss_check_laws.proofs.Lists.{after, after_first, after_one, after_two, each_length, holds, in_order}
 use Rattle.ss_check_laws.proofs.Parts.{expressions_resolve, targets_resolve}
 
 -- ---- routines
@@ -65,7 +65,7 @@ given_there (Some known) m h = h
 local_there : (locals : Moded) (all : List Mode) (i : ℕ) (m : Mode) → local_modes locals ≡ Some all → slice_get all i ≡ Some m → mode_given (slice_get (values_of locals) i) ≡ Some m
 local_there locals all i m h e =
     let within = slice_get_within all i m e in
-    let lt : i < length locals = omega (arith, within, numbers_length (local_mode locals) (length locals) all h) in
+    let lt : i < length locals = omega (arith, within, each_length (local_mode locals) (upto (length locals)) all h, upto_length (length locals)) in
     let at = numbers_at (local_mode locals) (length locals) all i h lt in
     given_there (slice_get (values_of locals) i) at.0 at.2 ∙ (sym at.1 ∙ e)
 

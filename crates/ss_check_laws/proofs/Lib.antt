@@ -1,0 +1,17 @@
+mod Steps
+mod Linked
+mod Places
+mod Expressions
+mod Targets
+mod Items
+mod Classes
+mod Conditions
+mod Heads
+mod Parts
+mod Lists
+mod Values
+mod Entities
+mod Notices
+mod Printing
+mod Statements
+mod Bodies
