@@ -33,9 +33,10 @@ use Rattle.ss_names_laws.proofs.Steps.{got}
 use Rattle.ss_check_laws.specs.Links.{IsLinked, Kept}
 use Rattle.ss_check_laws.specs.BodyLaws.{ClassResolves}
 use Rattle.ss_check_laws.proofs.Steps.{GoesWell, two_parts, three_parts}
+use Rattle.ss_check_laws.proofs.Expressions.{number_kept}
 use Rattle.ss_check_laws.proofs.Lists.{after, after_one, after_two}
 use Rattle.ss_check_laws.proofs.Parts.{classes_resolve, sets_resolve}
-use Rattle.ss_check_laws.proofs.Values.{number_resolves, takes_number}
+use Rattle.ss_check_laws.proofs.Values.{takes_number}
 
 -- ---- kinds
 
@@ -88,7 +89,7 @@ module _ (s : Scope) (g : Place) (linked : IsLinked s g) (line : Line) where
   pub old_resolves : (need : ClassNeed) (name : NameBytes) (called : Option ExpressionTree) (c : ClassResolves s g need name (is_some called)) →
       Kept s g.is_main (uses.in_option (uses.in_expression line true) called) → GoesWell (λ x. HasMode g x Integer) (entity_called s c.0.variable called)
   old_resolves need name None c k = (Fetch c.0.variable, refl, (c.5 refl).0)
-  old_resolves need name (Some e) c k = number_resolves s g linked line e k
+  old_resolves need name (Some e) c k = number_kept s g linked line e k
 
   -- ---- CREATE and DESTROY
 
@@ -132,15 +133,15 @@ module _ (s : Scope) (g : Place) (linked : IsLinked s g) (line : Line) where
   position_resolves by_discipline k = (ByDiscipline, refl, tt)
   position_resolves at_first k = (AsFirst, refl, tt)
   position_resolves at_last k = (AsLast, refl, tt)
-  position_resolves (before e) k = after_one (GoodPosition g) (expression s e) (λ x. BeforeMember x) (number_resolves s g linked line e k) (λ x h. h)
-  position_resolves (after_member e) k = after_one (GoodPosition g) (expression s e) (λ x. AfterMember x) (number_resolves s g linked line e k) (λ x h. h)
+  position_resolves (before e) k = after_one (GoodPosition g) (expression s e) (λ x. BeforeMember x) (number_kept s g linked line e k) (λ x h. h)
+  position_resolves (after_member e) k = after_one (GoodPosition g) (expression s e) (λ x. AfterMember x) (number_kept s g linked line e k) (λ x h. h)
 
   pub file_resolves : (e : ExpressionTree) (t : PositionTree) (n : NamedTree) → Kept s g.is_main (uses.in_expression line true e ++ uses.in_position line t ++ uses.in_named line roles.Set false n) →
       GoesWell (Good g) (simple_statement s (file_statement line e t n))
   unfolding simple_statement
   file_resolves e t n k =
       let p = three_parts s g.is_main (uses.in_expression line true e) (uses.in_position line t) (uses.in_named line roles.Set false n) k in
-      let x = number_resolves s g linked line e p.0 in
+      let x = number_kept s g linked line e p.0 in
       after (Good g) (expression s e) (λ y. position s t >>= λ u. set_named s n >>= λ v. Some (File line v.0 y u v.1)) x.0 x.1
       (after_two (Good g) (position s t) (set_named s n) (λ u v. File line v.0 x.0 u v.1) (position_resolves t p.1) (sets_resolve s g linked line n p.2) (λ u v h f. (x.2, h, f)))
 
@@ -156,4 +157,4 @@ module _ (s : Scope) (g : Place) (linked : IsLinked s g) (line : Line) where
   unfolding simple_statement
   remove_resolves e n k =
       let p = two_parts s g.is_main (uses.in_expression line true e) (uses.in_named line roles.Set false n) k in
-      after_two (Good g) (expression s e) (set_named s n) (λ x v. Remove line v.0 x v.1) (number_resolves s g linked line e p.0) (sets_resolve s g linked line n p.1) (λ x v h f. (h, f))
+      after_two (Good g) (expression s e) (set_named s n) (λ x v. Remove line v.0 x v.1) (number_kept s g linked line e p.0) (sets_resolve s g linked line n p.1) (λ x v h f. (h, f))

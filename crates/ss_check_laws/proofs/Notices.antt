@@ -36,9 +36,10 @@ use Rattle.ss_names_laws.proofs.Steps.{each_at}
 use Rattle.ss_check_laws.specs.Links.{IsLinked, Kept}
 use Rattle.ss_check_laws.specs.BodyLaws.{ClassResolves}
 use Rattle.ss_check_laws.proofs.Steps.{GoesWell, each_resolves, holds_unless, three_parts}
+use Rattle.ss_check_laws.proofs.Expressions.{number_kept}
 use Rattle.ss_check_laws.proofs.Lists.{after, after_one, each_length, holds, in_order}
 use Rattle.ss_check_laws.proofs.Parts.{classes_resolve, restarts_resolve}
-use Rattle.ss_check_laws.proofs.Values.{number_resolves, value_resolves}
+use Rattle.ss_check_laws.proofs.Values.{value_resolves}
 use Rattle.ss_check_laws.proofs.Entities.{class_is, new_resolves, old_resolves}
 
 notice_kind : (kind : ClassKind) → is_kind needs.Notice kind ≡ true → kind ≡ kinds.Notice
@@ -61,8 +62,8 @@ field_there t names fields i m h e =
 
 module _ (s : Scope) (g : Place) (linked : IsLinked s g) (line : Line) where
   when_resolves : (t : WhenTree) → Kept s g.is_main (uses.in_when line t) → GoesWell (GoodWhen g) (when s t)
-  when_resolves (at_time e) k = after_one (GoodWhen g) (expression s e) (λ x. At x) (number_resolves s g linked line e k) (λ x h. h)
-  when_resolves (in_units e) k = after_one (GoodWhen g) (expression s e) (λ x. In x) (number_resolves s g linked line e k) (λ x h. h)
+  when_resolves (at_time e) k = after_one (GoodWhen g) (expression s e) (λ x. At x) (number_kept s g linked line e k) (λ x h. h)
+  when_resolves (in_units e) k = after_one (GoodWhen g) (expression s e) (λ x. In x) (number_kept s g linked line e k) (λ x h. h)
   when_resolves now k = (Now, refl, tt)
 
   -- values for the first attributes of a class of notices

@@ -15,9 +15,10 @@ use Rattle.ss_names_meaning.specs.Statements.{simple_statement, statement}
 use Rattle.ss_check_laws.specs.Links.{IsLinked, Kept}
 use Rattle.ss_check_laws.specs.BodyLaws.{ForResolves}
 use Rattle.ss_check_laws.proofs.Steps.{GoesWell, holds_unless}
+use Rattle.ss_check_laws.proofs.Expressions.{number_kept}
 use Rattle.ss_check_laws.proofs.Lists.{after_one, after_two}
 use Rattle.ss_check_laws.proofs.Parts.{heads_resolve}
-use Rattle.ss_check_laws.proofs.Values.{call_resolves, change_resolves, let_resolves, number_resolves, read_resolves}
+use Rattle.ss_check_laws.proofs.Values.{call_resolves, change_resolves, let_resolves, read_resolves}
 use Rattle.ss_check_laws.proofs.Entities.{create_every_resolves, create_resolves, destroy_resolves, file_resolves, remove_end_resolves, remove_resolves}
 use Rattle.ss_check_laws.proofs.Notices.{cancel_resolves, reset_resolves, schedule_new_resolves, schedule_resolves}
 use Rattle.ss_check_laws.proofs.Printing.{print_resolves}
@@ -65,4 +66,4 @@ module _ (s : Scope) (g : Place) (linked : IsLinked s g) where
   alone_resolves (cancel_statement line name called) k = cancel_resolves s g linked line name called k
   alone_resolves (reset_statement line targets) k = reset_resolves s g linked line targets k
   alone_resolves (print_statement line items pictures) k = print_resolves s g linked line items pictures k
-  alone_resolves (skip_statement line e) k = after_one (Good g) (expression s e) (λ x. Skip line x) (number_resolves s g linked line e k) (λ x h. h)
+  alone_resolves (skip_statement line e) k = after_one (Good g) (expression s e) (λ x. Skip line x) (number_kept s g linked line e k) (λ x h. h)

@@ -35,6 +35,7 @@ use Rattle.ss_names_meaning.specs.Statements.{call_of, reader, routine_named, ro
 use Rattle.ss_names_laws.proofs.Steps.{numbers_at, upto_length}
 use Rattle.ss_check_laws.specs.Links.{IsLinked, IsRoutineAt, Kept}
 use Rattle.ss_check_laws.proofs.Steps.{GoesWell, agree, each_resolves, holds_unless, two_parts}
+use Rattle.ss_check_laws.proofs.Expressions.{number_kept}
 use Rattle.ss_check_laws.proofs.Lists.{after, after_first, after_one, after_two, each_length, holds, in_order}
 use Rattle.ss_check_laws.proofs.Parts.{expressions_resolve, targets_resolve}
 
@@ -73,19 +74,12 @@ parameter_there : (s : Scope) (g : Place) (k : ℕ) (known : RoutineSection) (r 
 parameter_there s g k known r i m e = ap (λ (o : Option Moded). mode_at o i) r.section ∙ local_there r.locals r.modes i m r.moded e
 
 module _ (s : Scope) (g : Place) (linked : IsLinked s g) (line : Line) where
-  -- ---- numbers
-
-  pub number_resolves : (e : ExpressionTree) → Kept s g.is_main (uses.in_expression line true e) → GoesWell (λ x. HasMode g x Integer) (expression s e)
-  number_resolves e k =
-      let x = expressions_resolve s g linked line true e k in
-      (x.0, x.2, subst (HasMode g x.0) (x.5 refl) x.3)
+  -- ---- modes that are wanted
 
   pub takes_number : (n : NamedTree) → Kept s g.is_main (uses.in_named line roles.Target true n) → GoesWell (λ x. TakesMode g x Integer) (target s n)
   takes_number n k =
       let x = targets_resolve s g linked line true n k in
       (x.0, x.2, subst (TakesMode g x.0) (x.5 refl) x.3)
-
-  -- ---- modes that are wanted
 
   pub value_resolves : (wanted : ModeOf) (m : Mode) (e : ExpressionTree) → mode_said s wanted ≡ Some m → Kept s g.is_main (uses.in_value line wanted e) → GoesWell (λ x. HasMode g x m) (expression s e)
   value_resolves wanted m e w k =
@@ -112,7 +106,7 @@ module _ (s : Scope) (g : Place) (linked : IsLinked s g) (line : Line) where
       GoesWell (Good g) (expression s e >>= λ v. target s n >>= λ x. Some (Change line sign x v))
   change_resolves sign e n k =
       let p = two_parts s g.is_main (uses.in_expression line true e) (uses.in_named line roles.Target true n) k in
-      after_two (Good g) (expression s e) (target s n) (λ v x. Change line sign x v) (number_resolves e p.0) (takes_number n p.1) (λ v x h f. (f, h))
+      after_two (Good g) (expression s e) (target s n) (λ v x. Change line sign x v) (number_kept s g linked line e p.0) (takes_number n p.1) (λ v x h f. (f, h))
 
   reader_resolves : (n : NamedTree) → Kept s g.is_main (uses.in_named line roles.Target false n) → GoesWell (λ (x : Target). TakesMode g x.place x.mode) (reader s n)
   reader_resolves n k =
