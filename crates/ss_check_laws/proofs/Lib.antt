@@ -8,3 +8,11 @@ mod Classes
 mod Conditions
 mod Heads
 pub mod Parts
+mod Parts
+mod Lists
+mod Values
+mod Entities
+mod Notices
+mod Printing
+mod Statements
+mod Bodies

@@ -1,0 +1,88 @@
+-- Statements that break no rule resolve, with those in them, and are well typed.
+use Rattle.std.proofs.Common.{◌≡◌, List, [], ◌∷◌, ◌++◌, refl, sym, ap, subst}
+use Rattle.ss_base.specs.declared.line.Line.{Line}
+use Rattle.ss_tree.specs.declared.statement.FindOutcome.{FindOutcome}
+use Rattle.ss_tree.specs.declared.statement.FindOutcome.TheVariants as outcomes
+use Rattle.ss_tree.specs.Tree.{ConditionTree, HeadTree, LoopHeadTree, for_head, guarded, StatementTree, if_statement, loop_statement, find_if_statement, StatementRow, no_statement, and_statement, statement_row}
+use Rattle.ss_names_uses.specs.Uses as uses
+use Rattle.ss_names_scopes.specs.Scopes.{Scope}
+use Rattle.ss_program.specs.Program.{If, Loop, For, Find, Block, Done, Then}
+use Rattle.ss_program.specs.WellTyped.{Scope as Place, Good, GoodBlock}
+use Rattle.ss_names_meaning.specs.Answers.{◌>>=◌, each}
+use Rattle.ss_names_meaning.specs.Conditions.{condition}
+use Rattle.ss_names_meaning.specs.Heads.{guard}
+use Rattle.ss_names_meaning.specs.Statements.{find_by, if_over, resolved_loop, statement, statements}
+use Rattle.ss_check_laws.specs.Links.{IsLinked, Kept}
+use Rattle.ss_check_laws.specs.BodyLaws.{BodiesResolve, ConditionResolves, ForResolves, HeadResolves}
+use Rattle.ss_check_laws.proofs.Steps.{GoesWell, two_parts, three_parts}
+use Rattle.ss_check_laws.proofs.Lists.{after, after_one, after_two}
+use Rattle.ss_check_laws.proofs.Parts.{conditions_resolve, heads_resolve}
+use Rattle.ss_check_laws.proofs.Statements.{alone_resolves, over_head}
+
+in_row_of : (ts : List StatementTree) → uses.in_row (statement_row ts) ≡ uses.in_body ts
+in_row_of [] = refl
+in_row_of (t ∷ ts) = ap (λ us. uses.in_statement t ++ us) (in_row_of ts)
+
+module _ (s : Scope) (g : Place) where
+  -- ---- forms with statements in them
+
+  abbrev Resolved : StatementTree → Type 0
+  Resolved t = GoesWell (Good g) (statement s t)
+
+  abbrev RowResolved : StatementRow → Type 0
+  RowResolved row = GoesWell (GoodBlock g) (statements s row)
+
+  if_made : (line : Line) (test : ConditionTree) (first second : StatementRow) → ConditionResolves s g test → RowResolved first → RowResolved second → Resolved (if_statement line test first second)
+  unfolding statement
+  if_made line test first second x a b =
+      after (Good g) (statements s first) (λ u. statements s second >>= λ v. if_over line s test u v) a.0 a.1
+      (after (Good g) (statements s second) (λ v. if_over line s test a.0 v) b.0 b.1
+      (after_one (Good g) (condition s test) (λ t. If line t a.0 b.0) x (λ t h. (h, a.2, b.2))))
+
+  loop_made : (line : Line) (over : LoopHeadTree) (row : StatementRow) → HeadResolves s g over → RowResolved row → Resolved (loop_statement line over row)
+  unfolding statement
+  loop_made line (for_head over) row h b =
+      after (Good g) (statements s row) (λ u. resolved_loop line s (for_head over) u) b.0 b.1 (over_head s g over (λ x ps. For line x ps b.0) h (λ x ps f k. (f, k, b.2)))
+  loop_made line (guarded guards) row h b =
+      after (Good g) (statements s row) (λ u. resolved_loop line s (guarded guards) u) b.0 b.1 (after_one (Good g) (each (guard s) guards) (λ gs. Loop line gs b.0) h (λ gs k. (k, b.2)))
+
+  by_outcome : (outcome : FindOutcome) (line : Line) (over : HeadTree) (first second : Block) → ForResolves s g over → GoodBlock g first → GoodBlock g second → GoesWell (Good g) (find_by outcome line s over first second)
+  by_outcome outcomes.Found line over first second h a b = over_head s g over (λ x ps. Find line x ps first second) h (λ x ps f k. (f, k, a, b))
+  by_outcome outcomes.None line over first second h a b = over_head s g over (λ x ps. Find line x ps second first) h (λ x ps f k. (f, k, b, a))
+
+  find_if_made : (line : Line) (over : HeadTree) (outcome : FindOutcome) (first second : StatementRow) → ForResolves s g over → RowResolved first → RowResolved second → Resolved (find_if_statement line over outcome first second)
+  unfolding statement
+  find_if_made line over outcome first second h a b =
+      after (Good g) (statements s first) (λ u. statements s second >>= λ v. find_by outcome line s over u v) a.0 a.1
+      (after (Good g) (statements s second) (λ v. find_by outcome line s over a.0 v) b.0 b.1 (by_outcome outcome line over a.0 b.0 h a.2 b.2))
+
+  -- ---- rows
+
+  none_made : RowResolved no_statement
+  unfolding statements
+  none_made = (Done, refl, tt)
+
+  row_made : (t : StatementTree) (ts : StatementRow) → Resolved t → RowResolved ts → RowResolved (and_statement t ts)
+  unfolding statements
+  row_made t ts x r = after_two (GoodBlock g) (statement s t) (statements s ts) (λ u v. Then u v) x r (λ u v h f. (h, f))
+
+module _ (s : Scope) (g : Place) (linked : IsLinked s g) where
+  mutual
+    statement_resolves : (t : StatementTree) → Kept s g.is_main (uses.in_itself t) → Kept s g.is_main (uses.in_inner t) → Resolved s g t
+    statement_resolves (if_statement line test first second) k j =
+        let p = two_parts s g.is_main (uses.in_row first) (uses.in_row second) j in
+        if_made s g line test first second (conditions_resolve s g linked line test k) (row_resolves first p.0) (row_resolves second p.1)
+    statement_resolves (loop_statement line over body) k j = loop_made s g line over body (heads_resolve s g linked line over k) (row_resolves body j)
+    statement_resolves (find_if_statement line over outcome first second) k j =
+        let p = two_parts s g.is_main (uses.in_row first) (uses.in_row second) j in
+        find_if_made s g line over outcome first second (heads_resolve s g linked line (for_head over) k) (row_resolves first p.0) (row_resolves second p.1)
+    statement_resolves t k j = alone_resolves s g linked t k
+
+    row_resolves : (row : StatementRow) → Kept s g.is_main (uses.in_row row) → RowResolved s g row
+    row_resolves no_statement k = none_made s g
+    row_resolves (and_statement t ts) k =
+        let p = three_parts s g.is_main (uses.in_itself t) (uses.in_inner t) (uses.in_row ts) k in
+        row_made s g t ts (statement_resolves t p.0 p.1) (row_resolves ts p.2)
+
+pub bodies_resolve : BodiesResolve
+bodies_resolve s g linked body k = row_resolves s g linked (statement_row body) (subst (Kept s g.is_main) (sym (in_row_of body)) k)

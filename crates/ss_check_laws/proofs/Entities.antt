@@ -1,0 +1,160 @@
+-- Classes by what their names mean, and CREATE, DESTROY, FILE and REMOVE.
+use Rattle.std.proofs.Common.{◌≡◌, ℕ, Bool, true, false, List, [], ◌∷◌, ◌++◌, length, get_or, map, Option, Some, None, is_some, Contains, refl, sym, ap, subst, ◌∙◌}
+use Rattle.std.specs.List.{AllByRecursion as Every}
+use Rattle.std.proofs.lemmas.Option.{same_Some}
+use Rattle.ss_base.specs.declared.layout.ClassKind.{ClassKind}
+use Rattle.ss_base.specs.declared.layout.ClassKind.TheVariants as kinds
+use Rattle.ss_base.specs.declared.layout.Mode.TheVariants.{Integer}
+use Rattle.ss_base.specs.declared.line.Line.{Line}
+use Rattle.ss_base.specs.declared.words.End.{End}
+use Rattle.ss_tree.specs.Names.{NameBytes}
+use Rattle.ss_tree.specs.Tree.{ExpressionTree, NamedTree, PositionTree, by_discipline, at_first, at_last, before, after as after_member, create_statement, create_every, destroy_statement, file_statement, remove_end, remove_statement}
+use Rattle.ss_names_declarations.specs.Firsts.{value_for}
+use Rattle.ss_names_uses.specs.declared.used.ClassNeed.{ClassNeed}
+use Rattle.ss_names_uses.specs.declared.used.ClassNeed.TheVariants as needs
+use Rattle.ss_names_uses.specs.declared.used.Role.TheVariants as roles
+use Rattle.ss_names_uses.specs.Uses as uses
+use Rattle.ss_names.specs.declared.meaning.Meaning.{Meaning}
+use Rattle.ss_names.specs.declared.meaning.Meaning.TheVariants as meanings
+use Rattle.ss_names.specs.Entries.{count_name}
+use Rattle.ss_names_scopes.specs.Scopes.{Scope}
+use Rattle.ss_check_rules.specs.Kinds.{is_kind}
+use Rattle.ss_check_rules.specs.Refusal.{use_breaks}
+use Rattle.ss_program.specs.declared.expression.Variable.{Variable}
+use Rattle.ss_program.specs.declared.statement.CountedClass.{CountedClass}
+use Rattle.ss_program.specs.Program.{Fetch, ToVariable, ByDiscipline, AsFirst, AsLast, BeforeMember, AfterMember, Create, CreateEvery, Destroy, File, RemoveEnd, Remove}
+use Rattle.ss_program.specs.WellTyped.{Scope as Place, HasMode, TakesMode, GoodPosition, Good, is_created_singly}
+use Rattle.ss_names_meaning.specs.declared.classes.NamedClass.{NamedClass}
+use Rattle.ss_names_meaning.specs.Answers.{◌>>=◌, each, where_holds}
+use Rattle.ss_names_meaning.specs.Classes.{class_named, class_number, count_of, counted, suits, variable_named}
+use Rattle.ss_names_meaning.specs.Expressions.{expression, set_named, target}
+use Rattle.ss_names_meaning.specs.Statements.{entity_called, new_place, position, simple_statement}
+use Rattle.ss_names_laws.proofs.Steps.{got}
+use Rattle.ss_check_laws.specs.Links.{IsLinked, Kept}
+use Rattle.ss_check_laws.specs.BodyLaws.{ClassResolves}
+use Rattle.ss_check_laws.proofs.Steps.{GoesWell, two_parts, three_parts}
+use Rattle.ss_check_laws.proofs.Expressions.{number_kept}
+use Rattle.ss_check_laws.proofs.Lists.{after, after_one, after_two}
+use Rattle.ss_check_laws.proofs.Parts.{classes_resolve, sets_resolve}
+use Rattle.ss_check_laws.proofs.Values.{takes_number}
+
+-- ---- kinds
+
+-- a class whose entities come one by one
+single_kind : (kind : ClassKind) → is_kind needs.Single kind ≡ true → is_created_singly (Some kind) ≡ true
+single_kind kinds.Permanent h = h
+single_kind kinds.Temporary h = h
+single_kind kinds.Notice h = h
+
+permanent_kind : (kind : ClassKind) → suits kind needs.Permanent ≡ true → kind ≡ kinds.Permanent
+permanent_kind kinds.Permanent h = refl
+permanent_kind kinds.Temporary h = absurd cc
+permanent_kind kinds.Notice h = absurd cc
+
+-- ---- names of classes
+
+held : {A : Type 0} (b : Bool) (x y : A) → where_holds b x ≡ Some y → (b ≡ true) × (x ≡ y)
+held true x y e = (refl, same_Some x y e)
+held false x y e = absurd cc
+
+class_meant : (need : ClassNeed) (o : Option Meaning) (n : ℕ) → class_number need o ≡ Some n → (kind : ClassKind) × (x : ℕ) × (o ≡ Some (meanings.Class n kind x)) × (suits kind need ≡ true)
+class_meant need (Some (meanings.Class class kind x)) n e =
+    let h = held (suits kind need) class n e in
+    (kind, x, ap (λ (c : ℕ). Some (meanings.Class c kind x)) h.1, h.0)
+class_meant need _ n e = absurd cc
+
+abbrev class_as : Scope → ℕ → Variable → NamedClass
+class_as s class variable = record { class = class; attributes = length (get_or s.table.fields class []); variable = variable }
+
+-- what the name of a class means, with its number and its kind
+abbrev pub IsClassOf : Scope → ClassNeed → NameBytes → NamedClass → Type 0
+IsClassOf s need name c =
+    (kind : ClassKind) × (x : ℕ) × (value_for s.table.meanings name ≡ Some (meanings.Class c.class kind x)) × (suits kind need ≡ true) × (c.attributes ≡ length (get_or s.table.fields c.class []))
+
+pub class_is : (s : Scope) (need : ClassNeed) (name : NameBytes) (c : NamedClass) → class_named s need name ≡ Some c → IsClassOf s need name c
+class_is s need name c e =
+    let p = got (class_number need (value_for s.table.meanings name)) (λ class. variable_named s name >>= λ v. Some (class_as s class v)) c e in
+    let q = got (variable_named s name) (λ v. Some (class_as s p.0 v)) c p.2 in
+    let m = class_meant need (value_for s.table.meanings name) p.0 p.1 in
+    subst (IsClassOf s need name) (same_Some (class_as s p.0 q.0) c q.2) (m.0, m.1, m.2, m.3, refl)
+
+module _ (s : Scope) (g : Place) (linked : IsLinked s g) (line : Line) where
+  -- ---- what follows CALLED
+
+  pub new_resolves : (need : ClassNeed) (name : NameBytes) (called : Option NamedTree) (c : ClassResolves s g need name (is_some called)) →
+      Kept s g.is_main (uses.in_option (uses.in_named line roles.Target true) called) → GoesWell (λ x. TakesMode g x Integer) (new_place s c.0.variable called)
+  new_resolves need name None c k = (ToVariable c.0.variable, refl, c.5 refl)
+  new_resolves need name (Some n) c k = takes_number s g linked line n k
+
+  pub old_resolves : (need : ClassNeed) (name : NameBytes) (called : Option ExpressionTree) (c : ClassResolves s g need name (is_some called)) →
+      Kept s g.is_main (uses.in_option (uses.in_expression line true) called) → GoesWell (λ x. HasMode g x Integer) (entity_called s c.0.variable called)
+  old_resolves need name None c k = (Fetch c.0.variable, refl, (c.5 refl).0)
+  old_resolves need name (Some e) c k = number_kept s g linked line e k
+
+  -- ---- CREATE and DESTROY
+
+  pub create_resolves : (name : NameBytes) (called : Option NamedTree) → Kept s g.is_main (uses.in_new line needs.Single name called) → GoesWell (Good g) (simple_statement s (create_statement line name called))
+  unfolding simple_statement
+  create_resolves name called k =
+      let c = classes_resolve s g linked line needs.Single name (is_some called) (k.0, tt) in
+      after (Good g) (class_named s needs.Single name) (λ (d : NamedClass). new_place s d.variable called >>= λ x. Some (Create line d.class x)) c.0 c.2
+      (after_one (Good g) (new_place s c.0.variable called) (λ x. Create line c.0.class x) (new_resolves needs.Single name called c k.1) (λ x h. (ap is_created_singly c.3 ∙ single_kind c.1 c.4, h)))
+
+  pub destroy_resolves : (name : NameBytes) (called : Option ExpressionTree) → Kept s g.is_main (uses.in_old line needs.Single name called) → GoesWell (Good g) (simple_statement s (destroy_statement line name called))
+  unfolding simple_statement
+  destroy_resolves name called k =
+      let c = classes_resolve s g linked line needs.Single name (is_some called) (k.0, tt) in
+      after (Good g) (class_named s needs.Single name) (λ (d : NamedClass). entity_called s d.variable called >>= λ x. Some (Destroy line d.class x)) c.0 c.2
+      (after_one (Good g) (entity_called s c.0.variable called) (λ x. Destroy line c.0.class x) (old_resolves needs.Single name called c k.1) (λ x h. (ap is_created_singly c.3 ∙ single_kind c.1 c.4, h)))
+
+  counted_there : (name : NameBytes) → use_breaks s g.is_main (uses.create_all line name) ≡ None → GoesWell (Contains g.program.counts) (counted s name)
+  counted_there name k =
+      let c = classes_resolve s g linked line needs.Permanent name true (k, tt) in
+      let m = class_is s needs.Permanent name c.0 c.2 in
+      let permanent : value_for s.table.meanings name ≡ Some (meanings.Class c.0.class kinds.Permanent m.1) =
+      m.2 ∙ ap (λ (kind : ClassKind). Some (meanings.Class c.0.class kind m.1)) (permanent_kind m.0 m.3) in
+      let count = linked.table.counts name c.0.class m.1 permanent in
+      let meant = linked.table.meanings (count_name name) (meanings.Count count.0) count.1 in
+      (count.0, ap count_of count.1, subst (λ (all : List CountedClass). Contains all count.0) (sym linked.counts) meant.0)
+
+  all_counted : (names : List NameBytes) → Kept s g.is_main (map (uses.create_all line) names) → GoesWell (Every (Contains g.program.counts)) (each (counted s) names)
+  unfolding each
+  all_counted [] k = ([], refl, tt)
+  all_counted (name ∷ names) k =
+      after_two (Every (Contains g.program.counts)) (counted s name) (each (counted s) names) (λ y ys. y ∷ ys) (counted_there name k.0) (all_counted names k.1) (λ y ys h hs. (h, hs))
+
+  pub create_every_resolves : (names : List NameBytes) → Kept s g.is_main (map (uses.create_all line) names) → GoesWell (Good g) (simple_statement s (create_every line names))
+  unfolding simple_statement
+  create_every_resolves names k = after_one (Good g) (each (counted s) names) (λ ys. CreateEvery line ys) (all_counted names k) (λ ys h. h)
+
+  -- ---- FILE and REMOVE
+
+  position_resolves : (t : PositionTree) → Kept s g.is_main (uses.in_position line t) → GoesWell (GoodPosition g) (position s t)
+  position_resolves by_discipline k = (ByDiscipline, refl, tt)
+  position_resolves at_first k = (AsFirst, refl, tt)
+  position_resolves at_last k = (AsLast, refl, tt)
+  position_resolves (before e) k = after_one (GoodPosition g) (expression s e) (λ x. BeforeMember x) (number_kept s g linked line e k) (λ x h. h)
+  position_resolves (after_member e) k = after_one (GoodPosition g) (expression s e) (λ x. AfterMember x) (number_kept s g linked line e k) (λ x h. h)
+
+  pub file_resolves : (e : ExpressionTree) (t : PositionTree) (n : NamedTree) → Kept s g.is_main (uses.in_expression line true e ++ uses.in_position line t ++ uses.in_named line roles.Set false n) →
+      GoesWell (Good g) (simple_statement s (file_statement line e t n))
+  unfolding simple_statement
+  file_resolves e t n k =
+      let p = three_parts s g.is_main (uses.in_expression line true e) (uses.in_position line t) (uses.in_named line roles.Set false n) k in
+      let x = number_kept s g linked line e p.0 in
+      after (Good g) (expression s e) (λ y. position s t >>= λ u. set_named s n >>= λ v. Some (File line v.0 y u v.1)) x.0 x.1
+      (after_two (Good g) (position s t) (set_named s n) (λ u v. File line v.0 x.0 u v.1) (position_resolves t p.1) (sets_resolve s g linked line n p.2) (λ u v h f. (x.2, h, f)))
+
+  pub remove_end_resolves : (end : End) (n set : NamedTree) → Kept s g.is_main (uses.in_named line roles.Target true n ++ uses.in_named line roles.Set false set) →
+      GoesWell (Good g) (simple_statement s (remove_end line end n set))
+  unfolding simple_statement
+  remove_end_resolves end n set k =
+      let p = two_parts s g.is_main (uses.in_named line roles.Target true n) (uses.in_named line roles.Set false set) k in
+      after_two (Good g) (target s n) (set_named s set) (λ x v. RemoveEnd line end v.0 x v.1) (takes_number s g linked line n p.0) (sets_resolve s g linked line set p.1) (λ x v h f. (h, f))
+
+  pub remove_resolves : (e : ExpressionTree) (n : NamedTree) → Kept s g.is_main (uses.in_expression line true e ++ uses.in_named line roles.Set false n) →
+      GoesWell (Good g) (simple_statement s (remove_statement line e n))
+  unfolding simple_statement
+  remove_resolves e n k =
+      let p = two_parts s g.is_main (uses.in_expression line true e) (uses.in_named line roles.Set false n) k in
+      after_two (Good g) (expression s e) (set_named s n) (λ x v. Remove line v.0 x v.1) (number_kept s g linked line e p.0) (sets_resolve s g linked line n p.1) (λ x v h f. (h, f))

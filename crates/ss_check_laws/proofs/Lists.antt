@@ -1,0 +1,74 @@
+-- Steps one after the other, and lists of which each item is such as its place wants.
+use Rattle.std.proofs.Common.{◌≡◌, ℕ, zero, suc, ◌+◌, ◌≤◌, Bool, true, false, List, [], ◌∷◌, length, take, drop, Option, Some, refl, sym, ap, subst, arith, ◌∙◌}
+use Rattle.std.specs.Prelude.{slice_get}
+use Rattle.std.specs.List.{AllZip}
+use Rattle.std.proofs.lemmas.Option.{same_Some}
+use Rattle.ss_names_uses.specs.declared.used.Use.{Use}
+use Rattle.ss_names_uses.specs.Uses.{in_places}
+use Rattle.ss_names_scopes.specs.Scopes.{Scope}
+use Rattle.ss_names_meaning.specs.Answers.{◌>>=◌, each, where_holds}
+use Rattle.ss_names_laws.proofs.Steps.{got}
+use Rattle.ss_check_laws.specs.Links.{Kept}
+use Rattle.ss_check_laws.proofs.Steps.{GoesWell, two_parts}
+
+-- ---- steps
+
+-- one step after the other
+pub after : {A C : Type 0} (Q : C → Type 0) (o : Option A) (next : A → Option C) (a : A) → o ≡ Some a → GoesWell Q (next a) → GoesWell Q (o >>= next)
+after Q o next a e x = (x.0, rw e x.1, x.2)
+
+pub after_one : {A C : Type 0} {P : A → Type 0} (Q : C → Type 0) (o : Option A) (f : A → C) → GoesWell P o → ((a : A) → P a → Q (f a)) → GoesWell Q (o >>= λ a. Some (f a))
+after_one Q o f x good = after Q o (λ a. Some (f a)) x.0 x.1 (f x.0, refl, good x.0 x.2)
+
+pub after_two : {A B C : Type 0} {P : A → Type 0} {R : B → Type 0} (Q : C → Type 0) (o : Option A) (p : Option B) (f : A → B → C) → GoesWell P o → GoesWell R p →
+    ((a : A) (b : B) → P a → R b → Q (f a b)) → GoesWell Q (o >>= λ a. p >>= λ b. Some (f a b))
+after_two Q o p f x y good = after Q o (λ a. p >>= λ b. Some (f a b)) x.0 x.1 (after_one Q p (f x.0) y (λ b h. good x.0 b x.2 h))
+
+pub holds : {A : Type 0} (b : Bool) (x : A) → b ≡ true → where_holds b x ≡ Some x
+holds true x h = refl
+holds false x h = absurd cc
+
+pub each_length : {A B : Type 0} (act : A → Option B) (xs : List A) (ys : List B) → each act xs ≡ Some ys → length ys ≡ length xs
+unfolding each
+each_length act [] ys e = sym (ap length (same_Some [] ys e))
+each_length act (x ∷ xs) ys e =
+    let p = got (act x) (λ z. each act xs >>= λ zs. Some (z ∷ zs)) ys e in
+    let q = got (each act xs) (λ zs. Some (p.0 ∷ zs)) ys p.2 in
+    sym (ap length (same_Some (p.0 ∷ q.0) ys q.2)) ∙ ap suc (each_length act xs q.0 q.1)
+
+-- ---- places
+
+pub after_first : {A : Type 0} (n i : ℕ) (xs : List A) → slice_get (drop n xs) i ≡ slice_get xs (n + i)
+after_first zero i xs =
+    let same : i ≡ 0 + i = omega arith in
+    ap (λ (k : ℕ). slice_get xs k) same
+after_first (suc n) i [] = refl
+after_first (suc n) i (x ∷ xs) =
+    let same : suc (n + i) ≡ suc n + i = omega arith in
+    after_first n i xs ∙ ap (λ (k : ℕ). slice_get (x ∷ xs) k) same
+
+-- as many things as items, each such as the place of its item wants
+abbrev pub Placed : {A B C : Type 0} → (B → C → Type 0) → List A → List C → List B → Type 0
+Placed Q xs cs ys = (length ys ≡ length xs) × AllZip Q ys (take (length xs) cs)
+
+module _ (s : Scope) (in_main : Bool) where
+  from_place : {A B C : Type 0} (act : A → Option B) (of : ℕ → A → List Use) (Q : B → C → Type 0) (i : ℕ) (xs : List A) (cs : List C) →
+      ((j : ℕ) (x : A) (c : C) → slice_get cs j ≡ Some c → Kept s in_main (of (i + j) x) → GoesWell (λ y. Q y c) (act x)) → length xs ≤ length cs →
+      Kept s in_main (in_places of i xs) → GoesWell (Placed Q xs cs) (each act xs)
+  unfolding each
+  from_place act of Q i [] cs good few k = ([], refl, (refl, tt))
+  from_place act of Q i (x ∷ xs) [] good few k = absurd (omega (arith, few))
+  from_place act of Q i (x ∷ xs) (c ∷ cs) good few k =
+      let p = two_parts s in_main (of i x) (in_places of (i + 1) xs) k in
+      let here : i ≡ i + 0 = omega arith in
+      let fewer : length xs ≤ length cs = omega (arith, few) in
+      let first = good 0 x c refl (subst (λ (n : ℕ). Kept s in_main (of n x)) here p.0) in
+      let rest = from_place act of Q (i + 1) xs cs (λ j y d e h. let there : (i + 1) + j ≡ i + suc j = omega arith in good (suc j) y d e (subst (λ (n : ℕ). Kept s in_main (of n y)) there h)) fewer p.1 in
+      after_two (Placed Q (x ∷ xs) (c ∷ cs)) (act x) (each act xs) (λ y ys. y ∷ ys) first rest (λ y ys h hs. (ap suc hs.0, (h, hs.1)))
+
+  -- a step for each item, which may use what its place says
+  pub in_order : {A B C : Type 0} (act : A → Option B) (of : ℕ → A → List Use) (Q : B → C → Type 0) (xs : List A) (cs : List C) →
+      ((i : ℕ) (x : A) (c : C) → slice_get cs i ≡ Some c → Kept s in_main (of i x) → GoesWell (λ y. Q y c) (act x)) → length xs ≤ length cs →
+      Kept s in_main (in_places of 0 xs) → GoesWell (Placed Q xs cs) (each act xs)
+  in_order act of Q xs cs good few k =
+      from_place act of Q 0 xs cs (λ j x c e h. let same : 0 + j ≡ j = omega arith in good j x c e (subst (λ (n : ℕ). Kept s in_main (of n x)) same h)) few k

@@ -1,0 +1,149 @@
+-- SCHEDULE, CANCEL and RESET.
+use Rattle.std.proofs.Common.{◌≡◌, ℕ, ◌<◌, ◌≤◌, Bool, true, List, ◌++◌, length, get_or, take, Option, Some, None, is_some, nat_le, option_map, [], refl, sym, ap, subst, arith, ◌∙◌, le-leb, leb-true}
+use Rattle.std.specs.Prelude.{slice_get}
+use Rattle.std.proofs.lemmas.Option.{slice_get_within}
+use Rattle.ss_base.specs.declared.layout.ClassKind.{ClassKind}
+use Rattle.ss_base.specs.declared.layout.ClassKind.TheVariants as kinds
+use Rattle.ss_base.specs.declared.layout.Mode.{Mode}
+use Rattle.ss_base.specs.declared.line.Line.{Line}
+use Rattle.ss_base.specs.Plain.{PlainClass, PlainLayout}
+use Rattle.ss_tree.specs.Names.{NameBytes}
+use Rattle.ss_tree.specs.Tree.{ExpressionTree, NamedTree, WhenTree, at_time, in_units, now, schedule_new, schedule_statement, cancel_statement, reset_statement}
+use Rattle.ss_names_declarations.specs.Firsts.{place_in, value_for}
+use Rattle.ss_names_declarations.proofs.Entries.{there}
+use Rattle.ss_names_uses.specs.declared.used.ClassNeed.TheVariants as needs
+use Rattle.ss_names_uses.specs.declared.used.ModeOf.TheVariants as modes
+use Rattle.ss_names_uses.specs.declared.used.Role.TheVariants as roles
+use Rattle.ss_names_uses.specs.Uses as uses
+use Rattle.ss_names.specs.declared.entry.Attribute.{Attribute}
+use Rattle.ss_names.specs.declared.meaning.Meaning.TheVariants as meanings
+use Rattle.ss_names.specs.Table.{Table}
+use Rattle.ss_names_scopes.specs.Scopes.{Scope}
+use Rattle.ss_check_rules.specs.declared.error.CheckError.TheVariants as errors
+use Rattle.ss_check_rules.specs.Counts.{has_attributes}
+use Rattle.ss_check_rules.specs.Kinds.{is_kind}
+use Rattle.ss_check_rules.specs.Modes.{attribute_mode, field_mode as mode_of_field, mode_of_attribute}
+use Rattle.ss_check_rules.specs.Refusal.{unless}
+use Rattle.ss_program.specs.Program.{Expression, At, In, Now, When, Restart, Statement, ScheduleNew, Schedule, Cancel, Reset}
+use Rattle.ss_program.specs.WellTyped.{Scope as Place, HasMode, HaveModes, GoodWhen, GoodGiven, GoodRestart, Good}
+use Rattle.ss_names_meaning.specs.declared.classes.NamedClass.{NamedClass}
+use Rattle.ss_names_meaning.specs.Answers.{◌>>=◌, each, where_holds}
+use Rattle.ss_names_meaning.specs.Classes.{class_named}
+use Rattle.ss_names_meaning.specs.Expressions.{expression}
+use Rattle.ss_names_meaning.specs.Layouts.{field_mode}
+use Rattle.ss_names_meaning.specs.Statements.{entity_called, new_notice, new_place, old_notice, restart, simple_statement, when}
+use Rattle.ss_names_laws.proofs.Steps.{each_at}
+use Rattle.ss_check_laws.specs.Links.{IsLinked, Kept}
+use Rattle.ss_check_laws.specs.BodyLaws.{ClassResolves}
+use Rattle.ss_check_laws.proofs.Steps.{GoesWell, each_resolves, holds_unless, three_parts}
+use Rattle.ss_check_laws.proofs.Expressions.{number_kept}
+use Rattle.ss_check_laws.proofs.Lists.{after, after_one, each_length, holds, in_order}
+use Rattle.ss_check_laws.proofs.Parts.{classes_resolve, restarts_resolve}
+use Rattle.ss_check_laws.proofs.Values.{value_resolves}
+use Rattle.ss_check_laws.proofs.Entities.{class_is, new_resolves, old_resolves}
+
+notice_kind : (kind : ClassKind) → is_kind needs.Notice kind ≡ true → kind ≡ kinds.Notice
+notice_kind kinds.Notice h = refl
+notice_kind kinds.Permanent h = absurd cc
+notice_kind kinds.Temporary h = absurd cc
+
+attribute_there : (o : Option Attribute) (m : Mode) → (o >>= λ a. Some a.mode) ≡ Some m → mode_of_attribute o ≡ Some m
+attribute_there None m h = h
+attribute_there (Some a) m h = h
+
+-- the mode of an attribute, by its place in its class
+field_there : (t : Table) (names : List NameBytes) (fields : List Mode) (i : ℕ) (m : Mode) → each (field_mode t) names ≡ Some fields → slice_get fields i ≡ Some m → mode_of_field t (slice_get names i) ≡ Some m
+field_there t names fields i m h e =
+    let within = slice_get_within fields i m e in
+    let lt : i < length names = omega (arith, within, each_length (field_mode t) names fields h) in
+    let name = there names i lt in
+    let at = each_at (field_mode t) names fields i name.0 h name.1 in
+    ap (mode_of_field t) name.1 ∙ attribute_there (value_for t.attributes name.0) at.0 at.2 ∙ (sym at.1 ∙ e)
+
+module _ (s : Scope) (g : Place) (linked : IsLinked s g) (line : Line) where
+  when_resolves : (t : WhenTree) → Kept s g.is_main (uses.in_when line t) → GoesWell (GoodWhen g) (when s t)
+  when_resolves (at_time e) k = after_one (GoodWhen g) (expression s e) (λ x. At x) (number_kept s g linked line e k) (λ x h. h)
+  when_resolves (in_units e) k = after_one (GoodWhen g) (expression s e) (λ x. In x) (number_kept s g linked line e k) (λ x h. h)
+  when_resolves now k = (Now, refl, tt)
+
+  -- values for the first attributes of a class of notices
+  abbrev GivenTo : NamedClass → List Expression → Type 0
+  GivenTo c xs = (nat_le (length xs) c.attributes ≡ true) × GoodGiven g c.class xs
+
+  given_resolve : (name : NameBytes) (is_called : Bool) (c : ClassResolves s g needs.Notice name is_called) (given : List ExpressionTree) → Kept s g.is_main (uses.in_given line name given) →
+      GoesWell (GivenTo c.0) (each (expression s) given)
+  given_resolve name is_called c given k =
+      let class = c.0.class in
+      let m = class_is s needs.Notice name c.0 c.2 in
+      let place : place_in s.table.classes name ≡ Some class = linked.table.numbered name class m.0 m.1 m.2 in
+      let meant = linked.table.meanings name (meanings.Class class m.0 m.1) m.2 in
+      let laid = meant.0 in
+      let at : slice_get g.program.layout.classes class ≡ Some laid.0 = ap (λ (l : PlainLayout). slice_get l.classes class) linked.layout ∙ laid.1 in
+      let fields = (linked.table.classes class laid.0 laid.1).fields in
+      let names = get_or s.table.fields class [] in
+      let few : length given ≤ length names =
+      leb-true (length given) (length names) (holds_unless (nat_le (length given) (length names)) (errors.Arguments line)
+      (subst (λ (o : Option ℕ). unless (has_attributes s.table (length given) o) (errors.Arguments line) ≡ None) place k.0)) in
+      let xs = in_order s g.is_main (expression s) (uses.for_attribute line name) (HasMode g) given laid.0.fields
+      (λ i e w f h. value_resolves s g linked line (modes.Attribute name i) w e
+      (ap (λ (o : Option ℕ). attribute_mode s.table o i) place ∙ field_there s.table names laid.0.fields i w fields f) h)
+      (omega (arith, few, each_length (field_mode s.table) names laid.0.fields fields)) k.1 in
+      (
+        xs.0,
+        xs.1,
+        (
+          le-leb (length xs.0) c.0.attributes (omega (arith, few, xs.2.0, m.4)),
+          (
+            c.3 ∙ ap Some (notice_kind c.1 c.4),
+            (laid.0.fields, ap (option_map (λ (x : PlainClass). x.fields)) at, subst (λ (n : ℕ). HaveModes g xs.0 (take n laid.0.fields)) (sym xs.2.0) xs.2.1),
+          ),
+        ),
+      )
+
+  -- what both forms of SCHEDULE end with
+  scheduled : (name : NameBytes) (is_called : Bool) (c : ClassResolves s g needs.Notice name is_called) (given : List ExpressionTree) (time : WhenTree) (f : List Expression → When → Statement) →
+      Kept s g.is_main (uses.in_given line name given) → Kept s g.is_main (uses.in_when line time) → ((xs : List Expression) (due : When) → GoodGiven g c.0.class xs → GoodWhen g due → Good g (f xs due)) →
+      GoesWell (Good g) (each (expression s) given >>= λ xs. when s time >>= λ due. where_holds (nat_le (length xs) c.0.attributes) (f xs due))
+  scheduled name is_called c given time f k j good =
+      let us = given_resolve name is_called c given k in
+      let t = when_resolves time j in
+      after (Good g) (each (expression s) given) (λ xs. when s time >>= λ due. where_holds (nat_le (length xs) c.0.attributes) (f xs due)) us.0 us.1
+      (after (Good g) (when s time) (λ due. where_holds (nat_le (length us.0) c.0.attributes) (f us.0 due)) t.0 t.1
+      (f us.0 t.0, holds (nat_le (length us.0) c.0.attributes) (f us.0 t.0) us.2.0, good us.0 t.0 us.2.1 t.2))
+
+  pub schedule_new_resolves : (name : NameBytes) (called : Option NamedTree) (given : List ExpressionTree) (time : WhenTree) →
+      Kept s g.is_main (uses.in_new line needs.Notice name called ++ uses.in_given line name given ++ uses.in_when line time) →
+      GoesWell (Good g) (simple_statement s (schedule_new line name called given time))
+  unfolding simple_statement
+  schedule_new_resolves name called given time k =
+      let p = three_parts s g.is_main (uses.in_new line needs.Notice name called) (uses.in_given line name given) (uses.in_when line time) k in
+      let c = classes_resolve s g linked line needs.Notice name (is_some called) (p.0.0, tt) in
+      let x = new_resolves s g linked line needs.Notice name called c p.0.1 in
+      after (Good g) (class_named s needs.Notice name) (λ (d : NamedClass). new_place s d.variable called >>= λ y. each (expression s) given >>= λ xs. when s time >>= λ due. new_notice line d y xs due) c.0 c.2
+      (after (Good g) (new_place s c.0.variable called) (λ y. each (expression s) given >>= λ xs. when s time >>= λ due. new_notice line c.0 y xs due) x.0 x.1
+      (scheduled name (is_some called) c given time (λ xs due. ScheduleNew line c.0.class x.0 xs due) p.1 p.2 (λ xs due h f. (h, x.2, f))))
+
+  pub schedule_resolves : (name : NameBytes) (called : Option ExpressionTree) (given : List ExpressionTree) (time : WhenTree) →
+      Kept s g.is_main (uses.in_old line needs.Notice name called ++ uses.in_given line name given ++ uses.in_when line time) →
+      GoesWell (Good g) (simple_statement s (schedule_statement line name called given time))
+  unfolding simple_statement
+  schedule_resolves name called given time k =
+      let p = three_parts s g.is_main (uses.in_old line needs.Notice name called) (uses.in_given line name given) (uses.in_when line time) k in
+      let c = classes_resolve s g linked line needs.Notice name (is_some called) (p.0.0, tt) in
+      let x = old_resolves s g linked line needs.Notice name called c p.0.1 in
+      after (Good g) (class_named s needs.Notice name) (λ (d : NamedClass). entity_called s d.variable called >>= λ y. each (expression s) given >>= λ xs. when s time >>= λ due. old_notice line d y xs due) c.0 c.2
+      (after (Good g) (entity_called s c.0.variable called) (λ y. each (expression s) given >>= λ xs. when s time >>= λ due. old_notice line c.0 y xs due) x.0 x.1
+      (scheduled name (is_some called) c given time (λ xs due. Schedule line c.0.class x.0 xs due) p.1 p.2 (λ xs due h f. (h, x.2, f))))
+
+  pub cancel_resolves : (name : NameBytes) (called : Option ExpressionTree) → Kept s g.is_main (uses.in_old line needs.Notice name called) → GoesWell (Good g) (simple_statement s (cancel_statement line name called))
+  unfolding simple_statement
+  cancel_resolves name called k =
+      let c = classes_resolve s g linked line needs.Notice name (is_some called) (k.0, tt) in
+      after (Good g) (class_named s needs.Notice name) (λ (d : NamedClass). entity_called s d.variable called >>= λ x. Some (Cancel line d.class x)) c.0 c.2
+      (after_one (Good g) (entity_called s c.0.variable called) (λ x. Cancel line c.0.class x) (old_resolves s g linked line needs.Notice name called c k.1) (λ x h. (c.3 ∙ ap Some (notice_kind c.1 c.4), h)))
+
+  pub reset_resolves : (ns : List NamedTree) → Kept s g.is_main (uses.in_all_named line roles.Reset ns) → GoesWell (Good g) (simple_statement s (reset_statement line ns))
+  unfolding simple_statement
+  reset_resolves ns k =
+      after_one (Good g) (each (restart s) ns) (λ xs. Reset line xs)
+      (each_resolves s g.is_main (restart s) (uses.in_named line roles.Reset false) (λ (r : Restart). GoodRestart g r.statistic r.of) (restarts_resolve s g linked line) ns k) (λ xs h. h)

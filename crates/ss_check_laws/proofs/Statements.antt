@@ -1,0 +1,69 @@
+-- Heads of FOR and FIND, and statements without statements in them.
+use Rattle.std.proofs.Common.{List, Some, refl}
+use Rattle.std.specs.List.{AllByRecursion as Every}
+use Rattle.ss_base.specs.declared.words.Sign.TheVariants.{Plus, Minus}
+use Rattle.ss_tree.specs.Tree.{HeadTree, for_head, StatementTree, let_statement, add_statement, subtract_statement, call_statement, return_statement, stop_statement, read_statement, start_simulation, if_statement, loop_statement, find_statement, find_if_statement, create_statement, create_every, destroy_statement, file_statement, remove_end, remove_statement, schedule_new, schedule_statement, cancel_statement, reset_statement, print_statement, skip_statement}
+use Rattle.ss_names_uses.specs.Uses as uses
+use Rattle.ss_names_scopes.specs.Scopes.{Scope}
+use Rattle.ss_check_rules.specs.declared.error.CheckError.TheVariants as errors
+use Rattle.ss_program.specs.Program.{Head, Phrase, Statement, Find, Return, Simulate, Skip, Stop, Done}
+use Rattle.ss_program.specs.WellTyped.{Scope as Place, Good, GoodHead, GoodPhrase}
+use Rattle.ss_names_meaning.specs.Answers.{◌>>=◌, each}
+use Rattle.ss_names_meaning.specs.Expressions.{expression}
+use Rattle.ss_names_meaning.specs.Heads.{head, phrases_of, resolved_phrase}
+use Rattle.ss_names_meaning.specs.Statements.{simple_statement, statement}
+use Rattle.ss_check_laws.specs.Links.{IsLinked, Kept}
+use Rattle.ss_check_laws.specs.BodyLaws.{ForResolves}
+use Rattle.ss_check_laws.proofs.Steps.{GoesWell, holds_unless}
+use Rattle.ss_check_laws.proofs.Expressions.{number_kept}
+use Rattle.ss_check_laws.proofs.Lists.{after_one, after_two}
+use Rattle.ss_check_laws.proofs.Parts.{heads_resolve}
+use Rattle.ss_check_laws.proofs.Values.{call_resolves, change_resolves, let_resolves, read_resolves}
+use Rattle.ss_check_laws.proofs.Entities.{create_every_resolves, create_resolves, destroy_resolves, file_resolves, remove_end_resolves, remove_resolves}
+use Rattle.ss_check_laws.proofs.Notices.{cancel_resolves, reset_resolves, schedule_new_resolves, schedule_resolves}
+use Rattle.ss_check_laws.proofs.Printing.{print_resolves}
+
+module _ (s : Scope) (g : Place) where
+  -- what is made of the head of a FOR or a FIND, and its phrases
+  pub over_head : (over : HeadTree) (f : Head → List Phrase → Statement) → ForResolves s g over → ((x : Head) (ps : List Phrase) → GoodHead g x → Every (GoodPhrase g) ps → Good g (f x ps)) →
+      GoesWell (Good g) (head s over >>= λ x. each (resolved_phrase s) (phrases_of over) >>= λ ps. Some (f x ps))
+  over_head over f h good =
+      let x : GoesWell (GoodHead g) (head s over) = (h.0, h.1, h.2) in
+      let ps : GoesWell (Every (GoodPhrase g)) (each (resolved_phrase s) (phrases_of over)) = (h.3, h.4, h.5) in
+      after_two (Good g) (head s over) (each (resolved_phrase s) (phrases_of over)) f x ps good
+
+  -- a statement without statements in it resolves, and is well typed
+  abbrev pub AloneResolves : StatementTree → Type 0
+  AloneResolves (if_statement line test first second) = Unit {0}
+  AloneResolves (loop_statement line over body) = Unit {0}
+  AloneResolves (find_if_statement line over outcome first second) = Unit {0}
+  AloneResolves t = GoesWell (Good g) (statement s t)
+
+module _ (s : Scope) (g : Place) (linked : IsLinked s g) where
+  pub alone_resolves : (t : StatementTree) → Kept s g.is_main (uses.in_itself t) → AloneResolves s g t
+  unfolding statement simple_statement
+  alone_resolves (if_statement line test first second) k = tt
+  alone_resolves (loop_statement line over body) k = tt
+  alone_resolves (find_if_statement line over outcome first second) k = tt
+  alone_resolves (let_statement line n e) k = let_resolves s g linked line n e k
+  alone_resolves (add_statement line e n) k = change_resolves s g linked line Plus e n k
+  alone_resolves (subtract_statement line e n) k = change_resolves s g linked line Minus e n k
+  alone_resolves (call_statement line name given yielding) k = call_resolves s g linked line name given yielding k
+  alone_resolves (return_statement line) k = (Return, refl, tt)
+  alone_resolves (stop_statement line) k = (Stop, refl, tt)
+  alone_resolves (read_statement line targets) k = read_resolves s g linked line targets k
+  alone_resolves (start_simulation line) k = (Simulate, refl, holds_unless g.is_main (errors.StartPlace line) k.0)
+  alone_resolves (find_statement line over) k =
+      over_head s g over (λ x ps. Find line x ps Done Done) (heads_resolve s g linked line (for_head over) k) (λ x ps h f. (h, f, tt, tt))
+  alone_resolves (create_statement line name called) k = create_resolves s g linked line name called k
+  alone_resolves (create_every line names) k = create_every_resolves s g linked line names k
+  alone_resolves (destroy_statement line name called) k = destroy_resolves s g linked line name called k
+  alone_resolves (file_statement line e position set) k = file_resolves s g linked line e position set k
+  alone_resolves (remove_end line end n set) k = remove_end_resolves s g linked line end n set k
+  alone_resolves (remove_statement line e set) k = remove_resolves s g linked line e set k
+  alone_resolves (schedule_new line name called given time) k = schedule_new_resolves s g linked line name called given time k
+  alone_resolves (schedule_statement line name called given time) k = schedule_resolves s g linked line name called given time k
+  alone_resolves (cancel_statement line name called) k = cancel_resolves s g linked line name called k
+  alone_resolves (reset_statement line targets) k = reset_resolves s g linked line targets k
+  alone_resolves (print_statement line items pictures) k = print_resolves s g linked line items pictures k
+  alone_resolves (skip_statement line e) k = after_one (Good g) (expression s e) (λ x. Skip line x) (number_kept s g linked line e k) (λ x h. h)

@@ -1,0 +1,156 @@
+-- Values and targets of the modes that their places want: LET, ADD, SUBTRACT, READ and CALL.
+use Rattle.std.proofs.Common.{◌≡◌, ℕ, ◌+◌, ◌<◌, true, false, List, ◌++◌, length, take, drop, Option, Some, None, refl, sym, ap, subst, arith, ◌∙◌, length-drop, eq-eqb, eqb-true}
+use Rattle.std.specs.Prelude.{◌&&◌, ◌==◌, slice_get}
+use Rattle.std.specs.List.{AllZip}
+use Rattle.std.specs.Map.{values_of}
+use Rattle.std.proofs.lemmas.Option.{slice_get_within}
+use Rattle.ss_base.specs.declared.line.Line.{Line}
+use Rattle.ss_base.specs.declared.layout.Mode.{Mode}
+use Rattle.ss_base.specs.declared.layout.Mode.TheVariants.{Integer}
+use Rattle.ss_base.specs.declared.words.Sign.{Sign}
+use Rattle.ss_tree.specs.Names.{NameBytes}
+use Rattle.ss_tree.specs.Tree.{ExpressionTree, NamedTree, let_statement, read_statement, call_statement}
+use Rattle.ss_names_declarations.specs.Firsts.{value_for}
+use Rattle.ss_names_uses.specs.declared.used.ModeOf.{ModeOf}
+use Rattle.ss_names_uses.specs.declared.used.ModeOf.TheVariants as modes
+use Rattle.ss_names_uses.specs.declared.used.Role.TheVariants as roles
+use Rattle.ss_names_uses.specs.Uses as uses
+use Rattle.ss_names.specs.declared.entry.RoutineSection.{RoutineSection}
+use Rattle.ss_names.specs.declared.meaning.Meaning.{Meaning}
+use Rattle.ss_names.specs.declared.meaning.Meaning.TheVariants as meanings
+use Rattle.ss_names_scopes.specs.Locals.{Moded}
+use Rattle.ss_names_scopes.specs.Scopes.{Scope, mode_at, mode_given, parameter_mode}
+use Rattle.ss_check_rules.specs.declared.error.CheckError.{CheckError}
+use Rattle.ss_check_rules.specs.declared.error.CheckError.TheVariants as errors
+use Rattle.ss_check_rules.specs.Counts.{is_given, is_yielded}
+use Rattle.ss_check_rules.specs.Kinds.{if_means, is_routine}
+use Rattle.ss_check_rules.specs.Modes.{given_mode, mode_said, yielded_mode}
+use Rattle.ss_check_rules.specs.Refusal.{unless}
+use Rattle.ss_program.specs.Program.{Statement, Let, Change, Call, Read, Target}
+use Rattle.ss_program.specs.WellTyped.{Scope as Place, HasMode, TakesMode, Good}
+use Rattle.ss_names_meaning.specs.Answers.{◌>>=◌, each, upto}
+use Rattle.ss_names_meaning.specs.Expressions.{expression, target}
+use Rattle.ss_names_meaning.specs.Resolved.{local_mode, local_modes}
+use Rattle.ss_names_meaning.specs.Statements.{call_of, reader, routine_named, routine_number, simple_statement}
+use Rattle.ss_names_laws.proofs.Steps.{numbers_at, upto_length}
+use Rattle.ss_check_laws.specs.Links.{IsLinked, IsRoutineAt, Kept}
+use Rattle.ss_check_laws.proofs.Steps.{GoesWell, agree, each_resolves, holds_unless, two_parts}
+use Rattle.ss_check_laws.proofs.Expressions.{number_kept}
+use Rattle.ss_check_laws.proofs.Lists.{after, after_first, after_one, after_two, each_length, holds, in_order}
+use Rattle.ss_check_laws.proofs.Parts.{expressions_resolve, targets_resolve}
+
+-- ---- routines
+
+routine_meant : (o : Option Meaning) → if_means is_routine o ≡ true → (k : ℕ) × (o ≡ Some (meanings.Routine k))
+routine_meant (Some (meanings.Routine k)) h = (k, refl)
+routine_meant _ h = absurd cc
+
+abbrev with_section : ℕ → RoutineSection → ℕ × RoutineSection
+with_section k known = (k, known)
+
+routine_found : (o : Option Meaning) (all : List RoutineSection) (k : ℕ) (known : RoutineSection) → o ≡ Some (meanings.Routine k) → slice_get all k ≡ Some known →
+    (routine_number o >>= λ r. slice_get all r >>= λ x. Some (with_section r x)) ≡ Some (with_section k known)
+routine_found o all k known h g = rw (h, g) refl
+
+as_many : (n count : ℕ) (x : CheckError) → unless (n == count) x ≡ None → n ≡ count
+as_many n count x k = eqb-true n count (holds_unless (n == count) x k)
+
+both_same : (a b x y : ℕ) → a ≡ x → b ≡ y → ((a == x) && (b == y)) ≡ true
+both_same a b x y h g = rw (eq-eqb a x h, eq-eqb b y g) refl
+
+-- the mode of a local variable, by its number
+given_there : (o : Option (Option Mode)) (m : Mode) → (o >>= λ known. known) ≡ Some m → mode_given o ≡ Some m
+given_there None m h = h
+given_there (Some known) m h = h
+
+local_there : (locals : Moded) (all : List Mode) (i : ℕ) (m : Mode) → local_modes locals ≡ Some all → slice_get all i ≡ Some m → mode_given (slice_get (values_of locals) i) ≡ Some m
+local_there locals all i m h e =
+    let within = slice_get_within all i m e in
+    let lt : i < length locals = omega (arith, within, each_length (local_mode locals) (upto (length locals)) all h, upto_length (length locals)) in
+    let at = numbers_at (local_mode locals) (length locals) all i h lt in
+    given_there (slice_get (values_of locals) i) at.0 at.2 ∙ (sym at.1 ∙ e)
+
+parameter_there : (s : Scope) (g : Place) (k : ℕ) (known : RoutineSection) (r : IsRoutineAt s g.program k known) (i : ℕ) (m : Mode) → slice_get r.modes i ≡ Some m → parameter_mode s known.section i ≡ Some m
+parameter_there s g k known r i m e = ap (λ (o : Option Moded). mode_at o i) r.section ∙ local_there r.locals r.modes i m r.moded e
+
+module _ (s : Scope) (g : Place) (linked : IsLinked s g) (line : Line) where
+  -- ---- modes that are wanted
+
+  pub takes_number : (n : NamedTree) → Kept s g.is_main (uses.in_named line roles.Target true n) → GoesWell (λ x. TakesMode g x Integer) (target s n)
+  takes_number n k =
+      let x = targets_resolve s g linked line true n k in
+      (x.0, x.2, subst (TakesMode g x.0) (x.5 refl) x.3)
+
+  pub value_resolves : (wanted : ModeOf) (m : Mode) (e : ExpressionTree) → mode_said s wanted ≡ Some m → Kept s g.is_main (uses.in_value line wanted e) → GoesWell (λ x. HasMode g x m) (expression s e)
+  value_resolves wanted m e w k =
+      let x = expressions_resolve s g linked line false e k.1 in
+      (x.0, x.2, subst (HasMode g x.0) (agree (mode_said s (uses.mode_of e)) (mode_said s wanted) x.1 m (errors.Mode line) k.0 x.4 w) x.3)
+
+  takes_value : (wanted : ModeOf) (m : Mode) (n : NamedTree) → mode_said s wanted ≡ Some m → Kept s g.is_main (uses.in_target line wanted n) → GoesWell (λ x. TakesMode g x m) (target s n)
+  takes_value wanted m n w k =
+      let x = targets_resolve s g linked line false n k.1 in
+      (x.0, x.2, subst (TakesMode g x.0) (agree (mode_said s (uses.designated n.designator)) (mode_said s wanted) x.1 m (errors.Mode line) k.0 x.4 w) x.3)
+
+  -- ---- statements
+
+  pub let_resolves : (n : NamedTree) (e : ExpressionTree) → Kept s g.is_main (uses.in_let line n e) → GoesWell (Good g) (simple_statement s (let_statement line n e))
+  unfolding simple_statement
+  let_resolves n e k =
+      let p = two_parts s g.is_main (uses.in_target line (uses.mode_of e) n) (uses.in_expression line false e) k in
+      let y = expressions_resolve s g linked line false e p.1 in
+      let value : GoesWell (λ v. HasMode g v y.1) (expression s e) = (y.0, y.2, y.3) in
+      after_two (Good g) (target s n) (expression s e) (λ x v. Let line x v) (takes_value (uses.mode_of e) y.1 n y.4 p.0) value (λ x v h f. (y.1, h, f))
+
+  -- ADD and SUBTRACT
+  pub change_resolves : (sign : Sign) (e : ExpressionTree) (n : NamedTree) → Kept s g.is_main (uses.in_expression line true e ++ uses.in_named line roles.Target true n) →
+      GoesWell (Good g) (expression s e >>= λ v. target s n >>= λ x. Some (Change line sign x v))
+  change_resolves sign e n k =
+      let p = two_parts s g.is_main (uses.in_expression line true e) (uses.in_named line roles.Target true n) k in
+      after_two (Good g) (expression s e) (target s n) (λ v x. Change line sign x v) (number_kept s g linked line e p.0) (takes_number n p.1) (λ v x h f. (f, h))
+
+  reader_resolves : (n : NamedTree) → Kept s g.is_main (uses.in_named line roles.Target false n) → GoesWell (λ (x : Target). TakesMode g x.place x.mode) (reader s n)
+  reader_resolves n k =
+      let x = targets_resolve s g linked line false n k in
+      (record { place = x.0; mode = x.1 }, x.6, x.3)
+
+  pub read_resolves : (ns : List NamedTree) → Kept s g.is_main (uses.in_all_named line roles.Target ns) → GoesWell (Good g) (simple_statement s (read_statement line ns))
+  unfolding simple_statement
+  read_resolves ns k =
+      after_one (Good g) (each (reader s) ns) (λ xs. Read line xs)
+      (each_resolves s g.is_main (reader s) (uses.in_named line roles.Target false) (λ (x : Target). TakesMode g x.place x.mode) reader_resolves ns k) (λ xs h. h)
+
+  pub call_resolves : (name : NameBytes) (given : List ExpressionTree) (yielding : List NamedTree) → Kept s g.is_main (uses.in_call line name given yielding) →
+      GoesWell (Good g) (simple_statement s (call_statement line name given yielding))
+  unfolding simple_statement
+  call_resolves name given yielding k =
+      let meant = routine_meant (value_for s.table.meanings name) (holds_unless (if_means is_routine (value_for s.table.meanings name)) (errors.Unknown line) k.0) in
+      let entry = linked.table.routines name meant.0 meant.1 in
+      let known = entry.0 in
+      let r = linked.routines meant.0 known entry.1 in
+      let some : length given ≡ known.given =
+      as_many (length given) known.given (errors.Arguments line) (subst (λ (o : Option RoutineSection). unless (is_given (length given) o) (errors.Arguments line) ≡ None) entry.2 k.1.0) in
+      let more : length yielding ≡ known.yielding =
+      as_many (length yielding) known.yielding (errors.Arguments line) (subst (λ (o : Option RoutineSection). unless (is_yielded (length yielding) o) (errors.Arguments line) ≡ None) entry.2 k.1.1.0) in
+      let p = two_parts s g.is_main (uses.in_places (uses.for_given line name) 0 given) (uses.in_places (uses.for_yielded line name) 0 yielding) k.1.1.1 in
+      let xs = in_order s g.is_main (expression s) (uses.for_given line name) (HasMode g) given r.modes
+      (λ i e m f h. value_resolves (modes.Given name i) m e (ap (λ (o : Option RoutineSection). given_mode s o i) entry.2 ∙ parameter_there s g meant.0 known r i m f) h)
+      (omega (arith, some, r.enough)) p.0 in
+      let ys = in_order s g.is_main (target s) (uses.for_yielded line name) (TakesMode g) yielding (drop known.given r.modes)
+      (λ i n m f h. takes_value (modes.Yielded name i) m n
+      (ap (λ (o : Option RoutineSection). yielded_mode s o i) entry.2 ∙ parameter_there s g meant.0 known r (known.given + i) m (sym (after_first known.given i r.modes) ∙ f)) h)
+      (omega (arith, more, r.enough, length-drop known.given r.modes)) p.1 in
+      let made : Statement = Call line meant.0 xs.0 ys.0 in
+      after (Good g) (routine_named s name) (λ (routine : ℕ × RoutineSection). each (expression s) given >>= λ us. each (target s) yielding >>= λ vs. call_of line routine.0 routine.1 us vs)
+      (meant.0, known) (routine_found (value_for s.table.meanings name) (values_of s.table.routines) meant.0 known meant.1 entry.1)
+      (after (Good g) (each (expression s) given) (λ us. each (target s) yielding >>= λ vs. call_of line meant.0 known us vs) xs.0 xs.1
+      (after (Good g) (each (target s) yielding) (λ vs. call_of line meant.0 known xs.0 vs) ys.0 ys.1 (
+        made,
+        holds ((length xs.0 == known.given) && (length ys.0 == known.yielding)) made
+            (both_same (length xs.0) (length ys.0) known.given known.yielding (xs.2.0 ∙ some) (ys.2.0 ∙ more)),
+        (
+          r.routine,
+          r.there,
+          subst (AllZip (HasMode g) xs.0) (ap (λ (n : ℕ). take n r.modes) some ∙ sym r.given) xs.2.1,
+          subst (AllZip (TakesMode g) ys.0) (ap (λ (n : ℕ). take n (drop known.given r.modes)) more ∙ sym r.yielding) ys.2.1,
+        ),
+      )))
