@@ -1,0 +1,12 @@
+mod Within
+mod ExpressionSizes
+mod PartSizes
+mod StatementSizes
+mod EveryItem
+mod TableSections
+mod SectionSizes
+mod EachStep
+mod Ranks
+mod Routines
+mod Events
+mod Programs
