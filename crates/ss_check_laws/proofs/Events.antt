@@ -235,9 +235,9 @@ module _ (p : tree.ProgramTree) (x : ResolvedLayout) (k : IsUnbroken p x) where
         let attribute : mode_said sc (modes.Attribute name i) ≡ Some field.0 = ap (λ o. attribute_mode t o i) placed ∙ ap (mode_of_field t) a.1 ∙ field_said (value_for t.attributes a.0) ∙ field.2 in
         let same_place : 0 + i ≡ i = omega arith in
         let places = every_parts holds (map (uses.parameter s.line) given) (uses.in_places (uses.as_attribute s.line name) 0 given) head.1.1 in
-        let use = subst (λ j. Every holds (uses.as_attribute s.line name j g.0)) same_place (places_at holds (uses.as_attribute s.line name) 0 given i g.0 places.1 g.1) in
+        let used = subst (λ j. Every holds (uses.as_attribute s.line name j g.0)) same_place (places_at holds (uses.as_attribute s.line name) 0 given i g.0 places.1 g.1) in
         let same : mode.0 ≡ field.0 =
-        same_modes mode.0 field.0 (errors.Mode s.line) (subst₂ (λ (z w : Option Mode). unless (not (differ z w)) (errors.Mode s.line) ≡ None) named attribute use.0) in
+        same_modes mode.0 field.0 (errors.Mode s.line) (subst₂ (λ (z w : Option Mode). unless (not (differ z w)) (errors.Mode s.line) ≡ None) named attribute used.0) in
         (mode.0, mode.1, field.1 ∙ ap Some (sym same))
 
     modes_given : (ms : List Mode) → local_modes (locals_of t s) ≡ Some ms → (length given ≤ length ms) × (take (length given) ms ≡ take (length given) n.laid.fields)
@@ -296,4 +296,4 @@ module _ (p : tree.ProgramTree) (x : ResolvedLayout) (k : IsUnbroken p x) where
   pub events_good : (q : Program) → IsBuilt p x k (section p x k) q → each (event_from t (section p x k)) t.ranks ≡ Some q.events → Every (GoodEvent q) q.events
   events_good q b h =
       zip_every (λ class y. event_from t (section p x k) class ≡ Some y) (GoodEvent q) t.ranks q.events (results (event_from t (section p x k)) t.ranks q.events h)
-      (λ i class e f g. let r = event_there i class f in subst (GoodEvent q) (same_Some r.0 e (sym r.1 ∙ g)) (r.2 q b))
+      (λ i class e f g. let r = event_there i class f in subst (GoodEvent q) (same_Some r.0 e (sym r.1 ∙ g)) (r.3 q b))
