@@ -47,7 +47,7 @@ use Rattle.ss_names_laws.specs.ValidTables.{IsNamedClass, parameters_of}
 use Rattle.ss_check_laws.proofs.EachStep.{each_there, got, numbers_at, numbers_length, results, zip_at, zip_every}
 use Rattle.ss_check_laws.proofs.EveryItem.{every_at, every_empty, every_first, every_parts, every_so}
 use Rattle.ss_check_laws.proofs.Ranks.{IsNotice, notice_is_ranked, ranks_are_notices}
-use Rattle.ss_check_laws.proofs.Routines.{IsBuilt, IsUnbroken, Keeps, body_good, laid_with, none_listed, preamble_kept, program_with, section, section_modes, section_valid, uses_kept}
+use Rattle.ss_check_laws.proofs.Routines.{IsUnbroken, IsWhole, Keeps, body_good, laid_with, none_listed, preamble_kept, program_with, section, section_modes, section_valid, uses_kept}
 use Rattle.ss_check_laws.proofs.TableSections.{ClassesFit, classes_declared, events_quiet, every_declared, head_of}
 
 -- ---- steps
@@ -253,14 +253,14 @@ module _ (p : tree.ProgramTree) (x : ResolvedLayout) (k : IsUnbroken p x) where
         (omega arith, equal_takes (length given) ms n.laid.fields (λ i lt. mode_given ms moded first many i lt))
 
     -- the variable that gets the number of a notice
-    saves : (b : Bool) → (o : Option ℕ) × (saved t name b ≡ Some o) × ((q : Program) → IsBuilt p x k (section p x k) q → IfSome o (λ v. (slice_get q.globals v ≡ Some Integer) × IsPlain q (Global v)))
+    saves : (b : Bool) → (o : Option ℕ) × (saved t name b ≡ Some o) × ((q : Program) → IsWhole p x k q → IfSome o (λ v. (slice_get q.globals v ≡ Some Integer) × IsPlain q (Global v)))
     saves false = (None, refl, λ q b. tt)
     saves true =
         let plain = (k.valid.meanings name (m.Class class n.laid.kind n.named.variable) n.named.meant).1 in
         (Some n.named.variable, ap (λ (o : Option Meaning). o >>= λ meaning. class_variable meaning) n.named.meant, λ q b.
         (ap (λ l. slice_get l n.named.variable) b.layout.globals ∙ plain.0, subst (λ l. Every (λ (count : CountedClass). count.variable ≢ n.named.variable) l) (sym b.layout.counts) plain.1))
 
-    pub event_made : (e : Event) × (event_from t (section p x k) class ≡ Some e) × (e.class ≡ class) × ((q : Program) → IsBuilt p x k (section p x k) q → GoodEvent q e)
+    pub event_made : (e : Event) × (event_from t (section p x k) class ≡ Some e) × (e.class ≡ class) × ((q : Program) → IsWhole p x k q → GoodEvent q e)
     event_made =
         let at = n.known.section in
         let parts = section_modes p x k at s n.section.2 in
@@ -287,13 +287,13 @@ module _ (p : tree.ProgramTree) (x : ResolvedLayout) (k : IsUnbroken p x) where
         })
 
   pub event_there : (i class : ℕ) → slice_get t.ranks i ≡ Some class →
-      (e : Event) × (event_from t (section p x k) class ≡ Some e) × (e.class ≡ class) × ((q : Program) → IsBuilt p x k (section p x k) q → GoodEvent q e)
+      (e : Event) × (event_from t (section p x k) class ≡ Some e) × (e.class ≡ class) × ((q : Program) → IsWhole p x k q → GoodEvent q e)
   event_there i class e = event_made class (has_section class (every_at (IsNotice t.classes) t.ranks i class (ranks_are_notices (declarations p)) e))
 
   pub events_there : (es : List Event) × (each (event_from t (section p x k)) t.ranks ≡ Some es)
   events_there = each_there (event_from t (section p x k)) t.ranks (λ i class e. let r = event_there i class e in (r.0, r.1))
 
-  pub events_good : (q : Program) → IsBuilt p x k (section p x k) q → each (event_from t (section p x k)) t.ranks ≡ Some q.events → Every (GoodEvent q) q.events
+  pub events_good : (q : Program) → IsWhole p x k q → each (event_from t (section p x k)) t.ranks ≡ Some q.events → Every (GoodEvent q) q.events
   events_good q b h =
       zip_every (λ class y. event_from t (section p x k) class ≡ Some y) (GoodEvent q) t.ranks q.events (results (event_from t (section p x k)) t.ranks q.events h)
       (λ i class e f g. let r = event_there i class f in subst (GoodEvent q) (same_Some r.0 e (sym r.1 ∙ g)) (r.3 q b))

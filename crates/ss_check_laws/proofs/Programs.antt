@@ -31,7 +31,7 @@ use Rattle.ss_check_laws.specs.BodyLaws.{BodiesResolve}
 use Rattle.ss_check_laws.specs.ProgramLaws.{ProgramsResolve}
 use Rattle.ss_check_laws.proofs.EachStep.{mapped_from, results, zip_at}
 use Rattle.ss_check_laws.proofs.Events.{class_is_ranked, event_kept, event_there, events_good, events_there, laid_classes}
-use Rattle.ss_check_laws.proofs.Routines.{IsBuilt, IsUnbroken, body_good, laid_with, main_kept, program_with, routines_good, routines_there, section, section_modes}
+use Rattle.ss_check_laws.proofs.Routines.{IsUnbroken, IsWhole, body_good, laid_with, main_kept, program_with, routines_good, routines_there, section, section_modes}
 
 -- ---- nothing is found
 
@@ -121,7 +121,7 @@ module _ (p : tree.ProgramTree) (x : ResolvedLayout) (k : IsUnbroken p x) where
 
   -- ---- a program with these routines and event routines
 
-  module _ (q : Program) (b : IsBuilt p x k (section p x k) q) (made : each (event_from t (section p x k)) t.ranks ≡ Some q.events) where
+  module _ (q : Program) (b : IsWhole p x k q) (made : each (event_from t (section p x k)) t.ranks ≡ Some q.events) where
     served : (class : ℕ) → kind_of_class q class ≡ Some kinds.Notice → Contains (map (λ (e : Event). e.class) q.events) class
     served class h =
         let class_of = λ (e : Event). e.class in
@@ -156,7 +156,7 @@ module _ (p : tree.ProgramTree) (x : ResolvedLayout) (k : IsUnbroken p x) where
       let main = main_there in
       let parts = section_modes p x k main.0 main.1 main.2 in
       let q = program_with p x k routines.0 events.0 parts.0.modes parts.0.body in
-      let b : IsBuilt p x k (section p x k) q = record { layout = laid_with p x k routines.0 events.0 parts.0.modes parts.0.body; routines = routines.1 } in
+      let b : IsWhole p x k q = record { layout = laid_with p x k routines.0 events.0 parts.0.modes parts.0.body; routines = routines.1 } in
       let body = subst (λ in_main. GoodBlock (record { program = q; locals = parts.0.modes; is_main = in_main }) parts.0.body) main.4 (body_good p x k q b main.0 main.1 parts.0 main.2 parts.1) in
       (q, assembled t (map (locals_of t) p.sections) p.sections x routines.0 events.0 main.0 parts.0 k.valid.laid all_known routines.1 events.1 main.3 parts.1, well_typed q b events.1 body)
 

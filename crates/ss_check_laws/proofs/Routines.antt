@@ -228,8 +228,12 @@ module _ (p : tree.ProgramTree) (x : ResolvedLayout) (k : IsUnbroken p x) where
       let part = part_there sketch sketch_modes (program_with (routines_there sketch sketch_modes).0 [] [] Done) outline_built n s e in
       (part.parts, part.resolved, part.modes)
 
-  -- the statements of a section are well typed in each program with the routines
-  pub body_good : (q : Program) → IsBuilt section q → (n : ℕ) (s : tree.SectionTree) (parts : Parts) → slice_get p.sections n ≡ Some s → section n ≡ Some parts → GoodBlock (record { program = q; locals = parts.modes; is_main = is_main s.kind }) parts.body
+  -- a program with the layout and the routines that these sections are
+  abbrev pub IsWhole : Program → Type 0
+  IsWhole q = IsBuilt section q
+
+  -- the statements of a section are well typed in each such program
+  pub body_good : (q : Program) → IsWhole q → (n : ℕ) (s : tree.SectionTree) (parts : Parts) → slice_get p.sections n ≡ Some s → section n ≡ Some parts → GoodBlock (record { program = q; locals = parts.modes; is_main = is_main s.kind }) parts.body
   body_good q b n s parts e f =
       let part = part_there section section_modes q b n s e in
       subst (λ (z : Parts). GoodBlock (record { program = q; locals = z.modes; is_main = is_main s.kind }) z.body) (same_Some part.parts parts (sym part.resolved ∙ f)) part.body
@@ -249,7 +253,7 @@ module _ (p : tree.ProgramTree) (x : ResolvedLayout) (k : IsUnbroken p x) where
   of_routines =
       every_first IsOfRoutine [] (given_by routine_by (declarations p)) tt (every_declared IsOfRoutine routine_by routines_quiet p (λ n s e. routine_head n s s.kind e refl))
 
-  pub routines_good : (q : Program) → IsBuilt section q → Every (GoodRoutine q) q.routines
+  pub routines_good : (q : Program) → IsWhole q → Every (GoodRoutine q) q.routines
   routines_good q b =
       zip_every (λ a y. routine_from section a ≡ Some y) (GoodRoutine q) (values_of t.routines) q.routines (results (routine_from section) (values_of t.routines) q.routines b.routines)
       (λ i known r e f.
