@@ -16,3 +16,15 @@ mod Notices
 mod Printing
 mod Statements
 mod Bodies
+mod Within
+mod ExpressionSizes
+mod PartSizes
+mod StatementSizes
+mod EveryItem
+mod TableSections
+mod SectionSizes
+mod EachStep
+mod Ranks
+mod Routines
+mod Events
+mod Programs

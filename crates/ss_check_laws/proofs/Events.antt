@@ -1,0 +1,299 @@
+-- The event routines of a program that breaks no rule.
+use Rattle.std.proofs.Common.{◌≡◌, ◌≢◌, ℕ, zero, suc, ◌+◌, ◌<◌, ◌≤◌, Bool, true, false, not, List, [], ◌∷◌, length, get_or, take, map, flat_map, slice_get, option_map, Option, Some, None, is_some, IfSome, refl, sym, ap, subst, subst₂, ◌∙◌, nat_eq, nat_le, add-zero, take-append-drop, length-take, get_or-take, arith}
+use Rattle.std.specs.List.{AllByRecursion as Every, list_any}
+use Rattle.std.specs.Map.{keys_of, values_of}
+use Rattle.std.proofs.lemmas.Bool.{and_parts, leb-true}
+use Rattle.std.proofs.lemmas.List.{length-take-le}
+use Rattle.std.proofs.lemmas.Map.Entries.{length-keys_of}
+use Rattle.std.proofs.lemmas.Option.{cond_some, get_or_from_slice_get, none-some, same_Some, slice_get-get_or, slice_get_within}
+use Rattle.ss_base.specs.declared.line.Line.{Line}
+use Rattle.ss_base.specs.declared.layout.ClassKind.{ClassKind}
+use Rattle.ss_base.specs.declared.layout.ClassKind.TheVariants as kinds
+use Rattle.ss_base.specs.declared.layout.Mode.{Mode}
+use Rattle.ss_base.specs.declared.layout.Mode.TheVariants.{Integer, Alpha}
+use Rattle.ss_base.specs.declared.layout.RankKey.{RankKey}
+use Rattle.ss_base.specs.Layout.{is_layout, is_sound}
+use Rattle.ss_base.specs.Plain.{PlainClass, PlainLayout}
+use Rattle.ss_tree.specs.Names.{NameBytes}
+use Rattle.ss_tree.specs.Tree as tree
+use Rattle.ss_names_declarations.specs.Declarations.{declarations}
+use Rattle.ss_names_declarations.specs.Firsts.{place_in, value_for}
+use Rattle.ss_names_declarations.proofs.Entries.{entry_of_key, firsts_once, key_at, place_from, place_of_value, there, value_at, value_from_place}
+use Rattle.ss_names_uses.specs.Uses as uses
+use Rattle.ss_names_uses.specs.declared.used.CountNeed.TheVariants as counts
+use Rattle.ss_names_uses.specs.declared.used.ModeOf.TheVariants as modes
+use Rattle.ss_names_uses.specs.declared.used.Use.{Use}
+use Rattle.ss_names.specs.declared.entry.Attribute.{Attribute}
+use Rattle.ss_names.specs.declared.entry.EventSection.{EventSection}
+use Rattle.ss_names.specs.declared.meaning.Meaning.{Meaning}
+use Rattle.ss_names.specs.declared.meaning.Meaning.TheVariants as m
+use Rattle.ss_names.specs.Entries.{event_by, given_by}
+use Rattle.ss_names.specs.Table.{Table, table}
+use Rattle.ss_names_scopes.specs.Locals.{defined, local_used, locals_of, moded_in}
+use Rattle.ss_names_scopes.specs.Scopes.{Scope, hidden_by, known_mode, scope_of}
+use Rattle.ss_program.specs.declared.expression.Variable.TheVariants.{Global}
+use Rattle.ss_program.specs.declared.statement.CountedClass.{CountedClass}
+use Rattle.ss_program.specs.Program.{Done, Event, Program}
+use Rattle.ss_program.specs.WellTyped.{GoodBlock, GoodEvent, GoodKeys, IsPlain}
+use Rattle.ss_check_rules.specs.Counts.{has_attributes, suits_count}
+use Rattle.ss_check_rules.specs.Modes.{attribute_mode, differ, field_mode as mode_of_field, mode_meant, mode_of_attribute, mode_said}
+use Rattle.ss_check_rules.specs.Refusal.{eventless, eventless_of, in_preamble, is_main, unless, use_breaks}
+use Rattle.ss_check_rules.specs.declared.error.CheckError.{CheckError}
+use Rattle.ss_check_rules.specs.declared.error.CheckError.TheVariants as errors
+use Rattle.ss_names_meaning.specs.Answers.{◌>>=◌, each, upto}
+use Rattle.ss_names_meaning.specs.Layouts.{ResolvedLayout, class_laid, disciplines, field_mode, layout, set_laid, statistics, tie_keys}
+use Rattle.ss_names_meaning.specs.Resolved.{Parts, class_variable, event_from, event_of_class, local_mode, local_modes, saved}
+use Rattle.ss_names_laws.specs.ValidTables.{IsNamedClass, parameters_of}
+use Rattle.ss_check_laws.proofs.EachStep.{each_there, got, numbers_at, numbers_length, results, zip_at, zip_every}
+use Rattle.ss_check_laws.proofs.EveryItem.{every_at, every_empty, every_first, every_parts, every_so}
+use Rattle.ss_check_laws.proofs.Ranks.{IsNotice, notice_is_ranked, ranks_are_notices}
+use Rattle.ss_check_laws.proofs.Routines.{IsUnbroken, IsWhole, Keeps, body_good, laid_with, none_listed, preamble_kept, program_with, section, section_modes, section_valid, uses_kept}
+use Rattle.ss_check_laws.proofs.TableSections.{ClassesFit, classes_declared, events_quiet, every_declared, head_of}
+
+-- ---- steps
+
+pub allowed : (b : Bool) (breach : CheckError) → unless b breach ≡ None → b ≡ true
+allowed true breach e = refl
+allowed false breach e = absurd (none-some breach (sym e))
+
+some_there : {A : Type 0} (o : Option A) → is_some o ≡ true → (x : A) × (o ≡ Some x)
+some_there None e = absurd cc
+some_there (Some x) e = (x, refl)
+
+same_modes : (a b : Mode) (breach : CheckError) → unless (not (differ (Some a) (Some b))) breach ≡ None → a ≡ b
+same_modes Integer Integer breach e = refl
+same_modes Integer Alpha breach e = absurd (none-some breach (sym e))
+same_modes Alpha Integer breach e = absurd (none-some breach (sym e))
+same_modes Alpha Alpha breach e = refl
+
+equal_takes : {A : Type 0} (n : ℕ) (xs ys : List A) → ((i : ℕ) → i < n → (z : A) × (slice_get xs i ≡ Some z) × (slice_get ys i ≡ Some z)) → take n xs ≡ take n ys
+equal_takes zero xs ys h = refl
+equal_takes (suc n) [] ys h = let z = h 0 (omega arith) in absurd (none-some z.0 z.1)
+equal_takes (suc n) (x ∷ xs) [] h = let z = h 0 (omega arith) in absurd (none-some z.0 z.2)
+equal_takes (suc n) (x ∷ xs) (y ∷ ys) h =
+    let z = h 0 (omega arith) in
+    let first : x ≡ y = same_Some x z.0 z.1 ∙ sym (same_Some y z.0 z.2) in
+    let rest = equal_takes n xs ys (λ i lt. h (suc i) (omega arith)) in
+    λ j. first j ∷ rest j
+
+places_at : {A : Type 0} (P : Use → Type 0) (f : ℕ → A → List Use) (n : ℕ) (xs : List A) (i : ℕ) (x : A) → Every P (uses.in_places f n xs) → slice_get xs i ≡ Some x → Every P (f (n + i) x)
+places_at P f n [] i x h e = absurd (none-some x e)
+places_at P f n (y ∷ xs) zero x h e =
+    subst₂ (λ j z. Every P (f j z)) (sym (add-zero n)) (same_Some y x e) (every_parts P (f n y) (uses.in_places f (n + 1) xs) h).0
+places_at P f n (y ∷ xs) (suc i) x h e =
+    let next : n + 1 + i ≡ n + suc i = omega arith in
+    subst (λ j. Every P (f j x)) next (places_at P f (n + 1) xs i x (every_parts P (f n y) (uses.in_places f (n + 1) xs) h).1 e)
+
+field_said : (o : Option Attribute) → mode_of_attribute o ≡ (o >>= λ a. Some a.mode)
+field_said None = refl
+field_said (Some a) = refl
+
+event_is : (t : Table) (section : ℕ → Option Parts) (class : ℕ) (name : NameBytes) (known : EventSection) (keys : List RankKey) (variable : Option ℕ) (parts : Parts) →
+    slice_get (keys_of t.classes) class ≡ Some name → value_for t.events name ≡ Some known → nat_le known.given (length (get_or t.fields class [])) ≡ true →
+    tie_keys t class name ≡ Some keys → saved t name known.saving ≡ Some variable → section known.section ≡ Some parts →
+    event_from t section class ≡ Some (event_of_class class keys known.given variable parts)
+event_is t section class name known keys variable parts a b c d e f = rw (a, b, c, d, e, f) refl
+
+module _ (p : tree.ProgramTree) (x : ResolvedLayout) (k : IsUnbroken p x) where
+  abbrev t : Table
+  t = table p
+
+  -- ---- classes
+
+  pub laid_classes : (each (class_laid t) (upto (length t.classes)) ≡ Some x.layout.classes) × (is_sound x.layout ≡ true)
+  laid_classes =
+      let l = got (layout t) _ x k.valid.laid in
+      let o = got (disciplines t) _ x l.2 in
+      let s = got (statistics t) _ x o.2 in
+      let cs = got (each (class_laid t) (upto (length t.classes))) _ l.0 l.1 in
+      let ss = got (each set_laid t.sets) _ l.0 cs.2 in
+      let plain : PlainLayout = record { classes = cs.0; sets = ss.0 } in
+      let made = cond_some (is_layout plain) plain l.0 ss.2 in
+      let same : plain ≡ x.layout = made.1 ∙ ap (λ (r : ResolvedLayout). r.layout) (same_Some _ x s.2) in
+      (cs.1 ∙ ap (λ (z : PlainLayout). Some z.classes) same, subst (λ z. is_sound z ≡ true) same (and_parts (is_sound plain) _ made.0).0)
+
+  class_there : (class : ℕ) (name : NameBytes) (kind : ClassKind) → slice_get t.classes class ≡ Some (name, kind) → (c : PlainClass) × (slice_get x.layout.classes class ≡ Some c) × (c.kind ≡ kind)
+  class_there class name kind e =
+      let at = numbers_at (class_laid t) (length t.classes) x.layout.classes laid_classes.0 class (slice_get_within t.classes class (name, kind) e) in
+      let known = got (slice_get (values_of t.classes) class) _ at.0 at.2 in
+      let fields = got (each (field_mode t) (get_or t.fields class [])) _ at.0 known.2 in
+      (at.0, at.1, sym (ap (λ (z : PlainClass). z.kind) (same_Some _ at.0 fields.2)) ∙ same_Some known.0 kind (sym known.1 ∙ value_at t.classes class name kind e))
+
+  -- a class of notices is in the order of rank
+  pub class_is_ranked : (class : ℕ) (c : PlainClass) → slice_get x.layout.classes class ≡ Some c → c.kind ≡ kinds.Notice → list_any (nat_eq class) t.ranks ≡ true
+  class_is_ranked class c e f =
+      let n = k.valid.classes class c e in
+      let entry = entry_of_key t.classes class n.name n.there in
+      let known = class_there class n.name entry.0 entry.1 in
+      let kind : entry.0 ≡ kinds.Notice = sym known.2 ∙ ap (λ (z : PlainClass). z.kind) (same_Some known.0 c (sym known.1 ∙ e)) ∙ f in
+      notice_is_ranked (declarations p) class (n.name, entry.1 ∙ ap (λ z. Some (n.name, z)) kind)
+
+  -- ---- EVENT sections
+
+  -- a class of notices has one
+  abbrev HasEvent : NameBytes → ClassKind → Type 0
+  HasEvent name kind = kind ≡ kinds.Notice → is_some (value_for t.events name) ≡ true
+
+  has_event : (line : Line) (name : NameBytes) → eventless t line name ≡ [] → is_some (value_for t.events name) ≡ true
+  has_event line name e = allowed (is_some (value_for t.events name)) (errors.NoEventRoutine line) (none_listed _ e)
+
+  class_has_event : (line : Line) (kind : ClassKind) (name : NameBytes) → eventless_of t line kind name ≡ [] → HasEvent name kind
+  class_has_event line kinds.Notice name e f = has_event line name e
+  class_has_event line kinds.Permanent name e f = absurd cc
+  class_has_event line kinds.Temporary name e f = absurd cc
+
+  have_events : (s : tree.PreambleTree) → in_preamble t s ≡ [] → ClassesFit HasEvent s
+  have_events (tree.event_notices line names) e =
+      every_so (λ name. eventless t line name ≡ []) (λ name. HasEvent name kinds.Notice) names (λ name f g. has_event line name f) (every_empty (eventless t line) names e)
+  have_events (tree.every line kind class clauses) e = class_has_event line kind class e
+  have_events _ e = tt
+
+  all_have_events : Every (λ (e : NameBytes × ClassKind). HasEvent e.0 e.1) t.classes
+  all_have_events = classes_declared HasEvent p (λ i s e. have_events s (every_at (λ z. in_preamble t z ≡ []) p.preamble i s (preamble_kept p x k) e))
+
+  -- its class, what it is given, and whether it saves its notice
+  abbrev pub IsEventSection : NameBytes × EventSection → Type 0
+  IsEventSection e =
+      (s : tree.SectionTree) × (given : List NameBytes) × (slice_get p.sections e.1.section ≡ Some s) × (s.kind ≡ tree.event e.0 given e.1.saving) × (e.1.given ≡ length given)
+
+  event_head : (n : ℕ) (s : tree.SectionTree) (kind : tree.SectionKindTree) → slice_get p.sections n ≡ Some s → s.kind ≡ kind → Every IsEventSection (event_by (head_of n kind))
+  event_head n s tree.main e f = tt
+  event_head n s (tree.routine name given yielding) e f = tt
+  event_head n s (tree.event name given saving) e f = ((s, given, e, f, refl), tt)
+
+  of_events : Every IsEventSection t.events
+  of_events = every_first IsEventSection [] (given_by event_by (declarations p)) tt (every_declared IsEventSection event_by events_quiet p (λ n s e. event_head n s s.kind e refl))
+
+  -- a class of notices with its EVENT section
+  pub record HasSection (class : ℕ) : Type 0 where
+    pub laid : PlainClass
+    pub there : slice_get x.layout.classes class ≡ Some laid
+    pub notice : laid.kind ≡ kinds.Notice
+    pub named : IsNamedClass t class laid
+    pub known : EventSection
+    pub event : value_for t.events named.name ≡ Some known
+    pub section : IsEventSection (named.name, known)
+
+  has_section : (class : ℕ) → IsNotice t.classes class → HasSection class
+  has_section class h =
+      let c = class_there class h.0 kinds.Notice h.1 in
+      let n = k.valid.classes class c.0 c.1 in
+      let same : h.0 ≡ n.name = same_Some h.0 n.name (sym (key_at t.classes class h.0 kinds.Notice h.1) ∙ n.there) in
+      let event = every_at (λ (e : NameBytes × ClassKind). HasEvent e.0 e.1) t.classes class (h.0, kinds.Notice) all_have_events h.1 refl in
+      let known = some_there (value_for t.events n.name) (subst (λ name. is_some (value_for t.events name) ≡ true) same event) in
+      let at = place_of_value t.events n.name known.0 known.1 in
+      record { laid = c.0; there = c.1; notice = c.2; named = n; known = known.0; event = known.1; section = every_at IsEventSection t.events at.0 (n.name, known.0) of_events at.1.1 }
+
+  pub event_kept : (n : ℕ) (s : tree.SectionTree) (name : NameBytes) (given : List NameBytes) (saving : Bool) → slice_get p.sections n ≡ Some s → s.kind ≡ tree.event name given saving → Keeps p x k s (uses.in_event s.line name given)
+  event_kept n s name given saving e f = subst (λ kind. Keeps p x k s (uses.in_kind s.line kind)) f (uses_kept p x k n s e).0
+
+  -- ---- the event routine of a class
+
+  module _ (class : ℕ) (n : HasSection class) where
+    abbrev s : tree.SectionTree
+    s = n.section.0
+
+    abbrev given : List NameBytes
+    given = n.section.1
+
+    abbrev name : NameBytes
+    name = n.named.name
+
+    abbrev sc : Scope
+    sc = scope_of t p.sections s
+
+    head : Keeps p x k s (uses.in_event s.line name given)
+    head = event_kept n.known.section s name given n.known.saving n.section.2 n.section.3
+
+    placed : place_in t.classes name ≡ Some class
+    placed = k.valid.numbered name class n.laid.kind n.named.variable n.named.meant
+
+    -- it is given no more than the class has attributes
+    limit : nat_le (length given) (length (get_or t.fields class [])) ≡ true
+    limit = sym (ap (has_attributes t (length given)) placed) ∙ allowed (suits_count t (length given) (counts.Attributes name)) (errors.Arguments s.line) head.1.0
+
+    -- what it is given in a place has the mode of the attribute in that place
+    mode_given : (ms : List Mode) → local_modes (locals_of t s) ≡ Some ms → take (length given) (keys_of (locals_of t s)) ≡ given → length given ≤ length (locals_of t s) →
+        (i : ℕ) → i < length given → (z : Mode) × (slice_get ms i ≡ Some z) × (slice_get n.laid.fields i ≡ Some z)
+    mode_given ms moded first many i lt =
+        let locals = locals_of t s in
+        let holds = λ (u : Use). use_breaks sc (is_main s.kind) u ≡ None in
+        let once = firsts_once (map (moded_in t.usual (defined (uses.uses s))) (flat_map (local_used t) (uses.uses s))) in
+        let g = there given i lt in
+        let key : slice_get (keys_of locals) i ≡ Some g.0 =
+        slice_get-get_or (keys_of locals) i g.0 (omega (arith, length-keys_of locals))
+        ∙ ap Some (sym (get_or-take (length given) (keys_of locals) i g.0 lt) ∙ ap (λ l. get_or l i g.0) first ∙ get_or_from_slice_get given i g.0 g.0 g.1) in
+        let entry = entry_of_key locals i g.0 key in
+        let mode = numbers_at (local_mode locals) (length locals) ms moded i (omega arith) in
+        let known : entry.0 ≡ Some mode.0 = sym (ap (λ (o : Option (Option Mode)). o >>= λ z. z) (value_at locals i g.0 entry.0 entry.1)) ∙ mode.2 in
+        let place = place_from locals i g.0 entry.0 once entry.1 in
+        let value = value_from_place locals i g.0 entry.0 once entry.1 in
+        let named : mode_said sc (modes.Named g.0) ≡ Some mode.0 =
+        (λ j. mode_meant (hidden_by locals g.0 (place j) (value_for t.meanings g.0))) ∙ ap (λ (o : Option (Option Mode)). Some (known_mode o)) (value ∙ ap Some known) in
+        let a = there (get_or t.fields class []) i (omega (arith, leb-true (length given) (length (get_or t.fields class [])) limit)) in
+        let field = zip_at (λ z y. field_mode t z ≡ Some y) (get_or t.fields class []) n.laid.fields i a.0 (results (field_mode t) (get_or t.fields class []) n.laid.fields n.named.fields) a.1 in
+        let attribute : mode_said sc (modes.Attribute name i) ≡ Some field.0 = ap (λ o. attribute_mode t o i) placed ∙ ap (mode_of_field t) a.1 ∙ field_said (value_for t.attributes a.0) ∙ field.2 in
+        let same_place : 0 + i ≡ i = omega arith in
+        let places = every_parts holds (map (uses.parameter s.line) given) (uses.in_places (uses.as_attribute s.line name) 0 given) head.1.1 in
+        let used = subst (λ j. Every holds (uses.as_attribute s.line name j g.0)) same_place (places_at holds (uses.as_attribute s.line name) 0 given i g.0 places.1 g.1) in
+        let same : mode.0 ≡ field.0 =
+        same_modes mode.0 field.0 (errors.Mode s.line) (subst₂ (λ (z w : Option Mode). unless (not (differ z w)) (errors.Mode s.line) ≡ None) named attribute used.0) in
+        (mode.0, mode.1, field.1 ∙ ap Some (sym same))
+
+    modes_given : (ms : List Mode) → local_modes (locals_of t s) ≡ Some ms → (length given ≤ length ms) × (take (length given) ms ≡ take (length given) n.laid.fields)
+    modes_given ms moded =
+        let locals = locals_of t s in
+        let v = section_valid p x k n.known.section s n.section.2 in
+        let first : take (length given) (keys_of locals) ≡ given = subst (λ kind. take (length (parameters_of kind)) (keys_of locals) ≡ parameters_of kind) n.section.3 v.parameters in
+        let cut = ap length first in
+        let all = length-take (length given) (keys_of locals) in
+        let keys = length-keys_of locals in
+        let many : length given ≤ length locals = omega arith in
+        let count = numbers_length (local_mode locals) (length locals) ms moded in
+        (omega arith, equal_takes (length given) ms n.laid.fields (λ i lt. mode_given ms moded first many i lt))
+
+    -- the variable that gets the number of a notice
+    saves : (b : Bool) → (o : Option ℕ) × (saved t name b ≡ Some o) × ((q : Program) → IsWhole p x k q → IfSome o (λ v. (slice_get q.globals v ≡ Some Integer) × IsPlain q (Global v)))
+    saves false = (None, refl, λ q b. tt)
+    saves true =
+        let plain = (k.valid.meanings name (m.Class class n.laid.kind n.named.variable) n.named.meant).1 in
+        (Some n.named.variable, ap (λ (o : Option Meaning). o >>= λ meaning. class_variable meaning) n.named.meant, λ q b.
+        (ap (λ l. slice_get l n.named.variable) b.layout.globals ∙ plain.0, subst (λ l. Every (λ (count : CountedClass). count.variable ≢ n.named.variable) l) (sym b.layout.counts) plain.1))
+
+    pub event_made : (e : Event) × (event_from t (section p x k) class ≡ Some e) × (e.class ≡ class) × ((q : Program) → IsWhole p x k q → GoodEvent q e)
+    event_made =
+        let at = n.known.section in
+        let parts = section_modes p x k at s n.section.2 in
+        let variable = saves n.known.saving in
+        let keys = (k.typed (program_with p x k [] [] [] Done) (laid_with p x k [] [] [] Done)).ties class name n.named.there in
+        let most = ap (λ i. nat_le i (length (get_or t.fields class []))) n.section.4 ∙ limit in
+        let given_are = modes_given parts.0.modes parts.2 in
+        let cut : take n.known.given parts.0.modes ≡ take n.known.given n.laid.fields = (λ j. take (n.section.4 j) parts.0.modes) ∙ given_are.1 ∙ (λ j. take (sym n.section.4 j) n.laid.fields) in
+        let short = given_are.0 in
+        let same_count = n.section.4 in
+        let count : length (take n.known.given parts.0.modes) ≡ n.known.given = length-take-le n.known.given parts.0.modes (omega arith) in
+        (event_of_class class keys.0 n.known.given variable.0 parts.0, event_is t (section p x k) class name n.known keys.0 variable.0 parts.0 n.named.there n.event most keys.1 variable.1 parts.1, refl, λ q b.
+        let laid : slice_get q.layout.classes class ≡ Some n.laid = ap (λ (l : PlainLayout). slice_get l.classes class) b.layout.layout ∙ n.there in
+        let ties = (k.typed q b.layout).ties class name n.named.there in
+        record {
+          modes = n.laid.fields;
+          fields = ap (option_map (λ (c : PlainClass). c.fields)) laid;
+          notice = ap (option_map (λ (c : PlainClass). c.kind)) laid ∙ ap Some n.notice;
+          ties = subst (GoodKeys q class) (same_Some ties.0 keys.0 (sym ties.1 ∙ keys.1)) ties.2;
+          given = cut ∙ ap (λ i. take i n.laid.fields) (sym count);
+          saved = variable.2 q b;
+          body = subst₂ (λ (locals : List Mode) (in_main : Bool). GoodBlock (record { program = q; locals = locals; is_main = in_main }) parts.0.body) (sym (take-append-drop n.known.given parts.0.modes)) (ap is_main n.section.3)
+              (body_good p x k q b at s parts.0 n.section.2 parts.1);
+        })
+
+  pub event_there : (i class : ℕ) → slice_get t.ranks i ≡ Some class →
+      (e : Event) × (event_from t (section p x k) class ≡ Some e) × (e.class ≡ class) × ((q : Program) → IsWhole p x k q → GoodEvent q e)
+  event_there i class e = event_made class (has_section class (every_at (IsNotice t.classes) t.ranks i class (ranks_are_notices (declarations p)) e))
+
+  pub events_there : (es : List Event) × (each (event_from t (section p x k)) t.ranks ≡ Some es)
+  events_there = each_there (event_from t (section p x k)) t.ranks (λ i class e. let r = event_there i class e in (r.0, r.1))
+
+  pub events_good : (q : Program) → IsWhole p x k q → each (event_from t (section p x k)) t.ranks ≡ Some q.events → Every (GoodEvent q) q.events
+  events_good q b h =
+      zip_every (λ class y. event_from t (section p x k) class ≡ Some y) (GoodEvent q) t.ranks q.events (results (event_from t (section p x k)) t.ranks q.events h)
+      (λ i class e f g. let r = event_there i class f in subst (GoodEvent q) (same_Some r.0 e (sym r.1 ∙ g)) (r.3 q b))

@@ -1,0 +1,266 @@
+-- What the sections of a program that breaks no rule resolve to, and its routines.
+use Rattle.std.proofs.Common.{◌≡◌, ℕ, ◌+◌, ◌≤◌, Bool, false, List, [], ◌++◌, length, map, take, drop, slice_get, option_map, flat_map, Option, Some, None, refl, sym, ap, subst, subst₂, ◌∙◌, take-append-drop, arith}
+use Rattle.std.specs.List.{AllByRecursion as Every}
+use Rattle.std.specs.Map.{values_of}
+use Rattle.std.proofs.lemmas.Option.{same_Some, slice_get-map}
+use Rattle.ss_base.specs.declared.layout.Mode.{Mode}
+use Rattle.ss_tree.specs.Names.{NameBytes}
+use Rattle.ss_tree.specs.Tree as tree
+use Rattle.ss_names_declarations.specs.Declarations.{declarations}
+use Rattle.ss_names_declarations.proofs.Entries.{entry_of_value}
+use Rattle.ss_names_uses.specs.Uses as uses
+use Rattle.ss_names_uses.specs.declared.used.Use.{Use}
+use Rattle.ss_names.specs.declared.entry.RoutineSection.{RoutineSection}
+use Rattle.ss_names.specs.Entries.{given_by, routine_by}
+use Rattle.ss_names.specs.Table.{Table, table}
+use Rattle.ss_names_scopes.specs.Locals.{Moded, as_list, locals_of}
+use Rattle.ss_names_scopes.specs.Scopes.{scope_of}
+use Rattle.ss_program.specs.Program.{Block, Done, Event, Program, Routine}
+use Rattle.ss_program.specs.WellTyped.{Scope as Place, GoodBlock, GoodRoutine}
+use Rattle.ss_check_rules.specs.Refusal.{breaches, breaks, in_preamble, in_program, in_section, is_main, use_breaks}
+use Rattle.ss_names_meaning.specs.Answers.{◌>>=◌, each}
+use Rattle.ss_names_meaning.specs.Layouts.{ResolvedLayout}
+use Rattle.ss_names_meaning.specs.Resolved.{Parts, body_with, local_mode, local_modes, parts_with_locals, routine_from, routine_of}
+use Rattle.ss_names_laws.specs.Laws.{HasLayout, IsWellLaid}
+use Rattle.ss_names_laws.specs.ValidTables.{HasRoutines, IsValidSection, IsValidTable}
+use Rattle.ss_check_laws.specs.BodyLaws.{BodiesResolve}
+use Rattle.ss_check_laws.specs.Links.{IsLinked, Kept}
+use Rattle.ss_check_laws.proofs.EachStep.{each_there, mapped_from, numbers_length, results, zip_at, zip_every}
+use Rattle.ss_check_laws.proofs.EveryItem.{both_empty, every_at, every_empty, every_first, every_parts, every_so}
+use Rattle.ss_check_laws.proofs.TableSections.{every_declared, head_of, routines_quiet}
+
+-- what is known of a program that breaks no rule
+pub record IsUnbroken (p : tree.ProgramTree) (x : ResolvedLayout) : Type 0 where
+  pub valid : IsValidTable (table p) x
+  pub kept : breaches (table p) p ≡ []
+  pub sections : Every (λ (s : tree.SectionTree). IsValidSection (table p) s.kind (locals_of (table p) s)) p.sections
+  pub routines : HasRoutines (table p) (map (locals_of (table p)) p.sections)
+  pub typed : (r : Program) → HasLayout x r → IsWellLaid p r
+  pub bodies : BodiesResolve
+
+-- ---- steps
+
+pub none_listed : {A : Type 0} (o : Option A) → as_list o ≡ [] → o ≡ None
+none_listed None e = refl
+none_listed (Some x) e = absurd cc
+
+resolved_part : (t : Table) (all : List Moded) (sections : List tree.SectionTree) (n : ℕ) (s : tree.SectionTree) (locals : Moded) (modes : List Mode) (body : Block) → slice_get sections n ≡ Some s → slice_get all n ≡ Some locals →
+    local_modes locals ≡ Some modes → body_with t all locals s ≡ Some body → parts_with_locals t all sections n ≡ Some (record { line = s.line; modes = modes; body = body })
+resolved_part t all sections n s locals modes body e f g h = rw (e, f, g, h) refl
+
+-- a section without statements
+abbrev bare : tree.SectionTree → List Mode → Parts
+bare s modes = record { line = s.line; modes = modes; body = Done }
+
+all_locals : (given yielding : ℕ) (modes : List Mode) → take given modes ++ (take yielding (drop given modes) ++ drop yielding (drop given modes)) ≡ modes
+all_locals given yielding modes = ap (λ l. take given modes ++ l) (take-append-drop yielding (drop given modes)) ∙ take-append-drop given modes
+
+module _ (p : tree.ProgramTree) (x : ResolvedLayout) (k : IsUnbroken p x) where
+  abbrev pub t : Table
+  t = table p
+
+  abbrev pub all : List Moded
+  all = map (locals_of t) p.sections
+
+  -- ---- what breaks no rule
+
+  after_preamble : (flat_map (in_preamble t) p.preamble ≡ []) × (in_program p.sections ++ flat_map (in_section t p.sections) p.sections ≡ [])
+  after_preamble = both_empty (flat_map (in_preamble t) p.preamble) (in_program p.sections ++ flat_map (in_section t p.sections) p.sections) k.kept
+
+  pub preamble_kept : Every (λ s. in_preamble t s ≡ []) p.preamble
+  preamble_kept = every_empty (in_preamble t) p.preamble after_preamble.0
+
+  in_sections : (in_program p.sections ≡ []) × (flat_map (in_section t p.sections) p.sections ≡ [])
+  in_sections = both_empty (in_program p.sections) (flat_map (in_section t p.sections) p.sections) after_preamble.1
+
+  pub main_kept : in_program p.sections ≡ []
+  main_kept = in_sections.0
+
+  abbrev pub Keeps : tree.SectionTree → List Use → Type 0
+  Keeps s = Kept (scope_of t p.sections s) (is_main s.kind)
+
+  section_kept : (n : ℕ) (s : tree.SectionTree) → slice_get p.sections n ≡ Some s → Keeps s (uses.uses s)
+  section_kept n s e =
+      let here = every_at (λ z. in_section t p.sections z ≡ []) p.sections n s (every_empty (in_section t p.sections) p.sections in_sections.1) e in
+      let sc = scope_of t p.sections s in
+      every_so (λ u. breaks sc (is_main s.kind) u ≡ []) (λ u. use_breaks sc (is_main s.kind) u ≡ None) (uses.uses s)
+      (λ u f. none_listed (use_breaks sc (is_main s.kind) u) f) (every_empty (breaks sc (is_main s.kind)) (uses.uses s) here)
+
+  -- the head of a section, and its statements
+  pub uses_kept : (n : ℕ) (s : tree.SectionTree) → slice_get p.sections n ≡ Some s → Keeps s (uses.in_kind s.line s.kind) × Keeps s (uses.in_body s.body)
+  uses_kept n s e =
+      let holds = λ (u : Use). use_breaks (scope_of t p.sections s) (is_main s.kind) u ≡ None in
+      let head = uses.in_kind s.line s.kind in
+      let definitions = flat_map uses.in_definition s.definitions in
+      let parts = every_parts holds (head ++ definitions) (uses.in_body s.body) (section_kept n s e) in
+      ((every_parts holds head definitions parts.0).0, parts.1)
+
+  pub section_valid : (n : ℕ) (s : tree.SectionTree) → slice_get p.sections n ≡ Some s → IsValidSection t s.kind (locals_of t s)
+  section_valid n s e = every_at (λ (z : tree.SectionTree). IsValidSection t z.kind (locals_of t z)) p.sections n s k.sections e
+
+  -- ---- routines, by a function that resolves each section
+
+  -- each section has a resolved form, with the modes of its local variables
+  abbrev pub HasModes : (ℕ → Option Parts) → Type 0
+  HasModes section = (n : ℕ) (s : tree.SectionTree) → slice_get p.sections n ≡ Some s → (parts : Parts) × (section n ≡ Some parts) × (local_modes (locals_of t s) ≡ Some parts.modes)
+
+  -- the resolved section of a routine
+  record HasRoutine (section : ℕ → Option Parts) (known : RoutineSection) : Type 0 where
+    locals : Moded
+    parts : Parts
+    there : slice_get all known.section ≡ Some locals
+    made : routine_from section known ≡ Some (routine_of known.given known.yielding parts)
+    modes : local_modes locals ≡ Some parts.modes
+    enough : known.given + known.yielding ≤ length parts.modes
+
+  has_routine : (section : ℕ → Option Parts) → HasModes section → (i : ℕ) (known : RoutineSection) → slice_get (values_of t.routines) i ≡ Some known → HasRoutine section known
+  has_routine section m i known e =
+      let r = k.routines i known e in
+      let s = mapped_from (locals_of t) (slice_get p.sections known.section) r.0 (sym (slice_get-map (locals_of t) p.sections known.section) ∙ r.1) in
+      let parts = m known.section s.0 s.1 in
+      let modes : local_modes r.0 ≡ Some parts.0.modes = subst (λ l. local_modes l ≡ Some parts.0.modes) s.2 parts.2 in
+      let count = numbers_length (local_mode r.0) (length r.0) parts.0.modes modes in
+      let enough = r.2 in
+      record {
+        locals = r.0;
+        parts = parts.0;
+        there = r.1;
+        made = ap (λ (o : Option Parts). o >>= λ found. Some (routine_of known.given known.yielding found)) parts.1;
+        modes = modes;
+        enough = omega arith;
+      }
+
+  pub routines_there : (section : ℕ → Option Parts) → HasModes section → (rs : List Routine) × (each (routine_from section) (values_of t.routines) ≡ Some rs)
+  routines_there section m =
+      each_there (routine_from section) (values_of t.routines) (λ i known e. let r = has_routine section m i known e in (routine_of known.given known.yielding r.parts, r.made))
+
+  -- a program with the layout and these routines
+  pub record IsBuilt (section : ℕ → Option Parts) (q : Program) : Type 0 where
+    pub layout : HasLayout x q
+    pub routines : each (routine_from section) (values_of t.routines) ≡ Some q.routines
+
+  linked : (section : ℕ → Option Parts) → HasModes section → (q : Program) → IsBuilt section q → (s : tree.SectionTree) (v : IsValidSection t s.kind (locals_of t s)) (in_main : Bool) →
+      IsLinked (scope_of t p.sections s) (record { program = q; locals = v.modes; is_main = in_main })
+  linked section m q b s v in_main = record {
+    laid = x;
+    table = k.valid;
+    layout = b.layout.layout;
+    globals = b.layout.globals;
+    counts = b.layout.counts;
+    statistics = b.layout.statistics;
+    moded = v.moded;
+    hides = v.hides;
+    routines = λ i known e.
+        let r = has_routine section m i known e in
+        let routine = routine_of known.given known.yielding r.parts in
+        let at = zip_at (λ a y. routine_from section a ≡ Some y) (values_of t.routines) q.routines i known (results (routine_from section) (values_of t.routines) q.routines b.routines) e in
+        record {
+          routine = routine;
+          locals = r.locals;
+          modes = r.parts.modes;
+          there = at.1 ∙ sym at.2 ∙ r.made;
+          section = r.there;
+          moded = r.modes;
+          given = refl;
+          yielding = refl;
+          enough = r.enough;
+        };
+  }
+
+  -- ---- the statements of a section
+
+  -- they resolve, and are well typed in a program
+  record HasPart (q : Program) (n : ℕ) (s : tree.SectionTree) : Type 0 where
+    parts : Parts
+    resolved : parts_with_locals t all p.sections n ≡ Some parts
+    modes : local_modes (locals_of t s) ≡ Some parts.modes
+    body : GoodBlock (record { program = q; locals = parts.modes; is_main = is_main s.kind }) parts.body
+
+  part_there : (section : ℕ → Option Parts) → HasModes section → (q : Program) → IsBuilt section q → (n : ℕ) (s : tree.SectionTree) → slice_get p.sections n ≡ Some s → HasPart q n s
+  part_there section m q b n s e =
+      let v = section_valid n s e in
+      let place : Place = record { program = q; locals = v.modes; is_main = is_main s.kind } in
+      let done = k.bodies (scope_of t p.sections s) place (linked section m q b s v (is_main s.kind)) s.body (uses_kept n s e).1 in
+      record {
+        parts = record { line = s.line; modes = v.modes; body = done.0 };
+        resolved = resolved_part t all p.sections n s (locals_of t s) v.modes done.0 e (slice_get-map (locals_of t) p.sections n ∙ ap (option_map (locals_of t)) e) v.moded done.1;
+        modes = v.moded;
+        body = done.2;
+      }
+
+  -- ---- a program without statements, by which those of all sections resolve
+
+  abbrev sketch : ℕ → Option Parts
+  sketch n = slice_get p.sections n >>= λ s. local_modes (locals_of t s) >>= λ modes. Some (bare s modes)
+
+  sketched : (n : ℕ) (s : tree.SectionTree) (modes : List Mode) → slice_get p.sections n ≡ Some s → local_modes (locals_of t s) ≡ Some modes → sketch n ≡ Some (bare s modes)
+  sketched n s modes e f = rw (e, f) refl
+
+  sketch_modes : HasModes sketch
+  sketch_modes n s e = let v = section_valid n s e in (bare s v.modes, sketched n s v.modes e v.moded, v.moded)
+
+  abbrev pub program_with : List Routine → List Event → List Mode → Block → Program
+  program_with routines events locals main = record {
+    layout = x.layout;
+    disciplines = x.disciplines;
+    globals = x.globals;
+    counts = x.counts;
+    statistics = x.statistics;
+    routines = routines;
+    events = events;
+    locals = locals;
+    main = main;
+  }
+
+  pub laid_with : (routines : List Routine) (events : List Event) (locals : List Mode) (main : Block) → HasLayout x (program_with routines events locals main)
+  laid_with routines events locals main = record { layout = refl; disciplines = refl; globals = refl; counts = refl; statistics = refl }
+
+  outline_built : IsBuilt sketch (program_with (routines_there sketch sketch_modes).0 [] [] Done)
+  outline_built = record { layout = laid_with (routines_there sketch sketch_modes).0 [] [] Done; routines = (routines_there sketch sketch_modes).1 }
+
+  -- ---- sections
+
+  abbrev pub section : ℕ → Option Parts
+  section = parts_with_locals t all p.sections
+
+  pub section_modes : HasModes section
+  section_modes n s e =
+      let part = part_there sketch sketch_modes (program_with (routines_there sketch sketch_modes).0 [] [] Done) outline_built n s e in
+      (part.parts, part.resolved, part.modes)
+
+  -- a program with the layout and the routines that these sections are
+  abbrev pub IsWhole : Program → Type 0
+  IsWhole q = IsBuilt section q
+
+  -- the statements of a section are well typed in each such program
+  pub body_good : (q : Program) → IsWhole q → (n : ℕ) (s : tree.SectionTree) (parts : Parts) → slice_get p.sections n ≡ Some s → section n ≡ Some parts → GoodBlock (record { program = q; locals = parts.modes; is_main = is_main s.kind }) parts.body
+  body_good q b n s parts e f =
+      let part = part_there section section_modes q b n s e in
+      subst (λ (z : Parts). GoodBlock (record { program = q; locals = z.modes; is_main = is_main s.kind }) z.body) (same_Some part.parts parts (sym part.resolved ∙ f)) part.body
+
+  -- ---- routines
+
+  -- the section of a routine isn't MAIN
+  abbrev IsOfRoutine : NameBytes × RoutineSection → Type 0
+  IsOfRoutine e = (s : tree.SectionTree) × (slice_get p.sections e.1.section ≡ Some s) × (is_main s.kind ≡ false)
+
+  routine_head : (n : ℕ) (s : tree.SectionTree) (kind : tree.SectionKindTree) → slice_get p.sections n ≡ Some s → s.kind ≡ kind → Every IsOfRoutine (routine_by (head_of n kind))
+  routine_head n s tree.main e f = tt
+  routine_head n s (tree.routine name given yielding) e f = ((s, e, ap is_main f), tt)
+  routine_head n s (tree.event name given saving) e f = tt
+
+  of_routines : Every IsOfRoutine t.routines
+  of_routines =
+      every_first IsOfRoutine [] (given_by routine_by (declarations p)) tt (every_declared IsOfRoutine routine_by routines_quiet p (λ n s e. routine_head n s s.kind e refl))
+
+  pub routines_good : (q : Program) → IsWhole q → Every (GoodRoutine q) q.routines
+  routines_good q b =
+      zip_every (λ a y. routine_from section a ≡ Some y) (GoodRoutine q) (values_of t.routines) q.routines (results (routine_from section) (values_of t.routines) q.routines b.routines)
+      (λ i known r e f.
+      let entry = entry_of_value t.routines i known e in
+      let s = every_at IsOfRoutine t.routines i (entry.0, known) of_routines entry.1 in
+      let parts = section_modes known.section s.0 s.1 in
+      let made : routine_from section known ≡ Some (routine_of known.given known.yielding parts.0) = ap (λ (o : Option Parts). o >>= λ found. Some (routine_of known.given known.yielding found)) parts.1 in
+      subst (GoodRoutine q) (same_Some (routine_of known.given known.yielding parts.0) r (sym made ∙ f))
+      (subst₂ (λ (locals : List Mode) (in_main : Bool). GoodBlock (record { program = q; locals = locals; is_main = in_main }) parts.0.body) (sym (all_locals known.given known.yielding parts.0.modes)) s.2
+      (body_good q b known.section s.0 parts.0 s.1 parts.1)))

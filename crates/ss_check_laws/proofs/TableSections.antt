@@ -1,0 +1,178 @@
+-- The routines and EVENT sections that a program declares are its sections, and its classes are those of its preamble.
+use Rattle.std.proofs.Common.{◌≡◌, ℕ, ◌+◌, List, [], ◌∷◌, ◌++◌, length, map, refl, ap, ◌∙◌, append-nil, slice_get, flat_map, Some, None, sym, subst, arith}
+use Rattle.std.specs.List.{AllByRecursion as Every}
+use Rattle.std.proofs.lemmas.List.Concat.{flat_map-append}
+use Rattle.ss_base.specs.declared.line.Line.{Line}
+use Rattle.ss_base.specs.declared.layout.ClassKind.{ClassKind}
+use Rattle.ss_base.specs.declared.layout.ClassKind.TheVariants.{Notice}
+use Rattle.ss_tree.specs.Names.{NameBytes}
+use Rattle.ss_tree.specs.Tree as tree
+use Rattle.ss_tree.specs.declared.preamble.Mode.{Mode}
+use Rattle.ss_names_declarations.specs.Declarations as said
+use Rattle.ss_names_declarations.specs.Declarations.{declarations, flat_map_from}
+use Rattle.ss_names_declarations.specs.declared.declaration.Declared.{Declared}
+use Rattle.ss_names_declarations.specs.declared.declaration.Declared.TheVariants as d
+use Rattle.ss_names_declarations.specs.declared.declaration.Declaration.{Declaration}
+use Rattle.ss_names.specs.Entries.{class_by, classes, event_by, given_by, routine_by}
+use Rattle.ss_check_laws.proofs.EveryItem.{every_append, every_first, every_flat, every_from, every_mapped, every_numbered}
+
+-- ---- the preamble
+
+-- no section is declared, and each class is such
+abbrev pub Fits : (NameBytes → ClassKind → Type 0) → Declared → Type 0
+Fits P (d.Class name kind) = P name kind
+Fits P d.Main = ⊥
+Fits P (d.Routine name section given yielding) = ⊥
+Fits P (d.Event name section given saving) = ⊥
+Fits P _ = Unit {0}
+
+-- each class of a statement is such
+abbrev pub ClassesFit : (NameBytes → ClassKind → Type 0) → tree.PreambleTree → Type 0
+ClassesFit P (tree.event_notices line names) = Every (λ name. P name Notice) names
+ClassesFit P (tree.every line kind class clauses) = P class kind
+ClassesFit P _ = Unit {0}
+
+module _ (P : NameBytes → ClassKind → Type 0) where
+  abbrev pub IsFit : Declaration → Type 0
+  IsFit x = Fits P x.what
+
+  mapped : {X : Type 0} (f : X → Declaration) → ((x : X) → IsFit (f x)) → (xs : List X) → Every IsFit (map f xs)
+  mapped f h xs = every_mapped IsFit f xs (every_from (λ x. IsFit (f x)) xs h)
+
+  clause : (line : Line) (class : NameBytes) (c : tree.ClauseTree) → Every IsFit (said.in_clause line class c)
+  clause line class (tree.has names) = mapped (said.attribute line class) (λ n. tt) names
+  clause line class (tree.owns names) = mapped (said.owned_set line (Some class)) (λ n. tt) names
+  clause line class (tree.belongs_to names) = mapped (said.member_set line class) (λ n. tt) names
+
+  order : (line : Line) (number : ℕ) (o : tree.OrderTree) → Every IsFit (said.in_order line number o)
+  order line number tree.fifo = tt
+  order line number tree.lifo = tt
+  order line number (tree.ranked keys) = mapped (said.rank_key line number) (λ k. tt) keys
+
+  statement : (number : ℕ) (s : tree.PreambleTree) → ClassesFit P s → Every IsFit (said.in_statement number s)
+  statement number (tree.permanent_entities line) h = tt
+  statement number (tree.temporary_entities line) h = tt
+  statement number (tree.event_notices line names) h = every_mapped IsFit (said.notice line) names h
+  statement number (tree.every line kind class clauses) h = (h, every_flat IsFit (said.in_clause line class) clauses (clause line class))
+  statement number (tree.normally line mode) h = (tt, tt)
+  statement number (tree.system_owns line sets) h = mapped (said.owned_set line None) (λ n. tt) sets
+  statement number (tree.define_variables line names mode) h = mapped (said.variable line mode) (λ n. tt) names
+  statement number (tree.define_sets line names o) h =
+      every_append IsFit (map (said.ordered_set line (said.rule_of o) number) names) (said.in_order line number o)
+      (mapped (said.ordered_set line (said.rule_of o) number) (λ n. tt) names) (order line number o)
+  statement number (tree.priority_order line classes) h = (tt, mapped (said.priority line) (λ n. tt) classes)
+  statement number (tree.break_ties line class keys) h = (tt, mapped (said.tie_key line class) (λ k. tt) keys)
+  statement number (tree.statistics line weighting found subject) h =
+      every_append IsFit (map (said.statistic line subject) found) (said.at_line line (d.Subject subject weighting) ∷ []) (mapped (said.statistic line subject) (λ k. tt) found) (tt, tt)
+
+  pub preamble_fits : (ss : List tree.PreambleTree) → ((i : ℕ) (s : tree.PreambleTree) → slice_get ss i ≡ Some s → ClassesFit P s) → Every IsFit (flat_map_from said.in_statement 0 ss)
+  preamble_fits ss h = every_numbered IsFit said.in_statement 0 ss (λ i s e. statement (0 + i) s (h i s e))
+
+-- ---- sections
+
+-- what the head of a section declares
+abbrev pub head_of : ℕ → tree.SectionKindTree → Declared
+head_of n tree.main = d.Main
+head_of n (tree.routine name given yielding) = d.Routine name n (length given) (length yielding)
+head_of n (tree.event name given saving) = d.Event name n (length given) saving
+
+abbrev pub IsAny : NameBytes → ClassKind → Type 0
+IsAny name kind = Unit {0}
+
+any_fits : (s : tree.PreambleTree) → ClassesFit IsAny s
+any_fits (tree.event_notices line names) = every_from (λ (n : NameBytes). Unit {0}) names (λ n. tt)
+any_fits (tree.every line kind class clauses) = tt
+any_fits _ = tt
+
+module _ {B : Type 0} (f : Declared → List B) where
+  abbrev of_declaration : Declaration → List B
+  of_declaration x = f x.what
+
+  none_mapped : {X : Type 0} (g : X → Declaration) → ((x : X) → f (g x).what ≡ []) → (xs : List X) → given_by f (map g xs) ≡ []
+  none_mapped g h [] = refl
+  none_mapped g h (x ∷ xs) = λ i. h x i ++ none_mapped g h xs i
+
+  none_given : ((x : Declared) → Fits IsAny x → f x ≡ []) → (ds : List Declaration) → Every (IsFit IsAny) ds → given_by f ds ≡ []
+  none_given quiet [] h = refl
+  none_given quiet (x ∷ ds) h = λ i. quiet x.what h.0 i ++ none_given quiet ds h.1 i
+
+  -- what gives nothing of parameters and local variables
+  module _ (parameters : (name : NameBytes) (n : ℕ) → f (d.Parameter name n) ≡ []) (locals : (name : NameBytes) (n : ℕ) (mode : Mode) → f (d.Local name n mode) ≡ []) where
+    head_given : (line : Line) (n : ℕ) (k : tree.SectionKindTree) → given_by f (said.in_head line n k) ≡ f (head_of n k)
+    head_given line n tree.main = append-nil (f d.Main)
+    head_given line n (tree.routine name given yielding) =
+        let of = said.parameter line n in
+        ap (λ l. f (head_of n (tree.routine name given yielding)) ++ l)
+        (flat_map-append of_declaration (map of given) (map of yielding) ∙ (λ i. none_mapped of (λ x. parameters x n) given i ++ none_mapped of (λ x. parameters x n) yielding i))
+        ∙ append-nil (f (head_of n (tree.routine name given yielding)))
+    head_given line n (tree.event name given saving) =
+        ap (λ l. f (head_of n (tree.event name given saving)) ++ l) (none_mapped (said.parameter line n) (λ x. parameters x n) given)
+        ∙ append-nil (f (head_of n (tree.event name given saving)))
+
+    definitions_given : (n : ℕ) (ds : List tree.DefinitionTree) → given_by f (flat_map (said.in_definition n) ds) ≡ []
+    definitions_given n [] = refl
+    definitions_given n (x ∷ ds) =
+        flat_map-append of_declaration (said.in_definition n x) (flat_map (said.in_definition n) ds)
+        ∙ (λ i. none_mapped (said.local x.line n x.mode) (λ name. locals name n x.mode) x.names i ++ definitions_given n ds i)
+
+    section_given : (n : ℕ) (s : tree.SectionTree) → given_by f (said.in_section n s) ≡ f (head_of n s.kind)
+    section_given n s =
+        flat_map-append of_declaration (said.in_head s.line n s.kind) (flat_map (said.in_definition n) s.definitions)
+        ∙ (λ i. head_given s.line n s.kind i ++ definitions_given n s.definitions i)
+        ∙ append-nil (f (head_of n s.kind))
+
+    pub sections_given : (n : ℕ) (ss : List tree.SectionTree) → given_by f (flat_map_from said.in_section n ss) ≡ flat_map_from (λ m s. f (head_of m s.kind)) n ss
+    sections_given n [] = refl
+    sections_given n (s ∷ ss) =
+        flat_map-append of_declaration (said.in_section n s) (flat_map_from said.in_section (n + 1) ss) ∙ (λ i. section_given n s i ++ sections_given (n + 1) ss i)
+
+  -- what gives something of sections alone
+  pub of_sections : ((x : Declared) → Fits IsAny x → f x ≡ []) → (p : tree.ProgramTree) → given_by f (declarations p) ≡ flat_map_from (λ m s. f (head_of m s.kind)) 0 p.sections
+  of_sections quiet p =
+      let before = flat_map_from said.in_statement 0 p.preamble in
+      flat_map-append of_declaration before (flat_map_from said.in_section 0 p.sections)
+      ∙ (λ i. none_given quiet before (preamble_fits IsAny p.preamble (λ j s e. any_fits s)) i
+      ++ sections_given (λ name n. quiet (d.Parameter name n) tt) (λ name n mode. quiet (d.Local name n mode) tt) 0 p.sections i)
+
+-- what holds of all that sections declare
+pub every_declared : {B : Type 0} (P : B → Type 0) (f : Declared → List B) → ((x : Declared) → Fits IsAny x → f x ≡ []) → (p : tree.ProgramTree) →
+    ((n : ℕ) (s : tree.SectionTree) → slice_get p.sections n ≡ Some s → Every P (f (head_of n s.kind))) → Every P (given_by f (declarations p))
+every_declared P f quiet p h =
+    subst (Every P) (sym (of_sections f quiet p))
+    (every_numbered P (λ n s. f (head_of n s.kind)) 0 p.sections (λ i s e. h (0 + i) s (let same : 0 + i ≡ i = omega arith in ap (slice_get p.sections) same ∙ e)))
+
+pub routines_quiet : (x : Declared) → Fits IsAny x → routine_by x ≡ []
+routines_quiet (d.Routine name section given yielding) h = absurd h
+routines_quiet _ h = refl
+
+pub events_quiet : (x : Declared) → Fits IsAny x → event_by x ≡ []
+events_quiet (d.Event name section given saving) h = absurd h
+events_quiet _ h = refl
+
+-- what holds of all classes of the preamble
+module _ (P : NameBytes → ClassKind → Type 0) where
+  abbrev Holds : NameBytes × ClassKind → Type 0
+  Holds e = P e.0 e.1
+
+  class_fits : (x : Declared) → Fits P x → Every Holds (class_by x)
+  class_fits (d.Class name kind) h = (h, tt)
+  class_fits _ h = tt
+
+  classes_fit : (ds : List Declaration) → Every (IsFit P) ds → Every Holds (given_by class_by ds)
+  classes_fit [] h = tt
+  classes_fit (x ∷ ds) h = every_append Holds (class_by x.what) (given_by class_by ds) (class_fits x.what h.0) (classes_fit ds h.1)
+
+  no_class : (n : ℕ) (k : tree.SectionKindTree) → Every Holds (class_by (head_of n k))
+  no_class n tree.main = tt
+  no_class n (tree.routine name given yielding) = tt
+  no_class n (tree.event name given saving) = tt
+
+  pub classes_declared : (p : tree.ProgramTree) → ((i : ℕ) (s : tree.PreambleTree) → slice_get p.preamble i ≡ Some s → ClassesFit P s) → Every Holds (classes (declarations p))
+  classes_declared p h =
+      let before = flat_map_from said.in_statement 0 p.preamble in
+      let after = flat_map_from said.in_section 0 p.sections in
+      let given = sections_given class_by (λ name n. refl) (λ name n mode. refl) 0 p.sections in
+      let sections = every_numbered Holds (λ n s. class_by (head_of n s.kind)) 0 p.sections (λ i s e. no_class (0 + i) s.kind) in
+      every_first Holds [] (given_by class_by (declarations p)) tt
+      (subst (Every Holds) (sym (flat_map-append (λ (x : Declaration). class_by x.what) before after))
+      (every_append Holds (given_by class_by before) (given_by class_by after) (classes_fit before (preamble_fits P p.preamble h)) (subst (Every Holds) (sym given) sections)))
