@@ -5,18 +5,19 @@ use Rattle.ss_program.specs.View.{view_program}
 use Rattle.ss_code.specs.Running.{IsFor}
 use Rattle.ss_code_instructions.specs.Running.{Behaves}
 use Rattle.ss_code_instructions.specs.Translation.{code_of}
+use Rattle.ss_engine.specs.Refusals.{coded, lexed, parsed, used}
 use Rattle.ss_engine.specs.Accepting.{IsTreeOf, IsKeptBy, IsProgramOf, Compiles, IsRefusedWith}
 use Rattle.ss_engine.proofs.Fronts.{lexer_refused, parser_refused, tables_refused, checker_refused, generator_refused, refused_so}
 use Rattle.ss_engine.proofs.compiling.compile.Goals as goal
 
 pub returns-in_err-tokens-clause-refused : goal.returns-in_err-tokens-clause-refused
 returns-in_err-tokens-clause-refused c =
-    refused_so c.args.text.now c.from_residual.result _ c.from_residual.ensures.1
+    refused_so c.args.text.now c.from_residual.result (lexed c.in_err-tokens.field-0.0) c.from_residual.ensures.1
     (lexer_refused c.args.text.now c.in_err-tokens.field-0.0 c.in_err-tokens.ensures.refused)
 
 pub returns-in_err-program-clause-refused : goal.returns-in_err-program-clause-refused
 returns-in_err-program-clause-refused c =
-    refused_so c.args.text.now c.from_residual-in_err-program.result _ c.from_residual-in_err-program.ensures.1
+    refused_so c.args.text.now c.from_residual-in_err-program.result (parsed c.in_err-program.field-0.0) c.from_residual-in_err-program.ensures.1
     (parser_refused c.args.text.now c.in_ok-tokens.tokens.list c.in_ok-tokens.ensures.found c.in_err-program.field-0.0 c.in_err-program.ensures.refused c.in_err-program.ensures.line)
 
 pub returns-in-Err-clause-refused : goal.returns-in-Err-clause-refused
@@ -29,7 +30,7 @@ pub returns-in_err-resolved-clause-refused : goal.returns-in_err-resolved-clause
 returns-in_err-resolved-clause-refused c =
     let tree = tree_seen c.in_ok-program.program in
     let read : IsTreeOf c.args.text.now tree = record { tokens = c.in_ok-tokens.tokens.list; are = c.in_ok-tokens.ensures.found; spelled = c.in_ok-program.ensures.found } in
-    refused_so c.args.text.now c.from_residual-in_err-resolved.result _ c.from_residual-in_err-resolved.ensures.1
+    refused_so c.args.text.now c.from_residual-in_err-resolved.result (used c.in_err-resolved.field-0.0) c.from_residual-in_err-resolved.ensures.1
     (checker_refused c.args.text.now tree read c.in-Ok.ensures.made.kept c.in_err-resolved.field-0.0 c.in_err-resolved.ensures.refused)
 
 pub returns-in_err-code-clause-refused : goal.returns-in_err-code-clause-refused
@@ -40,7 +41,7 @@ returns-in_err-code-clause-refused c =
     let becomes = c.in_ok-resolved.ensures.checked in
     let keeps : IsKeptBy c.args.text.now tree = record { read = read; declared = c.in-Ok.ensures.made.kept; kept = becomes.kept } in
     let meant : IsProgramOf c.args.text.now p = record { tree = tree; keeps = keeps; resolved = becomes.resolved } in
-    refused_so c.args.text.now c.from_residual-in_err-code.result _ c.from_residual-in_err-code.ensures.1
+    refused_so c.args.text.now c.from_residual-in_err-code.result (coded c.in_err-code.field-0.0) c.from_residual-in_err-code.ensures.1
     (generator_refused c.args.text.now p meant c.in_ok-resolved.ensures.nodes c.in_err-code.field-0.0
     (λ small e. c.generate-made.ensures.small small (c.in_err-code.was ∙ ap Err e))
     (λ e. c.generate-made.ensures.too_long (c.in_err-code.was ∙ ap Err e))
