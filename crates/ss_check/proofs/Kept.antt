@@ -9,7 +9,6 @@ use Rattle.ss_names.specs.Table.{Table, table}
 use Rattle.ss_names_scopes.specs.Locals.{Moded, locals_of}
 use Rattle.ss_program.specs.declared.sections.Program.{Program as ProgramValue}
 use Rattle.ss_program.specs.Nodes.{nodes}
-use Rattle.ss_program.specs.Program.{Program}
 use Rattle.ss_program.specs.View.{view_option, view_program}
 use Rattle.ss_program.specs.WellTyped.{WellTyped}
 use Rattle.ss_names_meaning.specs.Resolved.{resolved, resolved_with_locals}
