@@ -1,5 +1,4 @@
--- The resolved form of a program that breaks no rule. Two laws are taken as given: that there is one and it is well typed, and
--- that it has no more nodes than the tree.
+-- The resolved form of a program that breaks no rule.
 use Rattle.std.proofs.Common.{◌≡◌, ◌≤◌, List, map, Option, Some, None, sym, ap, subst, ◌∙◌}
 use Rattle.ss_tree.specs.Nodes.{nodes as tree_nodes}
 use Rattle.ss_tree.specs.Tree.{ProgramTree}
@@ -10,32 +9,17 @@ use Rattle.ss_names.specs.Table.{Table, table}
 use Rattle.ss_names_scopes.specs.Locals.{Moded, locals_of}
 use Rattle.ss_program.specs.declared.sections.Program.{Program as ProgramValue}
 use Rattle.ss_program.specs.Nodes.{nodes}
-use Rattle.ss_program.specs.Program.{Program}
 use Rattle.ss_program.specs.View.{view_option, view_program}
 use Rattle.ss_program.specs.WellTyped.{WellTyped}
 use Rattle.ss_names_meaning.specs.Resolved.{resolved, resolved_with_locals}
+use Rattle.ss_check_laws.specs.ProgramLaws.{ProgramsResolve}
+use Rattle.ss_check_laws.specs.SizeLaws.{ProgramsStaySmall}
 use Rattle.ss_check.specs.Checking.{Becomes, ReportsCheckError, program_of, refusal_of}
-
--- a program that breaks no rule has a resolved form, which is well typed
-abbrev pub ProgramsResolve : Type 0
-ProgramsResolve = (p : ProgramTree) → declared_refusal p ≡ None → refusal_of p ≡ None → (x : Program) × (program_of p ≡ Some x) × WellTyped x
-
--- a resolved program has no more nodes than its tree
-abbrev pub ProgramsStaySmall : Type 0
-ProgramsStaySmall = (p : ProgramTree) (r : Program) → program_of p ≡ Some r → nodes r ≤ tree_nodes p
 
 -- a breach that is found is reported
 pub reports : (e : CheckError) (found : Option CheckError) → found ≡ Some e → ReportsCheckError e found
-reports (errors.NoMain line) found h = h
-reports (errors.NoEventRoutine line) found h = h
-reports (errors.StartPlace line) found h = h
-reports (errors.Unknown line) found h = h
-reports (errors.Subscript line) found h = h
-reports (errors.NotAssignable line) found h = h
-reports (errors.Arguments line) found h = h
-reports (errors.Mode line) found h = h
-reports (errors.Fields line) found h = h
 reports errors.Memory found h = tt
+reports e found h = h
 
 -- resolving by the table and the local variables that were found is resolving by the tree
 pub found_so : (t : Table) (p : ProgramTree) (locals : List Moded) (found : Option ProgramValue) → locals ≡ map (locals_of t) p.sections → t ≡ table p →

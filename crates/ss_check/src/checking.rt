@@ -12,6 +12,8 @@ ghost use Rattle.ss_program.specs.View.{view_program as program_seen};
 ghost use Rattle.ss_tables.specs.Tables.{AreTablesOf};
 ghost use Rattle.ss_check.specs.Checking.{Becomes, ReportsCheckError, refusal_of};
 
+use ss_check_laws::program_laws::programs_resolve;
+use ss_check_laws::size_laws::laws_of_sizes;
 use ss_check_programs::resolve;
 use ss_check_rules::{CheckError, judge};
 use ss_names::Names;
@@ -44,6 +46,8 @@ fn checked(alloc: Global, program: &Program, names: &Names) -> Result<Checked, C
     ensures nodes { IfOk result (λ c. nodes (program_seen (program_in c)) ≤ tree_nodes (view_program program.now)) }
     ensures refused { IfErr result (λ e. ReportsCheckError e (refusal_of (view_program program.now))) }
 {
+    programs_resolve();
+    laws_of_sizes();
     let locals = keep_rules(alloc, program, names)?;
     match resolve(alloc, program, names, &locals)? {
         Some(resolved) => Ok(Checked::new(resolved)),

@@ -4,5 +4,6 @@
 mod checking;
 
 pub use checking::check;
+pub use ss_check_laws::program_laws::programs_resolve;
 pub use ss_check_rules::CheckError;
 pub use ss_program::checked::Checked;

@@ -1,5 +1,5 @@
 -- Loops around what a FOR goes over, with its phrases.
-use Rattle.std.proofs.Common.{◌≡◌, Option, Some, None, refl, ap}
+use Rattle.std.proofs.Common.{◌≡◌, Option, Some, None, ap}
 use Rattle.std.specs.Global.{Vec}
 use Rattle.ss_base.specs.declared.line.Line.{Line}
 use Rattle.ss_tree.specs.Tree.{HeadTree}
@@ -7,11 +7,8 @@ use Rattle.ss_program.specs.declared.head.Head.{Head as HeadMade}
 use Rattle.ss_program.specs.declared.head.Phrase.{Phrase as PhraseMade}
 use Rattle.ss_program.specs.declared.statement.Statement.{Statement as Made}
 use Rattle.ss_program.specs.declared.statement.Statement.TheVariants as made
-use Rattle.ss_program.specs.Program.{Block, Find, For}
 use Rattle.ss_program.specs.View.{view_body, view_statement as view_made}
-use Rattle.ss_names_meaning.specs.declared.error.ResolveError.{ResolveError}
-use Rattle.ss_names_meaning.specs.declared.error.ResolveError.TheVariants.{Memory, Unresolved}
-use Rattle.ss_names_meaning.specs.Answers.{◌>>=◌, each, Fails}
+use Rattle.ss_names_meaning.specs.Answers.{◌>>=◌, each}
 use Rattle.ss_names_scopes.specs.Scopes.{Scope}
 use Rattle.ss_names_meaning.specs.Heads.{head, resolved_phrase, phrases_of}
 use Rattle.ss_check_bodies.specs.Results.{resolved_over, over_seen}
@@ -34,29 +31,14 @@ pair_found None s p q h = absurd cc
 pair_found (Some x) None p q h = absurd cc
 pair_found (Some x) (Some y) p q h = (ap first_of h, ap second_of h)
 
-pair_none : {A B C : Type 0} (r : Option A) (s : Option B) (f : A → B → Option C) → pair_of r s ≡ None → (r >>= λ x. s >>= λ y. f x y) ≡ None
-pair_none None s f h = refl
-pair_none (Some x) None f h = refl
-pair_none (Some x) (Some y) f h = absurd cc
-
-pair_fails : {A B C : Type 0} (r : Option A) (s : Option B) (f : A → B → Option C) (e : ResolveError) → Fails e (pair_of r s) → Fails e (r >>= λ x. s >>= λ y. f x y)
-pair_fails r s f Memory h = tt
-pair_fails r s f Unresolved h = pair_none r s f h
-
 pub for_given : (c : Scope) (line : Line) (t : HeadTree) (h : HeadMade) (ps : Vec PhraseMade) (a : Vec Made) →
     resolved_over c t ≡ Some (over_seen (h, ps)) → for_over line c t (view_body a.items) ≡ Some (view_made (made.For line h ps a))
 for_given c line t h ps a e =
     let found = pair_found (head c t) (each (resolved_phrase c) (phrases_of t)) _ _ e in
     for_made c line t h ps a found.0 found.1
 
-pub for_fails : (c : Scope) (line : Line) (t : HeadTree) (a : Block) (e : ResolveError) → Fails e (resolved_over c t) → Fails e (for_over line c t a)
-for_fails c line t a e h = pair_fails (head c t) (each (resolved_phrase c) (phrases_of t)) (λ x y. Some (For line x y a)) e h
-
 pub find_given : (c : Scope) (line : Line) (t : HeadTree) (h : HeadMade) (ps : Vec PhraseMade) (a b : Vec Made) →
     resolved_over c t ≡ Some (over_seen (h, ps)) → find line c t (view_body a.items) (view_body b.items) ≡ Some (view_made (made.Find line h ps a b))
 find_given c line t h ps a b e =
     let found = pair_found (head c t) (each (resolved_phrase c) (phrases_of t)) _ _ e in
     find_made c line t h ps a b found.0 found.1
-
-pub find_fails : (c : Scope) (line : Line) (t : HeadTree) (a b : Block) (e : ResolveError) → Fails e (resolved_over c t) → Fails e (find line c t a b)
-find_fails c line t a b e h = pair_fails (head c t) (each (resolved_phrase c) (phrases_of t)) (λ x y. Some (Find line x y a b)) e h

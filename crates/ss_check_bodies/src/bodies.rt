@@ -86,7 +86,27 @@ impl Resolver<'_> {
                 let first = self.resolve_body(body)?;
                 self.resolve_loop(*line, head, first)
             }
-            _ => self.resolve_simple(tree),
+            Statement::Let { .. }
+            | Statement::Add { .. }
+            | Statement::Subtract { .. }
+            | Statement::Call { .. }
+            | Statement::Return { .. }
+            | Statement::Stop { .. }
+            | Statement::Read { .. }
+            | Statement::StartSimulation { .. }
+            | Statement::Find { .. }
+            | Statement::Create { .. }
+            | Statement::CreateEvery { .. }
+            | Statement::Destroy { .. }
+            | Statement::File { .. }
+            | Statement::RemoveEnd { .. }
+            | Statement::Remove { .. }
+            | Statement::ScheduleNew { .. }
+            | Statement::Schedule { .. }
+            | Statement::Cancel { .. }
+            | Statement::Reset { .. }
+            | Statement::Print { .. }
+            | Statement::Skip { .. } => self.resolve_simple(tree),
         }
     }
 

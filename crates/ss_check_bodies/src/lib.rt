@@ -4,7 +4,6 @@
 mod bodies;
 mod classes;
 mod conditions;
-mod entities;
 mod expressions;
 mod heads;
 mod items;

@@ -1,11 +1,11 @@
-//! Targets and sets with their names resolved.
+//! Targets, sets and statistics with their names resolved.
 
 ghost use Rattle.std.specs.Prelude.{◌≡◌, map, None};
-ghost use Rattle.ss_tree.specs.View.{view_expression, view_named, view_option};
-ghost use Rattle.ss_program.specs.View.{view_expression as view_resolved, view_option as option_seen, view_owner, view_place, view_restart, view_target};
+ghost use Rattle.ss_tree.specs.View.{view_expression, view_named, view_option, view_position};
+ghost use Rattle.ss_program.specs.View.{view_expression as view_resolved, view_option as option_seen, view_owner, view_place, view_position as position_seen, view_restart, view_target};
 ghost use Rattle.ss_names_meaning.specs.Answers.{Gives, each};
 ghost use Rattle.ss_names_meaning.specs.Expressions.{owner_named, place_of, set_named, set_number, set_of_name, target};
-ghost use Rattle.ss_names_meaning.specs.Statements.{entity_called, history_of, new_place, reader, restart};
+ghost use Rattle.ss_names_meaning.specs.Statements.{entity_called, history_of, new_place, position, reader, restart};
 ghost use Rattle.ss_check_bodies.specs.Results.{scope_in};
 
 use crate::resolver::Resolver;
@@ -14,8 +14,9 @@ use ss_names::Meaning;
 use ss_names_meaning::ResolveError;
 use ss_names_scopes::mode_of;
 use ss_program::expression::{Expression as Resolved, SetOwner, Variable};
-use ss_program::statement::{Place, Restart, Target};
+use ss_program::statement::{Place, Position as ResolvedPosition, Restart, Target};
 use ss_tree::expression::{Designator, Expression, Named};
+use ss_tree::statement::Position;
 
 // The target that is of no entity.
 fn place_alone(meaning: Meaning) -> Result<Place, ResolveError>
@@ -159,6 +160,25 @@ impl Resolver<'_> {
         let subscript = self.resolve_subscript(&tree.subscripts)?;
         let entity = self.entity_of(Meaning::Set { set }, subscript)?;
         Ok((set, owner_named(entity)))
+    }
+
+    /// Where a member is filed.
+    pub(crate) fn resolve_position(&self, tree: &Position) -> Result<ResolvedPosition, ResolveError>
+        ensures { Gives position_seen result (position (scope_in self.now) (view_position tree.now)) }
+    {
+        match tree {
+            Position::Discipline => Ok(ResolvedPosition::ByDiscipline),
+            Position::First => Ok(ResolvedPosition::AsFirst),
+            Position::Last => Ok(ResolvedPosition::AsLast),
+            Position::Before(member) => {
+                let member = self.resolve_expression(member)?;
+                Ok(ResolvedPosition::BeforeMember { member })
+            }
+            Position::After(member) => {
+                let member = self.resolve_expression(member)?;
+                Ok(ResolvedPosition::AfterMember { member })
+            }
+        }
     }
 
     // ---- statistics

@@ -7,12 +7,14 @@ ghost use Rattle.ss_names_meaning.specs.Answers.{Gives};
 ghost use Rattle.ss_names_meaning.specs.Statements.{call_of, routine_named, routine_number, simple_statement};
 ghost use Rattle.ss_check_bodies.specs.Results.{scope_in};
 
+use crate::notices::{new_notice, old_notice};
 use crate::resolver::Resolver;
 use crate::results::beside;
 use ss_base::{Line, Name, PictureLine, Sign};
 use ss_names::{Meaning, RoutineSection};
 use ss_names_declarations::value_at;
 use ss_names_meaning::ResolveError;
+use ss_names_uses::ClassNeed;
 use ss_program::expression::Expression as Value;
 use ss_program::statement::{Place, Statement as Resolved};
 use ss_tree::statement::Statement;
@@ -159,6 +161,128 @@ impl Resolver<'_> {
                 let count = self.resolve_expression(count)?;
                 Ok(Resolved::Skip { line: *line, count })
             }
+            Statement::Create {
+                line,
+                class,
+                called,
+            } => {
+                let class = self.class_named(ClassNeed::Single, class)?;
+                let into = self.resolve_new_place(class.variable, called)?;
+                Ok(Resolved::Create {
+                    line: *line,
+                    class: class.class,
+                    into,
+                })
+            }
+            Statement::CreateEvery { line, classes } => {
+                let counted = self.all_counted(classes)?;
+                Ok(Resolved::CreateEvery {
+                    line: *line,
+                    classes: counted,
+                })
+            }
+            Statement::Destroy {
+                line,
+                class,
+                called,
+            } => {
+                let class = self.class_named(ClassNeed::Single, class)?;
+                let entity = self.resolve_entity_called(class.variable, called)?;
+                Ok(Resolved::Destroy {
+                    line: *line,
+                    class: class.class,
+                    entity,
+                })
+            }
+            Statement::File {
+                line,
+                member,
+                position,
+                set,
+            } => {
+                let member = self.resolve_expression(member)?;
+                let filed = beside(member, self.resolve_position(position))?;
+                let ((member, position), (set, owner)) = beside(filed, self.resolve_set(set))?;
+                Ok(Resolved::File {
+                    line: *line,
+                    set,
+                    member,
+                    position,
+                    owner,
+                })
+            }
+            Statement::RemoveEnd {
+                line,
+                end,
+                target,
+                set,
+            } => {
+                let into = self.resolve_target(target)?;
+                let (into, (set, owner)) = beside(into, self.resolve_set(set))?;
+                Ok(Resolved::RemoveEnd {
+                    line: *line,
+                    end: *end,
+                    set,
+                    into,
+                    owner,
+                })
+            }
+            Statement::Remove { line, member, set } => {
+                let member = self.resolve_expression(member)?;
+                let (member, (set, owner)) = beside(member, self.resolve_set(set))?;
+                Ok(Resolved::Remove {
+                    line: *line,
+                    set,
+                    member,
+                    owner,
+                })
+            }
+            Statement::ScheduleNew {
+                line,
+                class,
+                called,
+                given,
+                when,
+            } => {
+                let class = self.class_named(ClassNeed::Notice, class)?;
+                let into = self.resolve_new_place(class.variable, called)?;
+                let with = beside(into, self.resolve_all(given))?;
+                let ((into, given), when) = beside(with, self.resolve_when(when))?;
+                new_notice(*line, class, into, given, when)
+            }
+            Statement::Schedule {
+                line,
+                class,
+                called,
+                given,
+                when,
+            } => {
+                let class = self.class_named(ClassNeed::Notice, class)?;
+                let notice = self.resolve_entity_called(class.variable, called)?;
+                let with = beside(notice, self.resolve_all(given))?;
+                let ((notice, given), when) = beside(with, self.resolve_when(when))?;
+                old_notice(*line, class, notice, given, when)
+            }
+            Statement::Cancel {
+                line,
+                class,
+                called,
+            } => {
+                let class = self.class_named(ClassNeed::Notice, class)?;
+                let notice = self.resolve_entity_called(class.variable, called)?;
+                Ok(Resolved::Cancel {
+                    line: *line,
+                    class: class.class,
+                    notice,
+                })
+            }
+            Statement::Reset { line, targets } => {
+                let restarts = self.resolve_restarts(targets)?;
+                Ok(Resolved::Reset {
+                    line: *line,
+                    restarts,
+                })
+            }
             Statement::Find { line, head } => {
                 let found = Vec::new(self.alloc);
                 let none = Vec::new(self.alloc);
@@ -167,7 +291,9 @@ impl Resolver<'_> {
             Statement::Return { .. } => Ok(Resolved::Return),
             Statement::Stop { .. } => Ok(Resolved::Stop),
             Statement::StartSimulation { .. } => Ok(Resolved::Simulate),
-            _ => self.resolve_on_entities(tree),
+            Statement::If { .. } | Statement::Loop { .. } | Statement::FindIf { .. } => Err(
+                ResolveError::Unresolved,
+            ),
         }
     }
 }

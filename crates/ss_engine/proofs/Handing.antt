@@ -43,9 +43,6 @@ all_used s n u v t e h g = omega (arith, e, h, g)
 pub used_since : (u v : ℕ) → u ≤ v → u + (v - u) ≡ v
 used_since u v h = omega (arith, h)
 
-pub made_since : (a b c : ℕ) → a ≤ b → b ≤ c → (b - a) + (c - b) ≡ c - a
-made_since a b c h g = omega (arith, h, g)
-
 -- one piece more
 pub piece_more : (pieces : List ℕ) (ticks : ℕ) → sum (pieces ++ ticks ∷ []) ≡ sum pieces + ticks
 piece_more pieces ticks =

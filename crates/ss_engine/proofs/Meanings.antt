@@ -7,7 +7,7 @@ use Rattle.ss_parse.specs.SpelledPrograms.{Spell}
 use Rattle.ss_program.specs.Program.{Program}
 use Rattle.ss_program.specs.WellTyped.{WellTyped}
 use Rattle.ss_check.specs.Checking.{program_of}
-use Rattle.ss_check.specs.ProgramLaws.{KeptProgramsResolve}
+use Rattle.ss_check.specs.ProgramLaws.{ProgramsResolve}
 use Rattle.ss_meaning.specs.Laws.{NeverWrong}
 use Rattle.ss_meaning.specs.Meaning.{Paused, Run, WentWrong, meaning}
 use Rattle.ss_code_instructions.specs.Laws.{EndingsStay, Grows, Prefixes}
@@ -31,12 +31,12 @@ pub one_meaning : OneProgram → OneMeaning
 one_meaning one text input n run other a b =
     sym a.is_run ∙ ap (λ p. meaning p input n) (one text a.program b.program a.is_program b.is_program) ∙ b.is_run
 
-pub each_has_one : KeptProgramsResolve → EachHasOne
+pub each_has_one : ProgramsResolve → EachHasOne
 each_has_one resolves text (tree, keeps) input n =
     let r = resolves tree keeps.declared keeps.kept in
     (meaning r.0 input n, record { program = r.0; is_program = record { tree = tree; keeps = keeps; resolved = r.1 }; is_run = refl })
 
-pub programs_are_typed : KeptProgramsResolve → ProgramsAreTyped
+pub programs_are_typed : ProgramsResolve → ProgramsAreTyped
 programs_are_typed resolves text p m =
     let r = resolves m.tree m.keeps.declared m.keeps.kept in
     subst WellTyped (same_program r.0 p (sym r.1 ∙ m.resolved)) r.2

@@ -50,10 +50,6 @@ kept_stop Output = refl
 kept_stop Input = refl
 kept_stop Failed = refl
 
-pub right_stop : (o : Option Stop) → (o ≡ Some Failed → ⊥) → last_stop o ≡ Failed → ⊥
-right_stop None right e = absurd cc
-right_stop (Some stop) right e = right (ap Some e)
-
 pub stopped_by : (o : Option Stop) (stop : Stop) → stop ≢ Paused → last_stop o ≡ stop → o ≡ Some stop
 stopped_by None stop other e = absurd (other (sym e))
 stopped_by (Some kept) stop other e = ap Some e

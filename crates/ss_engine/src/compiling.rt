@@ -91,11 +91,12 @@ pub fn compile(alloc: Global, text: &[u8]) -> Result<Model, Refusal>
         Ok(tables) => tables,
         Err(error) => {
             release_tree(program);
-            return Err(error.into());
+            return Err(Refusal::from(error));
         }
     };
     let resolved = check(alloc, program, tables)?;
-    let code = generate(alloc, &resolved);
+    let made = generate(alloc, &resolved);
     release_checked(resolved);
-    Ok(Model::new(code?))
+    let code = made?;
+    Ok(Model::new(code))
 }

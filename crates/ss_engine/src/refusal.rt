@@ -1,7 +1,7 @@
 //! Why a text is refused.
 
 ghost use Rattle.std.specs.Prelude.{◌≡◌};
-ghost use Rattle.ss_engine.specs.Refusals.{refusal_line, refusal_name, refusal_number, words_of_checker, words_of_lexer, words_of_parser, words_of_refusal, words_of_tables};
+ghost use Rattle.ss_engine.specs.Refusals.{refusal_line, refusal_name, refusal_number, words_of_checker, words_of_refusal, words_of_tables};
 
 use ss_check::CheckError;
 use ss_lex::LexError;
@@ -25,36 +25,9 @@ pub enum Refusal {
     Memory,
 }
 
-// The number, the name and the line of what the lexer refuses.
-fn words_of_lexer(error: &LexError) -> (u32, &str, u32)
-    ensures { (result.0, result.1.now, result.2) ≡ words_of_lexer error.now }
-{
-    match error {
-        LexError::TooLong(line) => (31, "TooLong", line.0),
-        LexError::NotAscii(line) => (32, "NotAscii", line.0),
-        LexError::BadNumber(line) => (33, "BadNumber", line.0),
-        LexError::OpenText(line) => (34, "OpenText", line.0),
-        LexError::AlphaTooLong(line) => (35, "AlphaTooLong", line.0),
-        LexError::PictureCut(line) => (36, "PictureCut", line.0),
-        LexError::NameTooLong(line) => (37, "NameTooLong", line.0),
-        LexError::Memory => (0, "Memory", 0),
-    }
-}
-
-// The number, the name and the line of what the parser refuses.
-fn words_of_parser(error: &ParseError) -> (u32, &str, u32)
-    ensures { (result.0, result.1.now, result.2) ≡ words_of_parser error.now }
-{
-    match error {
-        ParseError::Syntax(line) => (41, "Syntax", line.0),
-        ParseError::TooDeep(line) => (42, "TooDeep", line.0),
-        ParseError::Memory => (0, "Memory", 0),
-    }
-}
-
 // The number, the name and the line of what is declared.
 fn words_of_tables(error: &TableError) -> (u32, &str, u32)
-    ensures { (result.0, result.1.now, result.2) ≡ words_of_tables error.now }
+    ensures { words_of_tables error.now ≡ (result.0, result.1.now, result.2) }
 {
     match error {
         TableError::Twice(line) => (51, "Twice", line.0),
@@ -73,7 +46,7 @@ fn words_of_tables(error: &TableError) -> (u32, &str, u32)
 
 // The number, the name and the line of what is done with names.
 fn words_of_checker(error: &CheckError) -> (u32, &str, u32)
-    ensures { (result.0, result.1.now, result.2) ≡ words_of_checker error.now }
+    ensures { words_of_checker error.now ≡ (result.0, result.1.now, result.2) }
 {
     match error {
         CheckError::NoMain(line) => (71, "NoMain", line.0),
@@ -92,11 +65,11 @@ fn words_of_checker(error: &CheckError) -> (u32, &str, u32)
 impl Refusal {
     // The number, the name and the line.
     fn words(&self) -> (u32, &str, u32)
-        ensures { (result.0, result.1.now, result.2) ≡ words_of_refusal self.now }
+        ensures { words_of_refusal self.now ≡ (result.0, result.1.now, result.2) }
     {
         match self {
-            Refusal::Lexed(error) => words_of_lexer(error),
-            Refusal::Parsed(error) => words_of_parser(error),
+            Refusal::Lexed(error) => (error.number(), error.name(), error.line().0),
+            Refusal::Parsed(error) => (error.number(), error.name(), error.line().0),
             Refusal::Declared(error) => words_of_tables(error),
             Refusal::Used(error) => words_of_checker(error),
             Refusal::CodeTooLong => (81, "CodeTooLong", 0),

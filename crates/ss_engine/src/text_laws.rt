@@ -2,6 +2,7 @@
 
 ghost use Rattle.ss_engine.specs.Laws.{EachHasOne, TextEndingsStay, NeverGoesWrong, OneMeaning, OneProgram, ProgramsAreTyped, ReportsGrow};
 
+use ss_check::programs_resolve;
 use ss_code_instructions::laws::laws_of_pieces;
 use ss_lex::one_list;
 use ss_meaning::laws::laws as laws_of_types;
@@ -18,6 +19,7 @@ pub fn laws()
 {
     one_list();
     one_tree();
+    programs_resolve();
     laws_of_types();
 }
 

@@ -7,22 +7,16 @@ use Rattle.ss_names_declarations.specs.Declarations.{declarations}
 use Rattle.ss_tables_rules.specs.Broken.{refusal_of_declarations}
 use Rattle.ss_tables_rules.specs.declared.error.TableError.{TableError}
 use Rattle.ss_tables_rules.specs.declared.error.TableError.TheVariants as errors
+use Rattle.ss_base.specs.Plain.{PlainLayout}
 use Rattle.ss_names.specs.Table.{Table, declared}
+use Rattle.ss_names_meaning.specs.Layouts.{layout}
+use Rattle.ss_names_laws.specs.Laws.{LayoutsAreThere}
 use Rattle.ss_tables.specs.Tables.{AreTablesOf, NamesUnless, ReportsTableError}
 
 -- a breach that is found is reported
 reports : (e : TableError) (found : Option TableError) → found ≡ Some e → ReportsTableError e found
-reports (errors.Twice line) found h = h
-reports (errors.RealMode line) found h = h
-reports (errors.UnknownClass line) found h = h
-reports (errors.UnknownSet line) found h = h
-reports (errors.NoOwner line) found h = h
-reports (errors.NoMember line) found h = h
-reports (errors.RankKey line) found h = h
-reports (errors.TallyTwice line) found h = h
-reports (errors.TooMany line) found h = h
-reports (errors.TieKey line) found h = h
 reports errors.Memory found h = tt
+reports e found h = h
 
 pub unless_refused : {E : Type 0} (names : Table) (b : Result (Option TableError) E) (wanted : Option TableError) (r : Result Table TableError) →
     NamesUnless names b r → IfOk b (λ found. found ≡ wanted) → IfErr r (λ e. ReportsTableError e wanted)
@@ -38,3 +32,10 @@ unless_made p ds names (Ok None) r d e h k =
     subst (λ z. IfOk z (λ made. AreTablesOf p made)) (sym h) tables
 unless_made p ds names (Ok (Some error)) r d e h k = subst (λ z. IfOk z (λ made. AreTablesOf p made)) (sym h) tt
 unless_made p ds names (Err error) r d e h k = subst (λ z. IfOk z (λ made. AreTablesOf p made)) (sym h) tt
+
+-- the tables have a layout
+pub layout_there : LayoutsAreThere → (p : ProgramTree) (t : Table) → AreTablesOf p t → (found : Option PlainLayout) → found ≡ layout t → found ≡ None → ⊥
+layout_there law p t a found h none =
+    let known = law p a.kept in
+    let same : None ≡ Some known.0 = sym none ∙ h ∙ ap layout a.is_of_program ∙ known.1 in
+    cc

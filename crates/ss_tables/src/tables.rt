@@ -13,6 +13,7 @@ ghost use Rattle.ss_tables.specs.Tables.{AreTablesOf, NamesUnless, ReportsTableE
 use ss_base::Layout;
 use ss_names::{NameId, Names};
 use ss_names_declarations::{Declaration, declarations_of};
+use ss_names_laws::table_laws::laws_of_tables;
 use ss_names_meaning::layout;
 use ss_tables_rules::{TableError, refusal_of, seed_of};
 use ss_tree::program::Program;
@@ -122,6 +123,7 @@ impl Tables {
     pub fn layout(&self, alloc: Global) -> Result<Layout, AllocError>
         ensures { IfOk result (λ laid. layout self.now ≡ Some laid) }
     {
+        laws_of_tables();
         match layout(alloc, &self.names)? {
             Some(laid) => Ok(laid),
             None => unreachable!(),

@@ -1,8 +1,8 @@
 //! The simulator, by the names of ss_engine alone.
 
 use ss_engine::{
-    Counted, FaultKind, Faulty, FaultyRead, FaultyWrite, Line, MemoryRead, MemoryWrite, Model,
-    Outcome, Plan, Refusal, Session, Stop, WriteFailure, compile, outcome_line, outcome_status,
+    CheckError, Counted, FaultKind, Faulty, FaultyRead, FaultyWrite, Line, MemoryRead, MemoryWrite,
+    Model, Outcome, Plan, Refusal, Session, Stop, WriteFailure, compile, outcome_line, outcome_status,
     simulate,
 };
 use std::alloc::{AllocError, Global};
@@ -59,7 +59,7 @@ fn a_fault_has_its_line(rt: HostRuntime) -> Result<(), Fail> {
 
 #[test]
 fn a_text_is_refused(rt: HostRuntime) -> Result<(), Fail> {
-    let refused = Outcome::Refused(Refusal::NoMain(Line(0)));
+    let refused = Outcome::Refused(Refusal::Used(CheckError::NoMain(Line(0))));
     let line = outcome_line(rt.alloc(), &refused)?;
     assert_eq!(rt;
         line.as_slice(),

@@ -2,12 +2,30 @@ use Rattle.std.proofs.Common.{refl, ◌∙◌}
 use Rattle.ss_tree.specs.View.{view_program}
 use Rattle.ss_tables.proofs.Refused.{refused_so}
 use Rattle.ss_check.specs.Checking.{ReportsCheckError}
-use Rattle.ss_check.proofs.Kept.{becomes, found_so}
+use Rattle.ss_check.proofs.Kept.{becomes, found_so, not_missing, small, typed}
 use Rattle.ss_check.proofs.checking.checked.Goals as goal
 
 pub returns-in_err-locals-clause-refused : goal.returns-in_err-locals-clause-refused
 returns-in_err-locals-clause-refused c =
     refused_so ReportsCheckError c.from_residual.result c.in_err-locals.field-0.0 _ _ c.from_residual.ensures.1 c.in_err-locals.ensures.refused refl
+
+pub new-requires : goal.new-requires
+new-requires c =
+    typed c.programs_resolve.ensures (view_program c.args.program.now) c.in_ok-resolved.field-0 c.in-Some.resolved c.requires.declared c.in_ok-locals.ensures.kept
+    (found_so c.args.names.now (view_program c.args.program.now) c.deref.result.now c.in_ok-resolved.field-0 (c.deref.ensures.value ∙ c.in_ok-locals.ensures.locals) c.requires.names c.in_ok-resolved.ensures)
+    c.in-Some.is
+
+pub unreachable-requires : goal.unreachable-requires
+unreachable-requires c =
+    not_missing c.programs_resolve.ensures (view_program c.args.program.now) c.in_ok-resolved.field-0 c.requires.declared c.in_ok-locals.ensures.kept
+    (found_so c.args.names.now (view_program c.args.program.now) c.deref.result.now c.in_ok-resolved.field-0 (c.deref.ensures.value ∙ c.in_ok-locals.ensures.locals) c.requires.names c.in_ok-resolved.ensures)
+    c.in-None.is
+
+pub returns-clause-nodes : goal.returns-clause-nodes
+returns-clause-nodes c =
+    small c.laws_of_sizes.ensures.programs (view_program c.args.program.now) c.in_ok-resolved.field-0 c.in-Some.resolved _
+    (found_so c.args.names.now (view_program c.args.program.now) c.deref.result.now c.in_ok-resolved.field-0 (c.deref.ensures.value ∙ c.in_ok-locals.ensures.locals) c.requires.names c.in_ok-resolved.ensures)
+    c.in-Some.is c.new.ensures
 
 pub returns-clause-checked : goal.returns-clause-checked
 returns-clause-checked c =

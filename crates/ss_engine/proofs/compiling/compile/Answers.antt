@@ -1,42 +1,60 @@
 use Rattle.std.proofs.Common.{ap, sym, ◌∙◌, Err, subst}
+use Rattle.std.specs.Prelude.{IfOk}
 use Rattle.ss_tree.specs.View.{view_program as tree_seen}
 use Rattle.ss_program.specs.View.{view_program}
+use Rattle.ss_code.specs.Running.{IsFor}
+use Rattle.ss_code_instructions.specs.Running.{Behaves}
+use Rattle.ss_code_instructions.specs.Translation.{code_of}
+use Rattle.ss_engine.specs.Refusals.{coded, lexed, parsed, used}
 use Rattle.ss_engine.specs.Accepting.{IsTreeOf, IsKeptBy, IsProgramOf, Compiles, IsRefusedWith}
-use Rattle.ss_engine.proofs.Fronts.{tables_refused, checker_refused, generator_refused}
+use Rattle.ss_engine.proofs.Fronts.{lexer_refused, parser_refused, tables_refused, checker_refused, generator_refused, refused_so}
 use Rattle.ss_engine.proofs.compiling.compile.Goals as goal
 
-pub returns-in-Err-of-clause-refused : goal.returns-in-Err-of-clause-refused
-returns-in-Err-of-clause-refused c =
-    let tree = tree_seen c.in-Ok-parse.program in
-    let read : IsTreeOf c.args.text.now tree = record { tokens = c.in-Ok.tokens.list; are = c.in-Ok.ensures.found; spelled = c.in-Ok-parse.ensures.found } in
-    subst (IsRefusedWith c.args.text.now) (sym c.declared.ensures) (tables_refused c.args.text.now tree read c.in-Err-of.error c.in-Err-of.ensures.refused)
+pub returns-in_err-tokens-clause-refused : goal.returns-in_err-tokens-clause-refused
+returns-in_err-tokens-clause-refused c =
+    refused_so c.args.text.now c.from_residual.result (lexed c.in_err-tokens.field-0.0) c.from_residual.ensures.1
+    (lexer_refused c.args.text.now c.in_err-tokens.field-0.0 c.in_err-tokens.ensures.refused)
 
-pub returns-in-Err-check-clause-refused : goal.returns-in-Err-check-clause-refused
-returns-in-Err-check-clause-refused c =
-    let tree = tree_seen c.in-Ok-parse.program in
-    let read : IsTreeOf c.args.text.now tree = record { tokens = c.in-Ok.tokens.list; are = c.in-Ok.ensures.found; spelled = c.in-Ok-parse.ensures.found } in
-    subst (IsRefusedWith c.args.text.now) (sym c.checked.ensures) (checker_refused c.args.text.now tree read c.in-Ok-of.ensures.made.kept c.in-Err-check.error c.in-Err-check.ensures.refused)
+pub returns-in_err-program-clause-refused : goal.returns-in_err-program-clause-refused
+returns-in_err-program-clause-refused c =
+    refused_so c.args.text.now c.from_residual-in_err-program.result (parsed c.in_err-program.field-0.0) c.from_residual-in_err-program.ensures.1
+    (parser_refused c.args.text.now c.in_ok-tokens.tokens.list c.in_ok-tokens.ensures.found c.in_err-program.field-0.0 c.in_err-program.ensures.refused c.in_err-program.ensures.line)
 
-pub returns-in-Ok-generate-clause-accepted : goal.returns-in-Ok-generate-clause-accepted
-returns-in-Ok-generate-clause-accepted c =
-    let tree = tree_seen c.in-Ok-parse.program in
-    let p = view_program c.in-Ok-check.resolved in
-    let read : IsTreeOf c.args.text.now tree = record { tokens = c.in-Ok.tokens.list; are = c.in-Ok.ensures.found; spelled = c.in-Ok-parse.ensures.found } in
-    let becomes = c.in-Ok-check.ensures.checked in
-    let keeps : IsKeptBy c.args.text.now tree = record { read = read; declared = c.in-Ok-of.ensures.made.kept; kept = becomes.kept } in
+pub returns-in-Err-clause-refused : goal.returns-in-Err-clause-refused
+returns-in-Err-clause-refused c =
+    let tree = tree_seen c.in_ok-program.program in
+    let read : IsTreeOf c.args.text.now tree = record { tokens = c.in_ok-tokens.tokens.list; are = c.in_ok-tokens.ensures.found; spelled = c.in_ok-program.ensures.found } in
+    subst (IsRefusedWith c.args.text.now) (sym c.from.ensures) (tables_refused c.args.text.now tree read c.in-Err.error c.in-Err.ensures.refused)
+
+pub returns-in_err-resolved-clause-refused : goal.returns-in_err-resolved-clause-refused
+returns-in_err-resolved-clause-refused c =
+    let tree = tree_seen c.in_ok-program.program in
+    let read : IsTreeOf c.args.text.now tree = record { tokens = c.in_ok-tokens.tokens.list; are = c.in_ok-tokens.ensures.found; spelled = c.in_ok-program.ensures.found } in
+    refused_so c.args.text.now c.from_residual-in_err-resolved.result (used c.in_err-resolved.field-0.0) c.from_residual-in_err-resolved.ensures.1
+    (checker_refused c.args.text.now tree read c.in-Ok.ensures.made.kept c.in_err-resolved.field-0.0 c.in_err-resolved.ensures.refused)
+
+pub returns-in_err-code-clause-refused : goal.returns-in_err-code-clause-refused
+returns-in_err-code-clause-refused c =
+    let tree = tree_seen c.in_ok-program.program in
+    let p = view_program c.in_ok-resolved.resolved in
+    let read : IsTreeOf c.args.text.now tree = record { tokens = c.in_ok-tokens.tokens.list; are = c.in_ok-tokens.ensures.found; spelled = c.in_ok-program.ensures.found } in
+    let becomes = c.in_ok-resolved.ensures.checked in
+    let keeps : IsKeptBy c.args.text.now tree = record { read = read; declared = c.in-Ok.ensures.made.kept; kept = becomes.kept } in
     let meant : IsProgramOf c.args.text.now p = record { tree = tree; keeps = keeps; resolved = becomes.resolved } in
-    subst (Compiles c.args.text.now) (sym c.new.ensures) (record { program = p; meant = meant; code_is = c.in-Ok-generate.ensures.code; behaves = c.in-Ok-generate.ensures.behaves })
-
-pub returns-clause-refused : goal.returns-clause-refused
-returns-clause-refused c =
-    let tree = tree_seen c.in-Ok-parse.program in
-    let p = view_program c.in-Ok-check.resolved in
-    let read : IsTreeOf c.args.text.now tree = record { tokens = c.in-Ok.tokens.list; are = c.in-Ok.ensures.found; spelled = c.in-Ok-parse.ensures.found } in
-    let becomes = c.in-Ok-check.ensures.checked in
-    let keeps : IsKeptBy c.args.text.now tree = record { read = read; declared = c.in-Ok-of.ensures.made.kept; kept = becomes.kept } in
-    let meant : IsProgramOf c.args.text.now p = record { tree = tree; keeps = keeps; resolved = becomes.resolved } in
-    subst (IsRefusedWith c.args.text.now) (sym c.generated.ensures)
-    (generator_refused c.args.text.now p meant c.in-Ok-check.ensures.nodes c.in-Err-generate.error
-    (λ small e. c.generate.ensures.small small (c.in-Err-generate.is ∙ ap Err e))
-    (λ e. c.generate.ensures.too_long (c.in-Err-generate.is ∙ ap Err e))
+    refused_so c.args.text.now c.from_residual-in_err-code.result (coded c.in_err-code.field-0.0) c.from_residual-in_err-code.ensures.1
+    (generator_refused c.args.text.now p meant c.in_ok-resolved.ensures.nodes c.in_err-code.field-0.0
+    (λ small e. c.generate-made.ensures.small small (c.in_err-code.was ∙ ap Err e))
+    (λ e. c.generate-made.ensures.too_long (c.in_err-code.was ∙ ap Err e))
     (c.laws_of_code.ensures.has_size p))
+
+pub returns-clause-accepted : goal.returns-clause-accepted
+returns-clause-accepted c =
+    let tree = tree_seen c.in_ok-program.program in
+    let p = view_program c.in_ok-resolved.resolved in
+    let read : IsTreeOf c.args.text.now tree = record { tokens = c.in_ok-tokens.tokens.list; are = c.in_ok-tokens.ensures.found; spelled = c.in_ok-program.ensures.found } in
+    let becomes = c.in_ok-resolved.ensures.checked in
+    let keeps : IsKeptBy c.args.text.now tree = record { read = read; declared = c.in-Ok.ensures.made.kept; kept = becomes.kept } in
+    let meant : IsProgramOf c.args.text.now p = record { tree = tree; keeps = keeps; resolved = becomes.resolved } in
+    let code_is : IsFor p c.in_ok-code.code = subst (λ r. IfOk r (λ code. IsFor p code)) c.in_ok-code.was c.generate-made.ensures.code in
+    let behaves : Behaves p (code_of p) = subst (λ r. IfOk r (λ code. Behaves p (code_of p))) c.in_ok-code.was c.generate-made.ensures.behaves in
+    subst (Compiles c.args.text.now) (sym c.new.ensures) (record { program = p; meant = meant; code_is = code_is; behaves = behaves })
