@@ -1,13 +1,14 @@
 -- Attributes and the rows of their classes, one more at a time.
-use Rattle.std.proofs.Common.{◌≡◌, ℕ, inl, inr, ◌+◌, ◌<◌, nat_eq, nat_lt, Bool, true, false, cond, List, [], ◌∷◌, ◌++◌, length, get_or, slice_set, Option, Some, None, is_some, refl, sym, ap, subst, ◌∙◌, append_assoc, append-nil, arith}
+use Rattle.std.proofs.Common.{◌≡◌, ℕ, inl, inr, ◌+◌, ◌<◌, nat_eq, nat_lt, Bool, true, false, cond, List, [], ◌∷◌, ◌++◌, length, get_or, slice_set, Option, Some, None, is_some, refl, sym, ap, subst, ◌∙◌, append_assoc, append-nil, ltb-true, arith}
 use Rattle.std.specs.List.{filter, fold, position_or_len}
 use Rattle.std.specs.Map.{keys_of}
 use Rattle.std.proofs.lemmas.Bool.{ne_eqb}
-use Rattle.std.proofs.lemmas.Bool.Decides.{eqb_tells, nat_tests}
+use Rattle.std.proofs.lemmas.Bool.Decides.{eqb_tells}
 use Rattle.std.proofs.lemmas.List.{ext_get_or, get_or-set_same, get_or-set_other, length-set}
 use Rattle.std.proofs.lemmas.List.Elements.{filter-append}
 use Rattle.std.proofs.lemmas.List.FromFn.{length-map-range_with_len, get_or-map-range_with_len}
 use Rattle.std.proofs.lemmas.Map.Entries.{length-keys_of}
+use Rattle.std.proofs.lemmas.Option.{none-some, same_Some}
 use Rattle.ss_base.specs.declared.layout.Mode.{Mode}
 use Rattle.ss_base.specs.declared.layout.ClassKind.{ClassKind}
 use Rattle.ss_tree.specs.Names.{NameBytes}
@@ -128,10 +129,8 @@ below_append n [] ys h k = k
 below_append n (x ∷ xs) ys h k = (h.0, below_append n xs ys h.1 k)
 
 below_by : (b : Bool) (p n k : ℕ) → nat_lt p n ≡ b → cond b (Some p) None ≡ Some k → k < n
-below_by true p n k lt h =
-    let same : p ≡ k = cc in
-    grind (arith, nat_tests)
-below_by false p n k lt h = absurd cc
+below_by true p n k lt h = subst (λ (j : ℕ). j < n) (same_Some p k h) (ltb-true p n lt)
+below_by false p n k lt h = absurd (none-some k h)
 
 pub place_below : (names : List NameBytes) (name : NameBytes) (k : ℕ) → place_among names name ≡ Some k → k < length names
 place_below names name k h =

@@ -4,7 +4,7 @@ ghost use Rattle.std.specs.Prelude.{◌≡◌, ◌||◌, not, is_some};
 ghost use Rattle.std.specs.List.{flat_map, fold};
 ghost use Rattle.std.specs.Option.{option_or};
 ghost use Rattle.ss_names_declarations.specs.Earliest.{earlier};
-ghost use Rattle.ss_names_declarations.specs.Firsts.{is_one_of, place_among, place_in, value_for};
+ghost use Rattle.ss_names_declarations.specs.Firsts.{place_among, value_for};
 ghost use Rattle.ss_tables_rules.specs.declared.error.TableError.TheVariants as e;
 ghost use Rattle.ss_tables_rules.specs.Broken.{breaks};
 ghost use Rattle.ss_tables_rules.specs.Order.{order_of};
