@@ -1,4 +1,5 @@
 -- The uses and the local variables of each section, side by side with the sections.
+use mathlib.Core.List.{map-map}
 use Rattle.std.proofs.Common.{◌≡◌, ℕ, ◌<◌, ◌||◌, Bool, List, [], ◌∷◌, length, get_or, map, refl, sym, ap, subst, ◌∙◌}
 use Rattle.std.specs.Global.{Vec}
 use Rattle.std.specs.List.{flat_map, list_any}
@@ -42,13 +43,9 @@ section_more t sections all every i x us ls main lt lt_all x_is us_is ls_is main
 
 -- ---- all sections
 
-map_twice : {X Y Z : Type 0} (g : Y → Z) (f : X → Y) (h : X → Z) (xs : List X) → ((x : X) → g (f x) ≡ h x) → map g (map f xs) ≡ map h xs
-map_twice g f h [] e = refl
-map_twice g f h (x ∷ xs) e = λ i. e x i ∷ map_twice g f h xs e i
-
 -- the local variables by the uses of each section
 pub locals_by_uses : (t : Table) (ss : List SectionTree) → map (locals t) (map uses ss) ≡ map (locals_of t) ss
-locals_by_uses t ss = map_twice (locals t) uses (locals_of t) ss (λ s. refl)
+locals_by_uses t ss = map-map (locals t) uses ss
 
 pub any_viewed : {X Y : Type 0} (p : Y → Bool) (f : X → Y) (xs : List X) → list_any (λ x. p (f x)) xs ≡ list_any p (map f xs)
 any_viewed p f [] = refl

@@ -1,7 +1,6 @@
 //! The rule on counts of arguments.
 
 ghost use Rattle.std.specs.Prelude.{◌≡◌};
-ghost use Rattle.ss_names_declarations.specs.Firsts.{place_in, value_for};
 ghost use Rattle.ss_check_rules.specs.declared.error.CheckError.TheVariants as e;
 ghost use Rattle.ss_check_rules.specs.Counts.{argument_count, has_attributes, is_given, is_yielded, suits_count};
 ghost use Rattle.ss_check_rules.specs.Refusal.{unless};

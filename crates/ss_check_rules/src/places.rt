@@ -1,7 +1,6 @@
 //! The rules on named places and on modes.
 
 ghost use Rattle.std.specs.Prelude.{◌≡◌, ◌&&◌, ◌||◌, not, slice_get};
-ghost use Rattle.ss_names_declarations.specs.Firsts.{place_in, value_for};
 ghost use Rattle.ss_names_scopes.specs.Seen.{scope_seen};
 ghost use Rattle.ss_check_rules.specs.declared.error.CheckError.TheVariants as e;
 ghost use Rattle.ss_check_rules.specs.Kinds.{if_means, is_mean, is_target, takes_values};

@@ -1,12 +1,14 @@
 -- Attributes and the rows of their classes, one more at a time.
-use Rattle.std.proofs.Common.{◌≡◌, ℕ, zero, suc, inl, inr, ◌+◌, ◌<◌, nat_eq, nat_lt, Bool, true, false, cond, List, [], ◌∷◌, ◌++◌, length, get_or, map, slice_set, Option, Some, None, is_some, refl, sym, ap, subst, ◌∙◌, append_assoc, arith}
-use Rattle.std.specs.List.{filter, fold, position_or_len, range_with_len}
+use Rattle.std.proofs.Common.{◌≡◌, ℕ, inl, inr, ◌+◌, ◌<◌, nat_eq, nat_lt, Bool, true, false, cond, List, [], ◌∷◌, ◌++◌, length, get_or, slice_set, Option, Some, None, is_some, refl, sym, ap, subst, ◌∙◌, append_assoc, append-nil, ltb-true, arith}
+use Rattle.std.specs.List.{filter, fold, position_or_len}
 use Rattle.std.specs.Map.{keys_of}
 use Rattle.std.proofs.lemmas.Bool.{ne_eqb}
-use Rattle.std.proofs.lemmas.Bool.Decides.{eqb_tells, nat_tests}
-use Rattle.std.proofs.lemmas.List.{ext_get_or, get_or-set_same, get_or-set_other, length-set, map_push}
+use Rattle.std.proofs.lemmas.Bool.Decides.{eqb_tells}
+use Rattle.std.proofs.lemmas.List.{ext_get_or, get_or-set_same, get_or-set_other, length-set}
 use Rattle.std.proofs.lemmas.List.Elements.{filter-append}
 use Rattle.std.proofs.lemmas.List.FromFn.{length-map-range_with_len, get_or-map-range_with_len}
+use Rattle.std.proofs.lemmas.Map.Entries.{length-keys_of}
+use Rattle.std.proofs.lemmas.Option.{none-some, same_Some}
 use Rattle.ss_base.specs.declared.layout.Mode.{Mode}
 use Rattle.ss_base.specs.declared.layout.ClassKind.{ClassKind}
 use Rattle.ss_tree.specs.Names.{NameBytes}
@@ -21,20 +23,6 @@ use Rattle.ss_names.specs.Filling.{Fields, field_pushed, with_field}
 
 -- ---- rows
 
-counting : (a n : ℕ) → range_with_len a (suc n) ≡ range_with_len a n ++ (a + n) ∷ []
-counting a zero = let e : a ≡ a + 0 = omega arith in ap (λ k. k ∷ []) e
-counting a (suc n) =
-    let e : a + 1 + n ≡ a + suc n = omega arith in
-    ap (λ l. a ∷ l) (counting (a + 1) n ∙ ap (λ k. range_with_len (a + 1) n ++ k ∷ []) e)
-
--- one more class
-pub fields_grow : (owned : List (NameBytes × ℕ)) (n : ℕ) → fields_by_class owned (n + 1) ≡ fields_by_class owned n ++ attributes_of_class owned n ∷ []
-fields_grow owned n =
-    let on : n + 1 ≡ suc n = omega arith in
-    let same : 0 + n ≡ n = omega arith in
-    ap (fields_by_class owned) on ∙ ap (map (attributes_of_class owned)) (counting 0 n) ∙ map_push (attributes_of_class owned) (range_with_len 0 n) (0 + n)
-    ∙ ap (λ k. fields_by_class owned n ++ attributes_of_class owned k ∷ []) same
-
 -- an attribute of another class, and an attribute of this class
 chosen : (name : NameBytes) (c d : ℕ) (same : Bool) → nat_eq c d ≡ same → keys_of (filter (λ (e : NameBytes × ℕ). nat_eq e.1 d) ((name, c) ∷ [])) ≡ cond same (name ∷ []) []
 chosen name c d true e = ap (λ b. keys_of (cond b ((name, c) ∷ []) [])) e
@@ -47,10 +35,6 @@ fields_more owned name c d same e =
     ∙ keys_append (filter here owned) (filter here ((name, c) ∷ []))
     ∙ ap (λ l. attributes_of_class owned d ++ l) (chosen name c d same e)
 
-append_nil : {A : Type 0} (xs : List A) → xs ++ [] ≡ xs
-append_nil [] = refl
-append_nil (x ∷ xs) = ap (λ l. x ∷ l) (append_nil xs)
-
 same_row : (owned : List (NameBytes × ℕ)) (name : NameBytes) (c : ℕ) → attributes_of_class (owned ++ (name, c) ∷ []) c ≡ attributes_of_class owned c ++ name ∷ []
 same_row owned name c =
     elim (eqb_tells c c) [
@@ -59,7 +43,7 @@ same_row owned name c =
     ]
 
 other_row : (owned : List (NameBytes × ℕ)) (name : NameBytes) (c d : ℕ) → (d ≡ c → ⊥) → attributes_of_class (owned ++ (name, c) ∷ []) d ≡ attributes_of_class owned d
-other_row owned name c d ne = fields_more owned name c d false (ne_eqb c d (λ e. ne (sym e))) ∙ append_nil (attributes_of_class owned d)
+other_row owned name c d ne = fields_more owned name c d false (ne_eqb c d (λ e. ne (sym e))) ∙ append-nil (attributes_of_class owned d)
 
 row_at : (owned : List (NameBytes × ℕ)) (name : NameBytes) (n c i : ℕ) → c < n → i < n → get_or (slice_set (fields_by_class owned n) c (get_or (fields_by_class owned n) c [] ++ name ∷ [])) i [] ≡ attributes_of_class (owned ++ (name, c) ∷ []) i
 row_at owned name n c i lc li =
@@ -93,7 +77,7 @@ row_length owned n c lc = ap length (get_or-map-range_with_len (attributes_of_cl
 
 -- one more attribute comes after the others
 attributes_more : (mode : NameBytes → Mode) (before es : List (NameBytes × ℕ)) (e : NameBytes × ℕ) → attributes_after mode before (es ++ e ∷ []) ≡ attributes_after mode before es ++ attribute_after mode (before ++ es) e ∷ []
-attributes_more mode before [] e = ap (λ b. attribute_after mode b e ∷ []) (sym (append_nil before))
+attributes_more mode before [] e = ap (λ b. attribute_after mode b e ∷ []) (sym (append-nil before))
 attributes_more mode before (f ∷ es) e =
     ap (λ l. attribute_after mode before f ∷ l)
     (attributes_more mode (before ++ f ∷ []) es e
@@ -145,22 +129,16 @@ below_append n [] ys h k = k
 below_append n (x ∷ xs) ys h k = (h.0, below_append n xs ys h.1 k)
 
 below_by : (b : Bool) (p n k : ℕ) → nat_lt p n ≡ b → cond b (Some p) None ≡ Some k → k < n
-below_by true p n k lt h =
-    let same : p ≡ k = cc in
-    grind (arith, nat_tests)
-below_by false p n k lt h = absurd cc
+below_by true p n k lt h = subst (λ (j : ℕ). j < n) (same_Some p k h) (ltb-true p n lt)
+below_by false p n k lt h = absurd (none-some k h)
 
 pub place_below : (names : List NameBytes) (name : NameBytes) (k : ℕ) → place_among names name ≡ Some k → k < length names
 place_below names name k h =
     let p = position_or_len (same_name name) names in
     below_by (nat_lt p (length names)) p (length names) k refl h
 
-as_many_keys : {V : Type 0} (cs : List (NameBytes × V)) → length (keys_of cs) ≡ length cs
-as_many_keys [] = refl
-as_many_keys (c ∷ cs) = ap suc (as_many_keys cs)
-
 pub class_below : {V : Type 0} (cs : List (NameBytes × V)) (class : NameBytes) (k : ℕ) → place_in cs class ≡ Some k → k < length cs
-class_below cs class k h = subst (λ n. k < n) (as_many_keys cs) (place_below (keys_of cs) class k h)
+class_below cs class k h = subst (λ n. k < n) (length-keys_of cs) (place_below (keys_of cs) class k h)
 
 entry_below : {V : Type 0} (cs : List (NameBytes × V)) (name class : NameBytes) (o : Option ℕ) → place_in cs class ≡ o → AllBelow (length cs) (entry_if name o)
 entry_below cs name class None h = tt

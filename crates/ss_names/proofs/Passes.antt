@@ -1,5 +1,5 @@
 -- What all passes together make of a list of declarations.
-use Rattle.std.proofs.Common.{◌≡◌, List, [], ◌∷◌, ◌++◌, length, Option, Some, None, refl, sym, ap, ◌∙◌, append_assoc}
+use Rattle.std.proofs.Common.{◌≡◌, List, [], ◌∷◌, ◌++◌, length, Option, Some, None, refl, sym, ap, ◌∙◌, append_assoc, append-nil}
 use Rattle.std.specs.List.{fold}
 use Rattle.std.specs.Option.{option_or}
 use Rattle.std.proofs.lemmas.List.{length-map}
@@ -50,12 +50,8 @@ kept_first (Some mode) [] = refl
 kept_first None (m ∷ ms) = kept_first (Some m) ms
 kept_first (Some mode) (m ∷ ms) = kept_first (Some mode) ms
 
-append_nil : {A : Type 0} (xs : List A) → xs ++ [] ≡ xs
-append_nil [] = refl
-append_nil (x ∷ xs) = ap (λ l. x ∷ l) (append_nil xs)
-
 pushed_all : {A : Type 0} (xs ys : List A) → fold pushed xs ys ≡ xs ++ ys
-pushed_all xs [] = sym (append_nil xs)
+pushed_all xs [] = sym (append-nil xs)
 pushed_all xs (y ∷ ys) = pushed_all (xs ++ y ∷ []) ys ∙ append_assoc xs (y ∷ []) ys
 
 -- the table after the first pass

@@ -1,11 +1,13 @@
 -- The sets: what is said of each, by one declaration after the other.
-use Rattle.std.proofs.Common.{◌≡◌, ℕ, suc, ◌||◌, Bool, true, false, cond, List, [], ◌∷◌, ◌++◌, length, map, Option, Some, None, option_map, refl, sym, ap, ◌∙◌}
+use Rattle.std.proofs.Common.{◌≡◌, ℕ, suc, Bool, true, false, cond, List, [], ◌∷◌, ◌++◌, length, map, Option, Some, None, option_map, refl, sym, ap, ◌∙◌}
 use Rattle.std.specs.Prelude.{slice_get}
 use Rattle.std.specs.List.{AllByRecursion as Every, IsDistinct, fold, position_or_len}
 use Rattle.std.specs.Option.{option_or}
+use Rattle.std.proofs.Math.Path.{fun_ext}
 use Rattle.std.proofs.lemmas.Cmp.{nat_list_eq_equiv}
 use Rattle.std.proofs.lemmas.List.{length-set}
 use Rattle.std.proofs.lemmas.List.Sums.{fold-append}
+use Rattle.std.proofs.lemmas.Map.Keys.{IsDistinct-push}
 use Rattle.ss_base.specs.declared.layout.ClassKind.{ClassKind}
 use Rattle.ss_base.specs.declared.layout.Owner.{Owner}
 use Rattle.ss_tree.specs.Names.{NameBytes}
@@ -21,26 +23,9 @@ use Rattle.ss_names.specs.Filling.{merged, merged_if, merged_with, no_set, set_p
 
 -- ---- each set has one name
 
-apart : (names : List NameBytes) (name : NameBytes) → is_one_of names name ≡ false → Every (λ other. same_name name other ≡ false) names
-apart [] name h = tt
-apart (n ∷ ns) name h = by (same_name name n) refl h (apart ns name)
-  where
-    by : (b : Bool) → same_name name n ≡ b → (b || is_one_of ns name) ≡ false → (is_one_of ns name ≡ false → Every (λ other. same_name name other ≡ false) ns) → Every (λ other. same_name name other ≡ false) (n ∷ ns)
-    by true is k next = absurd cc
-    by false is k next = (is, next k)
-
-one_more : (names : List NameBytes) (name n : NameBytes) → same_name n name ≡ false → Every (λ other. same_name n other ≡ false) names → Every (λ other. same_name n other ≡ false) (names ++ name ∷ [])
-one_more [] name n is h = (is, tt)
-one_more (m ∷ ms) name n is h = (h.0, one_more ms name n is h.1)
-
-pushed_once : (names : List NameBytes) (name : NameBytes) → Every (λ other. same_name name other ≡ false) names → IsDistinct same_name names → IsDistinct same_name (names ++ name ∷ [])
-unfolding IsDistinct
-pushed_once [] name h d = (tt, tt)
-pushed_once (n ∷ ns) name h d = (one_more ns name n (nat_list_eq_equiv.symm n name ∙ h.0) d.0, pushed_once ns name h.1 d.1)
-
 with_once : (names : List NameBytes) (name : NameBytes) (b : Bool) → is_one_of names name ≡ b → IsDistinct same_name names → IsDistinct same_name (cond b names (names ++ name ∷ []))
 with_once names name true is d = d
-with_once names name false is d = pushed_once names name (apart names name is) d
+with_once names name false is d = IsDistinct-push nat_list_eq_equiv names name d is
 
 folded_once : (names more : List NameBytes) → IsDistinct same_name names → IsDistinct same_name (fold with_name names more)
 folded_once names [] d = d
@@ -170,16 +155,13 @@ said_in_all cs known (x ∷ ds) name =
     ∙ merged_assoc (known name) (said_of cs x.what name) (set_of cs ds name)
     ∙ ap (merged (known name)) (said_append cs x ds name)
 
-map_same : {A B : Type 0} (f g : A → B) (xs : List A) → ((x : A) → f x ≡ g x) → map f xs ≡ map g xs
-map_same f g [] h = refl
-map_same f g (x ∷ xs) h = λ i. h x i ∷ map_same f g xs h i
-
 -- the sets that the second pass leaves
 pub sets_filled : (cs : List (NameBytes × ClassKind)) (ds : List Declaration) → fold (with_set (set_names ds)) (map (λ (name : NameBytes). no_set) (set_names ds)) (given_by (set_part cs) ds) ≡ map (set_of cs ds) (set_names ds)
 sets_filled cs ds =
     let none : NameBytes → Set = λ name. no_set in
+    let said : (name : NameBytes) → fold said_more none (given_by (set_part cs) ds) name ≡ set_of cs ds name = said_in_all cs none ds in
     sets_folded none (set_names ds) (given_by (set_part cs) ds) (set_names_once ds)
-    ∙ map_same (fold said_more none (given_by (set_part cs) ds)) (set_of cs ds) (set_names ds) (λ name. said_in_all cs none ds name)
+    ∙ ap (λ (f : NameBytes → Set). map f (set_names ds)) (fun_ext said)
 
 -- ---- how many sets there are
 

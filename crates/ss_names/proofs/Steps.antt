@@ -15,6 +15,10 @@ use Rattle.ss_names.specs.Filling.{field_pushed, fields_of, mode_named, row_push
 pub stepped : (step : Table → Declared → Table) {old seen new : Table} {what like : Declared} → seen ≡ old → what ≡ like → new ≡ step seen like → new ≡ step old what
 stepped step s w e = e ∙ (λ i. step (s i) (sym w i))
 
+-- one entry more, after some
+pub one_further : {T E : Type 0} (step : T → E → T) {from before after : T} {e : E} → before ≡ from → after ≡ step before e → after ≡ step from e
+one_further step {e = e} b a = a ∙ ap (λ t. step t e) b
+
 pub none_of_not_some : {X : Type 0} (o : Option X) → is_some o ≡ false → o ≡ None
 none_of_not_some None h = refl
 none_of_not_some (Some x) h = absurd cc

@@ -4,7 +4,7 @@ ghost use Rattle.std.specs.Prelude.{◌≡◌, ◌<◌, length, map, slice_get, 
 ghost use Rattle.std.specs.Map.{keys_of};
 ghost use Rattle.ss_names_declarations.specs.Firsts.{place_in, value_for};
 ghost use Rattle.ss_names.specs.Modes.{value_mode};
-ghost use Rattle.ss_names.specs.Entries.{row_of};
+ghost use Rattle.ss_names.specs.Entries.{is_notice, row_of};
 ghost use Rattle.ss_names.specs.Table.{declared, owner_of, owner_of_member, owner_of_set, owner_of_statistic, owner_of_subject, owner_or_system};
 
 use crate::entry::{Attribute, EventSection, RankedBy, RoutineSection, Set, TiedBy};
@@ -146,6 +146,13 @@ impl Names {
         ensures { result ≡ value_for self.now.meanings name.now }
     {
         self.meanings.meaning(&Spelling::of_name(name))
+    }
+
+    /// Whether a name is that of a class of notices.
+    pub fn is_notice(&self, class: &Name) -> bool
+        ensures { result ≡ is_notice (value_for self.now.classes class.now) }
+    {
+        matches!(self.classes.get(class).copied(), Some(ClassKind::Notice))
     }
 
     /// The attributes of a class, in the order of the text.

@@ -19,12 +19,7 @@ moded_found usual all modes is =
     ap (λ (l : List (NameBytes × Mode)). moded_in usual l name) is
     ∙ ap (λ (mode : Option Mode). (name, option_or mode usual)) (value_in_firsts all name))
 
--- the entries of one more item come last
-pub firsts_after : {X V : Type 0} (f : X → List (NameBytes × V)) (xs : List X) (i : ℕ) (x : X) (before after : List (NameBytes × V)) → i < length xs → x ≡ get_or xs i x → before ≡ firsts (flat_map f (take i xs)) → after ≡ fold with_first before (f x) → after ≡ firsts (flat_map f (take (i + 1) xs))
-firsts_after f xs i x before after lt is b a =
-    a ∙ ap (λ l. fold with_first l (f x)) b ∙ sym (fold-append with_first [] (flat_map f (take i xs)) (f x)) ∙ ap firsts (list_more f xs i x lt is)
-
--- the same, where each name is entered with what is known of it
+-- the entries of one more item come last, each with what is known of its name
 pub mapped_firsts_after : {X V : Type 0} (g : NameBytes → NameBytes × V) (f : X → List NameBytes) (xs : List X) (i : ℕ) (x : X) (before after : List (NameBytes × V)) → i < length xs → x ≡ get_or xs i x
     → before ≡ firsts (map g (flat_map f (take i xs))) → after ≡ fold with_first before (map g (f x)) → after ≡ firsts (map g (flat_map f (take (i + 1) xs)))
 mapped_firsts_after g f xs i x before after lt is b a =

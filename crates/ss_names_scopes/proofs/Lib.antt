@@ -1,4 +1,3 @@
 mod Entering
 mod Found
-mod Placing
 pub mod Finding

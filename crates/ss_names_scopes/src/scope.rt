@@ -56,10 +56,10 @@ fn mode_after(locals: &Locals, given: usize, place: usize) -> Option<Mode>
     ensures { result ≡ mode_given (slice_get (values_of locals.now) (given + place)) }
 {
     let count = locals.len();
-    if count <= place {
+    if place >= count {
         return None;
     }
-    if count - place <= given {
+    if given >= count - place {
         return None;
     }
     mode_given(locals.mode_at(given + place))

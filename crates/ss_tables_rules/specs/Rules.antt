@@ -5,8 +5,6 @@ use Rattle.std.specs.Map.{lookup}
 use Rattle.std.specs.Option.{option_or}
 use Rattle.ss_base.specs.declared.line.Line.{Line}
 use Rattle.ss_base.specs.declared.layout.Mode.{Mode as ValueMode}
-use Rattle.ss_base.specs.declared.layout.ClassKind.{ClassKind}
-use Rattle.ss_base.specs.declared.layout.ClassKind.TheVariants as kinds
 use Rattle.ss_tree.specs.Names.{NameBytes}
 use Rattle.ss_tree.specs.Tree.{SectionTree}
 use Rattle.ss_tree.specs.declared.preamble.Mode.{Mode}
@@ -21,6 +19,7 @@ use Rattle.ss_names.specs.declared.entry.Attribute.{Attribute}
 use Rattle.ss_names.specs.declared.entry.Set.{Set}
 use Rattle.ss_names.specs.declared.meaning.Meaning.{Meaning}
 use Rattle.ss_names.specs.declared.meaning.Meaning.TheVariants as m
+use Rattle.ss_names.specs.Entries.{is_notice}
 use Rattle.ss_names.specs.Table.{Table}
 use Rattle.ss_names_scopes.specs.Locals.{Moded, local_of, locals}
 use Rattle.ss_tables_rules.specs.declared.error.TableError.{TableError}
@@ -41,11 +40,6 @@ is_too_many (Some number) = nat_le 64 number
 abbrev pub field_of : Option Attribute → Option ℕ
 field_of None = None
 field_of (Some a) = Some a.field
-
--- whether a name is that of a class of notices
-abbrev pub is_notice : Option ClassKind → Bool
-is_notice (Some kinds.Notice) = true
-is_notice _ = false
 
 -- a parameter or a local variable may hide a variable, that of a class, or nothing
 abbrev pub may_be_hidden : Option Meaning → Bool

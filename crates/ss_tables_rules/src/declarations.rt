@@ -4,14 +4,15 @@ ghost use Rattle.std.specs.Prelude.{◌≡◌, ◌||◌, not, is_some};
 ghost use Rattle.std.specs.List.{flat_map, fold};
 ghost use Rattle.std.specs.Option.{option_or};
 ghost use Rattle.ss_names_declarations.specs.Earliest.{earlier};
-ghost use Rattle.ss_names_declarations.specs.Firsts.{is_one_of, place_among, place_in, value_for};
+ghost use Rattle.ss_names_declarations.specs.Firsts.{place_among, value_for};
+ghost use Rattle.ss_names.specs.Entries.{is_notice};
 ghost use Rattle.ss_tables_rules.specs.declared.error.TableError.TheVariants as e;
 ghost use Rattle.ss_tables_rules.specs.Broken.{breaks};
 ghost use Rattle.ss_tables_rules.specs.Order.{order_of};
-ghost use Rattle.ss_tables_rules.specs.Rules.{broken_by, broken_in, field_of, has_member, has_owner, is_attribute_of, is_class_of, is_notice, is_real, is_too_many, may_be_hidden, set_named, unless};
+ghost use Rattle.ss_tables_rules.specs.Rules.{broken_by, broken_in, field_of, has_member, has_owner, is_attribute_of, is_class_of, is_real, is_too_many, may_be_hidden, set_named, unless};
 
 use crate::error::TableError;
-use ss_base::{ClassKind, Line, Name};
+use ss_base::{Line, Name};
 use ss_names::{Attribute, Meaning, Names, Set};
 use ss_names_declarations::{Declaration, Declared, earlier_of, has_entry};
 use ss_tree::preamble::Mode;
@@ -57,21 +58,11 @@ fn real_breaks(line: Line, mode: Mode) -> Option<TableError>
     unless(!is_real(mode), TableError::RealMode(line))
 }
 
-// Whether a class of this kind is one of notices.
-fn is_notice(kind: Option<ClassKind>) -> bool
-    ensures { result ≡ is_notice kind }
-{
-    matches!(kind, Some(ClassKind::Notice))
-}
-
 // The breach of a class that is none of notices.
 fn class_breaks(names: &Names, line: Line, class: &Name) -> Option<TableError>
     ensures { result ≡ unless (is_notice (value_for names.now.classes class.now)) (e.UnknownClass line) }
 {
-    unless(
-        is_notice(names.classes.get(class).copied()),
-        TableError::UnknownClass(line),
-    )
+    unless(names.is_notice(class), TableError::UnknownClass(line))
 }
 
 // Whether a parameter or a local variable may hide what means this: a variable, that of a class, or nothing.

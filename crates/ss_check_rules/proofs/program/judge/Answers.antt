@@ -35,13 +35,13 @@ program_judged-requires c =
     let t = c.args.names.now in
     let u = uses_are c.in_ok-all.all.items c.deref.result.now sections c.in_ok-all.ensures c.deref.ensures.value in
     let l = locals_are t c.in_ok-all.all.items c.deref-2.result.now c.in_ok-locals.locals.items sections c.in_ok-locals.ensures c.deref-2.ensures.value u in
-    rw (c.deref-4.ensures.value, c.deref-5.ensures.value, c.deref-6.ensures.value)
-    (record {
-      each = as_many_uses c.in_ok-all.all.items sections u;
-      every = as_many_locals t c.in_ok-locals.locals.items sections l;
-      uses = u;
-      locals = l;
-    })
+    let lent = c.deref-4.ensures.value in
+    record {
+      each = ap length c.deref-5.ensures.value ∙ as_many_uses c.in_ok-all.all.items sections u ∙ sym (ap length lent);
+      every = ap length c.deref-6.ensures.value ∙ as_many_locals t c.in_ok-locals.locals.items sections l ∙ sym (ap length lent);
+      uses = ap (map uses_seen) c.deref-5.ensures.value ∙ u ∙ sym (ap (λ (xs : List Section). map uses (map view_section xs)) lent);
+      locals = c.deref-6.ensures.value ∙ l ∙ sym (ap (λ (xs : List Section). map (locals_of t) (map view_section xs)) lent);
+    }
 
 pub returns-clause-locals : goal.returns-clause-locals
 returns-clause-locals c =

@@ -12,13 +12,13 @@ pub returns-in-Owner : goal.returns-in-Owner
 returns-in-Owner c =
     let t = c.args.names.now in
     stepped add_entities refl c.in-Owner.is
-    (c.merge_set.ensures ∙ (λ i. with_sets t (with_set t.set_names t.sets (c.in-Owner.set, record { owner = c.owner_named.ensures i; member = None; order = None }))))
+    (c.merge_set.ensures ∙ (λ i. with_sets t (with_set t.set_names t.sets (c.in-Owner.set, record { owner = c.owner_named-owner.ensures i; member = None; order = None }))))
 
 pub returns-in-Member : goal.returns-in-Member
 returns-in-Member c =
     let t = c.args.names.now in
     stepped add_entities refl c.in-Member.is
-    (c.merge_set-in-Member.ensures ∙ (λ i. with_sets t (with_set t.set_names t.sets (c.in-Member.set, record { owner = None; member = c.class_number.ensures i; order = None }))))
+    (c.merge_set-in-Member.ensures ∙ (λ i. with_sets t (with_set t.set_names t.sets (c.in-Member.set, record { owner = None; member = c.class_number-member.ensures i; order = None }))))
 
 pub returns-in-Order : goal.returns-in-Order
 returns-in-Order c = stepped add_entities refl c.in-Order.is c.merge_set-in-Order.ensures

@@ -8,7 +8,7 @@ use Rattle.ss_names.proofs.filling.add_names.Goals as goal
 
 pub returns-in-Normally : goal.returns-in-Normally
 returns-in-Normally c =
-    stepped add_names c.names.view_is c.in-Normally.is (λ i. record (table_seen c.names.inside) { usual = c.usual_after.ensures i })
+    stepped add_names c.names.view_is c.in-Normally.is (λ i. record (table_seen c.names.inside) { usual = c.usual_after-names-inside.ensures i })
 
 pub returns-in-Variable : goal.returns-in-Variable
 returns-in-Variable c =

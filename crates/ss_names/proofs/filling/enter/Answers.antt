@@ -10,7 +10,7 @@ returns c =
     on_ok_weaker c.insert.result
     (λ e. (λ i. record (table_seen c.names.inside) {
       meanings = e i;
-      clash = (c.clash_after.ensures ∙ ap (λ known. clash_after c.names.inside.clash known c.args.meaning c.args.line) c.meaning-known.ensures) i;
+      clash = (c.clash_after-names-inside.ensures ∙ ap (λ known. clash_after c.names.inside.clash known c.args.meaning c.args.line) c.meaning-known.ensures) i;
     })
     ∙ ap (λ (t : Table). enter c.args.line t (c.args.spelling, c.args.meaning)) c.names.view_is)
     c.insert.ensures

@@ -1,6 +1,5 @@
 use Rattle.std.proofs.Common.{◌≡◌, [], map}
-use Rattle.ss_names.specs.Entries.{fields_by_class}
-use Rattle.ss_names.specs.Entries.{row_of}
+use Rattle.ss_names.specs.Entries.{fields_by_class, row_of}
 use Rattle.ss_names.proofs.filling.no_fields.Given as goal
 
 abbrev pub invariant-loop-number : goal.invariant-loop-number
