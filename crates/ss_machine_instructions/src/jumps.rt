@@ -43,7 +43,7 @@ fn are_related(relation: Relation, left: Alpha, right: Alpha) -> bool
 
 // Whether a number is 0.
 #[inline(always)]
-pub(crate) fn is_none(number: i64) -> bool
+pub fn is_none(number: i64) -> bool
     ensures { result ≡ is_none number }
 {
     number == 0
