@@ -7,7 +7,7 @@ use Rattle.ss_picture.specs.declared.field.Field.{Field}
 use Rattle.ss_program.specs.declared.statement.Statement as statements
 use Rattle.ss_program.specs.declared.statement.Statement.TheVariants as forms
 use Rattle.ss_program.specs.Program as p
-use Rattle.ss_program.specs.Program.{Expression, Condition, Head, Numbers, Each, Members, TheSystem, Entity, Guard, Phrase, Place, Item, AValue, AMean, AMeanOf, Statement, Block, Done, Then, Routine}
+use Rattle.ss_program.specs.Program.{Condition, Head, Numbers, Each, Members, TheSystem, Entity, Guard, Phrase, Item, AValue, AMean, AMeanOf, Statement, Block, Done}
 use Rattle.ss_program.specs.View.{view_expression, view_place, view_target, view_position, view_owner, view_when, view_restart, view_item, view_statement, block_of}
 use Rattle.ss_program.specs.WellTyped.{Scope, GoodHead, GoodPhrase, GoodCondition, Good, GoodBlock, TakesItem}
 use Rattle.ss_code_instructions.specs.declared.instruction.Instruction.{Instruction as Running}
@@ -22,10 +22,9 @@ use Rattle.ss_code.specs.Lined.{Lined, nothing}
 use Rattle.ss_code.specs.Emitted.{Final, Around, Grows, Stands, Shown, Adds, Emits, EmitsAround, EmitsAroundBoth, HasPrints}
 use Rattle.ss_code.specs.Items.{GoodItem}
 use Rattle.ss_code.specs.Looped.{loop_width}
-use Rattle.ss_code.specs.Running.{Prints}
-use Rattle.ss_code.specs.Printed.{line_or_none, statement_site, PrintsBy, PrintsLines, EmitsStatement, EmitsBlock}
+use Rattle.ss_code.specs.Printed.{Prints, line_or_none, statement_site, PrintsBy, PrintsLines, EmitsStatement, EmitsBlock}
 use Rattle.ss_code.proofs.Emitting.{around_old, grows_same, grows_then, stands_old, adds_none, adds_then, adds_one, adds_piece, adds_apart, adds_same, piece_long, none_there}
-use Rattle.ss_code.proofs.Whole.{prints_then, prints_long}
+use Rattle.ss_code.proofs.PrintLines.{prints_then, prints_long}
 use Rattle.ss_code.proofs.Rounds.{for_looped}
 
 -- ## Results

@@ -25,3 +25,5 @@ mod Letting
 mod Noticing
 mod Itemed
 mod Removing
+pub mod Calculated
+pub mod PrintLines

@@ -23,7 +23,8 @@ use Rattle.ss_code_instructions.specs.Walks.{WalksSift}
 use Rattle.ss_code.specs.declared.generator.Generator.{Generator}
 use Rattle.ss_code.specs.Lined.{Lined, nothing}
 use Rattle.ss_code.specs.Emitted.{Final, Around, HasPrints, Adds}
-use Rattle.ss_code.specs.Running.{Said, said_by, Compiled, IsFor, Begins, AllBegin, Prints}
+use Rattle.ss_code.specs.Printed.{Prints}
+use Rattle.ss_code.specs.Running.{Said, said_by, Compiled, IsFor, Begins, AllBegin}
 use Rattle.ss_code.specs.Sections.{Deepened, AllDeepened, PutsSection, PutsRoutines, PutsEvents}
 use Rattle.ss_code.specs.Sifted.{AllAlike}
 use Rattle.ss_code.proofs.Emitting.{piece_long}

@@ -1,23 +1,17 @@
 -- Modes of operands, where they are found.
 use Rattle.std.proofs.Common.{◌≡◌, ℕ, ◌<◌, Bool, true, false, List, [], ◌∷◌, length, Option, Some, None, refl, sym, ap, ◌∙◌, arith, if◌then◌else◌}
-use Rattle.std.proofs.lemmas.Bool.{eqb-true, eq-eqb, ne_eqb, true≢false}
-use Rattle.std.specs.Prelude.{slice_get, ◌==◌, vec_len}
+use Rattle.std.proofs.lemmas.Bool.{eqb-true, eq-eqb, ne_eqb}
+use Rattle.std.specs.Prelude.{slice_get, ◌==◌}
 use Rattle.std.specs.List.{fold}
-use Rattle.std.specs.Global.{Vec, Box}
 use Rattle.std.specs.Option.{option_map, option_and_then}
 use Rattle.ss_base.specs.declared.layout.Mode.{Mode}
-use Rattle.ss_base.specs.declared.layout.Mode.TheVariants.{Integer}
 use Rattle.ss_base.specs.declared.value.Value.{Value}
 use Rattle.ss_base.specs.declared.layout.ClassLayout.{ClassLayout}
 use Rattle.ss_world.specs.State.{modes_in}
-use Rattle.ss_program.specs.declared.expression.Expression.{Expression as ExpressionValue}
-use Rattle.ss_program.specs.declared.expression.Expression.TheVariants as variants
-use Rattle.ss_program.specs.declared.expression.Operation.{Operation}
 use Rattle.ss_program.specs.declared.expression.Variable.{Variable}
 use Rattle.ss_program.specs.declared.expression.Variable.TheVariants.{Global, Local}
 use Rattle.ss_program.specs.Program.{Program, Expression, Constant, Fetch, Attribute, OfSystemSet, OfSet, OfMember, Clock, TimeOf, Figure, FigureOf, Signed, Absolute, Calculate}
-use Rattle.ss_program.specs.View.{view_expression, view_program}
-use Rattle.ss_program.specs.Views.{with_operation, view_calculate_made}
+use Rattle.ss_program.specs.View.{view_program}
 use Rattle.ss_program.specs.WellTyped.{Scope, HasMode, mode_at, field_mode}
 use Rattle.ss_code_instructions.specs.Instructions.{Operand, Instruction, Held, Taken, Stays, Placed}
 use Rattle.ss_code_instructions.specs.Instructions as i
@@ -71,31 +65,6 @@ pub mode_found : (f : Final) (old new : Generator) (here : Here) (t : Site) (e :
 mode_found f old new here t e n m g is around stands h =
     let program : t.scope.program ≡ view_program old.program.now = stands.program ∙ sym around.program ∙ ap view_program g.program in
     sym (mode_is t.scope e n h) ∙ mode_by t.scope (view_program old.program.now) old.locals.items e program (stands.locals ∙ g.locals) ∙ sym is
-
--- ## Calculations: with an operation they are numbers
-
-module _ (s : Scope) where
-  mode_more : (e : Expression) (os : List Operation) → expression_mode s e ≡ Integer → expression_mode s (fold with_operation e os) ≡ Integer
-  mode_more e [] h = h
-  mode_more e (o ∷ os) h = mode_more (with_operation e o) os refl
-
-  mode_folded_none : (e : Expression) (os : List Operation) (n : ℕ) → n ≡ length os → (n == 0) ≡ true → expression_mode s (fold with_operation e os) ≡ expression_mode s e
-  mode_folded_none e [] n l h = refl
-  mode_folded_none e (o ∷ os) n l h = let z : n ≡ 0 = eqb-true n 0 h in absurd (omega (arith, z, l))
-
-  mode_folded_some : (e : Expression) (os : List Operation) (n : ℕ) → n ≡ length os → (n == 0) ≡ false → expression_mode s (fold with_operation e os) ≡ Integer
-  mode_folded_some e [] n l h = absurd (true≢false (sym (eq-eqb n 0 l) ∙ h))
-  mode_folded_some e (o ∷ os) n l h = mode_more (with_operation e o) os refl
-
-  pub mode_calculated_none : (b : Box ExpressionValue) (v : Vec Operation) → (vec_len v == 0) ≡ true → expression_mode s (view_expression (variants.Calculate b v)) ≡ expression_mode s (view_expression b.value)
-  mode_calculated_none b v h =
-      let long : vec_len v ≡ length v.items = omega (arith, v.ok.0) in
-      ap (expression_mode s) (view_calculate_made b v) ∙ mode_folded_none (view_expression b.value) v.items (vec_len v) long h
-
-  pub mode_calculated_some : (b : Box ExpressionValue) (v : Vec Operation) → (vec_len v == 0) ≡ false → expression_mode s (view_expression (variants.Calculate b v)) ≡ Integer
-  mode_calculated_some b v h =
-      let long : vec_len v ≡ length v.items = omega (arith, v.ok.0) in
-      ap (expression_mode s) (view_calculate_made b v) ∙ mode_folded_some (view_expression b.value) v.items (vec_len v) long h
 
 -- ## Cells
 

@@ -12,11 +12,11 @@ use Rattle.ss_code_instructions.specs.Translation.{Site, place, first_site, bloc
 use Rattle.ss_code.specs.declared.generator.Generator.{Generator}
 use Rattle.ss_code.specs.Lined.{Lined, nothing}
 use Rattle.ss_code.specs.Emitted.{Final, Around, Stands, HasPrints, Adds}
-use Rattle.ss_code.specs.Printed.{statement_site, PrintsBy}
-use Rattle.ss_code.specs.Running.{Begins, AllBegin, Prints}
+use Rattle.ss_code.specs.Printed.{Prints, statement_site, PrintsBy}
+use Rattle.ss_code.specs.Running.{Begins, AllBegin}
 use Rattle.ss_code.specs.Sections.{scope_in, PutsSection, PutsRoutines, PutsEvents}
 use Rattle.ss_code.proofs.Emitting.{runs_long, adds_none, adds_then, adds_piece, adds_same}
-use Rattle.ss_code.proofs.Whole.{prints_then, prints_long}
+use Rattle.ss_code.proofs.PrintLines.{prints_then, prints_long}
 use Rattle.ss_code.proofs.Bodies.{has_prints_old}
 
 -- ## A section

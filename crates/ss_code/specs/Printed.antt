@@ -1,18 +1,21 @@
 -- What is emitted for statements, with the lines of their PRINTs.
-use Rattle.std.specs.Prelude.{ℕ, List, [], ◌∷◌, ◌++◌, length}
+use Rattle.std.specs.Prelude.{◌≡◌, ℕ, List, [], ◌∷◌, ◌++◌, length, map}
 use Rattle.std.specs.List.{AllByRecursion as Every}
 use Rattle.ss_base.specs.declared.line.Line.{Line}
 use Rattle.ss_program.specs.Program.{Item, Statement, Let, Change, Call, Return, Stop, Read, Simulate, If, Loop, For, Find, Create, CreateEvery, Destroy, File, RemoveEnd, Remove, ScheduleNew, Schedule, Cancel, Reset, Print as APrint, Skip, Block}
 use Rattle.ss_program.specs.WellTyped.{Scope, Good, GoodBlock}
 use Rattle.ss_code_instructions.specs.Instructions.{Lines, Print, Placed}
-use Rattle.ss_code_instructions.specs.Carried.{RunningLines}
+use Rattle.ss_code_instructions.specs.Carried.{RunningLines, lines_of as run_as}
 use Rattle.ss_code_instructions.specs.Translation.{Site, height, place, no_line, items_code, after_items, lines_of, statement_code, statement_prints, block_code, block_prints}
 use Rattle.ss_code.specs.declared.generator.Generator.{Generator}
 use Rattle.ss_code.specs.declared.generator.Site.{Site as Here}
 use Rattle.ss_code.specs.Lined.{Lined, nothing}
 use Rattle.ss_code.specs.Emitted.{EmitsPrinting}
 use Rattle.ss_code.specs.Items.{GoodItem}
-use Rattle.ss_code.specs.Running.{Prints}
+
+-- the lines of PRINTs that were put down: after those before come these
+abbrev pub Prints : (before after : List RunningLines) → List Lines → Type 0
+Prints before after ls = (more : List RunningLines) × (after ≡ before ++ more) × (map run_as more ≡ ls)
 
 -- the line of a statement; one that never faults has none
 abbrev pub line_or_none : Statement → Line

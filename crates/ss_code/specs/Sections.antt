@@ -12,7 +12,8 @@ use Rattle.ss_code_instructions.specs.Translation.{section_code, block_prints, r
 use Rattle.ss_code.specs.declared.generator.Generator.{Generator}
 use Rattle.ss_code.specs.Lined.{Lined}
 use Rattle.ss_code.specs.Emitted.{Final, Around, HasPrints, Adds}
-use Rattle.ss_code.specs.Running.{Begins, AllBegin, Prints}
+use Rattle.ss_code.specs.Printed.{Prints}
+use Rattle.ss_code.specs.Running.{Begins, AllBegin}
 
 -- ## Room for cells
 

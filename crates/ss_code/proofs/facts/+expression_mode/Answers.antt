@@ -2,7 +2,7 @@ use Rattle.std.proofs.Common.{ap, sym, ◌∙◌}
 use Rattle.ss_program.specs.View.{view_expression}
 use Rattle.ss_code_instructions.specs.Translation.{expression_mode as mode_of_expression}
 use Rattle.ss_code.specs.Preamble.{scope_of}
-use Rattle.ss_code.proofs.Modes.{mode_calculated_none, mode_calculated_some}
+use Rattle.ss_code.proofs.Calculated.{mode_calculated_none, mode_calculated_some}
 use Rattle.ss_code.proofs.facts.+expression_mode.Goals as goal
 
 pub returns-then-is_empty : goal.returns-then-is_empty
