@@ -1,29 +1,6 @@
-mod Emitting
-mod Forms
-mod Modes
-mod Operands
-mod Values
-mod Leafs
-mod Filed
-mod Testing
-mod Assigned
 mod Whole
-mod Steps
 mod Sections
 mod Nodes
-mod Watching
-mod Pushing
-mod Listed
 mod Alike
-mod Rounds
-mod Bodies
-mod Called
 mod Made
 mod Deeper
-mod Spotted
-mod Letting
-mod Noticing
-mod Itemed
-mod Removing
-pub mod Calculated
-pub mod PrintLines

@@ -13,16 +13,16 @@ use Rattle.ss_code_instructions.specs.Translation.{routine_code, event_code, rou
 use Rattle.ss_code_instructions.specs.Carried.{RunningLines, RunningCode, lines_of, item_modes, onto, Carries, Shows, IsEntry, AreEntries, IsPlace, ArePlaces, main_entry, IsCode}
 use Rattle.ss_code_instructions.specs.Walks.{WalksSift}
 use Rattle.ss_code_instructions.proofs.Steps.{HasAt, has_all}
-use Rattle.ss_code.specs.declared.generator.Generator.{Generator}
-use Rattle.ss_code.specs.Lined.{Lined, nothing}
-use Rattle.ss_code.specs.Emitted.{Final, Shown, AllRun, Adds}
-use Rattle.ss_code.specs.Printed.{Prints}
+use Rattle.ss_code_generator.specs.declared.generator.Generator.{Generator}
+use Rattle.ss_code_pieces.specs.Lined.{Lined, nothing}
+use Rattle.ss_code_generator.specs.Emitted.{Final, Shown, AllRun, Adds}
+use Rattle.ss_code_generator.specs.Printed.{Prints}
 use Rattle.ss_code.specs.Running.{Begins, AllBegin}
 use Rattle.ss_code.specs.Sections.{Deepened, AllDeepened}
 use Rattle.ss_code.specs.Sifted.{AllAlike}
-use Rattle.ss_code.proofs.PrintLines.{prints_then, prints_long}
+use Rattle.ss_code_generator.proofs.PrintLines.{prints_then, prints_long}
 use Rattle.ss_code.proofs.Alike.{all_run_alike}
-use Rattle.ss_code.proofs.Emitting.{adds_then, adds_same, piece_long}
+use Rattle.ss_code_generator.proofs.Emitting.{adds_then, adds_same, piece_long}
 
 -- ## Places
 

@@ -16,7 +16,7 @@ ghost use Rattle.ss_machine_steps.specs.Writing.{IsUnsent, DidWrite};
 
 use crate::showing::{Buffers, show};
 use ss_base::{FaultKind, FaultyWrite};
-use ss_code::lines::Lines;
+use ss_code_pieces::lines::Lines;
 use ss_code_instructions::address::Address;
 use ss_code_instructions::instruction::Instruction;
 use ss_machine_instructions::flow::{Ending, Here};
