@@ -6,12 +6,12 @@ use Rattle.ss_code_instructions.specs.States.{Core}
 use Rattle.ss_machine_instructions.specs.declared.flow.Here.{Here}
 use Rattle.ss_machine_instructions.specs.declared.state.State.{State}
 use Rattle.ss_machine_instructions.specs.Doing.{Compiled}
-use Rattle.ss_machine_steps.specs.declared.stop.Stop.{Stop}
-use Rattle.ss_machine_steps.specs.declared.stop.Stop.TheVariants.{Ended, Fault, Paused, Memory, Output, Input, Failed}
-use Rattle.ss_machine_steps.specs.Situations.{Situation, situated, Stands, IsSituated}
-use Rattle.ss_machine_steps.specs.Runs.{Comes, IsFinished, Ran}
+use Rattle.ss_machine.specs.declared.stop.Stop.{Stop}
+use Rattle.ss_machine.specs.declared.stop.Stop.TheVariants.{Ended, Fault, Paused, Memory, Output, Input, Failed}
+use Rattle.ss_machine.specs.Situations.{Situation, situated, Stands, IsSituated}
+use Rattle.ss_machine.specs.Runs.{Comes, IsFinished, Ran}
 use Rattle.ss_meaning.specs.Meaning as endings
-use Rattle.ss_machine_steps.proofs.Inputs.{reads_so, finds_so}
+use Rattle.ss_machine.proofs.Inputs.{reads_so, finds_so}
 
 -- ## Ticks are handed out
 

@@ -4,8 +4,8 @@ ghost use Rattle.std.specs.Prelude.{◌≡◌, ◌+◌, ◌-◌, ◌*◌, ◌^�
 ghost use Rattle.ss_base.specs.Failures.{HasRisen, HasRisenBy};
 ghost use Rattle.ss_input.specs.Blocks.{KnowsEnd};
 ghost use Rattle.ss_input.specs.Inputs.{source_block, source_missed, source_reader};
-ghost use Rattle.ss_machine_steps.specs.Situations.{IsSituated};
-ghost use Rattle.ss_machine_steps.specs.Runs.{Ran};
+ghost use Rattle.ss_machine.specs.Situations.{IsSituated};
+ghost use Rattle.ss_machine.specs.Runs.{Ran};
 ghost use Rattle.ss_machine.specs.Held.{IsFirst, answer_again, kept_after};
 
 use ss_base::{FaultyRead, FaultyWrite};
@@ -14,10 +14,10 @@ use ss_code_instructions::laws::laws_of_code;
 use ss_input::Source;
 use ss_machine_instructions::flow::Here;
 use ss_machine_instructions::state::State;
-use ss_machine_steps::first::{first_place, first_state, release_state, stands_first};
-use ss_machine_steps::running::run;
-use ss_machine_steps::showing::Buffers;
-use ss_machine_steps::stop::Stop;
+use crate::first::{first_place, first_state, release_state, stands_first};
+use crate::running::run;
+use crate::showing::Buffers;
+use crate::stop::Stop;
 use ss_picture::Sink;
 use std::alloc::{AllocError, Global};
 use std::marker::Model;

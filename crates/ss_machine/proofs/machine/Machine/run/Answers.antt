@@ -2,11 +2,11 @@ use Rattle.std.proofs.Common.{rules, ◌≡◌, ◌+◌, ◌-◌, ◌*◌, ◌�
 use Rattle.std.proofs.lemmas.Option.{none-some, same_Some}
 use Rattle.ss_machine_instructions.specs.declared.state.State.{State}
 use Rattle.ss_machine_instructions.specs.declared.flow.Here.{Here}
-use Rattle.ss_machine_steps.specs.Situations.{situated}
-use Rattle.ss_machine_steps.specs.Counts.{HasSteps}
-use Rattle.ss_machine_steps.specs.Runs.{Ran}
+use Rattle.ss_machine.specs.Situations.{situated}
+use Rattle.ss_machine.specs.Counts.{HasSteps}
+use Rattle.ss_machine.specs.Runs.{Ran}
 use Rattle.ss_machine.specs.Held.{Held, answer_again}
-use Rattle.ss_machine.proofs.First.{kept_none}
+use Rattle.ss_machine.proofs.Readiness.{kept_none}
 use Rattle.ss_machine.proofs.Resuming.{stands_ticked, situated_ticked, ran_from, never, used_by}
 use Rattle.ss_machine.proofs.machine.Machine.run.Goals as goal
 
