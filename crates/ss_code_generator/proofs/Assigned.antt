@@ -15,7 +15,7 @@ use Rattle.ss_code_instructions.specs.Translation.{Site, height, place, above, n
 use Rattle.ss_code_instructions.specs.Carried.{mode_here}
 use Rattle.ss_code_generator.specs.declared.targets.VariableSpot.{VariableSpot}
 use Rattle.ss_code_generator.specs.declared.targets.AttributeSpot.{AttributeSpot}
-use Rattle.ss_code_generator.specs.Forms.{moving, storing}
+use Rattle.ss_code_instructions.specs.Forms.{moving, storing}
 use Rattle.ss_code_generator.specs.Emitted.{Final, Shown, Runs, AtOperand}
 use Rattle.ss_code_generator.specs.Spots.{IsWatched, IsVariable, IsAttribute, landing, landed_code}
 use Rattle.ss_code_generator.proofs.Forms as forms

@@ -20,7 +20,7 @@ use Rattle.ss_code_generator.specs.declared.generator.Generator.{Generator}
 use Rattle.ss_code_generator.specs.declared.generator.Site.{Site as Here}
 use Rattle.ss_code_pieces.specs.Lined.{Lined}
 use Rattle.ss_code_pieces.specs.Preamble.{filing_of}
-use Rattle.ss_code_generator.specs.Forms.{filing}
+use Rattle.ss_code_generator.specs.Filings.{filing}
 use Rattle.ss_code_generator.specs.Emitted.{Final, Around, Stands, Shown, Emits, AtOperand, AtBearer, IsNumber, Reads, ReadsBy, Bears}
 use Rattle.ss_code_generator.proofs.Emitting.{around_old, grows_then, stands_old, adds_then, adds_one, adds_same}
 use Rattle.ss_code_generator.proofs.Forms as forms

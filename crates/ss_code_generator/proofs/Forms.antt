@@ -22,7 +22,8 @@ use Rattle.ss_code_instructions.specs.Carried.{Carries, From, Of, To, Is, Calcul
 use Rattle.ss_code_pieces.specs.declared.facts.Ordering.{Ordering}
 use Rattle.ss_code_pieces.specs.declared.facts.Ordering.TheVariants as orderings
 use Rattle.ss_code_pieces.specs.Preamble.{filing_of}
-use Rattle.ss_code_generator.specs.Forms.{calculating, asking_set, asking_member, moving, fetching, storing, reading, comparing, filing, removing}
+use Rattle.ss_code_instructions.specs.Forms.{calculating, asking_set, asking_member, moving, fetching, storing, reading, comparing, removing}
+use Rattle.ss_code_generator.specs.Filings.{filing}
 
 module _ (code : Code) (constants : List Value) (x : Placed) where
   pub calculates : (op : Operator) (left right to : Address) → Calculates code constants x op left right to → Carries code constants x (calculating op left right to)

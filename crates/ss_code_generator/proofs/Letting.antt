@@ -26,7 +26,7 @@ use Rattle.ss_code_generator.specs.declared.targets.AttributeSpot.{AttributeSpot
 use Rattle.ss_code_generator.specs.declared.targets.Spot.{Spot}
 use Rattle.ss_code_generator.specs.declared.targets.Spot.TheVariants as spots
 use Rattle.ss_code_pieces.specs.Lined.{Lined}
-use Rattle.ss_code_generator.specs.Forms.{calculating, storing}
+use Rattle.ss_code_instructions.specs.Forms.{calculating, storing}
 use Rattle.ss_code_generator.specs.Emitted.{Final, Around, Grows, Stands, Shown, Makes, NoMore, Emits, AtOperand, AtTarget, Typed, IsNumber, Reads}
 use Rattle.ss_code_generator.specs.Spots.{IsWatched, IsVariable, IsSpot, GoodPlace, HasRoom, HoldsMode, Given, Gives, Taking, Takes, Changed, variable_of, IsHeldBy, spot_cells, spot_code, landing, assigned_code, landed_code}
 use Rattle.ss_code_generator.proofs.Emitting.{around_old, grows_then, stands_old, stands_above, adds_then, adds_one, adds_same}

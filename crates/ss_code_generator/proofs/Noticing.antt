@@ -26,7 +26,7 @@ use Rattle.ss_code_generator.specs.declared.targets.AttributeSpot.{AttributeSpot
 use Rattle.ss_code_generator.specs.declared.targets.Spot.{Spot}
 use Rattle.ss_code_generator.specs.declared.targets.Spot.TheVariants as spots
 use Rattle.ss_code_pieces.specs.Lined.{Lined}
-use Rattle.ss_code_generator.specs.Forms.{storing}
+use Rattle.ss_code_instructions.specs.Forms.{storing}
 use Rattle.ss_code_generator.specs.Emitted.{Final, Around, Grows, Stands, Runs, Adds, Emits, AtTarget, AtOperand, Typed, AreNumbers, IsRead, Reads, Bears}
 use Rattle.ss_code_generator.specs.Spots.{IsSpot, HasRoom, HoldsMode, Given, Gives, Taking, Takes, spot_cells, landing}
 use Rattle.ss_code_generator.specs.Notices.{any_watched, named_at, named_code, Names}

@@ -15,7 +15,7 @@ use Rattle.ss_code_generator.specs.declared.generator.Generator.{Generator}
 use Rattle.ss_code_generator.specs.declared.generator.Site.{Site as Here}
 use Rattle.ss_code_generator.specs.declared.targets.Spot.{Spot}
 use Rattle.ss_code_pieces.specs.Lined.{Lined}
-use Rattle.ss_code_generator.specs.Forms.{removing}
+use Rattle.ss_code_instructions.specs.Forms.{removing}
 use Rattle.ss_code_generator.specs.Emitted.{Grows, Emits, Bears}
 use Rattle.ss_code_generator.specs.Spots.{IsSpot, GoodPlace, Taking, Takes, spot_cells, landing, landed_code}
 use Rattle.ss_code_generator.proofs.Emitting.{around_old, grows_then, stands_old, adds_then, adds_one, adds_same}

@@ -24,7 +24,7 @@ use Rattle.ss_code_generator.specs.declared.targets.AttributeSpot.{AttributeSpot
 use Rattle.ss_code_generator.specs.declared.targets.Spot.{Spot}
 use Rattle.ss_code_generator.specs.declared.targets.Spot.TheVariants as spots
 use Rattle.ss_code_pieces.specs.Lined.{Lined}
-use Rattle.ss_code_generator.specs.Forms.{moving, storing}
+use Rattle.ss_code_instructions.specs.Forms.{moving, storing}
 use Rattle.ss_code_generator.specs.Emitted.{Final, Around, Stands, Adds, Makes, AtOperand, AtTarget, IsNumber, Reads}
 use Rattle.ss_code_generator.specs.Spots.{IsWatched, IsAttribute, IsSpot, IsPlaceOf, GoodPlace, HasRoom, HoldsMode, Given, Gives, Takes, landing, assigned_code, landed_code}
 use Rattle.ss_code_generator.proofs.Emitting.{grows_same, stands_above, adds_none, adds_then, adds_one, adds_same}

@@ -15,7 +15,7 @@ use Rattle.ss_code_generator.specs.declared.expressions.Operand.{Operand as Read
 use Rattle.ss_code_generator.specs.declared.generator.Generator.{Generator}
 use Rattle.ss_code_generator.specs.declared.generator.Site.{Site as Here}
 use Rattle.ss_code_pieces.specs.Lined.{Lined, nothing}
-use Rattle.ss_code_generator.specs.Forms.{comparing}
+use Rattle.ss_code_instructions.specs.Forms.{comparing}
 use Rattle.ss_code_generator.specs.Emitted.{Final, Around, Stands, Emits, EmitsAround, AtBearer, Typed, IsNumber, AreNumbers, Reads, ReadsBy, Bears}
 use Rattle.ss_code_generator.proofs.Emitting.{around_old, grows_then, stands_old, adds_then, adds_one, adds_apart, adds_same, piece_long}
 use Rattle.ss_code_generator.proofs.Forms as forms

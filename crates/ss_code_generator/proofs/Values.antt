@@ -31,7 +31,7 @@ use Rattle.ss_code_generator.specs.declared.expressions.Operand.{Operand as Read
 use Rattle.ss_code_generator.specs.declared.generator.Generator.{Generator}
 use Rattle.ss_code_generator.specs.declared.generator.Site.{Site as Here}
 use Rattle.ss_code_pieces.specs.Lined.{Lined}
-use Rattle.ss_code_generator.specs.Forms.{calculating, asking_set, asking_member, moving, fetching}
+use Rattle.ss_code_instructions.specs.Forms.{calculating, asking_set, asking_member, moving, fetching}
 use Rattle.ss_code_pieces.specs.Preamble.{mode_in}
 use Rattle.ss_code_generator.specs.Calculations.{folded, operation_code, Left, Operates}
 use Rattle.ss_code_generator.specs.Emitted.{Final, Around, Grows, Stands, Shown, Runs, EmitsTo, AtOperand, AtTarget, Typed, IsNumber, Reads}

@@ -1,4 +1,4 @@
-pub mod Forms
+pub mod Filings
 pub mod Emitted
 pub mod Calculations
 pub mod Notices

@@ -7,7 +7,7 @@ ghost use Rattle.ss_program.specs.View.{view_expression, view_owner, view_test, 
 ghost use Rattle.ss_program.specs.WellTyped.{GoodTest, GoodCondition, GoodPhrase};
 ghost use Rattle.ss_code_instructions.specs.Instructions.{Jump};
 ghost use Rattle.ss_code_instructions.specs.Translation.{place, test_code, tests_code, condition_code, negated_code, guard_code, guards_code, phrase_code, phrases_code};
-ghost use Rattle.ss_code_generator.specs.Forms.{comparing_numbers, comparing};
+ghost use Rattle.ss_code_instructions.specs.Forms.{comparing_numbers, comparing};
 ghost use Rattle.ss_code_pieces.specs.Lined.{nothing};
 ghost use Rattle.ss_code_generator.specs.Emitted.{Emits, EmitsAround};
 

@@ -10,7 +10,7 @@ ghost use Rattle.ss_code_instructions.specs.Instructions.{Constant, Move};
 ghost use Rattle.ss_code_instructions.specs.declared.instruction.Instruction.TheVariants.{Figure as Figures};
 ghost use Rattle.ss_code_instructions.specs.Facts.{expression_of};
 ghost use Rattle.ss_code_instructions.specs.Translation.{expression_code, values_code, place, next};
-ghost use Rattle.ss_code_generator.specs.Forms.{calculating, asking_set, asking_member, moving, fetching};
+ghost use Rattle.ss_code_instructions.specs.Forms.{calculating, asking_set, asking_member, moving, fetching};
 ghost use Rattle.ss_code_generator.specs.Calculations.{Operates};
 ghost use Rattle.ss_code_generator.specs.Emitted.{Grows, Emits, EmitsTo, Typed, IsLeaf, Reads, Bears};
 

@@ -8,7 +8,8 @@ ghost use Rattle.ss_code_instructions.specs.Translation.{with_owner, after as be
 ghost use Rattle.ss_code_instructions.specs.Facts.{may_fault, expression_of};
 ghost use Rattle.ss_code_instructions.specs.Instructions.{File as Files};
 ghost use Rattle.ss_code_pieces.specs.Preamble.{filing_of};
-ghost use Rattle.ss_code_generator.specs.Forms.{filing, removing};
+ghost use Rattle.ss_code_instructions.specs.Forms.{removing};
+ghost use Rattle.ss_code_generator.specs.Filings.{filing};
 ghost use Rattle.ss_code_generator.specs.Emitted.{Emits, IsNumber, ReadsBy};
 
 use crate::expressions::Operand;

@@ -11,7 +11,7 @@ ghost use Rattle.ss_code_instructions.specs.Instructions.{Read, Create};
 ghost use Rattle.ss_code_instructions.specs.declared.instruction.Instruction.TheVariants.{LookEntity};
 ghost use Rattle.ss_code_instructions.specs.Facts.{is_watched};
 ghost use Rattle.ss_code_instructions.specs.Translation.{Site as At, operand_code, forget, to_place_code, place as placed, let_code, change_code, reads_code, creates_code, give_code, place_code};
-ghost use Rattle.ss_code_generator.specs.Forms.{calculating, storing, reading};
+ghost use Rattle.ss_code_instructions.specs.Forms.{calculating, storing, reading};
 ghost use Rattle.ss_code_generator.specs.declared.generator.Site.{Site as Here};
 ghost use Rattle.ss_code_generator.specs.Emitted.{Final, Around, Grows, Stands, AtTarget, Makes, NoMore, Emits, IsNumber};
 ghost use Rattle.ss_code_generator.specs.Spots.{HasRoom, HoldsMode, IsWatched, IsVariable, IsAttribute, IsSpot, IsPlaceOf, spot_cells, spot_code, landing as lands_at, GoodPlace, Gives, Takes, Changed, IsHeldBy};

@@ -17,3 +17,4 @@ pub mod Programs
 pub mod Settling
 pub mod Filing
 pub mod Setwork
+pub mod Forms

@@ -3,7 +3,7 @@ use Rattle.ss_program.specs.View.{view_expression}
 use Rattle.ss_program.specs.Views.{view_calculate_made}
 use Rattle.ss_code_instructions.specs.declared.instruction.Instruction.TheVariants as r
 use Rattle.ss_code_generator.specs.Calculations.{folded}
-use Rattle.ss_code_generator.specs.Forms.{asking_set, asking_member, moving, fetching}
+use Rattle.ss_code_instructions.specs.Forms.{asking_set, asking_member, moving, fetching}
 use Rattle.ss_code_generator.proofs.Emitting.{grows_same, one_ok, put_ok, put_as}
 use Rattle.ss_code_pieces.proofs.Leafs.{alone_is, none_counted}
 use Rattle.ss_code_generator.proofs.Values.{constant_emitted, fetch_emitted, system_set_emitted, figure_emitted, attribute_emitted, set_emitted, member_emitted, time_emitted, figure_of_emitted, signed_emitted, absolute_emitted, operation_emitted, more_emitted, next_reads, folded_taken, folded_last, field_known, variable_known}

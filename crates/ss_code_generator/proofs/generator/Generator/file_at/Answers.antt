@@ -1,6 +1,6 @@
 use Rattle.std.proofs.Common.{ap, ◌∙◌}
 use Rattle.ss_program.specs.View.{view_expression, view_owner}
-use Rattle.ss_code_generator.specs.Forms.{filing}
+use Rattle.ss_code_generator.specs.Filings.{filing}
 use Rattle.ss_code_generator.proofs.Emitting.{put_as}
 use Rattle.ss_code_generator.proofs.Filed.{member_filed}
 use Rattle.ss_code_generator.proofs.generator.Generator.file_at.Goals as goal

@@ -6,7 +6,7 @@ use Rattle.ss_program.specs.View.{view_place}
 use Rattle.ss_code_generator.specs.Spots.{spot_cells}
 use Rattle.ss_code_generator.proofs.Letting.{to_place_made}
 use Rattle.ss_code_instructions.specs.Translation.{place, code_of}
-use Rattle.ss_code_generator.specs.Forms.{reading}
+use Rattle.ss_code_instructions.specs.Forms.{reading}
 use Rattle.ss_code_generator.proofs.Forms as forms
 use Rattle.ss_code_generator.proofs.generator.Generator.read.Goals as goal
 

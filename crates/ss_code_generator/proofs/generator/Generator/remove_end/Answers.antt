@@ -1,6 +1,6 @@
 use Rattle.std.proofs.Common.{ap, ◌∙◌}
 use Rattle.ss_program.specs.View.{view_owner, view_place}
-use Rattle.ss_code_generator.specs.Forms.{removing}
+use Rattle.ss_code_instructions.specs.Forms.{removing}
 use Rattle.ss_code_generator.proofs.Emitting.{one_ok, put_as}
 use Rattle.ss_code_generator.proofs.Removing.{end_removed}
 use Rattle.ss_code_generator.proofs.generator.Generator.remove_end.Goals as goal
