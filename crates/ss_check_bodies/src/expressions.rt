@@ -60,7 +60,7 @@ fn resolved_time(alloc: Global, subscript: Option<Resolved>) -> Result<Resolved,
 }
 
 // The value of what is named, with the subscript if there is one; a mean is no value.
-#[tactic(auto, unfolding(ss_program::specs::View::view_expression), using(ss_events_entries::proofs::Seen::plain_seen))]
+#[tactic(auto, unfolding(ss_program::specs::View::view_expression), using(crate::proofs::Seen::plain_seen))]
 pub(crate) fn resolved_value(
     alloc: Global,
     meaning: Meaning,

@@ -32,7 +32,7 @@ fn named_value(
 }
 
 // What PRINT shows of what is named, with the subscript if there is one.
-#[tactic(auto, using(ss_events_entries::proofs::Seen::plain_seen))]
+#[tactic(auto, using(crate::proofs::Seen::plain_seen))]
 fn resolved_item(
     alloc: Global,
     meaning: Meaning,

@@ -42,7 +42,7 @@ fn resolve_when<S: Scope>(
 }
 
 // A new notice, where its class has as many attributes as are given at least.
-#[tactic(auto, unfolding(ss_program::specs::View::view_statement), using(ss_events_entries::proofs::Seen::where_seen))]
+#[tactic(auto, unfolding(ss_program::specs::View::view_statement), using(crate::proofs::Seen::where_seen))]
 fn new_notice(
     line: Line,
     class: ClassMeant,
@@ -66,7 +66,7 @@ fn new_notice(
 }
 
 // A notice that is there already, where its class has as many attributes as are given at least.
-#[tactic(auto, unfolding(ss_program::specs::View::view_statement), using(ss_events_entries::proofs::Seen::where_seen))]
+#[tactic(auto, unfolding(ss_program::specs::View::view_statement), using(crate::proofs::Seen::where_seen))]
 fn old_notice(
     line: Line,
     class: ClassMeant,

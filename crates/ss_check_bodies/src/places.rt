@@ -18,7 +18,7 @@ use std::alloc::Global;
 // ---- targets
 
 // The target that is named, with the subscript if there is one.
-#[tactic(auto, using(ss_events_entries::proofs::Seen::plain_seen))]
+#[tactic(auto, using(crate::proofs::Seen::plain_seen))]
 fn place_of(meaning: Meaning, subscript: Option<Resolved>) -> Result<Place, ResolveError>
     ensures { Gives view_place result (place_of meaning (option_seen view_resolved subscript)) }
 {
@@ -159,7 +159,7 @@ pub(crate) fn resolve_entity_called<S: Scope>(
 // ---- sets
 
 // The number of a set, and its owner.
-#[tactic(auto, using(ss_events_entries::proofs::Seen::plain_seen))]
+#[tactic(auto, using(crate::proofs::Seen::plain_seen))]
 fn resolved_set(
     set: SetMeant,
     subscript: Option<Resolved>,
@@ -191,7 +191,7 @@ pub(crate) fn resolve_set<S: Scope>(
 // ---- statistics
 
 // The entity whose statistic starts afresh; None where the statistic is of no entity.
-#[tactic(auto, using(ss_events_entries::proofs::Seen::plain_seen))]
+#[tactic(auto, using(crate::proofs::Seen::plain_seen))]
 fn owner_of_statistic(
     meaning: Meaning,
     subscript: Option<Resolved>,
