@@ -20,15 +20,16 @@ use Rattle.ss_code_instructions.specs.Size.{code_size}
 use Rattle.ss_code_instructions.specs.Translation.{code_of, main_code, section_code, main_scope, routines_code, events_code}
 use Rattle.ss_code_instructions.specs.Translation as z
 use Rattle.ss_code_instructions.specs.Walks.{WalksSift}
-use Rattle.ss_code.specs.declared.generator.Generator.{Generator}
-use Rattle.ss_code.specs.Lined.{Lined, nothing}
-use Rattle.ss_code.specs.Emitted.{Final, Around, HasPrints, Adds}
-use Rattle.ss_code.specs.Running.{Said, said_by, Compiled, IsFor, Begins, AllBegin, Prints}
+use Rattle.ss_code_generator.specs.declared.generator.Generator.{Generator}
+use Rattle.ss_code_pieces.specs.Lined.{Lined, nothing}
+use Rattle.ss_code_generator.specs.Emitted.{Final, Around, HasPrints, Adds}
+use Rattle.ss_code_generator.specs.Printed.{Prints}
+use Rattle.ss_code.specs.Running.{Said, said_by, Compiled, IsFor, Begins, AllBegin}
 use Rattle.ss_code.specs.Sections.{Deepened, AllDeepened, PutsSection, PutsRoutines, PutsEvents}
 use Rattle.ss_code.specs.Sifted.{AllAlike}
-use Rattle.ss_code.proofs.Emitting.{piece_long}
+use Rattle.ss_code_generator.proofs.Emitting.{piece_long}
 use Rattle.ss_code.proofs.Alike.{all_alike_long}
-use Rattle.ss_code.proofs.Bodies.{has_prints_old}
+use Rattle.ss_code_generator.proofs.Bodies.{has_prints_old}
 use Rattle.ss_code.proofs.Sections.{around_less}
 use Rattle.ss_code.proofs.Whole.{Parts, all_added, routines_begin, events_begin, is_code}
 use Rattle.ss_code.proofs.Nodes.{code_small}

@@ -9,15 +9,15 @@ use Rattle.ss_code_instructions.specs.declared.entry.Entry.{Entry}
 use Rattle.ss_code_instructions.specs.Instructions.{Placed, EntryPoint, Lines, Leave}
 use Rattle.ss_code_instructions.specs.Carried.{RunningLines}
 use Rattle.ss_code_instructions.specs.Translation.{Site, place, first_site, block_code, block_prints, section_code, routine_code, event_code, routines_code, events_code, routines_prints, events_prints, routine_entry, event_entry, routine_entries, event_entries}
-use Rattle.ss_code.specs.declared.generator.Generator.{Generator}
-use Rattle.ss_code.specs.Lined.{Lined, nothing}
-use Rattle.ss_code.specs.Emitted.{Final, Around, Stands, HasPrints, Adds}
-use Rattle.ss_code.specs.Printed.{statement_site, PrintsBy}
-use Rattle.ss_code.specs.Running.{Begins, AllBegin, Prints}
+use Rattle.ss_code_generator.specs.declared.generator.Generator.{Generator}
+use Rattle.ss_code_pieces.specs.Lined.{Lined, nothing}
+use Rattle.ss_code_generator.specs.Emitted.{Final, Around, Stands, HasPrints, Adds}
+use Rattle.ss_code_generator.specs.Printed.{Prints, statement_site, PrintsBy}
+use Rattle.ss_code.specs.Running.{Begins, AllBegin}
 use Rattle.ss_code.specs.Sections.{scope_in, PutsSection, PutsRoutines, PutsEvents}
-use Rattle.ss_code.proofs.Emitting.{runs_long, adds_none, adds_then, adds_piece, adds_same}
-use Rattle.ss_code.proofs.Whole.{prints_then, prints_long}
-use Rattle.ss_code.proofs.Bodies.{has_prints_old}
+use Rattle.ss_code_generator.proofs.Emitting.{runs_long, adds_none, adds_then, adds_piece, adds_same}
+use Rattle.ss_code_generator.proofs.PrintLines.{prints_then, prints_long}
+use Rattle.ss_code_generator.proofs.Bodies.{has_prints_old}
 
 -- ## A section
 

@@ -1,6 +1,5 @@
 -- The whole code of a program, from that of its sections.
-use Rattle.std.proofs.Common.{◌≡◌, ℕ, suc, ◌+◌, ◌≤◌, List, [], ◌∷◌, ◌++◌, length, map, Some, refl, sym, ap, ◌∙◌, subst, arith, append_assoc, length-append}
-use Rattle.std.proofs.lemmas.List.{map-append, length-map}
+use Rattle.std.proofs.Common.{◌≡◌, ℕ, suc, ◌+◌, ◌≤◌, List, [], ◌∷◌, ◌++◌, length, map, Some, refl, sym, ap, ◌∙◌, subst, arith, length-append}
 use Rattle.std.specs.Prelude.{pos}
 use Rattle.std.specs.List.{AllByRecursion as Every}
 use Rattle.ss_base.specs.declared.value.Value.{Value}
@@ -8,20 +7,22 @@ use Rattle.ss_base.specs.declared.value.Value.TheVariants.{Whole}
 use Rattle.ss_program.specs.Program.{Program, Routine, Event}
 use Rattle.ss_code_instructions.specs.declared.entry.Entry.{Entry}
 use Rattle.ss_code_instructions.specs.declared.instruction.Instruction.{Instruction as Running}
-use Rattle.ss_code_instructions.specs.Instructions.{Placed, EntryPoint, Lines}
+use Rattle.ss_code_instructions.specs.Instructions.{Placed, EntryPoint}
 use Rattle.ss_code_instructions.specs.Running.{Lands}
 use Rattle.ss_code_instructions.specs.Translation.{routine_code, event_code, routines_code, events_code, block_prints, routines_prints, events_prints, routine_entries, event_entries, main_code, all_routines, all_events, main_prints, prints_before_events, code_of}
 use Rattle.ss_code_instructions.specs.Carried.{RunningLines, RunningCode, lines_of, item_modes, onto, Carries, Shows, IsEntry, AreEntries, IsPlace, ArePlaces, main_entry, IsCode}
 use Rattle.ss_code_instructions.specs.Walks.{WalksSift}
 use Rattle.ss_code_instructions.proofs.Steps.{HasAt, has_all}
-use Rattle.ss_code.specs.declared.generator.Generator.{Generator}
-use Rattle.ss_code.specs.Lined.{Lined, nothing}
-use Rattle.ss_code.specs.Emitted.{Final, Shown, AllRun, Adds}
-use Rattle.ss_code.specs.Running.{Begins, AllBegin, Prints}
+use Rattle.ss_code_generator.specs.declared.generator.Generator.{Generator}
+use Rattle.ss_code_pieces.specs.Lined.{Lined, nothing}
+use Rattle.ss_code_generator.specs.Emitted.{Final, Shown, AllRun, Adds}
+use Rattle.ss_code_generator.specs.Printed.{Prints}
+use Rattle.ss_code.specs.Running.{Begins, AllBegin}
 use Rattle.ss_code.specs.Sections.{Deepened, AllDeepened}
 use Rattle.ss_code.specs.Sifted.{AllAlike}
+use Rattle.ss_code_generator.proofs.PrintLines.{prints_then, prints_long}
 use Rattle.ss_code.proofs.Alike.{all_run_alike}
-use Rattle.ss_code.proofs.Emitting.{adds_then, adds_same, piece_long}
+use Rattle.ss_code_generator.proofs.Emitting.{adds_then, adds_same, piece_long}
 
 -- ## Places
 
@@ -98,20 +99,6 @@ events_yield p at first [] = tt
 events_yield p at first (e ∷ es) =
     let few : 0 ≤ length e.others = omega arith in
     (few, events_yield p (at + length (event_code p first e)) (first + length (block_prints e.body)) es)
-
--- ## PRINTs
-
--- the lines of all PRINTs
-pub prints_then : (a b c : List RunningLines) (ls ms : List Lines) → Prints a b ls → Prints b c ms → Prints a c (ls ++ ms)
-prints_then a b c ls ms h k = (
-  h.0 ++ k.0,
-  k.1 ∙ ap (λ (l : List RunningLines). l ++ k.0) h.1 ∙ append_assoc a h.0 k.0,
-  map-append lines_of h.0 k.0 ∙ ap (λ (l : List Lines). l ++ map lines_of k.0) h.2 ∙ ap (λ (l : List Lines). ls ++ l) k.2,
-)
-
--- how many there are then
-pub prints_long : (a b : List RunningLines) (ls : List Lines) → Prints a b ls → length b ≡ length a + length ls
-prints_long a b ls h = ap length h.1 ∙ length-append a h.0 ∙ ap (λ n. length a + n) (sym (length-map h.0 lines_of) ∙ ap length h.2)
 
 -- ## The whole
 

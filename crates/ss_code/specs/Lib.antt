@@ -1,15 +1,4 @@
 pub mod Limits
-pub mod Preamble
-pub mod Forms
-pub mod Lined
-pub mod Plain
-pub mod Emitted
-pub mod Calculations
-pub mod Notices
-pub mod Items
-pub mod Spots
-pub mod Looped
 pub mod Running
-pub mod Printed
 pub mod Sections
 pub mod Sifted

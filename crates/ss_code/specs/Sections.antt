@@ -9,10 +9,11 @@ use Rattle.ss_code_instructions.specs.declared.entry.Entry.{Entry}
 use Rattle.ss_code_instructions.specs.Instructions.{Placed, EntryPoint, Lines}
 use Rattle.ss_code_instructions.specs.Carried.{RunningLines}
 use Rattle.ss_code_instructions.specs.Translation.{section_code, block_prints, routines_code, events_code, routines_prints, events_prints, routine_entries, event_entries}
-use Rattle.ss_code.specs.declared.generator.Generator.{Generator}
-use Rattle.ss_code.specs.Lined.{Lined}
-use Rattle.ss_code.specs.Emitted.{Final, Around, HasPrints, Adds}
-use Rattle.ss_code.specs.Running.{Begins, AllBegin, Prints}
+use Rattle.ss_code_generator.specs.declared.generator.Generator.{Generator}
+use Rattle.ss_code_pieces.specs.Lined.{Lined}
+use Rattle.ss_code_generator.specs.Emitted.{Final, Around, HasPrints, Adds}
+use Rattle.ss_code_generator.specs.Printed.{Prints}
+use Rattle.ss_code.specs.Running.{Begins, AllBegin}
 
 -- ## Room for cells
 

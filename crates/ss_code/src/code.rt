@@ -4,7 +4,7 @@ ghost use Rattle.std.specs.Prelude.{◌≡◌, ◌<◌, ◌^◌, length, map, sl
 ghost use Rattle.ss_code_listing.specs.Listing.{AreLines};
 ghost use Rattle.ss_code.specs.Running.{IsCompiled};
 
-use crate::lines::Lines;
+use ss_code_pieces::lines::Lines;
 use ss_base::{Discipline, Layout, Line, Mode, Value};
 use ss_code_instructions::NoticeClass;
 use ss_code_instructions::entry::Entry;

@@ -13,9 +13,9 @@ ghost use Rattle.ss_code.specs.Sections.{Deepened, AllDeepened, PutsSection, Put
 
 use crate::code::{Code, Sections, Text};
 use crate::error::CodeError;
-use crate::generator::Generator;
-use crate::lines::Lines;
-use crate::piece::{Piece, as_index};
+use ss_code_generator::generator::Generator;
+use ss_code_pieces::lines::Lines;
+use ss_code_pieces::piece::{Piece, as_index};
 use crate::sayings::sayings;
 use crate::sifting::sift_walks;
 use ss_base::Mode;

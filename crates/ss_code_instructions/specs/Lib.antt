@@ -12,3 +12,4 @@ pub mod Reached
 pub mod Laws
 pub mod Examples
 pub mod Walks
+pub mod Forms

@@ -10,8 +10,8 @@ use Rattle.ss_code.specs.Running.{Compiled as Generated}
 use Rattle.ss_code_instructions.specs.Running.{start}
 use Rattle.ss_code_instructions.specs.Translation.{code_of}
 use Rattle.ss_machine.specs.Situations.{Situation, IsOf}
-use Rattle.ss_machine.specs.Stop.{Stop}
-use Rattle.ss_machine.specs.Stop.TheVariants.{Ended, Fault, Paused, Memory, Output, Input, Failed}
+use Rattle.ss_machine.specs.declared.stop.Stop.{Stop}
+use Rattle.ss_machine.specs.declared.stop.Stop.TheVariants.{Ended, Fault, Paused, Memory, Output, Input, Failed}
 use Rattle.ss_machine.specs.Start.{IsAtStart}
 use Rattle.ss_machine.specs.Runs.{Comes, TookLast, does_read, does_write}
 use Rattle.ss_engine.specs.Accepting.{IsProgramOf}

@@ -15,8 +15,8 @@ use Rattle.ss_code_instructions.specs.Translation.{code_of}
 use Rattle.ss_code_instructions.specs.Laws.{EndingsStay, Grows, HasShape, OnTheWay, OneTickFewer, Pauses, Prefixes, StepsGoOn}
 use Rattle.ss_machine_instructions.specs.Doing.{Compiled}
 use Rattle.ss_machine.specs.Situations.{Situation, IsOf, ForEach}
-use Rattle.ss_machine.specs.Stop.{Stop}
-use Rattle.ss_machine.specs.Stop.TheVariants.{Ended, Fault, Paused, Memory, Output, Input, Failed}
+use Rattle.ss_machine.specs.declared.stop.Stop.{Stop}
+use Rattle.ss_machine.specs.declared.stop.Stop.TheVariants.{Ended, Fault, Paused, Memory, Output, Input, Failed}
 use Rattle.ss_machine.specs.Start.{IsAtStart}
 use Rattle.ss_machine.specs.Runs.{Finishes, IsCut, TookLast, Comes, IsPausing, Ran, does_read, does_write}
 use Rattle.ss_engine.specs.Accepting.{IsProgramOf}

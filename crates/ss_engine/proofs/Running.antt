@@ -11,8 +11,8 @@ use Rattle.ss_code_instructions.specs.Running.{Underway, steps}
 use Rattle.ss_code_instructions.specs.Reached.{at_core}
 use Rattle.ss_code_instructions.specs.Laws.{StepsGoOn}
 use Rattle.ss_machine.specs.Situations.{Situation}
-use Rattle.ss_machine.specs.Stop.{Stop}
-use Rattle.ss_machine.specs.Stop.TheVariants.{Ended, Fault, Paused, Memory, Output, Input, Failed}
+use Rattle.ss_machine.specs.declared.stop.Stop.{Stop}
+use Rattle.ss_machine.specs.declared.stop.Stop.TheVariants.{Ended, Fault, Paused, Memory, Output, Input, Failed}
 use Rattle.ss_machine.specs.Held.{kept_after}
 use Rattle.ss_machine.specs.Runs.{Comes, IsPausing, Ran}
 use Rattle.ss_engine.specs.declared.session.Session.{Session}

@@ -6,8 +6,8 @@ use Rattle.std.specs.Io.KnownBytes.{Appends, Consumes, IsAtEnd}
 use Rattle.ss_program.specs.Program.{Program}
 use Rattle.ss_meaning.specs.Meaning.{Ended as EndedThere, Fault as FaultThere, Paused as PausedThere, Run, meaning}
 use Rattle.ss_code_instructions.specs.Laws.{Grows}
-use Rattle.ss_machine.specs.Stop.{Stop}
-use Rattle.ss_machine.specs.Stop.TheVariants.{Ended, Fault, Paused, Memory, Output, Input, Failed}
+use Rattle.ss_machine.specs.declared.stop.Stop.{Stop}
+use Rattle.ss_machine.specs.declared.stop.Stop.TheVariants.{Ended, Fault, Paused, Memory, Output, Input, Failed}
 use Rattle.ss_engine.specs.declared.outcome.Outcome.{Outcome}
 use Rattle.ss_engine.specs.declared.outcome.Outcome.TheVariants.{Refused, Stopped}
 use Rattle.ss_engine.specs.Accepting.{IsProgramOf, IsRefusedWith}

@@ -1,7 +1,7 @@
 -- The last of the runs of a text.
 use Rattle.std.specs.Prelude.{◌≡◌, ◌≢◌, ℕ, ◌≤◌, List, [], ◌∷◌, ◌++◌}
 use Rattle.std.specs.declared.option.Option.{Option}
-use Rattle.ss_machine.specs.Stop.TheVariants.{Paused}
+use Rattle.ss_machine.specs.declared.stop.Stop.TheVariants.{Paused}
 use Rattle.ss_engine.specs.Headline.{Simulated, handed_out}
 
 -- the ticks of each run: a run for each piece, or one without a tick where there is no piece

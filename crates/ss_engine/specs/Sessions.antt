@@ -5,8 +5,8 @@ use Rattle.ss_input.specs.Blocks.{KnowsEnd}
 use Rattle.ss_code.specs.Running.{Compiled as Generated}
 use Rattle.ss_input.specs.declared.source.Source.{Source}
 use Rattle.ss_input.specs.Inputs.{IsFresh, source_block, source_missed, source_reader}
-use Rattle.ss_machine.specs.Stop.{Stop}
-use Rattle.ss_machine.specs.Stop.TheVariants.{Paused, Output, Input, Failed}
+use Rattle.ss_machine.specs.declared.stop.Stop.{Stop}
+use Rattle.ss_machine.specs.declared.stop.Stop.TheVariants.{Paused, Output, Input, Failed}
 use Rattle.ss_machine.specs.Held.{Held, IsFirst}
 use Rattle.ss_machine.specs.Situations.{Situation}
 use Rattle.ss_machine.specs.Start.{IsAtStart}

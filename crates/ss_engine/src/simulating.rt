@@ -6,7 +6,7 @@ ghost use Rattle.ss_engine.specs.declared.refusal.Refusal.{Refusal as RefusalSee
 ghost use Rattle.ss_engine.specs.Headline.{IsOutcome, handed_out};
 ghost use Rattle.ss_engine.specs.LastRun.{LastRun};
 ghost use Rattle.ss_engine.specs.Cuts.{ReportIsCut};
-ghost use Rattle.ss_machine.specs.Stop.{Stop as StopSeen};
+ghost use Rattle.ss_machine.specs.declared.stop.Stop.{Stop as StopSeen};
 
 use crate::compiling::compile;
 use crate::outcome::Outcome;

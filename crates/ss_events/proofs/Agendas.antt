@@ -8,16 +8,16 @@ use Rattle.std.proofs.lemmas.List.Sorted.{IsPermutation-map, All-permutation}
 use Rattle.std.proofs.lemmas.List.Elements.{All-cons, All-tail, recursion_from_All}
 use Rattle.std.proofs.lemmas.Map.Keys.{IsDistinct-IsPermutation, IsDistinct-head, IsDistinct-tail, IsDistinct-cons}
 use Rattle.std.proofs.lemmas.Bool.{cases_lt, cases_Bool}
-use Rattle.ss_events.specs.declared.entry.Entry.{Entry}
-use Rattle.ss_events.specs.HeapEntries.{HeapEntries, all_of, notices_of, IsLed, AreAfterHeads}
-use Rattle.ss_events.specs.Slots.{no_entry}
+use Rattle.ss_events_entries.specs.declared.entry.Entry.{Entry}
+use Rattle.ss_events_entries.specs.HeapEntries.{HeapEntries, all_of, notices_of, IsLed, AreAfterHeads}
+use Rattle.ss_events_entries.specs.Slots.{no_entry}
 use Rattle.ss_events.specs.Sifting.{IsLogarithmic}
-use Rattle.ss_events.specs.HeapOrder.{IsHeap}
+use Rattle.ss_events_entries.specs.HeapOrder.{IsHeap}
 use Rattle.ss_world.specs.Order.{comes_before}
 use Rattle.ss_world.specs.PendingList.{PendingList, scheduling_limit, is_pending, without_notice, earlier, least, next, after_next}
 use Rattle.ss_events.specs.InOrder.{put_in_order, in_order, numbers_of, IsAgenda}
-use Rattle.ss_events.proofs.EntryOrder.{entries_rank, tied_numbers}
-use Rattle.ss_events.proofs.Heaps.{first}
+use Rattle.ss_events_entries.proofs.EntryOrder.{entries_rank, tied_numbers}
+use Rattle.ss_events_entries.proofs.Heaps.{first}
 use Rattle.ss_events.proofs.Sifts.{digits_mono}
 use Rattle.std.proofs.lemmas.List.{get_or_default, nil_from_length, get_or-map, length-map, length-append, map-append, get_or_append_left, get_or-append_right}
 use Rattle.std.proofs.lemmas.List.Folds.{list_any-append}

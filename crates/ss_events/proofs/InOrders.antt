@@ -7,7 +7,7 @@ use Rattle.std.proofs.lemmas.Map.Keys.{IsDistinct-IsPermutation, IsDistinct-head
 use Rattle.std.specs.Cmp.{nat_eq_equiv}
 use Rattle.std.proofs.lemmas.Bool.{cases_lt}
 use Rattle.std.proofs.lemmas.Bool.Decides.{nat_tests}
-use Rattle.ss_events.specs.declared.entry.Entry.{Entry}
+use Rattle.ss_events_entries.specs.declared.entry.Entry.{Entry}
 use Rattle.ss_events.specs.InOrder.{put_in_order, in_order, numbers_of}
 
 -- an entry is among entries

@@ -3,10 +3,10 @@ use Rattle.std.proofs.Common.{◌≡◌, false, cond, List, [], ◌∷◌, fold,
 use Rattle.std.specs.List.{All}
 use Rattle.std.proofs.lemmas.Bool.{cases_Bool}
 use Rattle.std.proofs.lemmas.List.{get_or_default}
-use Rattle.ss_events.specs.declared.entry.Entry.{Entry}
+use Rattle.ss_events_entries.specs.declared.entry.Entry.{Entry}
 use Rattle.ss_world.specs.Order.{comes_before}
 use Rattle.ss_world.specs.PendingList.{earlier, least}
-use Rattle.ss_events.proofs.EntryOrder.{entries_rank}
+use Rattle.ss_events_entries.proofs.EntryOrder.{entries_rank}
 use Rattle.ss_events.proofs.InOrders.{Member, member_at, place_of}
 
 -- what is found starting from e: one of them, and nothing comes before it

@@ -9,16 +9,16 @@ use Rattle.std.proofs.lemmas.Nat.{pow_below}
 use Rattle.std.proofs.lemmas.Grind.{pow_more}
 use Rattle.std.proofs.lemmas.Bool.{cases_lt}
 use Rattle.std.proofs.Math.Nat.{mul-le-mul_right}
-use Rattle.ss_events.specs.declared.entry.Entry.{Entry}
-use Rattle.ss_events.specs.HeapEntries.{HeapEntries, but_one}
-use Rattle.ss_events.specs.HeapOrder.{IsChild, IsHeap, IsUnderParent, IsOverChildren, IsHeapBut, IsFirstChild}
+use Rattle.ss_events_entries.specs.declared.entry.Entry.{Entry}
+use Rattle.ss_events_entries.specs.HeapEntries.{HeapEntries, but_one}
+use Rattle.ss_events_entries.specs.HeapOrder.{IsChild, IsHeap, IsUnderParent, IsOverChildren, IsHeapBut, IsFirstChild}
 use Rattle.ss_world.specs.Order.{comes_before}
 use Rattle.ss_events.specs.Sifting.{Raises, CostsToRaise, Lowers, CostsToLower, Mends, CostsToMend, IsLogarithmic}
-use Rattle.ss_events.specs.Digits.{binary_digits}
+use Rattle.ss_events_entries.specs.Digits.{binary_digits}
 use Rattle.std.specs.Int.Digits.{digits_of, number_from_digits}
 use Rattle.std.proofs.lemmas.Int.Digits.{number_lt, number_digits_of, all_below_base_digits_of, length-digits_of-le}
-use Rattle.ss_events.proofs.Heaps.{up_but, up_over, down_but, down_under, rests, leaf, closes, pushed, followed_but, removed_but, removed_last, long-swap_remove}
-use Rattle.ss_events.proofs.EntryOrder.{entries_rank}
+use Rattle.ss_events_entries.proofs.Heaps.{up_but, up_over, down_but, down_under, rests, leaf, closes, pushed, followed_but, removed_but, removed_last, long-swap_remove}
+use Rattle.ss_events_entries.proofs.EntryOrder.{entries_rank}
 
 -- ---- powers of four
 

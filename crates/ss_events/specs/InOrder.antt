@@ -2,9 +2,9 @@
 use Rattle.std.specs.Prelude.{ℕ, ◌<◌, ◌≤◌, nat_lt, nat_eq, List, [], ◌∷◌, map, if◌then◌else◌}
 use Rattle.std.specs.Ordering.{int_eq}
 use Rattle.std.specs.List.{IsDistinct, All}
-use Rattle.ss_events.specs.declared.entry.Entry.{Entry}
-use Rattle.ss_events.specs.HeapEntries.{notices_of}
-use Rattle.ss_events.specs.HeapOrder.{IsHeap}
+use Rattle.ss_events_entries.specs.declared.entry.Entry.{Entry}
+use Rattle.ss_events_entries.specs.HeapEntries.{notices_of}
+use Rattle.ss_events_entries.specs.HeapOrder.{IsHeap}
 use Rattle.ss_world.specs.Order.{comes_before}
 use Rattle.ss_world.specs.PendingList.{scheduling_limit}
 

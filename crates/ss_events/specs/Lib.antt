@@ -1,9 +1,3 @@
-pub mod Digits
-pub mod CallWork
-pub mod CountedList
-pub mod HeapEntries
-pub mod HeapOrder
 pub mod Sifting
 pub mod InOrder
-pub mod Slots
 pub mod Calls

@@ -1,11 +1,11 @@
 -- What it does and costs to let an entry of a heap rise or sink.
 use Rattle.std.specs.Prelude.{◌≡◌, ℕ, ◌+◌, ◌*◌, ◌<◌, ◌≤◌, ◌^◌, List, length}
 use Rattle.std.specs.List.Sorted.{IsPermutation}
-use Rattle.ss_events.specs.declared.entry.Entry.{Entry}
-use Rattle.ss_events.specs.HeapEntries.{HeapEntries}
-use Rattle.ss_events.specs.HeapOrder.{IsHeap, IsHeapBut, IsUnderParent, IsOverChildren}
+use Rattle.ss_events_entries.specs.declared.entry.Entry.{Entry}
+use Rattle.ss_events_entries.specs.HeapEntries.{HeapEntries}
+use Rattle.ss_events_entries.specs.HeapOrder.{IsHeap, IsHeapBut, IsUnderParent, IsOverChildren}
 use Rattle.ss_world.specs.Order.{comes_before}
-use Rattle.ss_events.specs.Digits.{binary_digits}
+use Rattle.ss_events_entries.specs.Digits.{binary_digits}
 
 -- the entry at `from` rose to the place `to`, under its parent, and if it moved it is over its children
 pub record Raises (old new : List Entry) (from to : ℕ) : Type 0 where

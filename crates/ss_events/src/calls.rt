@@ -1,6 +1,6 @@
 ghost use Rattle.std.specs.Prelude.{◌≡◌, IfOk, OnOk, OnErr, All, IsTrue, ◌↔◌};
 
-use crate::entry::Key;
+use ss_events_entries::entry::Key;
 use crate::pending::Pending;
 use ss_base::{FaultKind, Refused};
 use ss_world::Tie;

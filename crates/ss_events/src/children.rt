@@ -1,9 +1,9 @@
 // Which of the children of an entry comes first.
 ghost use Rattle.std.specs.Prelude.{ℕ, ◌≡◌, ◌<◌, ◌≤◌, ◌+◌, ◌*◌, ◌^◌, length, MatchOption, is_some, if◌then◌else◌};
-ghost use Rattle.ss_events.specs.HeapOrder.{IsFirstOf, IsFirstAmong, IsFirstChild};
+ghost use Rattle.ss_events_entries.specs.HeapOrder.{IsFirstOf, IsFirstAmong, IsFirstChild};
 ghost use Rattle.ss_world.specs.Order.{comes_before};
 
-use crate::entry::EntryHeap;
+use ss_events_entries::entry::EntryHeap;
 
 /// The first child of the entry at a place. Counts at most three comparisons.
 #[inline(always)]

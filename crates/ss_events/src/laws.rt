@@ -2,7 +2,7 @@
 ghost use Rattle.std.specs.Prelude.{◌≡◌, false, [], List, All, Contains, IsNone, IfSome, ◌↔◌};
 ghost use Rattle.std.specs.Cmp.{IsTotalOrder};
 ghost use Rattle.std.specs.declared.cmp.Ordering.TheVariants.{Equal};
-ghost use Rattle.ss_events.specs.declared.entry.Entry.{Entry};
+ghost use Rattle.ss_events_entries.specs.declared.entry.Entry.{Entry};
 ghost use Rattle.ss_world.specs.Order.{entry_order, comes_before};
 ghost use Rattle.ss_world.specs.PendingList.{least};
 

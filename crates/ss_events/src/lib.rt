@@ -3,14 +3,12 @@
 
 mod calls;
 mod children;
-mod entry;
-mod key;
 mod laws;
 mod pending;
 mod sift;
 
 pub use calls::{Answer, Call};
-pub use entry::{Key, MOST_SCHEDULINGS};
 pub use laws::{least_comes_first, order_is_total};
-pub use pending::Pending;
+pub use pending::{MOST_SCHEDULINGS, Pending};
+pub use ss_events_entries::entry::Key;
 pub use ss_world::{Tie, TieShape};

@@ -2,13 +2,16 @@ ghost use Rattle.std.specs.Prelude.{◌≡◌, ℕ, ◌+◌, ◌*◌, ◌<◌, �
 ghost use Rattle.ss_world.specs.Shape.{shape_of};
 ghost use Rattle.ss_world.specs.SortKey.{SortKey};
 
-use crate::entry::{EntryHeap, Key, MOST_SCHEDULINGS, PLAIN_NUMBERS, PLAIN_RANKS};
-use crate::key;
 use crate::sift::{insert, insert_plain, take_out};
 use ss_base::{FaultKind, Refused};
+use ss_events_entries::entry::{EntryHeap, Key, PLAIN_NUMBERS, PLAIN_RANKS};
+use ss_events_entries::key;
 use ss_world::{Tie, TieShape};
 use std::alloc::{AllocError, Global};
 use std::marker::Model;
+
+/// The most schedulings that an event list takes.
+pub const MOST_SCHEDULINGS: u64 = 4_611_686_018_427_387_903;
 
 /// The event list: the pending notices, which come out one by one.
 ///
@@ -25,8 +28,8 @@ pub struct Pending {
 
 impl Model for Pending {
     ghost use Rattle.std.specs.Prelude.{map};
-    ghost use Rattle.ss_events.specs.CountedList.{CountedList, with_work};
-    ghost use Rattle.ss_events.specs.HeapEntries.{all_of};
+    ghost use Rattle.ss_events_entries.specs.CountedList.{CountedList, with_work};
+    ghost use Rattle.ss_events_entries.specs.HeapEntries.{all_of};
     ghost use Rattle.ss_events.specs.InOrder.{in_order, IsAgenda};
 
     ghost Value = { CountedList };
@@ -37,8 +40,8 @@ impl Model for Pending {
 }
 
 impl Pending {
-    ghost use Rattle.ss_events.specs.CountedList.{no_work, with_work, WorksTwice};
-    ghost use Rattle.ss_events.specs.Digits.{binary_digits};
+    ghost use Rattle.ss_events_entries.specs.CountedList.{no_work, with_work, WorksTwice};
+    ghost use Rattle.ss_events_entries.specs.Digits.{binary_digits};
     ghost use Rattle.ss_world.specs.PendingList.{none_pending, FitsClass, is_pending, scheduled, IsRefusal, cancelled, next, after_next};
 
     /// No notice is pending. `classes` has the shapes of the ties of each class, by its rank.

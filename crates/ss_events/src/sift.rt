@@ -1,17 +1,17 @@
 // How entries go into a heap in order and come out of it.
 ghost use Rattle.std.specs.Prelude.{true, false, [], ◌∷◌, OnOk, OnErr, ℕ, ◌≡◌, ◌<◌, ◌≤◌, ◌-◌, ◌/◌, ◌^◌, length, slice_index_or};
-ghost use Rattle.ss_events.specs.declared.entry.Entry.{Entry};
-ghost use Rattle.ss_events.specs.HeapEntries.{all_of, notices_of, but_one, AreAfterHeads, TakesOut};
+ghost use Rattle.ss_events_entries.specs.declared.entry.Entry.{Entry};
+ghost use Rattle.ss_events_entries.specs.HeapEntries.{all_of, notices_of, but_one, AreAfterHeads, TakesOut};
 ghost use Rattle.std.specs.Ordering.{int_eq};
 ghost use Rattle.std.specs.List.{list_any};
 ghost use Rattle.std.specs.List.Sorted.{IsPermutation};
-ghost use Rattle.ss_events.specs.HeapOrder.{IsHeap};
+ghost use Rattle.ss_events_entries.specs.HeapOrder.{IsHeap};
 ghost use Rattle.ss_world.specs.Order.{comes_before};
-ghost use Rattle.ss_events.specs.Slots.{plain_ranks, plain_numbers};
+ghost use Rattle.ss_events_entries.specs.Slots.{plain_ranks, plain_numbers};
 ghost use Rattle.ss_events.specs.Sifting.{Raises, CostsToRaise, Lowers, CostsToLower, Mends, CostsToMend, IsLogarithmic};
 
 use crate::children::first_child;
-use crate::entry::{EntryHeap, Key, MANY, PLAIN_NUMBERS, PLAIN_RANKS};
+use ss_events_entries::entry::{EntryHeap, Key, MANY, PLAIN_NUMBERS, PLAIN_RANKS};
 use std::alloc::AllocError;
 
 /// Puts an entry of a notice into a heap in order.

@@ -1,2 +1,23 @@
+mod Known
+mod Fields
+mod Items
+pub mod Inputs
+mod Likeness
+pub mod Reaching
+mod Stepping
+mod Worded
+mod Written
+mod Sending
+mod Trading
+mod Walking
+mod Arms
+mod Sifting
+mod Counting
+mod Ending
+mod Turning
+mod Resting
+mod Rising
+mod Laying
+pub mod Starting
 mod Resuming
-mod First
+mod Readiness

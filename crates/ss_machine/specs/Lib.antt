@@ -1,5 +1,11 @@
-pub use Rattle.ss_machine_steps.specs.Situations
-pub use Rattle.ss_machine_steps.specs.Runs
-pub use Rattle.ss_machine_steps.specs.Start
-pub use Rattle.ss_machine_steps.specs.declared.stop.Stop
+pub mod Situations
+pub mod Sent
+pub mod Runs
+pub mod Steps
+pub mod Reading
+pub mod Writing
+pub mod Shown
+pub mod Beginning
+pub mod Start
+pub mod Counts
 pub mod Held

@@ -4,21 +4,20 @@ ghost use Rattle.std.specs.Prelude.{◌≡◌, ◌+◌, ◌-◌, ◌*◌, ◌^�
 ghost use Rattle.ss_base.specs.Failures.{HasRisen, HasRisenBy};
 ghost use Rattle.ss_input.specs.Blocks.{KnowsEnd};
 ghost use Rattle.ss_input.specs.Inputs.{source_block, source_missed, source_reader};
-ghost use Rattle.ss_machine_steps.specs.Situations.{IsSituated};
-ghost use Rattle.ss_machine_steps.specs.Start.{Continues};
-ghost use Rattle.ss_machine_steps.specs.Runs.{Ran};
+ghost use Rattle.ss_machine.specs.Situations.{IsSituated};
+ghost use Rattle.ss_machine.specs.Runs.{Ran};
 ghost use Rattle.ss_machine.specs.Held.{IsFirst, answer_again, kept_after};
 
 use ss_base::{FaultyRead, FaultyWrite};
 use ss_code::code::Code;
-use ss_code_instructions::laws::{laws_of_code, laws_of_pieces};
+use ss_code_instructions::laws::laws_of_code;
 use ss_input::Source;
 use ss_machine_instructions::flow::Here;
 use ss_machine_instructions::state::State;
-use ss_machine_steps::first::{first_place, first_state, release_state, stands_first};
-use ss_machine_steps::running::run;
-use ss_machine_steps::showing::Buffers;
-use ss_machine_steps::stop::Stop;
+use crate::first::{first_place, first_state, release_state, stands_first};
+use crate::running::run;
+use crate::showing::Buffers;
+use crate::stop::Stop;
 use ss_picture::Sink;
 use std::alloc::{AllocError, Global};
 use std::marker::Model;
@@ -137,7 +136,6 @@ impl Machine {
         ensures used { (self.old.used ≤ self.new.used) × (self.new.used ≤ self.old.used + ticks) }
         ensures within { self.old.stopped ≡ None → self.new.used ≤ 2 ^ 64 - 1 }
         ensures paused { self.old.stopped ≡ None → result ≡ Stop.Paused → self.new.used ≡ min (self.old.used + ticks) (2 ^ 64 - 1) }
-        ensures continues { self.old.stopped ≡ None → Continues self.old.code self.old.at source.old → result ≡ Stop.Paused → Continues self.new.code self.new.at source.new }
         ensures never_failed { self.old.stopped ≡ None → result ≡ Stop.Failed → ⊥ }
         ensures unmissed { self.old.stopped ≡ None → result ≡ Stop.Paused → source_missed source.new ≡ None }
         ensures steps { self.old.steps ≤ self.new.steps }
@@ -152,7 +150,6 @@ impl Machine {
         if let Some(stop) = self.stopped {
             return again(stop);
         }
-        laws_of_pieces();
         let last = self.used.saturating_add(ticks);
         let from = Here {
             place: self.place,

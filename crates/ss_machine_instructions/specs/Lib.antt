@@ -2,9 +2,4 @@ pub mod Doing
 pub mod Ways
 pub mod Entered
 pub mod Noted
-pub mod Walked
-pub mod Many
-pub mod Sifted
 pub mod Worldly
-pub mod Giving
-pub mod Beginning

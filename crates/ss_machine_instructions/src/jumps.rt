@@ -7,6 +7,7 @@ ghost use Rattle.ss_world.specs.Sets.{count_in};
 ghost use Rattle.ss_world.specs.Disciplines.{member_test};
 ghost use Rattle.ss_meaning.specs.Values.{allows, related};
 ghost use Rattle.ss_meaning.specs.Sets.{is_none};
+ghost use Rattle.ss_code_instructions.specs.Forms.{comparing_numbers};
 ghost use Rattle.ss_machine_instructions.specs.Doing.{Can, Does};
 ghost use Rattle.ss_machine_instructions.specs.Ways.{none_of};
 
@@ -35,7 +36,7 @@ fn allows(relation: Relation, order: Ordering) -> bool
 
 // Whether two texts stand in a relation.
 #[inline(never)]
-fn are_related(relation: Relation, left: Alpha, right: Alpha) -> bool
+fn are_texts_related(relation: Relation, left: Alpha, right: Alpha) -> bool
     ensures { related relation (Text left) (Text right) ≡ Some result }
 {
     allows(relation, left.cmp(&right))
@@ -43,7 +44,7 @@ fn are_related(relation: Relation, left: Alpha, right: Alpha) -> bool
 
 // Whether a number is 0.
 #[inline(always)]
-pub(crate) fn is_none(number: i64) -> bool
+pub fn is_none(number: i64) -> bool
     ensures { result ≡ is_none number }
 {
     number == 0
@@ -89,148 +90,36 @@ fn is_member(scene: &mut Scene, set: usize, owner: i64, member: i64) -> Result<b
     scene.population.is_in(set, owner, member)
 }
 
-// Whether two numbers are equal.
+// Whether two numbers are in a relation.
 #[inline(always)]
-fn is_equal(left: i64, right: i64) -> bool
-    ensures { related Relation.Equal (Whole left) (Whole right) ≡ Some result }
+fn are_numbers_related(relation: Relation, left: i64, right: i64) -> bool
+    ensures { related relation (Whole left) (Whole right) ≡ Some result }
 {
-    left == right
-}
-
-// Whether they are not.
-#[inline(always)]
-fn is_other(left: i64, right: i64) -> bool
-    ensures { related Relation.NotEqual (Whole left) (Whole right) ≡ Some result }
-{
-    left != right
-}
-
-// Whether the left is less.
-#[inline(always)]
-fn is_less(left: i64, right: i64) -> bool
-    ensures { related Relation.Less (Whole left) (Whole right) ≡ Some result }
-{
-    left < right
-}
-
-// Whether it is greater.
-#[inline(always)]
-fn is_greater(left: i64, right: i64) -> bool
-    ensures { related Relation.Greater (Whole left) (Whole right) ≡ Some result }
-{
-    left > right
-}
-
-// Whether it is less or equal.
-#[inline(always)]
-fn is_at_most(left: i64, right: i64) -> bool
-    ensures { related Relation.LessOrEqual (Whole left) (Whole right) ≡ Some result }
-{
-    left <= right
-}
-
-// Whether it is greater or equal.
-#[inline(always)]
-fn is_at_least(left: i64, right: i64) -> bool
-    ensures { related Relation.GreaterOrEqual (Whole left) (Whole right) ≡ Some result }
-{
-    left >= right
+    match relation {
+        Relation::Equal => left == right,
+        Relation::NotEqual => left != right,
+        Relation::Less => left < right,
+        Relation::Greater => left > right,
+        Relation::LessOrEqual => left <= right,
+        Relation::GreaterOrEqual => left >= right,
+    }
 }
 
 impl State {
-    /// UnlessEqual.
+    /// UnlessEqual, and the others that compare two numbers.
     #[inline(always)]
-    pub fn unless_equal(
+    pub fn unless_numbers(
         &self,
         here: Here,
+        relation: Relation,
         left: &Address,
         right: &Address,
         skip: u32,
     ) -> Option<Here>
-        requires { Can here self.now (Instruction.UnlessEqual left.now right.now skip) }
-        ensures { Does here self.now self.now result (Instruction.UnlessEqual left.now right.now skip) }
+        requires { Can here self.now (comparing_numbers relation left.now right.now skip) }
+        ensures { Does here self.now self.now result (comparing_numbers relation left.now right.now skip) }
     {
-        let holds = is_equal(self.number(here, left), self.number(here, right));
-        here.on_if(holds, skip)
-    }
-
-    /// UnlessNotEqual.
-    #[inline(always)]
-    pub fn unless_not_equal(
-        &self,
-        here: Here,
-        left: &Address,
-        right: &Address,
-        skip: u32,
-    ) -> Option<Here>
-        requires { Can here self.now (Instruction.UnlessNotEqual left.now right.now skip) }
-        ensures { Does here self.now self.now result (Instruction.UnlessNotEqual left.now right.now skip) }
-    {
-        let holds = is_other(self.number(here, left), self.number(here, right));
-        here.on_if(holds, skip)
-    }
-
-    /// UnlessLess.
-    #[inline(always)]
-    pub fn unless_less(
-        &self,
-        here: Here,
-        left: &Address,
-        right: &Address,
-        skip: u32,
-    ) -> Option<Here>
-        requires { Can here self.now (Instruction.UnlessLess left.now right.now skip) }
-        ensures { Does here self.now self.now result (Instruction.UnlessLess left.now right.now skip) }
-    {
-        let holds = is_less(self.number(here, left), self.number(here, right));
-        here.on_if(holds, skip)
-    }
-
-    /// UnlessGreater.
-    #[inline(always)]
-    pub fn unless_greater(
-        &self,
-        here: Here,
-        left: &Address,
-        right: &Address,
-        skip: u32,
-    ) -> Option<Here>
-        requires { Can here self.now (Instruction.UnlessGreater left.now right.now skip) }
-        ensures { Does here self.now self.now result (Instruction.UnlessGreater left.now right.now skip) }
-    {
-        let holds = is_greater(self.number(here, left), self.number(here, right));
-        here.on_if(holds, skip)
-    }
-
-    /// UnlessLessOrEqual.
-    #[inline(always)]
-    pub fn unless_less_or_equal(
-        &self,
-        here: Here,
-        left: &Address,
-        right: &Address,
-        skip: u32,
-    ) -> Option<Here>
-        requires { Can here self.now (Instruction.UnlessLessOrEqual left.now right.now skip) }
-        ensures { Does here self.now self.now result (Instruction.UnlessLessOrEqual left.now right.now skip) }
-    {
-        let holds = is_at_most(self.number(here, left), self.number(here, right));
-        here.on_if(holds, skip)
-    }
-
-    /// UnlessGreaterOrEqual.
-    #[inline(always)]
-    pub fn unless_greater_or_equal(
-        &self,
-        here: Here,
-        left: &Address,
-        right: &Address,
-        skip: u32,
-    ) -> Option<Here>
-        requires { Can here self.now (Instruction.UnlessGreaterOrEqual left.now right.now skip) }
-        ensures { Does here self.now self.now result (Instruction.UnlessGreaterOrEqual left.now right.now skip) }
-    {
-        let holds = is_at_least(self.number(here, left), self.number(here, right));
+        let holds = are_numbers_related(relation, self.number(here, left), self.number(here, right));
         here.on_if(holds, skip)
     }
 
@@ -247,7 +136,7 @@ impl State {
         requires { Can here self.now (Instruction.UnlessTexts left.now right.now skip relation) }
         ensures { Does here self.now self.now result (Instruction.UnlessTexts left.now right.now skip relation) }
     {
-        let holds = are_related(relation, self.text(here, left), self.text(here, right));
+        let holds = are_texts_related(relation, self.text(here, left), self.text(here, right));
         here.on_if(holds, skip)
     }
 

@@ -4,12 +4,10 @@
 pub mod attributes;
 pub mod calls;
 pub mod entities;
-pub mod events;
 pub mod flow;
 pub mod jumps;
 pub mod looks;
 pub mod loops;
-pub mod members;
 pub mod numbers;
 pub mod sets;
 pub mod state;

@@ -1,7 +1,8 @@
 //! Values: moves and calculations.
 
 ghost use Rattle.std.specs.Prelude.{◌≡◌};
-ghost use Rattle.ss_meaning.specs.Values.{distance};
+ghost use Rattle.ss_meaning.specs.Values.{computed, distance};
+ghost use Rattle.ss_code_instructions.specs.Forms.{calculating};
 ghost use Rattle.ss_machine_instructions.specs.Doing.{Can, Does, CanDeliver, IsDelivered, as_value, as_text};
 
 use crate::flow::Here;
@@ -9,6 +10,7 @@ use crate::state::State;
 use ss_base::{Alpha, FaultKind, div_f, minus, mod_f, plus, times};
 use ss_code_instructions::address::Address;
 use ss_code_instructions::instruction::Instruction;
+use ss_program::expression::Operator;
 
 // The distance of a number from 0.
 #[inline(always)]
@@ -19,6 +21,22 @@ fn distance(number: i64) -> Result<i64, FaultKind>
         return minus(0, number);
     }
     Ok(number)
+}
+
+// What an operator makes of two numbers.
+#[inline(always)]
+fn compute(operator: Operator, left: i64, right: i64) -> Result<i64, FaultKind>
+    ensures { result ≡ computed operator left right }
+{
+    match operator {
+        Operator::Add => plus(left, right),
+        Operator::Subtract => minus(left, right),
+        Operator::Multiply => times(left, right),
+        Operator::Quotient => div_f(left, right),
+        Operator::Remainder => mod_f(left, right),
+        Operator::Least => Ok(left.min(right)),
+        Operator::Greatest => Ok(left.max(right)),
+    }
 }
 
 impl State {
@@ -77,110 +95,21 @@ impl State {
         self.put_text(here, to, Ok(text))
     }
 
-    /// Add.
+    /// Add, Subtract, Multiply, Quotient, Remainder, Least and Greatest.
     #[inline(always)]
-    pub fn add(&mut self, here: Here, left: &Address, right: &Address, to: &Address) -> Option<Here>
-        requires { Can here self.old (Instruction.Add left.now right.now to.now) }
-        ensures { Does here self.old self.new result (Instruction.Add left.now right.now to.now) }
+    pub fn calculate(
+        &mut self,
+        here: Here,
+        operator: Operator,
+        left: &Address,
+        right: &Address,
+        to: &Address,
+    ) -> Option<Here>
+        requires { Can here self.old (calculating operator left.now right.now to.now) }
+        ensures { Does here self.old self.new result (calculating operator left.now right.now to.now) }
     {
-        let answer = plus(self.number(here, left), self.number(here, right));
+        let answer = compute(operator, self.number(here, left), self.number(here, right));
         self.put(here, to, answer)
-    }
-
-    /// Subtract.
-    #[inline(always)]
-    pub fn subtract(
-        &mut self,
-        here: Here,
-        left: &Address,
-        right: &Address,
-        to: &Address,
-    ) -> Option<Here>
-        requires { Can here self.old (Instruction.Subtract left.now right.now to.now) }
-        ensures { Does here self.old self.new result (Instruction.Subtract left.now right.now to.now) }
-    {
-        let answer = minus(self.number(here, left), self.number(here, right));
-        self.put(here, to, answer)
-    }
-
-    /// Multiply.
-    #[inline(always)]
-    pub fn multiply(
-        &mut self,
-        here: Here,
-        left: &Address,
-        right: &Address,
-        to: &Address,
-    ) -> Option<Here>
-        requires { Can here self.old (Instruction.Multiply left.now right.now to.now) }
-        ensures { Does here self.old self.new result (Instruction.Multiply left.now right.now to.now) }
-    {
-        let answer = times(self.number(here, left), self.number(here, right));
-        self.put(here, to, answer)
-    }
-
-    /// Quotient.
-    #[inline(always)]
-    pub fn quotient(
-        &mut self,
-        here: Here,
-        left: &Address,
-        right: &Address,
-        to: &Address,
-    ) -> Option<Here>
-        requires { Can here self.old (Instruction.Quotient left.now right.now to.now) }
-        ensures { Does here self.old self.new result (Instruction.Quotient left.now right.now to.now) }
-    {
-        let answer = div_f(self.number(here, left), self.number(here, right));
-        self.put(here, to, answer)
-    }
-
-    /// Remainder.
-    #[inline(always)]
-    pub fn remainder(
-        &mut self,
-        here: Here,
-        left: &Address,
-        right: &Address,
-        to: &Address,
-    ) -> Option<Here>
-        requires { Can here self.old (Instruction.Remainder left.now right.now to.now) }
-        ensures { Does here self.old self.new result (Instruction.Remainder left.now right.now to.now) }
-    {
-        let answer = mod_f(self.number(here, left), self.number(here, right));
-        self.put(here, to, answer)
-    }
-
-    /// Least.
-    #[inline(always)]
-    pub fn least(
-        &mut self,
-        here: Here,
-        left: &Address,
-        right: &Address,
-        to: &Address,
-    ) -> Option<Here>
-        requires { Can here self.old (Instruction.Least left.now right.now to.now) }
-        ensures { Does here self.old self.new result (Instruction.Least left.now right.now to.now) }
-    {
-        let number = self.number(here, left).min(self.number(here, right));
-        self.put(here, to, Ok(number))
-    }
-
-    /// Greatest.
-    #[inline(always)]
-    pub fn greatest(
-        &mut self,
-        here: Here,
-        left: &Address,
-        right: &Address,
-        to: &Address,
-    ) -> Option<Here>
-        requires { Can here self.old (Instruction.Greatest left.now right.now to.now) }
-        ensures { Does here self.old self.new result (Instruction.Greatest left.now right.now to.now) }
-    {
-        let number = self.number(here, left).max(self.number(here, right));
-        self.put(here, to, Ok(number))
     }
 
     /// Absolute.

@@ -8,6 +8,7 @@ ghost use Rattle.ss_base.specs.declared.value.Value.TheVariants.{Whole};
 ghost use Rattle.ss_meaning.specs.Sets.{set_answer, Foremost, Hindmost, ByRule, JustBefore, JustAfter};
 ghost use Rattle.ss_machine_world.specs.Numbers.{count_noted};
 ghost use Rattle.ss_machine_world.specs.Seen.{number_if};
+ghost use Rattle.ss_code_instructions.specs.Forms.{asking_member, asking_set, removing};
 ghost use Rattle.ss_machine_instructions.specs.Doing.{Can, Does};
 ghost use Rattle.ss_machine_instructions.specs.Worldly.{ChangesIf, Counted, CountedOut, IsRuled, Files, Removes, Takes, one_of, member_answer};
 
@@ -17,6 +18,8 @@ use ss_base::FaultKind;
 use ss_code_instructions::address::Address;
 use ss_code_instructions::instruction::Instruction;
 use ss_machine_world::scene::Scene;
+use ss_program::expression::{MemberQuery, SetQuery};
+use ss_program::statement::End;
 
 // The first member of the set of an owner, 0 for none.
 #[inline(always)]
@@ -88,6 +91,39 @@ fn filed_in_any(scene: &mut Scene, set: usize, member: i64) -> Result<i64, Fault
     ensures same { scene.new ≡ scene.old }
 {
     one_where(scene.population.owner_in(set, member))
+}
+
+// What is asked of the set of an owner.
+#[inline(always)]
+fn ask_set(scene: &mut Scene, query: SetQuery, set: usize, owner: i64) -> Result<i64, FaultKind>
+    requires set { set < length scene.old.heap.layout.sets }
+    ensures value { result ≡ set_answer query scene.old.heap set owner }
+    ensures same { scene.new ≡ scene.old }
+{
+    match query {
+        SetQuery::FirstMember => first_of(scene, set, owner),
+        SetQuery::LastMember => last_of(scene, set, owner),
+        SetQuery::MemberCount => count_of(scene, set, owner),
+    }
+}
+
+// What is asked of a member.
+#[inline(always)]
+fn ask_member(
+    scene: &mut Scene,
+    query: MemberQuery,
+    set: usize,
+    member: i64,
+) -> Result<i64, FaultKind>
+    requires set { set < length scene.old.heap.layout.sets }
+    ensures value { result ≡ member_answer query scene.old.heap set member }
+    ensures same { scene.new ≡ scene.old }
+{
+    match query {
+        MemberQuery::Predecessor => one_before(scene, set, member),
+        MemberQuery::Successor => one_after(scene, set, member),
+        MemberQuery::Membership => filed_in_any(scene, set, member),
+    }
 }
 
 // N. of the set of an owner is noted, where that is so.
@@ -269,106 +305,58 @@ fn take_last(scene: &mut Scene, set: usize, owner: i64, noted: bool) -> Result<i
     counted_out(scene, taken, set, owner, noted)
 }
 
+// The member at an end is removed, which is the answer.
+#[inline(always)]
+fn take_end(
+    scene: &mut Scene,
+    end: End,
+    set: usize,
+    owner: i64,
+    noted: bool,
+) -> Result<i64, FaultKind>
+    requires set { set < length scene.old.heap.layout.sets }
+    ensures { Takes end set noted scene.old scene.new result owner }
+{
+    match end {
+        End::First => take_first(scene, set, owner, noted),
+        End::Last => take_last(scene, set, owner, noted),
+    }
+}
+
 impl State {
-    /// FirstMember.
+    /// FirstMember, LastMember and MemberCount.
     #[inline(always)]
-    pub fn first_member(
+    pub fn of_set(
         &mut self,
         here: Here,
+        query: SetQuery,
         set: u32,
         owner: &Address,
         to: &Address,
     ) -> Option<Here>
-        requires { Can here self.old (Instruction.FirstMember set owner.now to.now) }
-        ensures { Does here self.old self.new result (Instruction.FirstMember set owner.now to.now) }
+        requires { Can here self.old (asking_set query set owner.now to.now) }
+        ensures { Does here self.old self.new result (asking_set query set owner.now to.now) }
     {
         let owner = self.number(here, owner);
-        let answer = first_of(&mut self.scene, set as usize, owner);
+        let answer = ask_set(&mut self.scene, query, set as usize, owner);
         self.put(here, to, answer)
     }
 
-    /// LastMember.
+    /// Predecessor, Successor and Membership.
     #[inline(always)]
-    pub fn last_member(
+    pub fn of_member(
         &mut self,
         here: Here,
-        set: u32,
-        owner: &Address,
-        to: &Address,
-    ) -> Option<Here>
-        requires { Can here self.old (Instruction.LastMember set owner.now to.now) }
-        ensures { Does here self.old self.new result (Instruction.LastMember set owner.now to.now) }
-    {
-        let owner = self.number(here, owner);
-        let answer = last_of(&mut self.scene, set as usize, owner);
-        self.put(here, to, answer)
-    }
-
-    /// MemberCount.
-    #[inline(always)]
-    pub fn member_count(
-        &mut self,
-        here: Here,
-        set: u32,
-        owner: &Address,
-        to: &Address,
-    ) -> Option<Here>
-        requires { Can here self.old (Instruction.MemberCount set owner.now to.now) }
-        ensures { Does here self.old self.new result (Instruction.MemberCount set owner.now to.now) }
-    {
-        let owner = self.number(here, owner);
-        let answer = count_of(&mut self.scene, set as usize, owner);
-        self.put(here, to, answer)
-    }
-
-    /// Predecessor.
-    #[inline(always)]
-    pub fn predecessor(
-        &mut self,
-        here: Here,
+        query: MemberQuery,
         set: u32,
         member: &Address,
         to: &Address,
     ) -> Option<Here>
-        requires { Can here self.old (Instruction.Predecessor set member.now to.now) }
-        ensures { Does here self.old self.new result (Instruction.Predecessor set member.now to.now) }
+        requires { Can here self.old (asking_member query set member.now to.now) }
+        ensures { Does here self.old self.new result (asking_member query set member.now to.now) }
     {
         let member = self.number(here, member);
-        let answer = one_before(&mut self.scene, set as usize, member);
-        self.put(here, to, answer)
-    }
-
-    /// Successor.
-    #[inline(always)]
-    pub fn successor(
-        &mut self,
-        here: Here,
-        set: u32,
-        member: &Address,
-        to: &Address,
-    ) -> Option<Here>
-        requires { Can here self.old (Instruction.Successor set member.now to.now) }
-        ensures { Does here self.old self.new result (Instruction.Successor set member.now to.now) }
-    {
-        let member = self.number(here, member);
-        let answer = one_after(&mut self.scene, set as usize, member);
-        self.put(here, to, answer)
-    }
-
-    /// Membership.
-    #[inline(always)]
-    pub fn membership(
-        &mut self,
-        here: Here,
-        set: u32,
-        member: &Address,
-        to: &Address,
-    ) -> Option<Here>
-        requires { Can here self.old (Instruction.Membership set member.now to.now) }
-        ensures { Does here self.old self.new result (Instruction.Membership set member.now to.now) }
-    {
-        let member = self.number(here, member);
-        let answer = filed_in_any(&mut self.scene, set as usize, member);
+        let answer = ask_member(&mut self.scene, query, set as usize, member);
         self.put(here, to, answer)
     }
 
@@ -490,41 +478,22 @@ impl State {
         self.done(here, answer)
     }
 
-    /// RemoveFirst.
+    /// RemoveFirst and RemoveLast.
     #[inline(always)]
-    pub fn remove_first(
+    pub fn remove_end(
         &mut self,
         here: Here,
+        end: End,
         set: u32,
         owner: &Address,
         to: &Address,
         noted: bool,
     ) -> Option<Here>
-        requires { Can here self.old (Instruction.RemoveFirst set owner.now to.now noted) }
-        ensures { Does here self.old self.new result (Instruction.RemoveFirst set owner.now to.now noted) }
+        requires { Can here self.old (removing end set owner.now to.now noted) }
+        ensures { Does here self.old self.new result (removing end set owner.now to.now noted) }
     {
         let owner = self.number(here, owner);
-        match take_first(&mut self.scene, set as usize, owner, noted) {
-            Ok(member) => self.put(here, to, Ok(member)),
-            Err(kind) => self.fault(kind),
-        }
-    }
-
-    /// RemoveLast.
-    #[inline(always)]
-    pub fn remove_last(
-        &mut self,
-        here: Here,
-        set: u32,
-        owner: &Address,
-        to: &Address,
-        noted: bool,
-    ) -> Option<Here>
-        requires { Can here self.old (Instruction.RemoveLast set owner.now to.now noted) }
-        ensures { Does here self.old self.new result (Instruction.RemoveLast set owner.now to.now noted) }
-    {
-        let owner = self.number(here, owner);
-        match take_last(&mut self.scene, set as usize, owner, noted) {
+        match take_end(&mut self.scene, end, set as usize, owner, noted) {
             Ok(member) => self.put(here, to, Ok(member)),
             Err(kind) => self.fault(kind),
         }

@@ -1,9 +1,11 @@
-//! Each public name, used from its crate as a caller would use it.
+//! Each public name, used from its crate as a caller would use it; and worked examples of what the engine answers.
 #![tactic(auto)]
 
 #[cfg(test)]
 mod engine;
 #[cfg(test)]
 mod layers;
+#[cfg(test)]
+mod outcomes;
 #[cfg(test)]
 mod texts;

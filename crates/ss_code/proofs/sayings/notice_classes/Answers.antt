@@ -2,7 +2,7 @@ use Rattle.std.proofs.Common.{◌≡◌, ◌∷◌, [], ◌+◌, ◌++◌, drop,
 use Rattle.std.proofs.lemmas.List.{drop_more}
 use Rattle.ss_program.specs.View.{view_event}
 use Rattle.ss_meaning.specs.Meaning.{said_of}
-use Rattle.ss_code.proofs.Steps.{moved}
+use Rattle.ss_code_pieces.proofs.Steps.{moved}
 use Rattle.ss_code.proofs.sayings.notice_classes.Goals as goal
 
 pub loop-event-preserved : goal.loop-event-preserved

@@ -1,6 +1,6 @@
 use Rattle.std.proofs.Common.{◌≡◌, sym, ap, subst, ◌∙◌}
 use Rattle.ss_base.specs.Failures.{HasRisen}
-use Rattle.ss_machine.specs.Stop.TheVariants.{Memory, Output, Input}
+use Rattle.ss_machine.specs.declared.stop.Stop.TheVariants.{Memory, Output, Input}
 use Rattle.ss_engine.specs.Sessions.{session_machine, session_reader, session_writer}
 use Rattle.ss_engine.specs.Headline.{Simulated}
 use Rattle.ss_engine.specs.Cuts.{WasCut}

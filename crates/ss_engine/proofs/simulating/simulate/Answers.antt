@@ -1,6 +1,6 @@
 use Rattle.std.proofs.Common.{subst}
 use Rattle.ss_base.specs.Failures.{HasRisen}
-use Rattle.ss_machine.specs.Stop.TheVariants.{Output, Input}
+use Rattle.ss_machine.specs.declared.stop.Stop.TheVariants.{Output, Input}
 use Rattle.ss_engine.specs.LastRun.{LastRun}
 use Rattle.ss_engine.proofs.LastRun.{stopped_same}
 use Rattle.ss_engine.proofs.simulating.simulate.Goals as goal

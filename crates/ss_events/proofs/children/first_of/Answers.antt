@@ -1,8 +1,8 @@
 use Rattle.std.proofs.Common.{◌≡◌, ℕ, Bool, true, false, if◌then◌else◌}
 use mir.Val.{bool_byte}
 use Rattle.ss_world.specs.Order.{comes_before}
-use Rattle.ss_events.proofs.EntryOrder.{entries_rank}
-use Rattle.ss_events.proofs.Heaps.{first_by}
+use Rattle.ss_events_entries.proofs.EntryOrder.{entries_rank}
+use Rattle.ss_events_entries.proofs.Heaps.{first_by}
 use Rattle.ss_events.proofs.children.first_of.Goals as goal
 
 one_if : (b : Bool) (n : ℕ) → n ≡ bool_byte b → n ≡ (if b then 1 else 0)

@@ -1,8 +1,8 @@
 use Rattle.std.proofs.Common.{◌+◌, ap, subst, arith}
-use Rattle.ss_events.specs.HeapOrder.{IsFirstOf}
+use Rattle.ss_events_entries.specs.HeapOrder.{IsFirstOf}
 use Rattle.ss_world.specs.Order.{comes_before}
-use Rattle.ss_events.proofs.EntryOrder.{entries_rank}
-use Rattle.ss_events.proofs.Heaps.{only, pair, joined}
+use Rattle.ss_events_entries.proofs.EntryOrder.{entries_rank}
+use Rattle.ss_events_entries.proofs.Heaps.{only, pair, joined}
 use Rattle.ss_events.proofs.children.first_of_few.Goals as goal
 
 pub returns-then-many-eq1-clause-first : goal.returns-then-many-eq1-clause-first

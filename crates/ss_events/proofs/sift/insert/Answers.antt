@@ -1,7 +1,7 @@
 use Rattle.std.proofs.Common.{◌≡◌, ◌≤◌, ◌∷◌, ◌++◌, [], ◌∙◌, List, IsPermutation, ap, sym, subst, length, ℤ, arith, to_z-of_z}
 use Rattle.std.proofs.lemmas.List.Sorted.{IsPermutation-append_left}
-use Rattle.ss_events.specs.declared.entry.Entry.{Entry}
-use Rattle.ss_events.specs.HeapEntries.{HeapEntries, all_of}
+use Rattle.ss_events_entries.specs.declared.entry.Entry.{Entry}
+use Rattle.ss_events_entries.specs.HeapEntries.{HeapEntries, all_of}
 use Rattle.ss_events.proofs.Sifts.{inserted, inserted_all, insert_work, tried_work}
 use Rattle.ss_events.proofs.sift.insert.Goals as goal
 use Rattle.ss_events.proofs.sift.insert.Goals.{After-len-place, in-Some+then-rank-lt-PLAIN_RANKS+then-number-lt-PLAIN_NUMBERS+else-insert_plain, in_default}

@@ -1,7 +1,7 @@
 use Rattle.std.proofs.Common.{◌≡◌, ◌≤◌, ◌∷◌, ◌++◌, [], ◌∙◌, List, IsPermutation, ap, sym, subst, length, arith, to_z-of_z}
 use Rattle.std.proofs.lemmas.List.Sorted.{IsPermutation-append_left, IsPermutation-append_right, IsPermutation-middle, IsPermutation-sym, IsPermutation-trans}
-use Rattle.ss_events.specs.declared.entry.Entry.{Entry}
-use Rattle.ss_events.specs.HeapEntries.{HeapEntries, all_of}
+use Rattle.ss_events_entries.specs.declared.entry.Entry.{Entry}
+use Rattle.ss_events_entries.specs.HeapEntries.{HeapEntries, all_of}
 use Rattle.ss_events.proofs.Sifts.{inserted, inserted_all, insert_work, append_work, tried_work}
 use Rattle.ss_events.proofs.sift.insert_plain.Goals as goal
 use Rattle.ss_events.proofs.sift.insert_plain.Goals.{After-push_plain, else-place-ge-MANY-via-then-place-ge-MANY+else-append_plain, else-place-ge-MANY-via-else-place-ge-MANY}

@@ -1,5 +1,5 @@
 use Rattle.std.proofs.Common.{ap, sym, arith}
-use Rattle.ss_events.specs.HeapEntries.{but_one}
+use Rattle.ss_events_entries.specs.HeapEntries.{but_one}
 use Rattle.ss_events.proofs.Sifts.{Rising, rising_begins, rising_few, rising_rests, rising_tops, passes_parent, outranks}
 use Rattle.ss_events.proofs.sift.raise_past.Goals as goal
 use Rattle.ss_events.proofs.sift.raise_past.Goals.{After-swap}

@@ -1,6 +1,6 @@
 use Rattle.std.proofs.Common.{◌∙◌, [], map, ap}
-use Rattle.ss_events.specs.CountedList.{no_work, with_work}
-use Rattle.ss_events.specs.HeapEntries.{all_of}
+use Rattle.ss_events_entries.specs.CountedList.{no_work, with_work}
+use Rattle.ss_events_entries.specs.HeapEntries.{all_of}
 use Rattle.ss_events.specs.InOrder.{in_order}
 use Rattle.ss_events.proofs.Agendas.{agenda-none}
 use Rattle.ss_events.proofs.pending.Pending.new.Goals as goal

@@ -3,8 +3,8 @@ use Rattle.std.proofs.lemmas.Result.{err_from_is_err_and}
 use Rattle.ss_world.specs.PendingList.{scheduling_limit, with_entry}
 use Rattle.std.specs.List.{list_any}
 use Rattle.std.proofs.lemmas.Bool.{or_parts}
-use Rattle.ss_events.specs.HeapEntries.{HeapEntries, all_of, notices_of, AreAfterHeads}
-use Rattle.ss_events.specs.CountedList.{with_work}
+use Rattle.ss_events_entries.specs.HeapEntries.{HeapEntries, all_of, notices_of, AreAfterHeads}
+use Rattle.ss_events_entries.specs.CountedList.{with_work}
 use Rattle.ss_events.specs.Sifting.{IsLogarithmic}
 use Rattle.ss_events.proofs.Agendas.{found-pending, any-append, some_head, work_of, in_order-inserted, agenda-inserted}
 use Rattle.ss_events.proofs.Outcomes.{scheduled-pending, scheduled-full, scheduled-room}

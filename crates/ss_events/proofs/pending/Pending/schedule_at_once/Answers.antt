@@ -1,10 +1,10 @@
 use Rattle.std.proofs.Common.{◌≡◌, ◌≢◌, ◌||◌, false, ◌+◌, ◌∷◌, [], ◌∙◌, map, w64, int_eq, to_z, of_z, IsPermutation, Ok, length, ap, refl, sym, subst, to_z-of_z, arith}
-use Rattle.ss_events.specs.declared.entry.Entry.{Entry}
+use Rattle.ss_events_entries.specs.declared.entry.Entry.{Entry}
 use Rattle.ss_world.specs.PendingList.{scheduling_limit, with_entry, is_pending}
 use Rattle.std.specs.List.{list_any}
 use Rattle.std.proofs.lemmas.Bool.{or_from}
-use Rattle.ss_events.specs.HeapEntries.{HeapEntries, all_of, notices_of, AreAfterHeads}
-use Rattle.ss_events.specs.CountedList.{with_work}
+use Rattle.ss_events_entries.specs.HeapEntries.{HeapEntries, all_of, notices_of, AreAfterHeads}
+use Rattle.ss_events_entries.specs.CountedList.{with_work}
 use Rattle.ss_events.specs.Sifting.{IsLogarithmic}
 use Rattle.ss_world.specs.SortKey.{SortKey}
 use Rattle.ss_events.proofs.Agendas.{found-pending, any-append, some_head, work_of, in_order-inserted, agenda-inserted}

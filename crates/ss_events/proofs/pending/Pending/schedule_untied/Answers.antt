@@ -1,9 +1,9 @@
 use Rattle.std.proofs.Common.{◌≡◌, ◌+◌, ◌∙◌, ℤ, w64, to_z, of_z, [], Ok, length, ap, subst, to_z-of_z, arith}
 use Rattle.ss_world.specs.SortKey.{SortKey}
 use Rattle.ss_world.specs.PendingList.{PendingList, scheduled}
-use Rattle.ss_events.specs.CountedList.{with_work}
-use Rattle.ss_events.specs.Digits.{binary_digits}
-use Rattle.ss_events.proofs.Rises.{work_twice}
+use Rattle.ss_events_entries.specs.CountedList.{with_work}
+use Rattle.ss_events_entries.specs.Digits.{binary_digits}
+use Rattle.ss_events_entries.proofs.Rises.{work_twice}
 use Rattle.ss_events.proofs.pending.Pending.schedule_untied.Goals as goal
 
 pub returns-then-schedule_at_once-clause-done : goal.returns-then-schedule_at_once-clause-done

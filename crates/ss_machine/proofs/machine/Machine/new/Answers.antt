@@ -1,12 +1,12 @@
 use Rattle.std.proofs.Common.{None, IfOk, refl, sym, subst}
 use Rattle.ss_code.specs.Running.{IsCompiled as IsGenerated}
 use Rattle.ss_machine_instructions.specs.declared.state.State.{State}
-use Rattle.ss_machine_steps.specs.Beginning.{IsFirstState}
-use Rattle.ss_machine_steps.specs.Situations.{situated}
-use Rattle.ss_machine_steps.specs.Start.{IsAtStart}
+use Rattle.ss_machine.specs.Beginning.{IsFirstState}
+use Rattle.ss_machine.specs.Situations.{situated}
+use Rattle.ss_machine.specs.Start.{IsAtStart}
 use Rattle.ss_machine.specs.Held.{IsReady}
-use Rattle.ss_machine.proofs.First.{first_ready}
-use Rattle.ss_machine_steps.proofs.Starting.{frame_small}
+use Rattle.ss_machine.proofs.Readiness.{first_ready}
+use Rattle.ss_machine.proofs.Starting.{frame_small}
 use Rattle.ss_machine.proofs.machine.Machine.new.Goals as goal
 
 pub stands_first-requires : goal.stands_first-requires

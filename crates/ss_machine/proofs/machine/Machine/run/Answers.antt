@@ -1,14 +1,13 @@
-use Rattle.std.proofs.Common.{rules, ◌≡◌, ◌+◌, ◌-◌, ◌*◌, ◌≤◌, ◌<◌, ◌^◌, length, min, refl, sym, ap, subst, inr, ◌∙◌, arith}
+use Rattle.std.proofs.Common.{rules, ◌≡◌, ◌+◌, ◌-◌, ◌*◌, ◌≤◌, ◌<◌, ◌^◌, length, min, refl, sym, ap, subst, ◌∙◌, arith}
 use Rattle.std.proofs.lemmas.Option.{none-some, same_Some}
 use Rattle.ss_machine_instructions.specs.declared.state.State.{State}
 use Rattle.ss_machine_instructions.specs.declared.flow.Here.{Here}
-use Rattle.ss_machine_steps.specs.Situations.{situated}
-use Rattle.ss_machine_steps.specs.Counts.{HasSteps}
-use Rattle.ss_machine_steps.specs.Runs.{Ran}
-use Rattle.ss_machine_steps.specs.Start.{Continues}
+use Rattle.ss_machine.specs.Situations.{situated}
+use Rattle.ss_machine.specs.Counts.{HasSteps}
+use Rattle.ss_machine.specs.Runs.{Ran}
 use Rattle.ss_machine.specs.Held.{Held, answer_again}
-use Rattle.ss_machine.proofs.First.{kept_none}
-use Rattle.ss_machine.proofs.Resuming.{stands_ticked, situated_ticked, ran_from, read_on, never, used_by}
+use Rattle.ss_machine.proofs.Readiness.{kept_none}
+use Rattle.ss_machine.proofs.Resuming.{stands_ticked, situated_ticked, ran_from, never, used_by}
 use Rattle.ss_machine.proofs.machine.Machine.run.Goals as goal
 
 pub returns-in-Some : goal.returns-in-Some
@@ -26,7 +25,6 @@ returns-in-Some g c =
       used = (omega arith, omega arith);
       within = λ none. absurd (none-some stop (sym none ∙ is));
       paused = λ none. absurd (none-some stop (sym none ∙ is));
-      continues = λ none. absurd (none-some stop (sym none ∙ is));
       never_failed = λ none. absurd (none-some stop (sym none ∙ is));
       unmissed = λ none. absurd (none-some stop (sym none ∙ is));
       steps = omega arith;
@@ -113,9 +111,6 @@ returns g c =
           let gone = e.paused p in
           let ends : last - new.ticks ≡ last = omega (arith, gone) in
           ends ∙ c.saturating_add-last.ensures ∙ ap (λ used. min (used + c.args.ticks) (2 ^ 64 - 1)) same;
-      continues = λ q h p. inr (read_on m.code rem c.laws_of_pieces.ensures.steps_go_on start rest first final before after ((last - new.ticks) - m.used) (new.steps - m.state.steps)
-          (subst (λ (v : Held). Continues v.code v.at first) (sym view) h)
-          (subst (λ s. Ran rem s m.code start rest first final before after ((last - new.ticks) - m.used) (new.steps - m.state.steps)) p ran).0);
       never_failed = λ q p. never rem stop m.code start rest first final before after ((last - new.ticks) - m.used) (new.steps - m.state.steps) ran p;
       unmissed = λ q. e.unmissed;
       steps = subst (λ (v : Held). v.steps ≤ new.steps) view e.rising;

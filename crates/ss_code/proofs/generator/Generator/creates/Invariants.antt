@@ -1,8 +1,0 @@
-use Rattle.std.proofs.Common.{take}
-use Rattle.ss_code_instructions.specs.Translation.{creates_code}
-use Rattle.ss_code.specs.Emitted.{Emits}
-use Rattle.ss_code.proofs.generator.Generator.creates.Given as goal
-
-abbrev pub invariant-loop-counted : goal.invariant-loop-counted
-invariant-loop-counted l =
-    Emits l.initial.self l.self l.initial.code l.code l.site (λ s. Unit {0}) (λ t. creates_code t (take l.counted-index l.classes))

@@ -1,0 +1,82 @@
+-- What the generator emits where something is assigned.
+use Rattle.std.proofs.Common.{◌≡◌, ℕ, ◌≤◌, Bool, true, false, List, [], ◌∷◌, ◌++◌, Some, None, refl, sym, ap, ◌∙◌, subst, append-nil, if◌then◌else◌}
+use Rattle.ss_base.specs.declared.layout.Mode.{Mode}
+use Rattle.ss_base.specs.declared.layout.Mode.TheVariants.{Integer, Alpha}
+use Rattle.ss_program.specs.declared.expression.Variable.{Variable}
+use Rattle.ss_program.specs.declared.expression.Variable.TheVariants.{Global}
+use Rattle.ss_program.specs.declared.sections.Subject.TheVariants.{OfAttribute}
+use Rattle.ss_program.specs.Program.{Program, Expression, Place, ToVariable, ToAttribute, ToCount}
+use Rattle.ss_program.specs.WellTyped.{Scope, field_mode}
+use Rattle.ss_code_instructions.specs.declared.address.Address.{Address}
+use Rattle.ss_code_instructions.specs.Facts.{watch}
+use Rattle.ss_code_instructions.specs.Instructions.{Operand, Taken, Target, Into, Placed}
+use Rattle.ss_code_instructions.specs.Instructions as i
+use Rattle.ss_code_instructions.specs.Translation.{Site, height, place, above, next, is_kept, assignment, place_code, after_place, to_place_code, code_of}
+use Rattle.ss_code_instructions.specs.Carried.{mode_here}
+use Rattle.ss_code_generator.specs.declared.targets.VariableSpot.{VariableSpot}
+use Rattle.ss_code_generator.specs.declared.targets.AttributeSpot.{AttributeSpot}
+use Rattle.ss_code_instructions.specs.Forms.{moving, storing}
+use Rattle.ss_code_generator.specs.Emitted.{Final, Shown, Runs, AtOperand}
+use Rattle.ss_code_generator.specs.Spots.{IsWatched, IsVariable, IsAttribute, landing, landed_code}
+use Rattle.ss_code_generator.proofs.Forms as forms
+use Rattle.ss_code_generator.proofs.Modes.{has_field}
+
+-- ## The parts of an assignment
+
+-- a place is resolved, something leaves a value where it comes at first, and the rest is done
+pub to_place_parts : (t : Site) (p : Place) (m : Mode) (source : Site → Target → List Placed) → place_code t p ++ (source (after_place t p) (landing (after_place t p) p) ++ landed_code t (after_place t p) p m) ≡ to_place_code t p m source
+to_place_parts t (ToVariable x) m source = by (is_kept t x)
+  where
+    by : (b : Bool) → source t (if b then next t else Into x) ++ (if b then place (above t Integer) (i.Keep (Taken (height t)) x) ∷ [] else []) ≡ (if b then source t (next t) ++ place (above t Integer) (i.Keep (Taken (height t)) x) ∷ [] else source t (Into x))
+    by true = refl
+    by false = append-nil (source t (Into x))
+to_place_parts t (ToAttribute class field r) m source = refl
+to_place_parts t (ToCount c) m source = refl
+
+-- ## Variables
+
+-- what is assigned to a variable that a statistic watches, and to another one
+pub assignment_kept : (u : Site) (x : Variable) (y : Operand) → is_kept u x ≡ true → assignment u x y ≡ i.Keep y x
+assignment_kept u x y e = ap (λ (b : Bool). if b then i.Keep y x else i.Move y (Into x)) e
+
+pub assignment_plain : (u : Site) (x : Variable) (y : Operand) → is_kept u x ≡ false → assignment u x y ≡ i.Move y (Into x)
+assignment_plain u x y e = ap (λ (b : Bool). if b then i.Keep y x else i.Move y (Into x)) e
+
+pub kept_at : (t u : Site) (x : Variable) (b : Bool) → t.scope ≡ u.scope → is_kept t x ≡ b → is_kept u x ≡ b
+kept_at t u x b same e = sym (ap (λ (s : Scope). is_kept (record { scope = s; line = u.line; cells = u.cells }) x) same) ∙ e
+
+-- a Move
+pub move_runs : (f : Final) (t u : Site) (x : Variable) (y : Operand) (s : VariableSpot) (from : Address) → IsVariable t x s → s.watched ≡ None → t.scope ≡ u.scope → AtOperand f u y from → mode_here (code_of f.program) f.constants (place u (assignment u x y)) y ≡ Some s.mode → height u ≤ f.depth → Runs f (place u (assignment u x y)) (moving s.mode from s.address)
+move_runs f t u x y s from v watched same at mode deep =
+    let w : is_kept t x ≡ false = subst (IsWatched (is_kept t x) x) watched v.watched in
+    let e : assignment u x y ≡ i.Move y (Into x) = assignment_plain u x y (kept_at t u x false same w) in
+    record {
+      carries = forms.moves (code_of f.program) f.constants (place u (assignment u x y)) s.mode from s.address (y, at, (mode, (Into x, v.at, e)));
+      deep = deep;
+      shown = subst (Shown f.prints u.cells) (sym e) tt;
+    }
+
+-- ## Attributes
+
+-- where a statistic watches an attribute of a program that is well typed, that is a number
+module _ (f : Final) (t u : Site) (class field : ℕ) (e : Expression) (s : AttributeSpot) (is : IsAttribute f t class field e s) (same : t.scope ≡ u.scope) (program : t.scope.program ≡ f.program) where
+  noted_says : s.is_watched ≡ watch f.program.statistics (OfAttribute class field)
+  noted_says = is.noted ∙ ap (λ (p : Program). watch p.statistics (OfAttribute class field)) program
+
+  -- what is stored is stored in an attribute of its mode
+  pub store_runs : (z y : Operand) (from : Address) (m : Mode) → field_mode f.program class field ≡ Some m → (m ≡ Alpha → watch f.program.statistics (OfAttribute class field) ≡ false) → AtOperand f u z s.entity → AtOperand f u y from → height u ≤ f.depth → Runs f (place u (i.SetAttribute class field z y)) (storing m class field s.entity from s.is_watched)
+  store_runs z y from m there plain entity at deep =
+      let x : Placed = place u (i.SetAttribute class field z y) in
+      record {
+        carries = forms.stores (code_of f.program) f.constants x m class field s.entity from s.is_watched (λ off. sym noted_says ∙ off) plain
+            (has_field f.program f.constants x class field m there, (z, entity, (y, at, refl)));
+        deep = deep;
+        shown = tt;
+      }
+
+-- ## Where a value comes at first
+
+pub lands_kept : (t u : Site) (x : Variable) (s : VariableSpot) (k : ℕ) → IsVariable t x s → s.watched ≡ Some k → t.scope ≡ u.scope → landing u (ToVariable x) ≡ next u
+lands_kept t u x s k v watched same =
+    let w : (is_kept t x ≡ true) × (x ≡ Global k) = subst (IsWatched (is_kept t x) x) watched v.watched in
+    ap (λ (b : Bool). if b then next u else Into x) (kept_at t u x true same w.0)

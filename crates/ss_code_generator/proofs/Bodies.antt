@@ -1,0 +1,395 @@
+-- Statements and bodies, from what was emitted for their parts.
+use Rattle.std.proofs.Common.{◌≡◌, ℕ, zero, suc, ◌+◌, ◌<◌, ◌≤◌, ◌^◌, List, [], ◌∷◌, ◌++◌, length, map, Result, Ok, Err, OnOk, refl, sym, ap, ◌∙◌, subst, arith, append_assoc, append-nil, length-append}
+use Rattle.std.specs.List.{AllZip, AllByRecursion as Every}
+use Rattle.ss_base.specs.declared.line.Line.{Line}
+use Rattle.ss_base.specs.declared.layout.Mode.{Mode}
+use Rattle.ss_picture.specs.declared.field.Field.{Field}
+use Rattle.ss_program.specs.declared.statement.Statement as statements
+use Rattle.ss_program.specs.declared.statement.Statement.TheVariants as forms
+use Rattle.ss_program.specs.Program as p
+use Rattle.ss_program.specs.Program.{Condition, Head, Numbers, Each, Members, TheSystem, Entity, Guard, Phrase, Item, AValue, AMean, AMeanOf, Statement, Block, Done}
+use Rattle.ss_program.specs.View.{view_expression, view_place, view_target, view_position, view_owner, view_when, view_restart, view_item, view_statement, block_of}
+use Rattle.ss_program.specs.WellTyped.{Scope, GoodHead, GoodPhrase, GoodCondition, Good, GoodBlock, TakesItem}
+use Rattle.ss_code_instructions.specs.declared.instruction.Instruction.{Instruction as Running}
+use Rattle.ss_code_instructions.specs.declared.instruction.Instruction.TheVariants as r
+use Rattle.ss_code_instructions.specs.Instructions.{Placed, Lines}
+use Rattle.ss_code_instructions.specs.Instructions as i
+use Rattle.ss_code_instructions.specs.Carried.{RunningLines, Carries}
+use Rattle.ss_code_instructions.specs.Translation.{Site, height, place, at_line, no_line, condition_code, if_code, loop_code, in_loop, loop_cells, phrases_code, for_code, find_code, items_code, after_items, statement_code, statement_prints, block_code, block_prints, code_of}
+use Rattle.ss_code_generator.specs.declared.generator.Generator.{Generator}
+use Rattle.ss_code_generator.specs.declared.generator.Site.{Site as Here}
+use Rattle.ss_code_pieces.specs.Lined.{Lined, nothing}
+use Rattle.ss_code_generator.specs.Emitted.{Final, Around, Grows, Stands, Shown, Adds, Emits, EmitsAround, EmitsAroundBoth, HasPrints}
+use Rattle.ss_code_generator.specs.Items.{GoodItem}
+use Rattle.ss_code_generator.specs.Looped.{loop_width}
+use Rattle.ss_code_generator.specs.Printed.{Prints, line_or_none, statement_site, PrintsBy, PrintsLines, EmitsStatement, EmitsBlock}
+use Rattle.ss_code_generator.proofs.Emitting.{around_old, grows_same, grows_then, stands_old, adds_none, adds_then, adds_one, adds_piece, adds_apart, adds_same, piece_long, none_there}
+use Rattle.ss_code_generator.proofs.PrintLines.{prints_then, prints_long}
+use Rattle.ss_code_generator.proofs.Rounds.{for_looped}
+
+-- ## Results
+
+pub on_both : {T E : Type 0} (P Q : Type 0) (o : Result T E) → OnOk o P → OnOk o Q → OnOk o (P × Q)
+on_both P Q (Ok x) h k = (h, k)
+on_both P Q (Err e) h k = tt
+
+-- ## What is seen of each statement
+
+pub let_seen : (l : _) (x : _) (e : _) → view_statement (forms.Let l x e) ≡ p.Let l (view_place x) (view_expression e)
+unfolding view_statement
+let_seen l x e = refl
+
+pub change_seen : (l : _) (sign : _) (x : _) (e : _) → view_statement (forms.Change l sign x e) ≡ p.Change l sign (view_place x) (view_expression e)
+unfolding view_statement
+change_seen l sign x e = refl
+
+pub call_seen : (l : _) (routine : _) (given : _) (yielding : _) → view_statement (forms.Call l routine given yielding) ≡ p.Call l routine (map view_expression given.items) (map view_place yielding.items)
+unfolding view_statement
+call_seen l routine given yielding = refl
+
+pub return_seen : view_statement forms.Return ≡ p.Return
+unfolding view_statement
+return_seen = refl
+
+pub stop_seen : view_statement forms.Stop ≡ p.Stop
+unfolding view_statement
+stop_seen = refl
+
+pub read_seen : (l : _) (targets : _) → view_statement (forms.Read l targets) ≡ p.Read l (map view_target targets.items)
+unfolding view_statement
+read_seen l targets = refl
+
+pub simulate_seen : view_statement forms.Simulate ≡ p.Simulate
+unfolding view_statement
+simulate_seen = refl
+
+pub create_seen : (l : _) (class : _) (x : _) → view_statement (forms.Create l class x) ≡ p.Create l class (view_place x)
+unfolding view_statement
+create_seen l class x = refl
+
+pub create_every_seen : (l : _) (classes : _) → view_statement (forms.CreateEvery l classes) ≡ p.CreateEvery l classes.items
+unfolding view_statement
+create_every_seen l classes = refl
+
+pub destroy_seen : (l : _) (class : _) (e : _) → view_statement (forms.Destroy l class e) ≡ p.Destroy l class (view_expression e)
+unfolding view_statement
+destroy_seen l class e = refl
+
+pub file_seen : (l : _) (set : _) (e : _) (position : _) (owner : _) → view_statement (forms.File l set e position owner) ≡ p.File l set (view_expression e) (view_position position) (view_owner owner)
+unfolding view_statement
+file_seen l set e position owner = refl
+
+pub remove_end_seen : (l : _) (end : _) (set : _) (x : _) (owner : _) → view_statement (forms.RemoveEnd l end set x owner) ≡ p.RemoveEnd l end set (view_place x) (view_owner owner)
+unfolding view_statement
+remove_end_seen l end set x owner = refl
+
+pub remove_seen : (l : _) (set : _) (e : _) (owner : _) → view_statement (forms.Remove l set e owner) ≡ p.Remove l set (view_expression e) (view_owner owner)
+unfolding view_statement
+remove_seen l set e owner = refl
+
+pub schedule_new_seen : (l : _) (class : _) (x : _) (given : _) (when : _) → view_statement (forms.ScheduleNew l class x given when) ≡ p.ScheduleNew l class (view_place x) (map view_expression given.items) (view_when when)
+unfolding view_statement
+schedule_new_seen l class x given when = refl
+
+pub schedule_seen : (l : _) (class : _) (e : _) (given : _) (when : _) → view_statement (forms.Schedule l class e given when) ≡ p.Schedule l class (view_expression e) (map view_expression given.items) (view_when when)
+unfolding view_statement
+schedule_seen l class e given when = refl
+
+pub cancel_seen : (l : _) (class : _) (e : _) → view_statement (forms.Cancel l class e) ≡ p.Cancel l class (view_expression e)
+unfolding view_statement
+cancel_seen l class e = refl
+
+pub reset_seen : (l : _) (restarts : _) → view_statement (forms.Reset l restarts) ≡ p.Reset l (map view_restart restarts.items)
+unfolding view_statement
+reset_seen l restarts = refl
+
+pub print_seen : (l : _) (items : _) (pictures : _) → view_statement (forms.Print l items pictures) ≡ p.Print l (map view_item items.items) (map (λ line. line.items) pictures.items)
+unfolding view_statement
+print_seen l items pictures = refl
+
+pub skip_seen : (l : _) (e : _) → view_statement (forms.Skip l e) ≡ p.Skip l (view_expression e)
+unfolding view_statement
+skip_seen l e = refl
+
+-- ## PRINTs
+
+pub has_prints_old : (f : Final) (a b : List RunningLines) (ls : List Lines) → Prints a b ls → HasPrints f b → HasPrints f a
+has_prints_old f a b ls h k = (h.0 ++ k.0, k.1 ∙ ap (λ (l : List RunningLines). l ++ k.0) h.1 ∙ append_assoc a h.0 k.0)
+
+pub none_printed : (a : List RunningLines) (ls : List Lines) → ls ≡ [] → Prints a a ls
+none_printed a ls e = ([], sym (append-nil a), sym e)
+
+-- ## One statement
+
+-- a site of a statement, at the line of that
+pub lined : (f : Final) (g : Generator) (h : ℕ) (l : Line) (t : Site) → Stands f g (statement_site h) t → Stands f g (record { line = l; height = h }) (at_line t l)
+lined f g h l t s = record { program = s.program; locals = s.locals; line = refl; high = s.high; deep = s.deep }
+
+-- a statement without PRINTs
+pub said : (old new : Generator) (a b : Lined) (h : ℕ) (l : Line) (prints : List RunningLines) (s form : statements.Statement) (seen : Statement) (Fits : Scope → Type 0) (c : Site → List Placed) → Emits old new a b (record { line = l; height = h }) Fits c → s ≡ form → view_statement form ≡ seen → l ≡ line_or_none (view_statement s) → ((k : Scope) → Good k seen → Fits k) → statement_prints seen ≡ [] → ((first : ℕ) (t : Site) → c (at_line t (line_or_none seen)) ≡ statement_code t first seen) → EmitsStatement old new a b h prints prints (view_statement s)
+said old new a b h l prints s form seen Fits c m is e line fits none same = subst (λ (x : Statement). EmitsStatement old new a b h prints prints x) (sym w) base
+  where
+    w : view_statement s ≡ seen
+    w = ap view_statement is ∙ e
+
+    base : EmitsStatement old new a b h prints prints seen
+    base = record {
+      code = record {
+        grows = m.grows;
+        adds = λ f t u around stands good.
+            adds_same f a b (c (at_line t l)) (statement_code t (length prints) seen) (ap (λ k. c (at_line t k)) (line ∙ ap line_or_none w) ∙ same (length prints) t)
+            (m.adds f (at_line t l) tt around (lined f new h l t stands) (fits t.scope good.1));
+        more = λ f t u around stands good. tt;
+      };
+      prints = none_printed prints (statement_prints seen) none;
+    }
+
+-- one instruction without operands
+pub put_said : (g : Generator) (a b : Lined) (here : Here) (x : i.Instruction) (y : Running) → b.instructions ≡ a.instructions ++ y ∷ [] → b.lines ≡ a.lines ++ here.line ∷ [] → ((f : Final) (t : Site) → Carries (code_of f.program) f.constants (place t x) y) → ((f : Final) (t : Site) → Shown f.prints t.cells x) → Emits g g a b here (λ s. Unit {0}) (λ t. place t x ∷ [])
+put_said g a b here x y is ls carries shown = record {
+  grows = grows_same g;
+  adds = λ f t u around stands good. adds_one f a b here.line (place t x) y is ls stands.line (record { carries = carries f t; deep = stands.deep; shown = shown f t });
+  more = λ f t u around stands good. tt;
+}
+
+-- the same code for something that is the same
+pub emits_same : {A : Type 0} (x y : A) (old new : Generator) (a b : Lined) (here : Here) (G : A → Scope → Type 0) (c : A → Site → List Placed) → x ≡ y → Emits old new a b here (G x) (c x) → Emits old new a b here (G y) (c y)
+emits_same x y old new a b here G c e m = subst (λ z. Emits old new a b here (G z) (c z)) e m
+
+-- ## Bodies
+
+-- the code of a statement around a body
+module _ (g0 g1 : Generator) (h : ℕ) (inner : Lined) (p0 p1 : List RunningLines) (a : Block) (m : EmitsBlock g0 g1 inner h p0 p1 a) where
+  -- what was made for it
+  pub block_adds : (f : Final) (g2 : Generator) (p2 : List RunningLines) (ls : List Lines) (t : Site) → Grows g1 g2 → Prints p1 p2 ls → Around f g2 → Stands f g2 (statement_site h) t → HasPrints f p2 → GoodBlock t.scope a → Adds f nothing inner (block_code t (length p0) a)
+  block_adds f g2 p2 ls t grows more around stands has good =
+      m.code.adds f t tt (around_old f g1 g2 grows around) (stands_old f g1 g2 (statement_site h) t grows stands) (has_prints_old f p1 p2 ls more has, good)
+
+  none_more : Prints p1 p1 []
+  none_more = ([], sym (append-nil p1), refl)
+
+  -- WHILE and UNTIL
+  pub loop_said : (g2 : Generator) (x y : Lined) (l l' : Line) (gs : List Guard) → l ≡ l' → EmitsAround g1 g2 x y (record { line = l; height = h }) inner (λ s. Every (λ (g : Guard). GoodCondition s g.condition) gs) (λ t b. loop_code t gs b) → EmitsStatement g0 g2 x y h p0 p1 (p.Loop l' gs a)
+  loop_said g2 x y l l' gs line n = record {
+    code = record {
+      grows = grows_then g0 g1 g2 m.code.grows n.grows;
+      adds = λ f t u around stands good.
+          let good' : Good t.scope (p.Loop l' gs a) = good.1 in
+          let b : List Placed = block_code t (length p0) a in
+          let made : Adds f nothing inner b = block_adds f g2 p1 [] t n.grows none_more around stands good.0 good'.1 in
+          adds_same f x y (loop_code (at_line t l) gs b) (loop_code (at_line t l') gs b) (ap (λ k. loop_code (at_line t k) gs b) line)
+          (n.adds f (at_line t l) b around (lined f g2 h l t stands) (made, good'.0));
+      more = λ f t u around stands good. tt;
+    };
+    prints = m.prints;
+  }
+
+-- the cells of a loop do not go by the line
+loop_line : (t : Site) (l : Line) (head : Head) → loop_cells (at_line t l) head ≡ loop_cells t head
+loop_line t l (Numbers x a b c) = refl
+loop_line t l (Each x class) = refl
+loop_line t l (Members x set TheSystem start reverse) = refl
+loop_line t l (Members x set (Entity e) start reverse) = refl
+
+-- FOR
+pub for_said : (g0 g1 g2 g3 g4 : Generator) (x y inner turn : Lined) (h : ℕ) (above_here : Here) (p0 p1 : List RunningLines) (l l' : Line) (head : Head) (ps : List Phrase) (a : Block) (cells : ℕ) → l ≡ l' → cells ≡ loop_width head → above_here.line ≡ l → (h + cells < 2 ^ 64 → above_here.height ≡ h + cells) → Grows g0 g1 → above_here.height ≤ g1.deepest → EmitsBlock g1 g2 inner above_here.height p0 p1 a → EmitsAround g2 g3 nothing turn above_here inner (λ s. Every (GoodPhrase s) ps) (λ t b. phrases_code t ps b) → EmitsAround g3 g4 x y (record { line = l; height = h }) turn (λ s. GoodHead s head) (λ t b. for_code t head b) → EmitsStatement g0 g4 x y h p0 p1 (p.For l' head ps a)
+for_said g0 g1 g2 g3 g4 x y inner turn h above_here p0 p1 l l' head ps a cells line wide up_line up reach room m n o = record {
+  code = record {
+    grows = grows_then g0 g1 g4 reach (grows_then g1 g2 g4 m.code.grows (grows_then g2 g3 g4 n.grows o.grows));
+    adds = λ f t u around stands good.
+        let good' : Good t.scope (p.For l' head ps a) = good.1 in
+        let u : Site = in_loop (at_line t l) head in
+        let v : Site = in_loop t head in
+        let b : List Placed = block_code v (length p0) a in
+        let cells_same : loop_cells (at_line t l) head ≡ loop_cells t head = loop_line t l head in
+        let made = λ (around2 : Around f g2) (high : Stands f g2 above_here u).
+        m.code.adds f v tt around2 (record { program = high.program; locals = high.locals; line = stands.line; high = sym (ap length cells_same) ∙ high.high; deep = subst (λ (ms : List Mode). length ms ≤ f.depth) cells_same high.deep }) (good.0, good'.2) in
+        let loops : Adds f x y (for_code (at_line t l) head (phrases_code u ps b)) =
+        for_looped f g1 g2 g3 g4 x y inner turn (record { line = l; height = h }) above_here head ps cells (at_line t l) b wide up_line up room m.code.grows made n o around (lined f g4 h l t stands) good'.0 good'.1 in
+        adds_same f x y (for_code (at_line t l) head (phrases_code u ps b)) (for_code (at_line t l') head (phrases_code (in_loop (at_line t l') head) ps b)) (ap (λ k. for_code (at_line t k) head (phrases_code (in_loop (at_line t k) head) ps b)) line) loops;
+    more = λ f t u around stands good. tt;
+  };
+  prints = m.prints;
+}
+
+-- two bodies
+module _ (g0 g1 g2 : Generator) (h : ℕ) (first second : Lined) (p0 p1 p2 : List RunningLines) (a b : Block) (m : EmitsBlock g0 g1 first h p0 p1 a) (n : EmitsBlock g1 g2 second h p1 p2 b) where
+  pub both_prints : Prints p0 p2 (block_prints a ++ block_prints b)
+  both_prints = prints_then p0 p1 p2 (block_prints a) (block_prints b) m.prints n.prints
+
+  -- what was made for both
+  pub both_add : (f : Final) (g3 : Generator) (t : Site) → Grows g2 g3 → Around f g3 → Stands f g3 (statement_site h) t → HasPrints f p2 → GoodBlock t.scope a → GoodBlock t.scope b → Adds f nothing first (block_code t (length p0) a) × Adds f nothing second (block_code t (length p0 + length (block_prints a)) b)
+  both_add f g3 t grows around stands has good also =
+      let mine = around_old f g2 g3 grows around in
+      let there = stands_old f g2 g3 (statement_site h) t grows stands in
+      let long : length p1 ≡ length p0 + length (block_prints a) = prints_long p0 p1 (block_prints a) m.prints in (
+        m.code.adds f t tt (around_old f g1 g2 n.code.grows mine) (stands_old f g1 g2 (statement_site h) t n.code.grows there) (has_prints_old f p1 p2 (block_prints b) n.prints has, good),
+        adds_same f nothing second (block_code t (length p1) b) (block_code t (length p0 + length (block_prints a)) b) (ap (λ k. block_code t k b) long) (n.code.adds f t tt mine there (has, also)),
+      )
+
+  -- IF
+  pub if_said : (g3 : Generator) (x y : Lined) (l l' : Line) (c : Condition) → l ≡ l' → EmitsAroundBoth g2 g3 x y (record { line = l; height = h }) first second (λ s. GoodCondition s c) (λ t s. if_code t c s.first s.second) → EmitsStatement g0 g3 x y h p0 p2 (p.If l' c a b)
+  if_said g3 x y l l' c line o = record {
+    code = record {
+      grows = grows_then g0 g1 g3 m.code.grows (grows_then g1 g2 g3 n.code.grows o.grows);
+      adds = λ f t u around stands good.
+          let good' : Good t.scope (p.If l' c a b) = good.1 in
+          let made = both_add f g3 t o.grows around stands good.0 good'.1 good'.2 in
+          let one : List Placed = block_code t (length p0) a in
+          let two : List Placed = block_code t (length p0 + length (block_prints a)) b in
+          adds_same f x y (if_code (at_line t l) c one two) (if_code (at_line t l') c one two) (ap (λ k. if_code (at_line t k) c one two) line)
+          (o.adds f (at_line t l) (record { first = one; second = two }) around (lined f g3 h l t stands) (made.0, made.1, good'.0));
+      more = λ f t u around stands good. tt;
+    };
+    prints = both_prints;
+  }
+
+  -- FIND
+  pub find_said : (g3 : Generator) (x y : Lined) (l l' : Line) (head : Head) (ps : List Phrase) → l ≡ l' → EmitsAroundBoth g2 g3 x y (record { line = l; height = h }) first second (λ s. GoodHead s head × Every (GoodPhrase s) ps) (λ t s. find_code t head ps s.first s.second) → EmitsStatement g0 g3 x y h p0 p2 (p.Find l' head ps a b)
+  find_said g3 x y l l' head ps line o = record {
+    code = record {
+      grows = grows_then g0 g1 g3 m.code.grows (grows_then g1 g2 g3 n.code.grows o.grows);
+      adds = λ f t u around stands good.
+          let good' : Good t.scope (p.Find l' head ps a b) = good.1 in
+          let made = both_add f g3 t o.grows around stands good.0 good'.2 good'.3 in
+          let one : List Placed = block_code t (length p0) a in
+          let two : List Placed = block_code t (length p0 + length (block_prints a)) b in
+          adds_same f x y (find_code (at_line t l) head ps one two) (find_code (at_line t l') head ps one two) (ap (λ k. find_code (at_line t k) head ps one two) line)
+          (o.adds f (at_line t l) (record { first = one; second = two }) around (lined f g3 h l t stands) (made.0, made.1, (good'.0, good'.1)));
+      more = λ f t u around stands good. tt;
+    };
+    prints = both_prints;
+  }
+
+-- PRINT
+good_items : (s : Scope) (fields : List Field) (xs : List Item) → AllZip (TakesItem s) fields xs → Every (λ (x : Item). GoodItem x s) xs
+good_items s [] [] h = tt
+good_items s [] (x ∷ xs) h = absurd h
+good_items s (f ∷ fs) [] h = tt
+good_items s (f ∷ fs) (AValue e ∷ xs) h = (h.0.0, good_items s fs xs h.1)
+good_items s (f ∷ fs) (AMean k ∷ xs) h = (tt, good_items s fs xs h.1)
+good_items s (f ∷ fs) (AMeanOf k e ∷ xs) h = (h.0.1, good_items s fs xs h.1)
+
+pub print_said : (g0 g1 : Generator) (x y : Lined) (h : ℕ) (p0 p1 : List RunningLines) (l l' : Line) (items : List Item) (pictures : List (List ℕ)) → l ≡ l' → PrintsLines g0 g1 x y (record { line = l; height = h }) p0 p1 items pictures → EmitsStatement g0 g1 x y h p0 p1 (p.Print l' items pictures)
+print_said g0 g1 x y h p0 p1 l l' items pictures line m = record {
+  code = record {
+    grows = m.code.grows;
+    adds = λ f t u around stands good.
+        let good' : Good t.scope (p.Print l' items pictures) = good.1 in
+        let code = λ (k : Line). items_code (at_line t k) items ++ place (after_items (at_line t k) items) (i.Print (length p0) (height t)) ∷ [] in
+        adds_same f x y (code l) (code l') (ap code line) (m.code.adds f (at_line t l) tt around (lined f g1 h l t stands) (good.0, good_items t.scope _ items good'));
+    more = λ f t u around stands good. tt;
+  };
+  prints = m.prints;
+}
+
+-- ## One statement more
+
+every_code_more : (t : Site) (first : ℕ) (xs : List Statement) (x : Statement) → block_code t first (block_of (xs ++ x ∷ [])) ≡ block_code t first (block_of xs) ++ statement_code t (first + length (block_prints (block_of xs))) x
+every_code_more t first [] x =
+    let n : first + 0 ≡ first = omega arith in
+    append-nil (statement_code t first x) ∙ ap (λ k. statement_code t k x) (sym n)
+every_code_more t first (y ∷ xs) x =
+    let next : ℕ = first + length (statement_prints y) in
+    let n : next + length (block_prints (block_of xs)) ≡ first + length (statement_prints y ++ block_prints (block_of xs)) = omega (arith, length-append (statement_prints y) (block_prints (block_of xs))) in
+    ap (λ (c : List Placed). statement_code t first y ++ c) (every_code_more t next xs x ∙ ap (λ k. block_code t next (block_of xs) ++ statement_code t k x) n)
+    ∙ sym (append_assoc (statement_code t first y) (block_code t next (block_of xs)) (statement_code t (first + length (statement_prints y ++ block_prints (block_of xs))) x))
+
+every_print_more : (xs : List Statement) (x : Statement) → block_prints (block_of (xs ++ x ∷ [])) ≡ block_prints (block_of xs) ++ statement_prints x
+every_print_more [] x = append-nil (statement_prints x)
+every_print_more (y ∷ xs) x = ap (λ (l : List Lines). statement_prints y ++ l) (every_print_more xs x) ∙ sym (append_assoc (statement_prints y) (block_prints (block_of xs)) (statement_prints x))
+
+every_good_more : (s : Scope) (xs : List Statement) (x : Statement) → GoodBlock s (block_of (xs ++ x ∷ [])) → GoodBlock s (block_of xs) × Good s x
+every_good_more s [] x h = (tt, h.0)
+every_good_more s (y ∷ xs) x h = let k = every_good_more s xs x h.1 in ((h.0, k.0), k.1)
+
+pub body_more : (g0 g1 g2 : Generator) (x y : Lined) (h : ℕ) (p0 p1 p2 : List RunningLines) (xs : List Statement) (s : Statement) → EmitsBlock g0 g1 x h p0 p1 (block_of xs) → EmitsStatement g1 g2 x y h p1 p2 s → EmitsBlock g0 g2 y h p0 p2 (block_of (xs ++ s ∷ []))
+body_more g0 g1 g2 x y h p0 p1 p2 xs s m n = record {
+  code = record {
+    grows = grows_then g0 g1 g2 m.code.grows n.code.grows;
+    adds = λ f t u around stands good.
+        let parts = every_good_more t.scope xs s good.1 in
+        let long : length p1 ≡ length p0 + length (block_prints (block_of xs)) = prints_long p0 p1 (block_prints (block_of xs)) m.prints in
+        let last : Adds f x y (statement_code t (length p0 + length (block_prints (block_of xs))) s) =
+        adds_same f x y (statement_code t (length p1) s) (statement_code t (length p0 + length (block_prints (block_of xs))) s) (ap (λ k. statement_code t k s) long) (n.code.adds f t tt around stands (good.0, parts.1)) in
+        let before : Adds f nothing x (block_code t (length p0) (block_of xs)) =
+        m.code.adds f t tt (around_old f g1 g2 n.code.grows around) (stands_old f g1 g2 (statement_site h) t n.code.grows stands) (has_prints_old f p1 p2 (statement_prints s) n.prints good.0, parts.0) in
+        adds_same f nothing y (block_code t (length p0) (block_of xs) ++ statement_code t (length p0 + length (block_prints (block_of xs))) s) (block_code t (length p0) (block_of (xs ++ s ∷ []))) (sym (every_code_more t (length p0) xs s))
+        (adds_then f nothing x y (block_code t (length p0) (block_of xs)) (statement_code t (length p0 + length (block_prints (block_of xs))) s) before last);
+    more = λ f t u around stands good. tt;
+  };
+  prints = subst (Prints p0 p2) (sym (every_print_more xs s)) (prints_then p0 p1 p2 (block_prints (block_of xs)) (statement_prints s) m.prints n.prints);
+}
+
+pub body_none : (g : Generator) (x : Lined) (h : ℕ) (prints : List RunningLines) → x ≡ nothing → EmitsBlock g g x h prints prints Done
+body_none g x h prints e = record {
+  code = record {
+    grows = grows_same g;
+    adds = λ f t u around stands good. subst (λ (y : Lined). Adds f nothing y []) (sym e) (adds_none f nothing);
+    more = λ f t u around stands good. tt;
+  };
+  prints = ([], sym (append-nil prints), refl);
+}
+
+-- and a return at the end
+pub section_said : (g0 g1 : Generator) (x y : Lined) (p0 p1 : List RunningLines) (b : Block) → EmitsBlock g0 g1 x 0 p0 p1 b → y.instructions ≡ x.instructions ++ r.Leave ∷ [] → y.lines ≡ x.lines ++ no_line ∷ [] → PrintsBy g0 g1 nothing y (statement_site 0) p0 p1 (λ s. GoodBlock s b) (block_prints b) (λ first t. block_code t first b ++ place t i.Leave ∷ [])
+section_said g0 g1 x y p0 p1 b m is ls = record {
+  code = record {
+    grows = m.code.grows;
+    adds = λ f t u around stands good.
+        adds_then f nothing x y (block_code t (length p0) b) (place t i.Leave ∷ []) (m.code.adds f t u around stands good)
+        (adds_one f x y no_line (place t i.Leave) r.Leave is ls stands.line (record { carries = refl; deep = stands.deep; shown = tt }));
+    more = λ f t u around stands good. tt;
+  };
+  prints = m.prints;
+}
+
+-- ## IF
+
+-- a condition and a side
+sides_add : (f : Final) (x y test side : Lined) (c d : List Placed) → y.instructions ≡ x.instructions ++ (test.instructions ++ side.instructions) → y.lines ≡ x.lines ++ (test.lines ++ side.lines) → Adds f nothing test c → Adds f nothing side d → Adds f x y (c ++ d)
+sides_add f x y test side c d is ls m n =
+    let both : Lined = record { instructions = test.instructions ++ side.instructions; lines = test.lines ++ side.lines } in
+    adds_piece f x y both (c ++ d) is ls (adds_apart f test side both c d refl refl m n)
+
+if_none : (t : Site) (c : Condition) (a b : List Placed) → b ≡ [] → if_code t c a b ≡ condition_code t (length a) c ++ a
+if_none t c a b e = ap (if_code t c a) e
+
+if_some : (t : Site) (c : Condition) (a b : List Placed) → 0 < length b → if_code t c a b ≡ condition_code t (length a + 1) c ++ (a ++ (place t (i.Jump (length b)) ∷ b))
+if_some t c a [] h = absurd (omega (arith, h))
+if_some t c a (x ∷ b) h = refl
+
+pub one_sided : (g0 g1 : Generator) (x y : Lined) (here : Here) (side other test : Lined) (c : Condition) (past : ℕ) → length other.instructions ≡ 0 → past ≡ length side.instructions → Emits g0 g1 nothing test here (λ s. GoodCondition s c) (λ t. condition_code t past c) → y.instructions ≡ x.instructions ++ (test.instructions ++ side.instructions) → y.lines ≡ x.lines ++ (test.lines ++ side.lines) → EmitsAroundBoth g0 g1 x y here side other (λ s. GoodCondition s c) (λ t b. if_code t c b.first b.second)
+one_sided g0 g1 x y here side other test c past none past_is m is ls = record {
+  grows = m.grows;
+  adds = λ f t b around stands fits.
+      let empty : b.second ≡ [] = none_there f other b.second fits.1 none in
+      let long : past ≡ length b.first = past_is ∙ piece_long f side b.first fits.0 in
+      let cond : Adds f nothing test (condition_code t (length b.first) c) = adds_same f nothing test (condition_code t past c) (condition_code t (length b.first) c) (ap (λ k. condition_code t k c) long) (m.adds f t tt around stands fits.2) in
+      adds_same f x y (condition_code t (length b.first) c ++ b.first) (if_code t c b.first b.second) (sym (if_none t c b.first b.second empty))
+      (sides_add f x y test side (condition_code t (length b.first) c) b.first is ls cond fits.0);
+  more = λ f t b around stands fits. tt;
+}
+
+pub two_sided : (g0 g1 : Generator) (x y1 y2 y3 : Lined) (here : Here) (side other test : Lined) (c : Condition) (past skip : ℕ) → (length other.instructions ≡ 0 → ⊥) → past ≡ length side.instructions + 1 → Emits g0 g1 nothing test here (λ s. GoodCondition s c) (λ t. condition_code t past c) → y1.instructions ≡ x.instructions ++ (test.instructions ++ side.instructions) → y1.lines ≡ x.lines ++ (test.lines ++ side.lines) → skip ≡ length other.instructions → y2.instructions ≡ y1.instructions ++ r.Jump skip ∷ [] → y2.lines ≡ y1.lines ++ here.line ∷ [] → y3.instructions ≡ y2.instructions ++ other.instructions → y3.lines ≡ y2.lines ++ other.lines → EmitsAroundBoth g0 g1 x y3 here side other (λ s. GoodCondition s c) (λ t b. if_code t c b.first b.second)
+two_sided g0 g1 x y1 y2 y3 here side other test c past skip some past_is m is1 ls1 skip_is is2 ls2 is3 ls3 = record {
+  grows = m.grows;
+  adds = λ f t b around stands fits.
+      let one : length side.instructions ≡ length b.first = piece_long f side b.first fits.0 in
+      let two : length other.instructions ≡ length b.second = piece_long f other b.second fits.1 in
+      let there : 0 < length b.second = positive (length other.instructions) (length b.second) some two in
+      let long : past ≡ length b.first + 1 = omega (arith, past_is, one) in
+      let cond : Adds f nothing test (condition_code t (length b.first + 1) c) = adds_same f nothing test (condition_code t past c) (condition_code t (length b.first + 1) c) (ap (λ k. condition_code t k c) long) (m.adds f t tt around stands fits.2) in
+      let over : Placed = place t (i.Jump (length b.second)) in
+      let jump : Adds f y1 y2 (over ∷ []) = adds_one f y1 y2 here.line over (r.Jump skip) is2 ls2 stands.line (record { carries = ap i.Jump (sym (skip_is ∙ two)); deep = stands.deep; shown = tt }) in
+      let front : Adds f x y1 (condition_code t (length b.first + 1) c ++ b.first) = sides_add f x y1 test side (condition_code t (length b.first + 1) c) b.first is1 ls1 cond fits.0 in
+      let all : Adds f x y3 ((condition_code t (length b.first + 1) c ++ b.first) ++ (over ∷ b.second)) =
+      adds_then f x y1 y3 (condition_code t (length b.first + 1) c ++ b.first) (over ∷ b.second) front (adds_then f y1 y2 y3 (over ∷ []) b.second jump (adds_piece f y2 y3 other b.second is3 ls3 fits.1)) in
+      adds_same f x y3 ((condition_code t (length b.first + 1) c ++ b.first) ++ (over ∷ b.second)) (if_code t c b.first b.second)
+      (append_assoc (condition_code t (length b.first + 1) c) b.first (over ∷ b.second) ∙ sym (if_some t c b.first b.second there)) all;
+  more = λ f t b around stands fits. tt;
+}
+  where
+    positive : (n m : ℕ) → (n ≡ 0 → ⊥) → n ≡ m → 0 < m
+    positive n zero h e = absurd (h e)
+    positive n (suc m) h e = omega arith

@@ -1,0 +1,150 @@
+-- Pieces put together, and what is around them.
+use Rattle.std.proofs.Common.{◌≡◌, ℕ, suc, ◌+◌, ◌<◌, ◌≤◌, ◌^◌, List, [], ◌∷◌, ◌++◌, length, map, Result, Ok, Err, refl, sym, ap, ◌∙◌, subst, arith, append_assoc, append-nil}
+use Rattle.std.specs.Prelude.{OnOk}
+use Rattle.std.proofs.lemmas.List.{map-append}
+use Rattle.ss_base.specs.declared.line.Line.{Line}
+use Rattle.ss_base.specs.declared.value.Value.{Value}
+use Rattle.ss_program.specs.View.{view_program}
+use Rattle.ss_code_instructions.specs.declared.instruction.Instruction.{Instruction as Running}
+use Rattle.ss_code_instructions.specs.Instructions.{Placed}
+use Rattle.ss_code_instructions.specs.Translation.{Site, height}
+use Rattle.ss_code_generator.specs.declared.generator.Generator.{Generator}
+use Rattle.ss_code_generator.specs.declared.generator.Site.{Site as Here}
+use Rattle.ss_code_pieces.specs.Lined.{Lined, nothing}
+use Rattle.ss_code_generator.specs.Emitted.{Final, Around, Grows, Stands, Runs, AllRun, line_of, Adds, Makes}
+
+-- ## What is around more is around less
+
+pub around_old : (f : Final) (old new : Generator) → Grows old new → Around f new → Around f old
+around_old f old new g a = record {
+  program = sym (ap view_program g.program) ∙ a.program;
+  typed = a.typed;
+  fixed = a.fixed;
+  constants = (
+    g.constants.0 ++ a.constants.0,
+    a.constants.1 ∙ ap (λ (l : List Value). l ++ a.constants.0) g.constants.1 ∙ append_assoc old.constants.items g.constants.0 a.constants.0,
+  );
+  depth = omega (arith, g.depth, a.depth);
+  small = a.small;
+}
+
+pub grows_same : (g : Generator) → Grows g g
+grows_same g = record { program = refl; locals = refl; constants = ([], sym (append-nil g.constants.items)); depth = omega arith }
+
+pub grows_then : (old mid new : Generator) → Grows old mid → Grows mid new → Grows old new
+grows_then old mid new g h = record {
+  program = h.program ∙ g.program;
+  locals = h.locals ∙ g.locals;
+  constants = (
+    g.constants.0 ++ h.constants.0,
+    h.constants.1 ∙ ap (λ (l : List Value). l ++ h.constants.0) g.constants.1 ∙ append_assoc old.constants.items g.constants.0 h.constants.0,
+  );
+  depth = omega (arith, g.depth, h.depth);
+}
+
+pub stands_old : (f : Final) (old new : Generator) (here : Here) (t : Site) → Grows old new → Stands f new here t → Stands f old here t
+stands_old f old new here t g s = record { program = s.program; locals = s.locals ∙ g.locals; line = s.line; high = s.high; deep = s.deep }
+
+pub stands_new : (f : Final) (old new : Generator) (here : Here) (t : Site) → Grows old new → Stands f old here t → Stands f new here t
+stands_new f old new here t g s = record { program = s.program; locals = s.locals ∙ sym g.locals; line = s.line; high = s.high; deep = s.deep }
+
+-- a site in the same section with so many cells more
+pub stands_above : (f : Final) (g : Generator) (here higher : Here) (t u : Site) (k : ℕ) → f.depth < 2 ^ 32 → Stands f g here t → higher.line ≡ here.line → (here.height + k < 2 ^ 64 → higher.height ≡ here.height + k) → u.scope ≡ t.scope → u.line ≡ t.line → height u ≡ height t + k → height u ≤ f.depth → Stands f g higher u
+stands_above f g here higher t u k small s line above scope same high deep =
+    let fits : here.height + k < 2 ^ 64 = omega (arith, small, s.high, high, deep) in
+    record {
+      program = ap (λ s. s.program) scope ∙ s.program;
+      locals = ap (λ s. s.locals) scope ∙ s.locals;
+      line = same ∙ s.line ∙ sym line;
+      high = high ∙ ap (λ n. n + k) s.high ∙ sym (above fits);
+      deep = deep;
+    }
+
+-- ## Pieces
+
+pub runs_both : (f : Final) (c d : List Placed) (is js : List Running) → AllRun f c is → AllRun f d js → AllRun f (c ++ d) (is ++ js)
+runs_both f [] d [] js h k = k
+runs_both f [] d (i ∷ is) js h k = absurd h
+runs_both f (x ∷ c) d [] js h k = absurd h
+runs_both f (x ∷ c) d (i ∷ is) js h k = (h.0, runs_both f c d is js h.1 k)
+
+pub runs_long : (f : Final) (c : List Placed) (is : List Running) → AllRun f c is → length is ≡ length c
+runs_long f [] [] h = refl
+runs_long f [] (i ∷ is) h = absurd h
+runs_long f (x ∷ c) [] h = absurd h
+runs_long f (x ∷ c) (i ∷ is) h = ap suc (runs_long f c is h.1)
+
+pub adds_none : (f : Final) (p : Lined) → Adds f p p []
+adds_none f p = record { more = []; instructions = sym (append-nil p.instructions); lines = sym (append-nil p.lines); run = tt }
+
+pub adds_then : (f : Final) (a b c : Lined) (xs ys : List Placed) → Adds f a b xs → Adds f b c ys → Adds f a c (xs ++ ys)
+adds_then f a b c xs ys h k = record {
+  more = h.more ++ k.more;
+  instructions = k.instructions ∙ ap (λ (l : List Running). l ++ k.more) h.instructions ∙ append_assoc a.instructions h.more k.more;
+  lines =
+      k.lines ∙ ap (λ (l : List Line). l ++ map line_of ys) h.lines ∙ append_assoc a.lines (map line_of xs) (map line_of ys)
+      ∙ ap (λ (l : List Line). a.lines ++ l) (sym (map-append line_of xs ys));
+  run = runs_both f xs ys h.more k.more h.run k.run;
+}
+
+-- one instruction more
+pub adds_one : (f : Final) (a b : Lined) (l : Line) (x : Placed) (y : Running) → b.instructions ≡ a.instructions ++ y ∷ [] → b.lines ≡ a.lines ++ l ∷ [] → x.line ≡ l → Runs f x y → Adds f a b (x ∷ [])
+adds_one f a b l x y is ls same r = record { more = y ∷ []; instructions = is; lines = ls ∙ ap (λ (k : Line). a.lines ++ k ∷ []) (sym same); run = (r, tt) }
+
+-- a piece that was made apart goes after another one, or before
+pub adds_piece : (f : Final) (a b p : Lined) (c : List Placed) → b.instructions ≡ a.instructions ++ p.instructions → b.lines ≡ a.lines ++ p.lines → Adds f nothing p c → Adds f a b c
+adds_piece f a b p c is ls h = record {
+  more = h.more;
+  instructions = is ∙ ap (λ (l : List Running). a.instructions ++ l) h.instructions;
+  lines = ls ∙ ap (λ (l : List Line). a.lines ++ l) h.lines;
+  run = h.run;
+}
+
+-- two pieces that were made apart
+pub adds_apart : (f : Final) (p q r : Lined) (c d : List Placed) → r.instructions ≡ p.instructions ++ q.instructions → r.lines ≡ p.lines ++ q.lines → Adds f nothing p c → Adds f nothing q d → Adds f nothing r (c ++ d)
+adds_apart f p q r c d is ls h k = adds_then f nothing p r c d h (adds_piece f p r q d is ls k)
+
+pub piece_long : (f : Final) (p : Lined) (c : List Placed) → Adds f nothing p c → length p.instructions ≡ length c
+piece_long f p c h = ap length h.instructions ∙ runs_long f c h.more h.run
+
+-- a piece without instructions is that of no place
+pub none_there : (f : Final) (p : Lined) (c : List Placed) → Adds f nothing p c → length p.instructions ≡ 0 → c ≡ []
+none_there f p [] h e = refl
+none_there f p (x ∷ c) h e = absurd (omega (arith, e, piece_long f p (x ∷ c) h))
+
+-- the same code, said otherwise
+pub adds_same : (f : Final) (a b : Lined) (c d : List Placed) → c ≡ d → Adds f a b c → Adds f a b d
+adds_same f a b c d e h = subst (Adds f a b) e h
+
+-- ## What was made, from an earlier generator on and up to a later one
+
+pub makes_earlier : {I : Type 0} (older old new : Generator) (p q : Lined) (here : Here) (Fit : Final → Site → I → Type 0) (c : Site → I → List Placed) (More : Final → Site → I → Type 0) → Grows older old → Makes old new p q here Fit c More → Makes older new p q here Fit c More
+makes_earlier older old new p q here Fit c More g m = record { grows = grows_then older old new g m.grows; adds = m.adds; more = m.more }
+
+pub makes_later : {I : Type 0} (old new newer : Generator) (p q : Lined) (here : Here) (Fit : Final → Site → I → Type 0) (c : Site → I → List Placed) (More : Final → Site → I → Type 0) → Grows new newer → Makes old new p q here Fit c More → Makes old newer p q here Fit c More
+makes_later old new newer p q here Fit c More g m = record {
+  grows = grows_then old new newer m.grows g;
+  adds = λ f t i around stands fits. m.adds f t i (around_old f new newer g around) (stands_old f new newer here t g stands) fits;
+  more = λ f t i around stands fits. m.more f t i (around_old f new newer g around) (stands_old f new newer here t g stands) fits;
+}
+
+-- ## Calls that may be out of memory
+
+-- what follows from a clause of a call
+pub one_ok : {T E A B : Type 0} (r : Result T E) → OnOk r A → (A → B) → OnOk r B
+one_ok (Ok x) a f = f a
+one_ok (Err e) a f = tt
+
+-- what follows from both clauses of a call
+pub both_ok : {T E A B C : Type 0} (r : Result T E) → OnOk r A → OnOk r B → (A → B → C) → OnOk r C
+both_ok (Ok x) a b f = f a b
+both_ok (Err e) a b f = tt
+
+-- the last call puts an instruction, which is this one
+pub put_ok : {T E C : Type 0} (r : Result T E) (p q : Lined) (l : Line) (y z : Running) → y ≡ z → OnOk r (q.instructions ≡ p.instructions ++ y ∷ []) → OnOk r (q.lines ≡ p.lines ++ l ∷ []) → (q.instructions ≡ p.instructions ++ z ∷ [] → q.lines ≡ p.lines ++ l ∷ [] → C) → OnOk r C
+put_ok (Ok x) p q l y z e is ls f = f (is ∙ ap (λ (i : Running). p.instructions ++ i ∷ []) e) ls
+put_ok (Err x) p q l y z e is ls f = tt
+
+-- an instruction that was put is this one
+pub put_as : (p q : Lined) (y z : Running) → y ≡ z → q.instructions ≡ p.instructions ++ y ∷ [] → q.instructions ≡ p.instructions ++ z ∷ []
+put_as p q y z e is = is ∙ ap (λ (i : Running). p.instructions ++ i ∷ []) e

@@ -1,0 +1,80 @@
+-- What an instruction carries out that is chosen by operator, mode, relation, ordering or end.
+use Rattle.std.proofs.Common.{◌≡◌, ℕ, Bool, List, refl}
+use Rattle.ss_base.specs.declared.value.Value.{Value}
+use Rattle.ss_base.specs.declared.layout.Mode.{Mode}
+use Rattle.ss_base.specs.declared.layout.Mode.TheVariants as modes
+use Rattle.ss_program.specs.declared.expression.Operator.{Operator}
+use Rattle.ss_program.specs.declared.expression.Operator.TheVariants as operators
+use Rattle.ss_program.specs.declared.expression.SetQuery.{SetQuery}
+use Rattle.ss_program.specs.declared.expression.SetQuery.TheVariants as set_queries
+use Rattle.ss_program.specs.declared.expression.MemberQuery.{MemberQuery}
+use Rattle.ss_program.specs.declared.expression.MemberQuery.TheVariants as member_queries
+use Rattle.ss_base.specs.declared.words.Relation.{Relation}
+use Rattle.ss_base.specs.declared.words.Relation.TheVariants as relations
+use Rattle.ss_program.specs.declared.sections.Subject.TheVariants.{OfAttribute, OfCount}
+use Rattle.ss_base.specs.declared.words.End.{End}
+use Rattle.ss_base.specs.declared.words.End.TheVariants as ends
+use Rattle.ss_code_instructions.specs.declared.address.Address.{Address}
+use Rattle.ss_code_instructions.specs.Instructions.{Placed}
+use Rattle.ss_code_instructions.specs.Instructions as i
+use Rattle.ss_code_instructions.specs.Machine.{Code}
+use Rattle.ss_code_instructions.specs.Carried.{Carries, From, Of, To, Is, Calculates, Moves, Compares, ReadsAttribute, SetsAttribute, Notes, Unwatched, Files}
+use Rattle.ss_code_pieces.specs.declared.facts.Ordering.{Ordering}
+use Rattle.ss_code_pieces.specs.declared.facts.Ordering.TheVariants as orderings
+use Rattle.ss_code_pieces.specs.Preamble.{filing_of}
+use Rattle.ss_code_instructions.specs.Forms.{calculating, asking_set, asking_member, moving, fetching, storing, reading, comparing, removing}
+use Rattle.ss_code_generator.specs.Filings.{filing}
+
+module _ (code : Code) (constants : List Value) (x : Placed) where
+  pub calculates : (op : Operator) (left right to : Address) → Calculates code constants x op left right to → Carries code constants x (calculating op left right to)
+  calculates operators.Add left right to h = h
+  calculates operators.Subtract left right to h = h
+  calculates operators.Multiply left right to h = h
+  calculates operators.Quotient left right to h = h
+  calculates operators.Remainder left right to h = h
+  calculates operators.Least left right to h = h
+  calculates operators.Greatest left right to h = h
+
+  pub asks_set : (q : SetQuery) (set : ℕ) (owner to : Address) → Of code constants x owner (λ o. To code constants x to (λ t. Is code constants x (i.OfSet q set o t))) → Carries code constants x (asking_set q set owner to)
+  asks_set set_queries.FirstMember set owner to h = h
+  asks_set set_queries.LastMember set owner to h = h
+  asks_set set_queries.MemberCount set owner to h = h
+
+  pub asks_member : (q : MemberQuery) (set : ℕ) (member to : Address) → From code constants x member (λ y. To code constants x to (λ t. Is code constants x (i.OfMember q set y t))) → Carries code constants x (asking_member q set member to)
+  asks_member member_queries.Predecessor set member to h = h
+  asks_member member_queries.Successor set member to h = h
+  asks_member member_queries.Membership set member to h = h
+
+  pub moves : (m : Mode) (from to : Address) → Moves code constants x m from to → Carries code constants x (moving m from to)
+  moves modes.Integer from to h = h
+  moves modes.Alpha from to h = h
+
+  pub fetches : (m : Mode) (class field : ℕ) (entity to : Address) → ReadsAttribute code constants x m class field entity to → Carries code constants x (fetching m class field entity to)
+  fetches modes.Integer class field entity to h = h
+  fetches modes.Alpha class field entity to h = h
+
+  pub stores : (m : Mode) (class field : ℕ) (entity from : Address) (noted : Bool) → Notes code constants x noted (OfAttribute class field) → (m ≡ modes.Alpha → Unwatched code constants x (OfAttribute class field)) → SetsAttribute code constants x m class field entity from → Carries code constants x (storing m class field entity from noted)
+  stores modes.Integer class field entity from noted n u h = (n, h)
+  stores modes.Alpha class field entity from noted n u h = (u refl, h)
+
+  pub reads_word : (m : Mode) (to : Address) → To code constants x to (λ t. Is code constants x (i.Read m t)) → Carries code constants x (reading m to)
+  reads_word modes.Integer to h = h
+  reads_word modes.Alpha to h = h
+
+  pub compares : (m : Mode) (relation : Relation) (left right : Address) (skip : ℕ) → Compares code constants x m relation left right skip → Carries code constants x (comparing m relation left right skip)
+  compares modes.Alpha relation left right skip h = h
+  compares modes.Integer relations.Equal left right skip h = h
+  compares modes.Integer relations.NotEqual left right skip h = h
+  compares modes.Integer relations.Less left right skip h = h
+  compares modes.Integer relations.Greater left right skip h = h
+  compares modes.Integer relations.LessOrEqual left right skip h = h
+  compares modes.Integer relations.GreaterOrEqual left right skip h = h
+
+  pub files : (o : Ordering) (set : ℕ) (member owner : Address) (noted : Bool) → Notes code constants x noted (OfCount set) → Files code constants x (filing_of o) set member owner → Carries code constants x (filing o set member owner noted)
+  files orderings.First set member owner noted n h = (n, h)
+  files orderings.Last set member owner noted n h = (n, h)
+  files orderings.Ranked set member owner noted n h = (n, h)
+
+  pub removes : (e : End) (set : ℕ) (owner to : Address) (noted : Bool) → Notes code constants x noted (OfCount set) → Of code constants x owner (λ o. To code constants x to (λ t. Is code constants x (i.RemoveEnd e set o t))) → Carries code constants x (removing e set owner to noted)
+  removes ends.First set owner to noted n h = (n, h)
+  removes ends.Last set owner to noted n h = (n, h)

@@ -1,0 +1,283 @@
+-- LET, ADD and SUBTRACT, and what takes a value that an instruction leaves.
+use Rattle.std.proofs.Common.{◌≡◌, ℕ, ◌+◌, ◌<◌, ◌≤◌, ◌^◌, Bool, true, false, List, [], ◌∷◌, ◌++◌, length, Some, refl, sym, ap, ◌∙◌, subst, arith, if◌then◌else◌}
+use Rattle.ss_base.specs.declared.layout.Mode.{Mode}
+use Rattle.ss_base.specs.declared.layout.Mode.TheVariants.{Integer}
+use Rattle.ss_base.specs.declared.words.Sign.{Sign}
+use Rattle.ss_program.specs.declared.expression.Variable.{Variable}
+use Rattle.ss_program.specs.declared.expression.Variable.TheVariants.{Global}
+use Rattle.ss_program.specs.declared.sections.Subject.TheVariants.{OfAttribute}
+use Rattle.ss_program.specs.declared.statement.CountedClass.{CountedClass}
+use Rattle.ss_program.specs.Program.{Program, Expression, Place, ToVariable, ToAttribute, ToCount, Let, Change}
+use Rattle.ss_program.specs.WellTyped.{HasMode, TakesMode, Good, mode_at}
+use Rattle.ss_meaning.specs.Values.{operator_of}
+use Rattle.ss_code_instructions.specs.declared.address.Address.{Address}
+use Rattle.ss_code_instructions.specs.declared.instruction.Instruction.{Instruction as Running}
+use Rattle.ss_code_instructions.specs.declared.instruction.Instruction.TheVariants as r
+use Rattle.ss_code_instructions.specs.Facts.{watch, must_look}
+use Rattle.ss_code_instructions.specs.Instructions.{Held, Taken, Target, Instruction, Leave, Placed}
+use Rattle.ss_code_instructions.specs.Instructions as i
+use Rattle.ss_code_instructions.specs.Translation.{Site, height, place, above, next, operand, operand_code, after, with_operand, expression_code, is_kept, entity_code, place_code, place_mode, after_place, count_code, let_code, change_code, to_place_code, give_code, or_integer, code_of}
+use Rattle.ss_code_instructions.specs.Carried.{RunningLines, InFrame, Carries, mode_here}
+use Rattle.ss_code_generator.specs.declared.expressions.Operand.{Operand as Read}
+use Rattle.ss_code_generator.specs.declared.generator.Generator.{Generator}
+use Rattle.ss_code_generator.specs.declared.generator.Site.{Site as Here}
+use Rattle.ss_code_generator.specs.declared.targets.VariableSpot.{VariableSpot}
+use Rattle.ss_code_generator.specs.declared.targets.AttributeSpot.{AttributeSpot}
+use Rattle.ss_code_generator.specs.declared.targets.Spot.{Spot}
+use Rattle.ss_code_generator.specs.declared.targets.Spot.TheVariants as spots
+use Rattle.ss_code_pieces.specs.Lined.{Lined}
+use Rattle.ss_code_instructions.specs.Forms.{calculating, storing}
+use Rattle.ss_code_generator.specs.Emitted.{Final, Around, Grows, Stands, Shown, Makes, NoMore, Emits, AtOperand, AtTarget, Typed, IsNumber, Reads}
+use Rattle.ss_code_generator.specs.Spots.{IsWatched, IsVariable, IsSpot, GoodPlace, HasRoom, HoldsMode, Given, Gives, Taking, Takes, Changed, variable_of, IsHeldBy, spot_cells, spot_code, landing, assigned_code, landed_code}
+use Rattle.ss_code_generator.proofs.Emitting.{around_old, grows_then, stands_old, stands_above, adds_then, adds_one, adds_same}
+use Rattle.ss_code_generator.proofs.Forms as forms
+use Rattle.ss_code_generator.proofs.Modes.{same_some, on_top, operand_mode, mode_after}
+use Rattle.ss_code_generator.proofs.Operands.{read_stands, cell_at_site}
+use Rattle.ss_code_generator.proofs.Watching.{count_integer}
+use Rattle.ss_code_generator.proofs.Assigned.{to_place_parts}
+use Rattle.ss_code_generator.proofs.Spotted.{MakesAttribute, stored}
+
+-- ## LET
+
+abbrev pub LetsVariable : (old new : Generator) → (before after : Lined) → Here → Expression → VariableSpot → Type 0
+LetsVariable old new before after here e s =
+    Makes old new before after here (λ f t (x : Variable). IsVariable t x s × Good t.scope (Let here.line (ToVariable x) e)) (λ t x. let_code t (ToVariable x) e) NoMore
+
+-- and one that is watched
+pub let_kept : (old new : Generator) (p q v : Lined) (here : Here) (e : Expression) (o : Read) (s : VariableSpot) (k : ℕ) → s.watched ≡ Some k → Reads old new p q here e o → v.instructions ≡ q.instructions ++ r.Keep o.address k ∷ [] → v.lines ≡ q.lines ++ here.line ∷ [] → LetsVariable old new p v here e s
+let_kept old new p q v here e o s k watched m is ls = record {
+  grows = m.grows;
+  adds = λ f t x around stands fits.
+      let w : (is_kept t x ≡ true) × (x ≡ Global k) = subst (IsWatched (is_kept t x) x) watched fits.0.watched in
+      let typed : Typed e t.scope = (fits.1.0, fits.1.2) in
+      let read = m.more f t tt around stands typed in
+      let ins : Instruction = i.Keep (operand t e) x in
+      let code : with_operand t e (λ y. i.Keep y x) ≡ let_code t (ToVariable x) e =
+      sym (ap (λ (b : Bool). if b then with_operand t e (λ y. i.Keep y x) else expression_code t (i.Into x) e) w.0) in
+      adds_same f p v (with_operand t e (λ y. i.Keep y x)) (let_code t (ToVariable x) e) code
+      (adds_then f p q v (operand_code t e) (place (after t e) ins ∷ []) (m.adds f t tt around stands typed)
+      (adds_one f q v here.line (place (after t e) ins) (r.Keep o.address k) is ls stands.line
+      (record { carries = (operand t e, read.at, ap (i.Keep (operand t e)) w.1); deep = read.deep; shown = tt })));
+  more = λ f t x around stands fits. tt;
+}
+
+pub let_of_variable : (old new : Generator) (p q : Lined) (here : Here) (x : Variable) (e : Expression) (s : VariableSpot) → ((f : Final) (here : Here) (t : Site) → Around f old → Stands f old here t → IsVariable t x s) → LetsVariable old new p q here e s → Emits old new p q here (λ k. Good k (Let here.line (ToVariable x) e)) (λ t. let_code t (ToVariable x) e)
+let_of_variable old new p q here x e s h m = record {
+  grows = m.grows;
+  adds = λ f t u around stands good.
+      m.adds f t x around stands (h f here t (around_old f old new m.grows around) (stands_old f old new here t m.grows stands), good);
+  more = λ f t u around stands good. tt;
+}
+
+pub let_of_count : (old new : Generator) (p q v : Lined) (here higher : Here) (c : CountedClass) (e : Expression) (o : Read) (s : Spot) → ((f : Final) (here : Here) (t : Site) → Around f old → Stands f old here t → IsSpot f t (ToCount c) s) → Reads old new p q here e o → higher.line ≡ here.line → (here.height + o.cells < 2 ^ 64 → higher.height ≡ here.height + o.cells) → Gives new q v higher o.address (λ f t x. IsSpot f t x s) → Emits old new p v here (λ k. Good k (Let here.line (ToCount c) e)) (λ t. let_code t (ToCount c) e)
+let_of_count old new p q v here higher c e o s h m line up n = record {
+  grows = m.grows;
+  adds = λ f t u around stands good.
+      let typed : Typed e t.scope = (good.0, good.2) in
+      let number : HasMode t.scope e Integer = subst (HasMode t.scope e) good.1.0 good.2 in
+      let read = m.more f t tt around stands typed in
+      let there = read_stands f new here higher t e o around stands read line up in
+      let held : mode_at t.scope (Global c.variable) ≡ Some Integer = count_integer f.program around.typed t.scope stands.program c good.1.1 in
+      let it : Given = record { resolved = t; place = ToCount c; from = operand t e; mode = Integer } in
+      let spot = h f here t (around_old f old new m.grows around) (stands_old f old new here t m.grows stands) in
+      adds_then f p q v (operand_code t e) (count_code (after t e) c (operand t e)) (m.adds f t tt around stands typed)
+      (n.adds f (after t e) it around there (spot, refl, read.at, held, operand_mode f t e Integer Leave stands.program number));
+  more = λ f t u around stands good. tt;
+}
+
+pub let_of_attribute : (old mid new : Generator) (p v w z : Lined) (here higher : Here) (class field : ℕ) (of e : Expression) (s : AttributeSpot) (right : Read) → MakesAttribute old mid p v here (λ t. entity_code t (must_look class of e) class of) class field of s → higher.line ≡ here.line → (here.height + s.cells < 2 ^ 64 → higher.height ≡ here.height + s.cells) → Reads mid new v w higher e right → z.instructions ≡ w.instructions ++ storing s.mode s.class s.field s.entity right.address s.is_watched ∷ [] → z.lines ≡ w.lines ++ here.line ∷ [] → Emits old new p z here (λ k. Good k (Let here.line (ToAttribute class field of) e)) (λ t. let_code t (ToAttribute class field of) e)
+let_of_attribute old mid new p v w z here higher class field of e s right a line up n is ls = record {
+  grows = grows_then old mid new a.grows n.grows;
+  adds = λ f t u around stands good.
+      let mine = around_old f mid new n.grows around in
+      let there = stands_old f mid new here t n.grows stands in
+      let spot = a.more f t tt mine there good.1.1 in
+      let t1 : Site = after t of in
+      let t2 : Site = after t1 e in
+      let higher_up = read_stands f new here higher t of (record { address = s.entity; cells = s.cells }) around stands spot.entity line up in
+      let typed : Typed e t1.scope = (good.0, good.2) in
+      let read = n.more f t1 tt around higher_up typed in
+      adds_then f p v z (entity_code t (must_look class of e) class of) (operand_code t1 e ++ place t2 (i.SetAttribute class field (operand t of) (operand t1 e)) ∷ []) (a.adds f t tt mine there good.1.1)
+      (adds_then f v w z (operand_code t1 e) (place t2 (i.SetAttribute class field (operand t of) (operand t1 e)) ∷ []) (n.adds f t1 tt around higher_up typed)
+      (stored f w z here.line right.address s is ls new around t t2 class field of (operand t of) (operand t1 e) good.0 spot refl spot.entity.at read.at good.1.0 stands.line stands.program read.deep));
+  more = λ f t u around stands good. tt;
+}
+
+-- ## ADD and SUBTRACT
+
+change_parts : (t : Site) (sign : Sign) (p : Place) (x : Variable) (e : Expression) → variable_of p ≡ Some x → with_operand t e (λ y. i.Calculate (operator_of sign) (Held x) y (landing t p)) ++ landed_code t t p Integer ≡ change_code t sign p e
+change_parts t sign (ToVariable z) x e h =
+    subst (λ (v : Variable). with_operand t e (λ y. i.Calculate (operator_of sign) (Held v) y (landing t (ToVariable z))) ++ landed_code t t (ToVariable z) Integer ≡ change_code t sign (ToVariable z) e) (same_some h)
+    (to_place_parts t (ToVariable z) Integer (λ u to. with_operand u e (λ y. i.Calculate (operator_of sign) (Held z) y to)))
+change_parts t sign (ToAttribute class field of) x e h = absurd cc
+change_parts t sign (ToCount c) x e h =
+    subst (λ (v : Variable). with_operand t e (λ y. i.Calculate (operator_of sign) (Held v) y (next t)) ++ count_code (above t Integer) c (Taken (height t)) ≡ change_code t sign (ToCount c) e) (same_some h) refl
+
+abbrev pub ChangesVariable : (old new : Generator) → (before after : Lined) → Here → Sign → Expression → Spot → VariableSpot → Type 0
+ChangesVariable old new before after here sign e s variable =
+    Makes old new before after here (λ f t (c : Changed). IsSpot f t c.place s × IsVariable t c.variable variable × IsHeldBy c × IsNumber e t.scope × HoldsMode t.scope c.place Integer) (λ t c. change_code t sign c.place e) NoMore
+
+-- where a value lands
+abbrev pub Lands : Generator → Here → Spot → Address → Type 0
+Lands g here s to = (f : Final) (t u : Site) (x : Place) → Around f g → Stands f g here u → t.scope ≡ u.scope → IsSpot f t x s → AtTarget f u (landing u x) to × HasRoom f (landing u x)
+
+pub variable_changed : (old mid new : Generator) (p q v w : Lined) (here : Here) (sign : Sign) (e : Expression) (by : Read) (to : Address) (s : Spot) (variable : VariableSpot) → Reads old mid p q here e by → Grows mid new → Lands new here s to → v.instructions ≡ q.instructions ++ calculating (operator_of sign) variable.address by.address to ∷ [] → v.lines ≡ q.lines ++ here.line ∷ [] → Takes new v w here to (λ f t x. IsSpot f t x s) → ChangesVariable old new p w here sign e s variable
+variable_changed old mid new p q v w here sign e by to s variable m g land is ls n = record {
+  grows = grows_then old mid new m.grows g;
+  adds = λ f t c around stands fits.
+      let mine = around_old f mid new g around in
+      let there = stands_old f mid new here t g stands in
+      let typed : Typed e t.scope = (Integer, fits.3) in
+      let read = m.more f t tt mine there typed in
+      let at = land f t t c.place around stands refl fits.0 in
+      let lands : Target = landing t c.place in
+      let ins : Instruction = i.Calculate (operator_of sign) (Held c.variable) (operand t e) lands in
+      let carries = forms.calculates (code_of f.program) f.constants (place (after t e) ins) (operator_of sign) variable.address by.address to (Held c.variable, fits.1.at, (operand t e, read.at, (lands, at.0, refl))) in
+      let it : Taking = record { resolved = t; place = c.place; mode = Integer } in
+      adds_same f p w (with_operand t e (λ y. i.Calculate (operator_of sign) (Held c.variable) y lands) ++ landed_code t t c.place Integer) (change_code t sign c.place e) (change_parts t sign c.place c.variable e fits.2)
+      (adds_then f p v w (with_operand t e (λ y. i.Calculate (operator_of sign) (Held c.variable) y lands)) (landed_code t t c.place Integer)
+      (adds_then f p q v (operand_code t e) (place (after t e) ins ∷ []) (m.adds f t tt mine there typed)
+      (adds_one f q v here.line (place (after t e) ins) (calculating (operator_of sign) variable.address by.address to) is ls stands.line (record { carries = carries; deep = read.deep; shown = tt })))
+      (n.adds f t it around stands (fits.0, refl, at.0, at.1, fits.4)));
+  more = λ f t c around stands fits. tt;
+}
+
+pub change_of_variable : (old new : Generator) (p q : Lined) (here : Here) (sign : Sign) (x : Variable) (e : Expression) (s : VariableSpot) → ((f : Final) (here : Here) (t : Site) → Around f old → Stands f old here t → IsVariable t x s) → ChangesVariable old new p q here sign e (spots.Variable s) s → Emits old new p q here (λ k. Good k (Change here.line sign (ToVariable x) e)) (λ t. change_code t sign (ToVariable x) e)
+change_of_variable old new p q here sign x e s h m = record {
+  grows = m.grows;
+  adds = λ f t u around stands good.
+      let v = h f here t (around_old f old new m.grows around) (stands_old f old new here t m.grows stands) in
+      let c : Changed = record { place = ToVariable x; variable = x } in
+      m.adds f t c around stands (v, v, refl, good.1, good.0.0);
+  more = λ f t u around stands good. tt;
+}
+
+pub change_of_count : (old new : Generator) (p q : Lined) (here : Here) (sign : Sign) (c : CountedClass) (e : Expression) (class : ℕ) (s : VariableSpot) → class ≡ c.class → ((f : Final) (here : Here) (t : Site) → Around f old → Stands f old here t → IsVariable t (Global c.variable) s) → ChangesVariable old new p q here sign e (spots.Count class s) s → Emits old new p q here (λ k. Good k (Change here.line sign (ToCount c) e)) (λ t. change_code t sign (ToCount c) e)
+change_of_count old new p q here sign c e class s is_class h m = record {
+  grows = m.grows;
+  adds = λ f t u around stands good.
+      let v = h f here t (around_old f old new m.grows around) (stands_old f old new here t m.grows stands) in
+      let it : Changed = record { place = ToCount c; variable = Global c.variable } in
+      m.adds f t it around stands ((is_class, v), v, refl, good.1, count_integer f.program around.typed t.scope stands.program c good.0.1);
+  more = λ f t u around stands good. tt;
+}
+
+pub attribute_changed : (old mid new : Generator) (p q v w : Lined) (here higher : Here) (sign : Sign) (class field : ℕ) (of e : Expression) (by : Read) (s : AttributeSpot) → Reads old mid p q here e by → higher.line ≡ here.line → (here.height + by.cells < 2 ^ 64 → higher.height ≡ here.height + by.cells) → MakesAttribute mid new q v higher (λ t. operand_code t of) class field of s → w.instructions ≡ v.instructions ++ r.ChangeAttribute s.class s.field s.entity by.address sign s.is_watched ∷ [] → w.lines ≡ v.lines ++ here.line ∷ [] → Emits old new p w here (λ k. Good k (Change here.line sign (ToAttribute class field of) e)) (λ t. change_code t sign (ToAttribute class field of) e)
+attribute_changed old mid new p q v w here higher sign class field of e by s m line up a is ls = record {
+  grows = grows_then old mid new m.grows a.grows;
+  adds = λ f t u around stands good.
+      let mine = around_old f mid new a.grows around in
+      let there = stands_old f mid new here t a.grows stands in
+      let typed : Typed e t.scope = (Integer, good.1) in
+      let read = m.more f t tt mine there typed in
+      let t1 : Site = after t e in
+      let t2 : Site = after t1 of in
+      let higher_up = read_stands f new here higher t e by around stands read line up in
+      let spot = a.more f t1 tt around higher_up good.0.1 in
+      let ins : Instruction = i.ChangeAttribute sign class field (operand t1 of) (operand t e) in
+      let same : ins ≡ i.ChangeAttribute sign s.class s.field (operand t1 of) (operand t e) =
+      ap (λ (k : ℕ). i.ChangeAttribute sign k field (operand t1 of) (operand t e)) (sym spot.class) ∙ ap (λ (k : ℕ). i.ChangeAttribute sign s.class k (operand t1 of) (operand t e)) (sym spot.field) in
+      let notes : s.is_watched ≡ false → watch f.program.statistics (OfAttribute s.class s.field) ≡ false = λ (off : s.is_watched ≡ false).
+      ap (λ (k : ℕ). watch f.program.statistics (OfAttribute k s.field)) spot.class ∙ ap (λ (k : ℕ). watch f.program.statistics (OfAttribute class k)) spot.field
+      ∙ sym (ap (λ (k : Program). watch k.statistics (OfAttribute class field)) stands.program) ∙ sym spot.noted ∙ off in
+      adds_then f p q w (operand_code t e) (operand_code t1 of ++ place t2 ins ∷ []) (m.adds f t tt mine there typed)
+      (adds_then f q v w (operand_code t1 of) (place t2 ins ∷ []) (a.adds f t1 tt around higher_up good.0.1)
+      (adds_one f v w here.line (place t2 ins) (r.ChangeAttribute s.class s.field s.entity by.address sign s.is_watched) is ls stands.line
+      (record { carries = (notes, (operand t1 of, spot.entity.at, (operand t e, read.at, same))); deep = spot.entity.deep; shown = tt })));
+  more = λ f t u around stands good. tt;
+}
+
+-- ## A place that takes what an instruction leaves
+
+-- the site where a place was resolved
+pub spot_high : (f : Final) (t : Site) (x : Place) (s : Spot) → IsSpot f t x s → height t ≤ f.depth → (height (after_place t x) ≡ height t + spot_cells s) × (height (after_place t x) ≤ f.depth)
+spot_high f t (ToVariable x) (spots.Variable s) h deep = (omega arith, deep)
+spot_high f t (ToVariable x) (spots.Attribute s) h deep = absurd h
+spot_high f t (ToVariable x) (spots.Count class s) h deep = absurd h
+spot_high f t (ToAttribute class field e) (spots.Variable s) h deep = absurd h
+spot_high f t (ToAttribute class field e) (spots.Attribute s) h deep = (h.entity.high, h.entity.deep)
+spot_high f t (ToAttribute class field e) (spots.Count k s) h deep = absurd h
+spot_high f t (ToCount c) (spots.Variable s) h deep = absurd h
+spot_high f t (ToCount c) (spots.Attribute s) h deep = absurd h
+spot_high f t (ToCount c) (spots.Count class s) h deep = (omega arith, deep)
+
+pub spot_stands : (f : Final) (g : Generator) (here higher : Here) (t : Site) (x : Place) (s : Spot) → Around f g → Stands f g here t → IsSpot f t x s → higher.line ≡ here.line → (here.height + spot_cells s < 2 ^ 64 → higher.height ≡ here.height + spot_cells s) → Stands f g higher (after_place t x)
+spot_stands f g here higher t x s around stands is line up =
+    let h = spot_high f t x s is stands.deep in
+    stands_above f g here higher t (after_place t x) (spot_cells s) around.small stands line up refl refl h.0 h.1
+
+-- what a place holds that takes a mode
+pub holds_mode : (f : Final) (g : Generator) (here : Here) (t : Site) (x : Place) (m : Mode) → Around f g → Stands f g here t → TakesMode t.scope x m → HoldsMode t.scope x m
+holds_mode f g here t (ToVariable x) m around stands takes = takes.0
+holds_mode f g here t (ToAttribute class field e) m around stands takes = takes.0
+holds_mode f g here t (ToCount c) m around stands takes = count_integer f.program around.typed t.scope stands.program c takes.1 ∙ ap Some (sym takes.0)
+
+abbrev pub MakesSpot : (old new : Generator) → (before after : Lined) → Here → (Site → List Placed) → Place → Spot → Type 0
+MakesSpot old new before after here c x s =
+    Makes old new before after here (λ f t (u : Unit {0}). GoodPlace x t.scope) (λ t u. c t) (λ f t u. IsSpot f t x s)
+
+pub to_place_made : (old mid new : Generator) (p q v w : Lined) (here higher : Here) (x : Place) (m : Mode) (s : Spot) (to : Address) (y : Running) (make : Target → Instruction) → MakesSpot old mid p q here (λ t. place_code t x) x s → higher.line ≡ here.line → (here.height + spot_cells s < 2 ^ 64 → higher.height ≡ here.height + spot_cells s) → Grows mid new → Lands new higher s to → ((f : Final) (u : Site) (z : Target) → AtTarget f u z to → Carries (code_of f.program) f.constants (place u (make z)) y) → ((prints : List RunningLines) (cells : List Mode) (z : Target) → Shown prints cells (make z)) → v.instructions ≡ q.instructions ++ y ∷ [] → v.lines ≡ q.lines ++ here.line ∷ [] → Takes new v w higher to (λ f t z. IsSpot f t z s) → Emits old new p w here (λ k. TakesMode k x m) (λ t. to_place_code t x m (λ u z. place u (make z) ∷ []))
+to_place_made old mid new p q v w here higher x m s to y make l line up g land carries shown is ls n = record {
+  grows = grows_then old mid new l.grows g;
+  adds = λ f t u around stands good.
+      let mine = around_old f mid new g around in
+      let there = stands_old f mid new here t g stands in
+      let fits : GoodPlace x t.scope = (m, good) in
+      let spot = l.more f t tt mine there fits in
+      let t1 : Site = after_place t x in
+      let on = spot_stands f new here higher t x s around stands spot line up in
+      let at = land f t t1 x around on refl spot in
+      let lands : Target = landing t1 x in
+      let it : Taking = record { resolved = t; place = x; mode = m } in
+      adds_same f p w (place_code t x ++ (place t1 (make lands) ∷ [] ++ landed_code t t1 x m)) (to_place_code t x m (λ u z. place u (make z) ∷ [])) (to_place_parts t x m (λ u z. place u (make z) ∷ []))
+      (adds_then f p q w (place_code t x) (place t1 (make lands) ∷ [] ++ landed_code t t1 x m) (l.adds f t tt mine there fits)
+      (adds_then f q v w (place t1 (make lands) ∷ []) (landed_code t t1 x m)
+      (adds_one f q v here.line (place t1 (make lands)) y is ls stands.line (record { carries = carries f t1 lands at.0; deep = on.deep; shown = shown f.prints t1.cells lands }))
+      (n.adds f t1 it around on (spot, refl, at.0, at.1, holds_mode f new here t x m around stands good))));
+  more = λ f t u around stands good. tt;
+}
+
+-- ## A place that takes the value in the topmost cell
+
+abbrev given_cell : Site → Place → Site
+given_cell t x = above t (place_mode t.scope x)
+
+give_parts : (t : Site) (x : Place) → spot_code (given_cell t x) x ++ assigned_code (given_cell t x) (after_place (given_cell t x) x) x (Taken (height t)) ≡ give_code t x
+give_parts t (ToVariable x) = refl
+give_parts t (ToAttribute class field e) = refl
+give_parts t (ToCount c) = refl
+
+place_mode_is : (t : Site) (x : Place) (m : Mode) → TakesMode t.scope x m → place_mode t.scope x ≡ m
+place_mode_is t (ToVariable x) m h = ap or_integer h.0
+place_mode_is t (ToAttribute class field e) m h = ap or_integer h.0
+place_mode_is t (ToCount c) m h = sym h.0
+
+given_mode : (f : Final) (t : Site) (x : Place) → mode_here (code_of f.program) f.constants (place (after_place (given_cell t x) x) Leave) (Taken (height t)) ≡ Some (place_mode t.scope x)
+given_mode f t (ToVariable x) = on_top (height t) (place_mode t.scope (ToVariable x)) t.cells refl
+given_mode f t (ToAttribute class field e) =
+    let m : Mode = place_mode t.scope (ToAttribute class field e) in
+    mode_after f (above t m) e (Taken (height t)) m Leave Leave (on_top (height t) m t.cells refl)
+given_mode f t (ToCount c) = on_top (height t) Integer t.cells refl
+
+pub given_made : (old mid new : Generator) (p q v : Lined) (here one higher : Here) (x : Place) (s : Spot) (from : Address) → Grows old mid → InFrame (length mid.locals.items + here.height) from → here.height < mid.deepest → one.line ≡ here.line → (here.height + 1 < 2 ^ 64 → one.height ≡ here.height + 1) → MakesSpot mid new p q one (λ t. spot_code t x) x s → higher.line ≡ one.line → (one.height + spot_cells s < 2 ^ 64 → higher.height ≡ one.height + spot_cells s) → Gives new q v higher from (λ f t z. IsSpot f t z s) → Emits old new p v here (GoodPlace x) (λ t. give_code t x)
+given_made old mid new p q v here one higher x s from g cell room line up l line_2 up_2 n = record {
+  grows = grows_then old mid new g l.grows;
+  adds = λ f t u around stands good.
+      let m : Mode = place_mode t.scope x in
+      let w : Site = given_cell t x in
+      let mine = around_old f mid new l.grows around in
+      let there = stands_old f mid new here t l.grows stands in
+      let high : height w ≡ height t + 1 = omega arith in
+      let deep : height w ≤ f.depth = omega (arith, high, there.high, room, mine.depth) in
+      let on = stands_above f new here one t w 1 around.small stands line up refl refl high deep in
+      let spot = l.more f w tt around on good in
+      let on_2 = spot_stands f new one higher w x s around on spot line_2 up_2 in
+      let is : m ≡ good.0 = place_mode_is t x good.0 good.1 in
+      let takes : TakesMode t.scope x m = subst (TakesMode t.scope x) (sym is) good.1 in
+      let at : AtOperand f (after_place w x) (Taken (height t)) from = cell_at_site f mid here t from there cell in
+      let it : Given = record { resolved = w; place = x; from = Taken (height t); mode = m } in
+      adds_same f p v (spot_code w x ++ assigned_code w (after_place w x) x (Taken (height t))) (give_code t x) (give_parts t x)
+      (adds_then f p q v (spot_code w x) (assigned_code w (after_place w x) x (Taken (height t))) (l.adds f w tt around on good)
+      (n.adds f (after_place w x) it around on_2 (spot, refl, at, holds_mode f new here t x m around stands takes, given_mode f t x)));
+  more = λ f t u around stands good. tt;
+}

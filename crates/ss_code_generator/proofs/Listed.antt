@@ -1,0 +1,75 @@
+-- Code of a list of things, with one of them more.
+use Rattle.std.proofs.Common.{◌≡◌, ℕ, ◌+◌, ◌<◌, List, [], ◌∷◌, ◌++◌, length, map, take, drop, get_or, refl, ap, sym, ◌∙◌, arith, append_assoc, append-nil}
+use Rattle.std.proofs.lemmas.List.{take_more, drop_more, map-append}
+use Rattle.std.specs.List.{AllByRecursion as Every}
+use Rattle.ss_program.specs.declared.statement.CountedClass.{CountedClass}
+use Rattle.ss_program.specs.Program.{Target, Restart}
+use Rattle.ss_program.specs.WellTyped.{Scope}
+use Rattle.ss_code_instructions.specs.declared.instruction.Instruction.TheVariants.{CreateAll as CreatesAll}
+use Rattle.ss_code_instructions.specs.Instructions.{Placed, Read, CreateAll, Reset}
+use Rattle.ss_code_instructions.specs.Translation.{Site, place, bearer, bearer_code, after_bearer, to_place_code, reads_code, creates_code, restarts_code}
+use Rattle.ss_code_generator.specs.declared.generator.Generator.{Generator}
+use Rattle.ss_code_generator.specs.declared.generator.Site.{Site as Here}
+use Rattle.ss_code_pieces.specs.Lined.{Lined}
+use Rattle.ss_code_generator.specs.Emitted.{Emits}
+use Rattle.ss_code_generator.proofs.Emitting.{around_old, grows_then, stands_old, adds_then, adds_one, adds_same}
+
+-- code of things that all find the same cells: each thing's own, one after the other
+module _ {A : Type 0} (P : A → Scope → Type 0) (own : Site → A → List Placed) (all : Site → List A → List Placed) (joined : (t : Site) (xs : List A) (x : A) → all t (xs ++ x ∷ []) ≡ all t xs ++ own t x) where
+  split : (s : Scope) (xs : List A) (x : A) → Every (λ y. P y s) (xs ++ x ∷ []) → Every (λ y. P y s) xs × P x s
+  split s [] x h = (tt, h.0)
+  split s (y ∷ xs) x h = let k = split s xs x h.1 in ((h.0, k.0), k.1)
+
+  pub listed_more : (old mid new : Generator) (p q r : Lined) (here : Here) (xs : List A) (x : A) → Emits old mid p q here (λ s. Every (λ y. P y s) xs) (λ t. all t xs) → Emits mid new q r here (P x) (λ t. own t x) → Emits old new p r here (λ s. Every (λ y. P y s) (xs ++ x ∷ [])) (λ t. all t (xs ++ x ∷ []))
+  listed_more old mid new p q r here xs x m n = record {
+    grows = grows_then old mid new m.grows n.grows;
+    adds = λ f t u around stands good.
+        let both = split t.scope xs x good in
+        adds_same f p r (all t xs ++ own t x) (all t (xs ++ x ∷ [])) (sym (joined t xs x))
+        (adds_then f p q r (all t xs) (own t x) (m.adds f t tt (around_old f mid new n.grows around) (stands_old f mid new here t n.grows stands) both.0) (n.adds f t tt around stands both.1));
+    more = λ f t u around stands good. tt;
+  }
+
+-- such lists: the code of the first, and that of the rest
+module _ {A : Type 0} (one : A → List Placed) (all : List A → List Placed) (none : all [] ≡ []) (first : (x : A) (xs : List A) → all (x ∷ xs) ≡ one x ++ all xs) where
+  pub rows_more : (xs : List A) (x : A) → all (xs ++ x ∷ []) ≡ all xs ++ one x
+  rows_more [] x = first x [] ∙ ap (λ (c : List Placed). one x ++ c) none ∙ append-nil (one x) ∙ sym (ap (λ (c : List Placed). c ++ one x) none)
+  rows_more (y ∷ xs) x =
+      first y (xs ++ x ∷ []) ∙ ap (λ (c : List Placed). one y ++ c) (rows_more xs x) ∙ sym (append_assoc (one y) (all xs) (one x)) ∙ sym (ap (λ (c : List Placed). c ++ one x) (first y xs))
+
+pub reads_more : (t : Site) (xs : List Target) (x : Target) → reads_code t (xs ++ x ∷ []) ≡ reads_code t xs ++ to_place_code t x.place x.mode (λ u to. place u (Read x.mode to) ∷ [])
+reads_more t xs x = rows_more (λ (x : Target). to_place_code t x.place x.mode (λ u to. place u (Read x.mode to) ∷ [])) (reads_code t) refl (λ x xs. refl) xs x
+
+pub creates_more : (t : Site) (xs : List CountedClass) (x : CountedClass) → creates_code t (xs ++ x ∷ []) ≡ creates_code t xs ++ place t (CreateAll x) ∷ []
+creates_more t xs x = rows_more (λ (x : CountedClass). place t (CreateAll x) ∷ []) (creates_code t) refl (λ x xs. refl) xs x
+
+pub restarts_more : (t : Site) (xs : List Restart) (x : Restart) → restarts_code t (xs ++ x ∷ []) ≡ restarts_code t xs ++ restarts_code t (x ∷ [])
+restarts_more t xs x =
+    rows_more (λ (x : Restart). restarts_code t (x ∷ [])) (restarts_code t) refl (λ x xs.
+    ap (λ (c : List Placed). c ++ restarts_code t xs) (sym (append-nil (bearer_code t x.of ++ place (after_bearer t x.of) (Reset x.statistic (bearer t x.of)) ∷ [])))) xs x
+
+-- an instruction for each class
+pub creates_step : (g : Generator) (p q v : Lined) (here : Here) (xs : List CountedClass) (x : CountedClass) → Emits g g p q here (λ s. Unit {0}) (λ t. creates_code t xs) → v.instructions ≡ q.instructions ++ CreatesAll x.class x.variable ∷ [] → v.lines ≡ q.lines ++ here.line ∷ [] → Emits g g p v here (λ s. Unit {0}) (λ t. creates_code t (xs ++ x ∷ []))
+creates_step g p q v here xs x m is ls = record {
+  grows = m.grows;
+  adds = λ f t u around stands good.
+      adds_same f p v (creates_code t xs ++ place t (CreateAll x) ∷ []) (creates_code t (xs ++ x ∷ [])) (sym (creates_more t xs x))
+      (adds_then f p q v (creates_code t xs) (place t (CreateAll x) ∷ []) (m.adds f t tt around stands tt)
+      (adds_one f q v here.line (place t (CreateAll x)) (CreatesAll x.class x.variable) is ls stands.line (record { carries = refl; deep = stands.deep; shown = tt })));
+  more = λ f t u around stands good. tt;
+}
+
+-- ## The next item of a loop
+
+pub next_taken : {A : Type 0} (xs : List A) (i : ℕ) (x : A) → i < length xs → x ≡ get_or xs i x → take (i + 1) xs ≡ take i xs ++ x ∷ []
+next_taken {A} xs i x lt is = take_more xs i x lt ∙ ap (λ (y : A). take i xs ++ y ∷ []) (sym is)
+
+pub next_mapped : {A B : Type 0} (f : A → B) (xs : List A) (i : ℕ) (x : A) → i < length xs → x ≡ get_or xs i x → map f (take (i + 1) xs) ≡ map f (take i xs) ++ f x ∷ []
+next_mapped f xs i x lt is = ap (map f) (next_taken xs i x lt is) ∙ map-append f (take i xs) (x ∷ [])
+
+pub next_dropped : {A : Type 0} (xs : List A) (i : ℕ) (x : A) → i < length xs → x ≡ get_or xs i x → drop i xs ≡ x ∷ drop (i + 1) xs
+next_dropped {A} xs i x lt is = drop_more xs i x lt ∙ ap (λ (y : A). y ∷ drop (i + 1) xs) (sym is)
+
+pub none_there_is : {A : Type 0} (xs : List A) → length xs ≡ 0 → xs ≡ []
+none_there_is [] h = refl
+none_there_is (x ∷ xs) h = absurd (omega (arith, h))

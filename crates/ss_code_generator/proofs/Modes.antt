@@ -1,0 +1,144 @@
+-- Modes of operands, where they are found.
+use Rattle.std.proofs.Common.{◌≡◌, ℕ, ◌<◌, Bool, true, false, List, [], ◌∷◌, length, Option, Some, None, refl, sym, ap, ◌∙◌, arith, if◌then◌else◌}
+use Rattle.std.proofs.lemmas.Bool.{eqb-true, eq-eqb, ne_eqb}
+use Rattle.std.specs.Prelude.{slice_get, ◌==◌}
+use Rattle.std.specs.List.{fold}
+use Rattle.std.specs.Option.{option_map, option_and_then}
+use Rattle.ss_base.specs.declared.layout.Mode.{Mode}
+use Rattle.ss_base.specs.declared.value.Value.{Value}
+use Rattle.ss_base.specs.declared.layout.ClassLayout.{ClassLayout}
+use Rattle.ss_world.specs.State.{modes_in}
+use Rattle.ss_program.specs.declared.expression.Variable.{Variable}
+use Rattle.ss_program.specs.declared.expression.Variable.TheVariants.{Global, Local}
+use Rattle.ss_program.specs.Program.{Program, Expression, Constant, Fetch, Attribute, OfSystemSet, OfSet, OfMember, Clock, TimeOf, Figure, FigureOf, Signed, Absolute, Calculate}
+use Rattle.ss_program.specs.View.{view_program}
+use Rattle.ss_program.specs.WellTyped.{Scope, HasMode, mode_at, field_mode}
+use Rattle.ss_code_instructions.specs.Instructions.{Operand, Instruction, Held, Taken, Stays, Placed}
+use Rattle.ss_code_instructions.specs.Instructions as i
+use Rattle.ss_code_instructions.specs.States.{cell_at}
+use Rattle.ss_code_instructions.specs.Translation.{Site, height, place, operand, after, above, or_integer, expression_mode, code_of}
+use Rattle.ss_code_instructions.specs.Carried.{mode_here, HasField}
+use Rattle.ss_code_generator.specs.declared.generator.Generator.{Generator}
+use Rattle.ss_code_generator.specs.declared.generator.Site.{Site as Here}
+use Rattle.ss_code_pieces.specs.Preamble.{scope_of}
+use Rattle.ss_code_generator.specs.Emitted.{Final, Around, Grows, Stands}
+
+-- ## What the definition's facts say of a program that is well typed
+
+pub same_some : {A : Type 0} {a b : A} → Some a ≡ Some b → a ≡ b
+same_some e = cc
+
+-- the mode of an expression is the one that it has
+pub mode_is : (s : Scope) (e : Expression) (m : Mode) → HasMode s e m → expression_mode s e ≡ m
+mode_is s (Constant v) m h = h
+mode_is s (Fetch x) m h = ap or_integer h
+mode_is s (Attribute class field e) m h = ap or_integer h.0
+mode_is s (OfSystemSet query set) m h = sym h.0
+mode_is s (OfSet query set e) m h = sym h.0
+mode_is s (OfMember query set e) m h = sym h.0
+mode_is s Clock m h = sym h
+mode_is s (TimeOf e) m h = sym h.0
+mode_is s (Figure fold k) m h = sym h.0
+mode_is s (FigureOf fold k e) m h = sym h.0
+mode_is s (Signed sign e) m h = sym h.0
+mode_is s (Absolute e) m h = sym h.0
+mode_is s (Calculate op a b) m h = sym h.0
+
+-- an attribute is one of the layout, as the code has it
+fields_agree : (o : Option ClassLayout) (field : ℕ) (m : Mode) → option_and_then (λ (modes : List Mode). slice_get modes field) (option_map (λ (c : ClassLayout). c.fields) o) ≡ Some m → slice_get (modes_in o) field ≡ Some m
+fields_agree None field m h = absurd cc
+fields_agree (Some c) field m h = h
+
+pub has_field : (p : Program) (constants : List Value) (x : Placed) (class field : ℕ) (m : Mode) → field_mode p class field ≡ Some m → HasField (code_of p) constants x m class field
+has_field p constants x class field m h = fields_agree (slice_get p.layout.classes class) field m h
+
+-- modes go by the program and the local variables alone
+pub mode_by : (s : Scope) (p : Program) (locals : List Mode) (e : Expression) → s.program ≡ p → s.locals ≡ locals → expression_mode s e ≡ expression_mode (record { program = p; locals = locals; is_main = false }) e
+mode_by s p locals (Constant v) q l = refl
+mode_by s p locals (Fetch (Global k)) q l = ap (λ (r : Program). or_integer (slice_get r.globals k)) q
+mode_by s p locals (Fetch (Local k)) q l = ap (λ (ms : List Mode). or_integer (slice_get ms k)) l
+mode_by s p locals (Attribute class field e) q l = ap (λ (r : Program). or_integer (field_mode r class field)) q
+mode_by s p locals _ q l = refl
+
+-- the mode that the generator found, before it went on
+pub mode_found : (f : Final) (old new : Generator) (here : Here) (t : Site) (e : Expression) (n m : Mode) → Grows old new → m ≡ expression_mode (scope_of old.program.now old.locals.items) e → Around f new → Stands f new here t → HasMode t.scope e n → n ≡ m
+mode_found f old new here t e n m g is around stands h =
+    let program : t.scope.program ≡ view_program old.program.now = stands.program ∙ sym around.program ∙ ap view_program g.program in
+    sym (mode_is t.scope e n h) ∙ mode_by t.scope (view_program old.program.now) old.locals.items e program (stands.locals ∙ g.locals) ∙ sym is
+
+-- ## Cells
+
+-- the topmost cell
+pub on_top : {A : Type 0} (h : ℕ) (v : A) (below : List A) → length below ≡ h → cell_at h (v ∷ below) ≡ Some v
+on_top h v below e = ap (λ (b : Bool). if b then Some v else cell_at h below) (eq-eqb (length below) h e)
+
+-- a cell that there is lies below so many
+pub cell_within : {A : Type 0} (h : ℕ) (v : A) (cells : List A) → cell_at h cells ≡ Some v → h < length cells
+cell_within h v [] e = absurd cc
+cell_within {A} h v (x ∷ below) e = by (length below == h) refl e (cell_within h v below)
+  where
+    by : (b : Bool) → (length below == h) ≡ b → (if b then Some x else cell_at h below) ≡ Some v → (cell_at h below ≡ Some v → h < length below) → h < length (x ∷ below)
+    by true q e lower = let same : length below ≡ h = eqb-true (length below) h q in omega (arith, same)
+    by false q e lower = let l = lower e in omega (arith, l)
+
+-- and stays where it is below further ones
+pub cell_under : {A : Type 0} (h : ℕ) (v x : A) (cells : List A) → cell_at h cells ≡ Some v → cell_at h (x ∷ cells) ≡ Some v
+cell_under h v x cells e =
+    let lower = cell_within h v cells e in
+    ap (λ (b : Bool). if b then Some x else cell_at h cells) (ne_eqb (length cells) h (λ q. omega (arith, lower, q))) ∙ e
+
+-- ## Operands
+
+module _ (f : Final) where
+  -- a variable has its mode wherever it is found
+  pub held_mode : (t : Site) (x : Variable) (m : Mode) (make : Instruction) → t.scope.program ≡ f.program → mode_at t.scope x ≡ Some m → mode_here (code_of f.program) f.constants (place t make) (Held x) ≡ Some m
+  held_mode t (Global k) m make p h = sym (ap (λ (q : Program). slice_get q.globals k) p) ∙ h
+  held_mode t (Local k) m make p h = h
+
+  -- an operand has the mode of its expression, directly after it was computed
+  pub operand_mode : (t : Site) (e : Expression) (m : Mode) (make : Instruction) → t.scope.program ≡ f.program → HasMode t.scope e m → mode_here (code_of f.program) f.constants (place (after t e) make) (operand t e) ≡ Some m
+  operand_mode t (Constant v) m make p h = ap Some h
+  operand_mode t (Fetch x) m make p h = held_mode t x m make p h
+  operand_mode t (Attribute class field e) m make p h = on_top (height t) _ t.cells refl ∙ ap Some (mode_is t.scope (Attribute class field e) m h)
+  operand_mode t (OfSystemSet query set) m make p h = on_top (height t) _ t.cells refl ∙ ap Some (mode_is t.scope (OfSystemSet query set) m h)
+  operand_mode t (OfSet query set e) m make p h = on_top (height t) _ t.cells refl ∙ ap Some (mode_is t.scope (OfSet query set e) m h)
+  operand_mode t (OfMember query set e) m make p h = on_top (height t) _ t.cells refl ∙ ap Some (mode_is t.scope (OfMember query set e) m h)
+  operand_mode t Clock m make p h = on_top (height t) _ t.cells refl ∙ ap Some (mode_is t.scope Clock m h)
+  operand_mode t (TimeOf e) m make p h = on_top (height t) _ t.cells refl ∙ ap Some (mode_is t.scope (TimeOf e) m h)
+  operand_mode t (Figure fold k) m make p h = on_top (height t) _ t.cells refl ∙ ap Some (mode_is t.scope (Figure fold k) m h)
+  operand_mode t (FigureOf fold k e) m make p h = on_top (height t) _ t.cells refl ∙ ap Some (mode_is t.scope (FigureOf fold k e) m h)
+  operand_mode t (Signed sign e) m make p h = on_top (height t) _ t.cells refl ∙ ap Some (mode_is t.scope (Signed sign e) m h)
+  operand_mode t (Absolute e) m make p h = on_top (height t) _ t.cells refl ∙ ap Some (mode_is t.scope (Absolute e) m h)
+  operand_mode t (Calculate op a b) m make p h = on_top (height t) _ t.cells refl ∙ ap Some (mode_is t.scope (Calculate op a b) m h)
+
+  -- it has that mode under a further cell too
+  pub mode_under : (u : Site) (y : Operand) (m n : Mode) (make other : Instruction) → mode_here (code_of f.program) f.constants (place u make) y ≡ Some m → mode_here (code_of f.program) f.constants (place (above u n) other) y ≡ Some m
+  mode_under u (i.Constant v) m n make other h = h
+  mode_under u (Held (Global k)) m n make other h = h
+  mode_under u (Held (Local k)) m n make other h = h
+  mode_under u (Taken k) m n make other h = cell_under k m n u.cells h
+  mode_under u (Stays k) m n make other h = cell_under k m n u.cells h
+
+  -- and after a further operand
+  pub mode_after : (u : Site) (e : Expression) (y : Operand) (m : Mode) (make other : Instruction) → mode_here (code_of f.program) f.constants (place u make) y ≡ Some m → mode_here (code_of f.program) f.constants (place (after u e) other) y ≡ Some m
+  mode_after u (Constant v) (i.Constant w) m make other h = h
+  mode_after u (Constant v) (Held (Global k)) m make other h = h
+  mode_after u (Constant v) (Held (Local k)) m make other h = h
+  mode_after u (Constant v) (Taken k) m make other h = h
+  mode_after u (Constant v) (Stays k) m make other h = h
+  mode_after u (Fetch x) (i.Constant w) m make other h = h
+  mode_after u (Fetch x) (Held (Global k)) m make other h = h
+  mode_after u (Fetch x) (Held (Local k)) m make other h = h
+  mode_after u (Fetch x) (Taken k) m make other h = h
+  mode_after u (Fetch x) (Stays k) m make other h = h
+  mode_after u (Attribute class field e) y m make other h = mode_under u y m _ make other h
+  mode_after u (OfSystemSet query set) y m make other h = mode_under u y m _ make other h
+  mode_after u (OfSet query set e) y m make other h = mode_under u y m _ make other h
+  mode_after u (OfMember query set e) y m make other h = mode_under u y m _ make other h
+  mode_after u Clock y m make other h = mode_under u y m _ make other h
+  mode_after u (TimeOf e) y m make other h = mode_under u y m _ make other h
+  mode_after u (Figure fold k) y m make other h = mode_under u y m _ make other h
+  mode_after u (FigureOf fold k e) y m make other h = mode_under u y m _ make other h
+  mode_after u (Signed sign e) y m make other h = mode_under u y m _ make other h
+  mode_after u (Absolute e) y m make other h = mode_under u y m _ make other h
+  mode_after u (Calculate op a b) y m make other h = mode_under u y m _ make other h

@@ -1,0 +1,338 @@
+-- What the generator emits for notices and statistics.
+use Rattle.std.proofs.Common.{◌≡◌, ◌≢◌, ℕ, zero, suc, ◌+◌, ◌-◌, ◌<◌, ◌≤◌, ◌^◌, Bool, true, false, List, [], ◌∷◌, ◌++◌, length, take, Option, Some, None, refl, sym, ap, ◌∙◌, subst, arith, append_assoc, append-nil, if◌then◌else◌}
+use Rattle.std.proofs.lemmas.Bool.{true≢false, eqb-true, eq-eqb}
+use Rattle.std.specs.Prelude.{◌==◌}
+use Rattle.std.specs.List.{AllZip, AllByRecursion as Every}
+use Rattle.ss_base.specs.declared.layout.Mode.{Mode}
+use Rattle.ss_base.specs.declared.layout.Mode.TheVariants.{Integer}
+use Rattle.ss_program.specs.declared.sections.Statistic.{Statistic}
+use Rattle.ss_program.specs.declared.sections.Subject.TheVariants.{OfAttribute}
+use Rattle.ss_program.specs.Program.{Program, Expression, Place, ToVariable, ToAttribute, ToCount, When, At, In, Restart, ScheduleNew, Schedule, Cancel}
+use Rattle.ss_program.specs.WellTyped.{Scope, HasMode, GoodWhen, GoodRestart, GoodGiven, Good, TakesMode}
+use Rattle.ss_code_instructions.specs.declared.address.Address.{Address}
+use Rattle.ss_code_instructions.specs.declared.instruction.Instruction.{Instruction as Running}
+use Rattle.ss_code_instructions.specs.declared.instruction.Instruction.TheVariants as r
+use Rattle.ss_code_instructions.specs.Facts.{watch}
+use Rattle.ss_code_instructions.specs.Instructions.{Operand, Held, Taken, Stays, Target, Instruction, Placed}
+use Rattle.ss_code_instructions.specs.Instructions as i
+use Rattle.ss_code_instructions.specs.Translation.{Site, height, place, above, next, forget, operand, operand_code, after, with_operand, stay, is_kept, bearer, bearer_code, after_bearer, entity_code, values_code, after_values, when_code, place_code, after_place, count_code, notice_code, schedule_new_code, schedule_code, restarts_code}
+use Rattle.ss_code_instructions.specs.Carried.{InFrame}
+use Rattle.ss_code_instructions.proofs.Stacked.{values_high}
+use Rattle.ss_code_generator.specs.declared.expressions.Operand.{Operand as Read}
+use Rattle.ss_code_generator.specs.declared.generator.Generator.{Generator}
+use Rattle.ss_code_generator.specs.declared.generator.Site.{Site as Here}
+use Rattle.ss_code_generator.specs.declared.targets.VariableSpot.{VariableSpot}
+use Rattle.ss_code_generator.specs.declared.targets.AttributeSpot.{AttributeSpot}
+use Rattle.ss_code_generator.specs.declared.targets.Spot.{Spot}
+use Rattle.ss_code_generator.specs.declared.targets.Spot.TheVariants as spots
+use Rattle.ss_code_pieces.specs.Lined.{Lined}
+use Rattle.ss_code_instructions.specs.Forms.{storing}
+use Rattle.ss_code_generator.specs.Emitted.{Final, Around, Grows, Stands, Runs, Adds, Emits, AtTarget, AtOperand, Typed, AreNumbers, IsRead, Reads, Bears}
+use Rattle.ss_code_generator.specs.Spots.{IsSpot, HasRoom, HoldsMode, Given, Gives, Taking, Takes, spot_cells, landing}
+use Rattle.ss_code_generator.specs.Notices.{any_watched, named_at, named_code, Names}
+use Rattle.ss_code_generator.proofs.Emitting.{around_old, grows_same, grows_then, stands_old, stands_above, adds_then, adds_one, adds_same}
+use Rattle.ss_code_generator.proofs.Modes.{on_top}
+use Rattle.ss_code_generator.proofs.Operands.{read_stands, cell_at_site, operand_at, stays_at}
+use Rattle.ss_code_generator.proofs.Testing.{bearer_at}
+use Rattle.ss_code_generator.proofs.Spotted.{stored}
+use Rattle.ss_code_generator.proofs.Letting.{MakesSpot, Lands, spot_stands, holds_mode}
+
+-- ## One operand, and an instruction that leaves something in the next cell
+
+pub cell_works : (old mid new : Generator) (p q v : Lined) (here : Here) (e : Expression) (o : Read) (to : Address) (Good : Scope → Type 0) (make : Site → Operand → Instruction) (y : Running) → Grows old mid → InFrame (length mid.locals.items + here.height) to → Reads mid new p q here e o → v.instructions ≡ q.instructions ++ y ∷ [] → v.lines ≡ q.lines ++ here.line ∷ [] → ((k : Scope) → Good k → Typed e k) → ((f : Final) (t : Site) → AtTarget f t (next t) to → IsRead f t e o → Runs f (place (after t e) (make t (operand t e))) y) → Emits old new p v here Good (λ t. with_operand t e (make t))
+cell_works old mid new p q v here e o to Good make y g cell m is ls typed runs = record {
+  grows = grows_then old mid new g m.grows;
+  adds = λ f t u around stands good.
+      let there = stands_old f mid new here t m.grows stands in
+      let at : AtTarget f t (next t) to = cell_at_site f mid here t to there cell in
+      let read = m.more f t tt around stands (typed t.scope good) in
+      adds_then f p q v (operand_code t e) (place (after t e) (make t (operand t e)) ∷ []) (m.adds f t tt around stands (typed t.scope good))
+      (adds_one f q v here.line (place (after t e) (make t (operand t e))) y is ls stands.line (runs f t at read));
+  more = λ f t u around stands good. tt;
+}
+
+-- a time, so
+pub at_timed : (old mid new : Generator) (p q v : Lined) (here : Here) (e : Expression) (o : Read) (to : Address) → Grows old mid → InFrame (length mid.locals.items + here.height) to → Reads mid new p q here e o → v.instructions ≡ q.instructions ++ r.At o.address to ∷ [] → v.lines ≡ q.lines ++ here.line ∷ [] → Emits old new p v here (λ s. GoodWhen s (At e)) (λ t. when_code t (At e))
+at_timed old mid new p q v here e o to g cell m is ls =
+    cell_works old mid new p q v here e o to (λ s. GoodWhen s (At e)) (λ t x. i.At x (next t)) (r.At o.address to) g cell m is ls (λ k h. (Integer, h))
+    (λ f t at read. record { carries = (operand t e, read.at, (next t, at, refl)); deep = read.deep; shown = tt })
+
+pub in_timed : (old mid new : Generator) (p q v : Lined) (here : Here) (e : Expression) (o : Read) (to : Address) → Grows old mid → InFrame (length mid.locals.items + here.height) to → Reads mid new p q here e o → v.instructions ≡ q.instructions ++ r.In o.address to ∷ [] → v.lines ≡ q.lines ++ here.line ∷ [] → Emits old new p v here (λ s. GoodWhen s (In e)) (λ t. when_code t (In e))
+in_timed old mid new p q v here e o to g cell m is ls =
+    cell_works old mid new p q v here e o to (λ s. GoodWhen s (In e)) (λ t x. i.In x (next t)) (r.In o.address to) g cell m is ls (λ k h. (Integer, h))
+    (λ f t at read. record { carries = (operand t e, read.at, (next t, at, refl)); deep = read.deep; shown = tt })
+
+-- ## What a notice is given, and its time
+
+-- where the values lie
+pub values_stand : (f : Final) (mid new : Generator) (here higher : Here) (t : Site) (es : List Expression) → Grows mid new → here.height + length es ≤ mid.deepest → higher.line ≡ here.line → (here.height + length es < 2 ^ 64 → higher.height ≡ here.height + length es) → Around f new → Stands f new here t → Stands f new higher (after_values t es)
+values_stand f mid new here higher t es g room line up around stands =
+    let mine = around_old f mid new g around in
+    let long : height (after_values t es) ≡ length es + height t = values_high t.scope es t.cells in
+    let high : height (after_values t es) ≡ height t + length es = omega (arith, long) in
+    let deep : height (after_values t es) ≤ f.depth = omega (arith, high, stands.high, room, mine.depth) in
+    stands_above f new here higher t (after_values t es) (length es) around.small stands line up refl refl high deep
+
+pub values_timed : (old mid new : Generator) (p q v : Lined) (here higher : Here) (es : List Expression) (w : When) → Emits old mid p q here (λ s. Every (λ e. Typed e s) es) (λ t. values_code t es) → here.height + length es ≤ mid.deepest → higher.line ≡ here.line → (here.height + length es < 2 ^ 64 → higher.height ≡ here.height + length es) → Emits mid new q v higher (λ s. GoodWhen s w) (λ t. when_code t w) → Emits old new p v here (λ s. Every (λ e. Typed e s) es × GoodWhen s w) (λ t. values_code t es ++ when_code (after_values t es) w)
+values_timed old mid new p q v here higher es w m room line up n = record {
+  grows = grows_then old mid new m.grows n.grows;
+  adds = λ f t u around stands good.
+      let mine = around_old f mid new n.grows around in
+      let there = stands_old f mid new here t n.grows stands in
+      let on = values_stand f mid new here higher t es n.grows room line up around stands in
+      adds_then f p q v (values_code t es) (when_code (after_values t es) w) (m.adds f t tt mine there good.0) (n.adds f (after_values t es) tt around on good.1);
+  more = λ f t u around stands good. tt;
+}
+
+-- the frame has room for one cell more than the values take
+pub room_above : (h n higher d e : ℕ) → h + n ≤ d → (h + n < 2 ^ 64 → higher ≡ h + n) → d ≤ e → higher < e → e < 2 ^ 64 → h + n < e
+room_above h n higher d e room up grows low fits =
+    let small : h + n < 2 ^ 64 = omega (arith, room, grows, fits) in
+    let is : higher ≡ h + n = up small in
+    omega (arith, is, low)
+
+-- values of the modes of attributes are typed
+haves_typed : (s : Scope) (es : List Expression) (ms : List Mode) → AllZip (HasMode s) es ms → Every (λ e. Typed e s) es
+haves_typed s [] [] h = tt
+haves_typed s [] (m ∷ ms) h = absurd h
+haves_typed s (e ∷ es) [] h = absurd h
+haves_typed s (e ∷ es) (m ∷ ms) h = ((m, h.0), haves_typed s es ms h.1)
+
+pub given_typed : (s : Scope) (class : ℕ) (es : List Expression) → GoodGiven s class es → Every (λ e. Typed e s) es
+given_typed s class es h = haves_typed s es (take (length es) h.1.0) h.1.2
+
+-- none of the first attributes is watched
+unwatched_below : (ss : List Statistic) (class given : ℕ) → any_watched ss class given ≡ false → (field : ℕ) → field < given → watch ss (OfAttribute class field) ≡ false
+unwatched_below ss class zero h field low = absurd (omega (arith, low))
+unwatched_below ss class (suc k) h field low = by (any_watched ss class k) refl h (unwatched_below ss class k)
+  where
+    at : (d : Bool) → (field == k) ≡ d → watch ss (OfAttribute class k) ≡ false → (field < k → watch ss (OfAttribute class field) ≡ false) → watch ss (OfAttribute class field) ≡ false
+    at true e last rest = ap (λ (j : ℕ). watch ss (OfAttribute class j)) (eqb-true field k e) ∙ last
+    at false e last rest = let apart : field ≢ k = λ (q : field ≡ k). true≢false (sym (eq-eqb field k q) ∙ e) in rest (omega (arith, low, apart))
+
+    by : (b : Bool) → any_watched ss class k ≡ b → (if b then true else watch ss (OfAttribute class k)) ≡ false → (any_watched ss class k ≡ false → (field : ℕ) → field < k → watch ss (OfAttribute class field) ≡ false) → watch ss (OfAttribute class field) ≡ false
+    by true e h rest = absurd (true≢false h)
+    by false e h rest = at (field == k) refl h (rest e field)
+
+pub notes_given : (f : Final) (g : Generator) (here : Here) (t : Site) (noted : Bool) (class given : ℕ) → Around f g → Stands f g here t → noted ≡ any_watched g.program.now.statistics.items class given → noted ≡ false → (field : ℕ) → field < given → watch f.program.statistics (OfAttribute class field) ≡ false
+notes_given f g here t noted class given around stands is off field low =
+    sym (ap (λ (p : Program). watch p.statistics (OfAttribute class field)) around.program) ∙ unwatched_below g.program.now.statistics.items class given (sym is ∙ off) field low
+
+-- ## A new notice goes to its place
+
+named_in_variable : (g : Generator) (p q : Lined) (here : Here) (from : Address) (s : VariableSpot) → Takes g p q here from (λ f t x. IsSpot f t x (spots.Variable s)) → (f : Final) (t u : Site) (x : Place) → IsSpot f t x (spots.Variable s) → t.scope ≡ u.scope → AtTarget f u (landing u x) from → HasRoom f (landing u x) → HoldsMode u.scope x Integer → Around f g → Stands f g here u → Adds f p q (named_code t u x)
+named_in_variable g p q here from s m f t u (ToVariable x) v same at room holds around stands =
+    let it : Taking = record { resolved = t; place = ToVariable x; mode = Integer } in
+    m.adds f u it around stands (v, same, at, room, holds)
+named_in_variable g p q here from s m f t u (ToAttribute class field e) v same at room holds around stands = absurd v
+named_in_variable g p q here from s m f t u (ToCount c) v same at room holds around stands = absurd v
+
+pub variable_named : (g : Generator) (p q : Lined) (here : Here) (from : Address) (s : VariableSpot) → Takes g p q here from (λ f t x. IsSpot f t x (spots.Variable s)) → Names g p q here from (λ f t x. IsSpot f t x (spots.Variable s))
+variable_named g p q here from s m = record {
+  grows = grows_same g;
+  adds = λ f u x around stands fits. named_in_variable g p q here from s m f x.resolved u x.place fits.0 fits.1 fits.2 fits.3 fits.4 around stands;
+  more = λ f u x around stands fits. tt;
+}
+
+named_in_attribute : (g : Generator) (p q : Lined) (here : Here) (from : Address) (s : AttributeSpot) → q.instructions ≡ p.instructions ++ storing s.mode s.class s.field s.entity from s.is_watched ∷ [] → q.lines ≡ p.lines ++ here.line ∷ [] → (f : Final) (t u : Site) (x : Place) → IsSpot f t x (spots.Attribute s) → t.scope ≡ u.scope → AtTarget f u (landing u x) from → HasRoom f (landing u x) → HoldsMode u.scope x Integer → Around f g → Stands f g here u → Adds f p q (named_code t u x)
+named_in_attribute g p q here from s is ls f t u (ToVariable x) v same at room holds around stands = absurd v
+named_in_attribute g p q here from s is ls f t u (ToAttribute class field e) v same at room holds around stands =
+    let w : Site = above u Integer in
+    let entity : AtOperand f w (stay (operand t e)) s.entity = stays_at f w (operand t e) s.entity (operand_at f t w (operand t e) s.entity (sym same) v.entity.at) in
+    let low : height u < f.depth = room in
+    let deep : height w ≤ f.depth = omega (arith, low) in
+    stored f p q here.line from s is ls g around t w class field e (stay (operand t e)) (Stays (height u)) Integer v same entity at holds stands.line stands.program deep
+named_in_attribute g p q here from s is ls f t u (ToCount c) v same at room holds around stands = absurd v
+
+pub attribute_named : (g : Generator) (p q : Lined) (here : Here) (from : Address) (s : AttributeSpot) → q.instructions ≡ p.instructions ++ storing s.mode s.class s.field s.entity from s.is_watched ∷ [] → q.lines ≡ p.lines ++ here.line ∷ [] → Names g p q here from (λ f t x. IsSpot f t x (spots.Attribute s))
+attribute_named g p q here from s is ls = record {
+  grows = grows_same g;
+  adds = λ f u x around stands fits. named_in_attribute g p q here from s is ls f x.resolved u x.place fits.0 fits.1 fits.2 fits.3 fits.4 around stands;
+  more = λ f u x around stands fits. tt;
+}
+
+named_in_count : (g : Generator) (p q : Lined) (here higher : Here) (from : Address) (class : ℕ) (s : VariableSpot) → higher.line ≡ here.line → (here.height + 1 < 2 ^ 64 → higher.height ≡ here.height + 1) → Gives g p q higher from (λ f t x. IsSpot f t x (spots.Count class s)) → (f : Final) (t u : Site) (x : Place) → IsSpot f t x (spots.Count class s) → t.scope ≡ u.scope → AtTarget f u (landing u x) from → HasRoom f (landing u x) → HoldsMode u.scope x Integer → Around f g → Stands f g here u → Adds f p q (named_code t u x)
+named_in_count g p q here higher from class s line up m f t u (ToVariable x) v same at room holds around stands = absurd v
+named_in_count g p q here higher from class s line up m f t u (ToAttribute k field e) v same at room holds around stands = absurd v
+named_in_count g p q here higher from class s line up m f t u (ToCount c) v same at room holds around stands =
+    let w : Site = above u Integer in
+    let low : height u < f.depth = room in
+    let high : height w ≡ height u + 1 = omega arith in
+    let on = stands_above f g here higher u w 1 around.small stands line up refl refl high (omega (arith, high, low)) in
+    let it : Given = record { resolved = t; place = ToCount c; from = Stays (height u); mode = Integer } in
+    m.adds f w it around on (v, same, at, holds, on_top (height u) Integer u.cells refl)
+
+pub count_named : (g : Generator) (p q : Lined) (here higher : Here) (from : Address) (class : ℕ) (s : VariableSpot) → higher.line ≡ here.line → (here.height + 1 < 2 ^ 64 → higher.height ≡ here.height + 1) → Gives g p q higher from (λ f t x. IsSpot f t x (spots.Count class s)) → Names g p q here from (λ f t x. IsSpot f t x (spots.Count class s))
+count_named g p q here higher from class s line up m = record {
+  grows = grows_same g;
+  adds = λ f u x around stands fits. named_in_count g p q here higher from class s line up m f x.resolved u x.place fits.0 fits.1 fits.2 fits.3 fits.4 around stands;
+  more = λ f u x around stands fits. tt;
+}
+
+-- ## SCHEDULE A
+
+-- where a notice is filed, and what its own number lies in
+abbrev notice_from : (u : Site) → Place → Operand
+notice_from u (ToVariable x) = Held x
+notice_from u (ToAttribute class field e) = Taken (height u)
+notice_from u (ToCount c) = Taken (height u)
+
+abbrev notice_site : (u : Site) → Place → Site
+notice_site u (ToVariable x) = u
+notice_site u (ToAttribute class field e) = above u Integer
+notice_site u (ToCount c) = above u Integer
+
+notice_line : (u : Site) (x : Place) → (notice_site u x).line ≡ u.line
+notice_line u (ToVariable x) = refl
+notice_line u (ToAttribute class field e) = refl
+notice_line u (ToCount c) = refl
+
+-- the code of a notice in parts, where its place was resolved at t1 and its time lies above that
+notice_parts : (f : Final) (t t1 u : Site) (class : ℕ) (x : Place) (s : Spot) (make : Target → Placed) → t1 ≡ after_place t x → u ≡ above (after_place t x) Integer → IsSpot f t x s → (make (landing u x) ∷ []) ++ (named_code t u x ++ (place (notice_site u x) (i.FileNotice class (notice_from u x) (Taken (height t1))) ∷ forget t1 (spot_cells s))) ≡ notice_code t u class x make
+notice_parts f t t1 u class (ToVariable x) (spots.Variable s) make is_t1 is_u h =
+    subst (λ (t1 : Site). (make (landing u (ToVariable x)) ∷ []) ++ (named_code t u (ToVariable x) ++ (place u (i.FileNotice class (Held x) (Taken (height t1))) ∷ [])) ≡ notice_code t u class (ToVariable x) make) (sym is_t1) (by (is_kept u x))
+  where
+    by : (b : Bool) → (make (if b then next u else i.Into x) ∷ []) ++ ((if b then place (above u Integer) (i.Keep (Taken (height u)) x) ∷ [] else []) ++ (place u (i.FileNotice class (Held x) (Taken (height t))) ∷ [])) ≡ (if b then (make (next u) ∷ []) ++ (place (above u Integer) (i.Keep (Taken (height u)) x) ∷ []) else make (i.Into x) ∷ []) ++ place u (i.FileNotice class (Held x) (Taken (height t))) ∷ []
+    by true = refl
+    by false = refl
+notice_parts f t t1 u class (ToVariable x) (spots.Attribute s) make is_t1 is_u h = absurd h
+notice_parts f t t1 u class (ToVariable x) (spots.Count k s) make is_t1 is_u h = absurd h
+notice_parts f t t1 u class (ToAttribute c field e) (spots.Variable s) make is_t1 is_u h = absurd h
+notice_parts f t t1 u class (ToAttribute c field e) (spots.Attribute s) make is_t1 is_u h =
+    let v : Site = above u Integer in
+    let cells : s.cells ≡ height (after t e) - height t = omega (arith, h.entity.high) in
+    subst (λ (t1 : Site). make (next u) ∷ (place v (i.SetAttribute c field (stay (operand t e)) (Stays (height u))) ∷ (place v (i.FileNotice class (Taken (height u)) (Taken (height t1))) ∷ forget t1 s.cells)) ≡ notice_code t u class (ToAttribute c field e) make) (sym is_t1)
+    (ap (λ (k : ℕ). make (next u) ∷ (place v (i.SetAttribute c field (stay (operand t e)) (Stays (height u))) ∷ (place v (i.FileNotice class (Taken (height u)) (Taken (height (after t e)))) ∷ forget (after t e) k))) cells)
+notice_parts f t t1 u class (ToAttribute c field e) (spots.Count k s) make is_t1 is_u h = absurd h
+notice_parts f t t1 u class (ToCount c) (spots.Variable s) make is_t1 is_u h = absurd h
+notice_parts f t t1 u class (ToCount c) (spots.Attribute s) make is_t1 is_u h = absurd h
+notice_parts f t t1 u class (ToCount c) (spots.Count k s) make is_t1 is_u h =
+    let v : Site = above u Integer in
+    subst (λ (t1 : Site). make (next u) ∷ (count_code v c (Stays (height u)) ++ (place v (i.FileNotice class (Taken (height u)) (Taken (height t1))) ∷ [])) ≡ notice_code t u class (ToCount c) make) (sym is_t1) refl
+
+-- a notice is filed
+notice_files : (f : Final) (t u : Site) (x : Place) (s : Spot) (to time : Address) (class h : ℕ) → IsSpot f t x s → AtTarget f u (landing u x) to → HasRoom f (landing u x) → InFrame (length u.scope.locals + h) time → height u ≤ f.depth → Runs f (place (notice_site u x) (i.FileNotice class (notice_from u x) (Taken h))) (r.FileNotice class (named_at s to) time)
+notice_files f t u (ToVariable x) (spots.Variable s) to time class h v at room there deep = record { carries = (Held x, v.at, (Taken h, there, refl)); deep = deep; shown = tt }
+notice_files f t u (ToVariable x) (spots.Attribute s) to time class h v at room there deep = absurd v
+notice_files f t u (ToVariable x) (spots.Count k s) to time class h v at room there deep = absurd v
+notice_files f t u (ToAttribute c field e) (spots.Variable s) to time class h v at room there deep = absurd v
+notice_files f t u (ToAttribute c field e) (spots.Attribute s) to time class h v at room there deep =
+    let low : height u < f.depth = room in
+    record { carries = (Taken (height u), at, (Taken h, there, refl)); deep = omega (arith, low); shown = tt }
+notice_files f t u (ToAttribute c field e) (spots.Count k s) to time class h v at room there deep = absurd v
+notice_files f t u (ToCount c) (spots.Variable s) to time class h v at room there deep = absurd v
+notice_files f t u (ToCount c) (spots.Attribute s) to time class h v at room there deep = absurd v
+notice_files f t u (ToCount c) (spots.Count k s) to time class h v at room there deep =
+    let low : height u < f.depth = room in
+    record { carries = (Taken (height u), at, (Taken h, there, refl)); deep = omega (arith, low); shown = tt }
+
+pub schedule_new_made : (old g1 g2 g3 new : Generator) (p q v w z y end : Lined) (here one higher : Here) (class : ℕ) (x : Place) (given : List Expression) (when : When) (s : Spot) (time to : Address) (cell : ℕ) (noted : Bool) → MakesSpot old g1 p q here (λ t. place_code t x) x s → one.line ≡ here.line → (here.height + spot_cells s < 2 ^ 64 → one.height ≡ here.height + spot_cells s) → Emits g1 g2 q v one (λ k. Every (λ e. Typed e k) given × GoodWhen k when) (λ t. values_code t given ++ when_code (after_values t given) when) → (g2.deepest < 2 ^ 64 → one.height + length given < g2.deepest) → Grows g2 g3 → InFrame (length g3.locals.items + one.height) time → higher.line ≡ one.line → (one.height + 1 < 2 ^ 64 → higher.height ≡ one.height + 1) → Grows g3 new → Lands new higher s to → w.instructions ≡ v.instructions ++ r.MakeNotice class cell (length given) to noted ∷ [] → w.lines ≡ v.lines ++ here.line ∷ [] → cell ≡ length new.locals.items + one.height → noted ≡ any_watched new.program.now.statistics.items class (length given) → Names new w z higher to (λ f t k. IsSpot f t k s) → y.instructions ≡ z.instructions ++ r.FileNotice class (named_at s to) time ∷ [] → y.lines ≡ z.lines ++ here.line ∷ [] → Emits new new y end one (λ k. Unit {0}) (λ u. forget u (spot_cells s)) → Emits old new p end here (λ k. Good k (ScheduleNew here.line class x given when)) (λ t. schedule_new_code t class x given when)
+schedule_new_made old g1 g2 g3 new p q v w z y end here one higher class x given when s time to cell noted l line up n room gc timed line_2 up_2 gr land made made_line is_cell is_noted names filed filed_line k = record {
+  grows = grows_then old g1 new l.grows (grows_then g1 g2 new n.grows (grows_then g2 g3 new gc gr));
+  adds = λ f t u around stands good.
+      let later = grows_then g2 g3 new gc gr in
+      let around_2 = around_old f g2 new later around in
+      let around_1 = around_old f g1 g2 n.grows around_2 in
+      let stands_1 = stands_old f g1 g2 here t n.grows (stands_old f g2 new here t later stands) in
+      let fits : (m : Mode) × TakesMode t.scope x m = (Integer, good.1) in
+      let spot = l.more f t tt around_1 stands_1 fits in
+      let t1 : Site = after_place t x in
+      let t2 : Site = after_values t1 given in
+      let t3 : Site = above t2 Integer in
+      let top : Site = above t1 Integer in
+      let on = spot_stands f new here one t x s around stands spot line up in
+      let on_2 = stands_old f g2 new one t1 later on in
+      let values = n.adds f t1 tt around_2 on_2 (given_typed t.scope class given good.0, good.2) in
+      let within : g2.deepest < 2 ^ 64 = omega (arith, around_2.depth, around.small) in
+      let low : height t1 + length given < f.depth = omega (arith, on.high, room within, around_2.depth) in
+      let high : height top ≡ height t1 + 1 = omega arith in
+      let on_top_of = stands_above f new one higher t1 top 1 around.small on line_2 up_2 refl refl high (omega (arith, high, low)) in
+      let at = land f t top x around on_top_of refl spot in
+      let long : height t2 ≡ length given + height t1 = values_high t1.scope given t1.cells in
+      let deep : height t3 ≤ f.depth = omega (arith, long, low) in
+      let cell_there : cell ≡ length t3.scope.locals + height t1 = is_cell ∙ sym (ap (λ (ms : List Mode). length ms + height t1) on.locals ∙ ap (λ j. length new.locals.items + j) on.high) in
+      let notes = notes_given f new one t1 noted class (length given) around on is_noted in
+      let make : Target → Placed = λ (j : Target). place t3 (i.MakeNotice class (height t1) (length given) j) in
+      let named = names.adds f top (record { resolved = t; place = x; mode = Integer }) around on_top_of (spot, refl, at.0, at.1, holds_mode f new here t x Integer around stands good.1) in
+      let time_there : InFrame (length top.scope.locals + height t1) time = cell_at_site f g3 one t1 time (stands_old f g3 new one t1 gr on) timed in
+      let files = notice_files f t top x s to time class (height t1) spot at.0 at.1 time_there on_top_of.deep in
+      let last : Placed = place (notice_site top x) (i.FileNotice class (notice_from top x) (Taken (height t1))) in
+      let rest : List Placed = (make (landing top x) ∷ []) ++ (named_code t top x ++ (last ∷ forget t1 (spot_cells s))) in
+      let code : place_code t x ++ ((values_code t1 given ++ when_code t2 when) ++ rest) ≡ schedule_new_code t class x given when =
+      ap (λ (c : List Placed). place_code t x ++ c) (append_assoc (values_code t1 given) (when_code t2 when) rest ∙ ap (λ (c : List Placed). values_code t1 given ++ (when_code t2 when ++ c)) (notice_parts f t t1 top class x s make refl refl spot)) in
+      adds_same f p end (place_code t x ++ ((values_code t1 given ++ when_code t2 when) ++ rest)) (schedule_new_code t class x given when) code
+      (adds_then f p q end (place_code t x) ((values_code t1 given ++ when_code t2 when) ++ rest) (l.adds f t tt around_1 stands_1 fits)
+      (adds_then f q v end (values_code t1 given ++ when_code t2 when) rest values
+      (adds_then f v w end (make (landing top x) ∷ []) (named_code t top x ++ (last ∷ forget t1 (spot_cells s)))
+      (adds_one f v w here.line (make (landing top x)) (r.MakeNotice class cell (length given) to noted) made made_line stands.line (record { carries = (notes, (height t1, cell_there, (landing top x, at.0, refl))); deep = deep; shown = tt }))
+      (adds_then f w z end (named_code t top x) (last ∷ forget t1 (spot_cells s)) named
+      (adds_then f z y end (last ∷ []) (forget t1 (spot_cells s))
+      (adds_one f z y here.line last (r.FileNotice class (named_at s to) time) filed filed_line (notice_line top x ∙ stands.line) files)
+      (k.adds f t1 tt around on tt))))));
+  more = λ f t u around stands good. tt;
+}
+
+-- ## SCHEDULE THE, and CANCEL
+
+pub schedule_made : (old g1 new : Generator) (p q v w z : Lined) (here one : Here) (class : ℕ) (e : Expression) (o : Read) (given : List Expression) (when : When) (cell : ℕ) (noted : Bool) → Reads old g1 p q here e o → v.instructions ≡ q.instructions ++ r.LookEntity class o.address ∷ [] → v.lines ≡ q.lines ++ here.line ∷ [] → one.line ≡ here.line → (here.height + o.cells < 2 ^ 64 → one.height ≡ here.height + o.cells) → Emits g1 new v w one (λ k. Every (λ e. Typed e k) given × GoodWhen k when) (λ t. values_code t given ++ when_code (after_values t given) when) → (new.deepest < 2 ^ 64 → one.height + length given < new.deepest) → cell ≡ length new.locals.items + one.height → noted ≡ any_watched new.program.now.statistics.items class (length given) → z.instructions ≡ w.instructions ++ r.Reschedule class o.address cell (length given) noted ∷ [] → z.lines ≡ w.lines ++ here.line ∷ [] → Emits old new p z here (λ k. Good k (Schedule here.line class e given when)) (λ t. schedule_code t class e given when)
+schedule_made old g1 new p q v w z here one class e o given when cell noted m look look_line line up n room is_cell is_noted made made_line = record {
+  grows = grows_then old g1 new m.grows n.grows;
+  adds = λ f t u around stands good.
+      let mine = around_old f g1 new n.grows around in
+      let there = stands_old f g1 new here t n.grows stands in
+      let typed : Typed e t.scope = (Integer, good.1) in
+      let read = m.more f t tt mine there typed in
+      let t1 : Site = after t e in
+      let t2 : Site = after_values t1 given in
+      let t3 : Site = above t2 Integer in
+      let on = read_stands f new here one t e o around stands read line up in
+      let within : new.deepest < 2 ^ 64 = omega (arith, around.depth, around.small) in
+      let low : height t1 + length given < f.depth = omega (arith, on.high, room within, around.depth) in
+      let long : height t2 ≡ length given + height t1 = values_high t1.scope given t1.cells in
+      let deep : height t3 ≤ f.depth = omega (arith, long, low) in
+      let cell_there : cell ≡ length t3.scope.locals + height t1 = is_cell ∙ sym (ap (λ (ms : List Mode). length ms + height t1) on.locals ∙ ap (λ j. length new.locals.items + j) on.high) in
+      let notes = notes_given f new one t1 noted class (length given) around on is_noted in
+      let looks : Placed = place t1 (i.LookEntity class (stay (operand t e))) in
+      let last : Placed = place t3 (i.Reschedule class (operand t e) (height t1) (length given)) in
+      let code : entity_code t true class e ++ ((values_code t1 given ++ when_code t2 when) ++ (last ∷ [])) ≡ schedule_code t class e given when =
+      ap (λ (c : List Placed). entity_code t true class e ++ c) (append_assoc (values_code t1 given) (when_code t2 when) (last ∷ [])) in
+      adds_same f p z (entity_code t true class e ++ ((values_code t1 given ++ when_code t2 when) ++ (last ∷ []))) (schedule_code t class e given when) code
+      (adds_then f p v z (entity_code t true class e) ((values_code t1 given ++ when_code t2 when) ++ (last ∷ []))
+      (adds_then f p q v (operand_code t e) (looks ∷ []) (m.adds f t tt mine there typed)
+      (adds_one f q v here.line looks (r.LookEntity class o.address) look look_line stands.line (record { carries = (stay (operand t e), stays_at f t (operand t e) o.address read.at, refl); deep = read.deep; shown = tt })))
+      (adds_then f v w z (values_code t1 given ++ when_code t2 when) (last ∷ []) (n.adds f t1 tt around on (given_typed t.scope class given good.0, good.2))
+      (adds_one f w z here.line last (r.Reschedule class o.address cell (length given) noted) made made_line stands.line (record { carries = (notes, (operand t e, read.at, (height t1, cell_there, refl))); deep = deep; shown = tt }))));
+  more = λ f t u around stands good. tt;
+}
+
+pub cancelled : (old new : Generator) (p q v : Lined) (here : Here) (class : ℕ) (e : Expression) (o : Read) → Reads old new p q here e o → v.instructions ≡ q.instructions ++ r.Cancel class o.address ∷ [] → v.lines ≡ q.lines ++ here.line ∷ [] → Emits old new p v here (λ k. Good k (Cancel here.line class e)) (λ t. with_operand t e (i.Cancel class))
+cancelled old new p q v here class e o m is ls = record {
+  grows = m.grows;
+  adds = λ f t u around stands good.
+      let typed : Typed e t.scope = (Integer, good.1) in
+      let read = m.more f t tt around stands typed in
+      adds_then f p q v (operand_code t e) (place (after t e) (i.Cancel class (operand t e)) ∷ []) (m.adds f t tt around stands typed)
+      (adds_one f q v here.line (place (after t e) (i.Cancel class (operand t e))) (r.Cancel class o.address) is ls stands.line (record { carries = (operand t e, read.at, refl); deep = read.deep; shown = tt }));
+  more = λ f t u around stands good. tt;
+}
+
+-- ## RESET
+
+restart_numbers : (s : Scope) (k : ℕ) (e : Option Expression) → GoodRestart s k e → AreNumbers e s
+restart_numbers s k None h = tt
+restart_numbers s k (Some e) h = h.1
+
+pub restarted : (old new : Generator) (p q v : Lined) (here : Here) (x : Restart) (o : Read) → Bears old new p q here x.of o → v.instructions ≡ q.instructions ++ r.Reset x.statistic o.address ∷ [] → v.lines ≡ q.lines ++ here.line ∷ [] → Emits old new p v here (λ s. GoodRestart s x.statistic x.of) (λ t. restarts_code t (x ∷ []))
+restarted old new p q v here x o m is ls = record {
+  grows = m.grows;
+  adds = λ f t u around stands good.
+      let numbers = restart_numbers t.scope x.statistic x.of good in
+      let read = m.more f t tt around stands numbers in
+      let u : Site = after_bearer t x.of in
+      let ins : Instruction = i.Reset x.statistic (bearer t x.of) in
+      adds_same f p v (bearer_code t x.of ++ place u ins ∷ []) (restarts_code t (x ∷ [])) (sym (append-nil (bearer_code t x.of ++ place u ins ∷ [])))
+      (adds_then f p q v (bearer_code t x.of) (place u ins ∷ []) (m.adds f t tt around stands numbers)
+      (adds_one f q v here.line (place u ins) (r.Reset x.statistic o.address) is ls stands.line
+      (record { carries = (bearer t x.of, bearer_at f t u (bearer t x.of) o.address refl read.at, refl); deep = read.deep; shown = tt })));
+  more = λ f t u around stands good. tt;
+}

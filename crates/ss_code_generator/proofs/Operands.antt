@@ -1,0 +1,108 @@
+-- Operands, and instructions that read them.
+use Rattle.std.proofs.Common.{◌≡◌, suc, ◌+◌, ◌<◌, ◌^◌, List, [], ◌∷◌, ◌++◌, length, Option, Some, None, Result, Ok, Err, refl, sym, ap, ◌∙◌, subst, arith}
+use Rattle.std.specs.Prelude.{slice_get, IfOk}
+use Rattle.ss_base.specs.declared.layout.Mode.{Mode}
+use Rattle.ss_program.specs.Program.{Expression}
+use Rattle.ss_program.specs.WellTyped.{Scope}
+use Rattle.ss_code_instructions.specs.declared.address.Address.{Address}
+use Rattle.ss_code_instructions.specs.declared.instruction.Instruction.{Instruction as Running}
+use Rattle.ss_code_instructions.specs.Instructions.{Operand, Constant, Held, Taken, Stays, Instruction}
+use Rattle.ss_code_instructions.specs.Translation.{Site, height, place, leaf, or_cell, or_in_cell, unless_leaf, expression_mode, operand, operand_code, after, stay, next, with_operand, expression_code}
+use Rattle.ss_code_instructions.specs.Carried.{InFrame}
+use Rattle.ss_code_generator.specs.declared.expressions.Operand.{Operand as Read}
+use Rattle.ss_code_generator.specs.declared.generator.Generator.{Generator}
+use Rattle.ss_code_generator.specs.declared.generator.Site.{Site as Here}
+use Rattle.ss_code_pieces.specs.Lined.{Lined}
+use Rattle.ss_code_generator.specs.Emitted.{Final, Around, Grows, Stands, Runs, EmitsTo, AtOperand, AtTarget, Typed, IsRead, Reads, ReadsBy, Bears}
+use Rattle.ss_code_generator.proofs.Emitting.{around_old, stands_old, stands_above, adds_then, adds_one, adds_same}
+
+-- ## Addresses
+
+-- the next cell, as a target and as an operand
+pub cell_at_site : (f : Final) (g : Generator) (here : Here) (t : Site) (a : Address) → Stands f g here t → InFrame (length g.locals.items + here.height) a → InFrame (length t.scope.locals + height t) a
+cell_at_site f g here t a s h =
+    let e : length g.locals.items + here.height ≡ length t.scope.locals + height t =
+    sym (ap (λ (l : List Mode). length l + height t) s.locals ∙ ap (λ n. length g.locals.items + n) s.high) in
+    (h.0, h.1 ∙ e)
+
+-- an operand has the same address at all sites of a section
+pub operand_at : (f : Final) (t u : Site) (y : Operand) (a : Address) → u.scope ≡ t.scope → AtOperand f t y a → AtOperand f u y a
+operand_at f t u (Constant v) a e h = h
+operand_at f t u (Held x) a e h = h
+operand_at f t u (Taken k) a e h = (h.0, h.1 ∙ sym (ap (λ s. length s.locals + k) e))
+operand_at f t u (Stays k) a e h = (h.0, h.1 ∙ sym (ap (λ s. length s.locals + k) e))
+
+-- an operand that stays lies where it was
+pub stays_at : (f : Final) (t : Site) (y : Operand) (a : Address) → AtOperand f t y a → AtOperand f t (stay y) a
+stays_at f t (Constant v) a h = h
+stays_at f t (Held x) a h = h
+stays_at f t (Taken k) a h = h
+stays_at f t (Stays k) a h = h
+
+-- ## Operands
+
+-- the site after an operand in a cell
+pub cell_high : (t : Site) (e : Expression) → leaf e ≡ None → height (after t e) ≡ height t + 1
+cell_high t e h =
+    let n : suc (height t) ≡ height t + 1 = omega arith in
+    ap (λ (o : Option Operand). length (or_in_cell o (expression_mode t.scope e) t.cells)) h ∙ n
+
+-- anything else goes into a cell, which was the next one on the way
+pub cell_reads_at : (old mid new : Generator) (p q : Lined) (here : Here) (e : Expression) (a : Address) → leaf e ≡ None → Grows mid new → InFrame (length mid.locals.items + here.height) a → here.height < mid.deepest → EmitsTo old new p q here a (Typed e) (λ t x. expression_code t x e) → Reads old new p q here e (record { address = a; cells = 1 })
+cell_reads_at old mid new p q here e a none grows cell room m = record {
+  grows = m.grows;
+  adds = λ f t u around stands typed.
+      let at : AtTarget f t (next t) a = cell_at_site f mid here t a (stands_old f mid new here t grows stands) cell in
+      adds_same f p q (expression_code t (next t) e) (operand_code t e) (sym (ap (λ (o : Option Operand). unless_leaf o (expression_code t (next t) e)) none))
+      (m.adds f t (next t) around stands (at, typed));
+  more = λ f t u around stands typed.
+      let mine : Around f mid = around_old f mid new grows around in
+      let at : AtOperand f t (Taken (height t)) a = cell_at_site f mid here t a (stands_old f mid new here t grows stands) cell in
+      record {
+        at = subst (λ (o : Option Operand). AtOperand f t (or_cell (height t) o) a) (sym none) at;
+        high = cell_high t e none;
+        deep = omega (arith, cell_high t e none, stands.high, room, mine.depth);
+      };
+}
+
+-- ## An operand, and the instruction that reads it
+
+-- where an operand stands
+pub read_stands : (f : Final) (g : Generator) (here higher : Here) (t : Site) (e : Expression) (o : Read) → Around f g → Stands f g here t → IsRead f t e o → higher.line ≡ here.line → (here.height + o.cells < 2 ^ 64 → higher.height ≡ here.height + o.cells) → Stands f g higher (after t e)
+read_stands f g here higher t e o around stands r line above = stands_above f g here higher t (after t e) o.cells around.small stands line above refl refl r.high r.deep
+
+-- ## Looks, and owners
+
+-- an operand that is looked at
+pub looked_reads : (old new : Generator) (p q r : Lined) (here : Here) (e : Expression) (o : Read) (Good : Scope → Type 0) (make : Operand → Instruction) (y : Running) → Reads old new p q here e o → r.instructions ≡ q.instructions ++ y ∷ [] → r.lines ≡ q.lines ++ here.line ∷ [] → ((f : Final) (t : Site) → Around f new → Stands f new here t → Good t.scope → IsRead f t e o → Typed e t.scope × Runs f (place (after t e) (make (operand t e))) y) → ((s : Scope) → Good s → Typed e s) → ReadsBy old new p r here Good e o (λ t. with_operand t e make)
+looked_reads old new p q r here e o Good make y m is ls h typed = record {
+  grows = m.grows;
+  adds = λ f t u around stands good.
+      let read = m.more f t tt around stands (typed t.scope good) in
+      let w = h f t around stands good read in
+      adds_then f p q r (operand_code t e) (place (after t e) (make (operand t e)) ∷ []) (m.adds f t tt around stands w.0)
+      (adds_one f q r here.line (place (after t e) (make (operand t e))) y is ls stands.line w.1);
+  more = λ f t u around stands good. m.more f t tt around stands (typed t.scope good);
+}
+
+-- an operand that is not
+pub unlooked_reads : (old new : Generator) (p q : Lined) (here : Here) (e : Expression) (o : Read) (Good : Scope → Type 0) → ((s : Scope) → Good s → Typed e s) → Reads old new p q here e o → ReadsBy old new p q here Good e o (λ t. operand_code t e)
+unlooked_reads old new p q here e o Good typed m = record {
+  grows = m.grows;
+  adds = λ f t u around stands good. m.adds f t u around stands (typed t.scope good);
+  more = λ f t u around stands good. m.more f t u around stands (typed t.scope good);
+}
+
+pub entity_bears : (old new : Generator) (p q : Lined) (here : Here) (e : Expression) (o : Read) → Reads old new p q here e o → Bears old new p q here (Some e) o
+entity_bears old new p q here e o m = record {
+  grows = m.grows;
+  adds = λ f t u around stands good. m.adds f t u around stands (_, good);
+  more = λ f t u around stands good.
+      let r = m.more f t u around stands (_, good) in
+      record { at = r.at; high = r.high; deep = r.deep };
+}
+
+-- the same of a call
+pub entity_ok : {E : Type 0} (r : Result Read E) (old new : Generator) (p q : Lined) (here : Here) (e : Expression) → IfOk r (λ o. Reads old new p q here e o) → IfOk r (λ o. Bears old new p q here (Some e) o)
+entity_ok (Ok o) old new p q here e h = entity_bears old new p q here e o h
+entity_ok (Err x) old new p q here e h = tt

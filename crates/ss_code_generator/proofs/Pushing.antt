@@ -1,0 +1,99 @@
+-- Values that go into cells, and what loops keep there.
+use Rattle.std.proofs.Common.{◌≡◌, ℕ, ◌+◌, ◌<◌, ◌≤◌, ◌^◌, List, [], ◌∷◌, ◌++◌, length, get_or, map, take, refl, sym, ap, ◌∙◌, subst, arith, append_assoc, append-nil, length-append}
+use Rattle.std.specs.Prelude.{pos}
+use Rattle.std.specs.List.{AllByRecursion as Every}
+use Rattle.ss_base.specs.declared.value.Value.TheVariants.{Whole}
+use Rattle.ss_program.specs.declared.expression.Expression as expressions
+use Rattle.ss_program.specs.Program.{Expression}
+use Rattle.ss_program.specs.View.{view_expression}
+use Rattle.ss_code_instructions.specs.declared.address.Address.{Address}
+use Rattle.ss_code_instructions.specs.declared.instruction.Instruction.TheVariants as r
+use Rattle.ss_code_instructions.specs.Instructions.{Constant, Stays, Instruction, Placed}
+use Rattle.ss_code_instructions.specs.Instructions as i
+use Rattle.ss_code_instructions.specs.Translation.{Site, height, place, next, above, expression_mode, expression_code, values_code, after_values, take_code}
+use Rattle.ss_code_instructions.specs.Carried.{InFrame}
+use Rattle.ss_code_instructions.proofs.Stacked.{values_high}
+use Rattle.ss_code_generator.specs.declared.generator.Generator.{Generator}
+use Rattle.ss_code_generator.specs.declared.generator.Site.{Site as Here}
+use Rattle.ss_code_generator.specs.declared.targets.VariableSpot.{VariableSpot}
+use Rattle.ss_code_pieces.specs.Lined.{Lined, nothing}
+use Rattle.ss_code_generator.specs.Emitted.{Final, Around, Grows, Emits, AtOperand, Typed}
+use Rattle.ss_code_generator.specs.Looped.{TakesItem, TakesItems}
+use Rattle.ss_code_generator.proofs.Emitting.{around_old, grows_same, grows_then, stands_old, stands_above, adds_then, adds_one, adds_piece, adds_same, piece_long}
+use Rattle.ss_code_generator.proofs.Operands.{cell_at_site}
+use Rattle.ss_code_pieces.proofs.Steps.{next_taken, taken_long}
+use Rattle.std.proofs.lemmas.List.{take_all}
+
+-- ## Values
+
+-- the number 1 in the next cell
+pub one_pushed : (old new : Generator) (p q : Lined) (here : Here) (a one : Address) → Grows old new → InFrame (length new.locals.items + here.height) a → ((f : Final) (t : Site) → Around f new → AtOperand f t (Constant (Whole (pos 1))) one) → q.instructions ≡ p.instructions ++ r.Move one a ∷ [] → q.lines ≡ p.lines ++ here.line ∷ [] → Emits old new p q here (λ s. Unit {0}) (λ t. place t (i.Move (Constant (Whole (pos 1))) (next t)) ∷ [])
+one_pushed old new p q here a one grows cell at made ls = record {
+  grows = grows;
+  adds = λ f t u around stands typed.
+      let ins : Instruction = i.Move (Constant (Whole (pos 1))) (next t) in
+      adds_one f p q here.line (place t ins) (r.Move one a) made ls stands.line
+      (record { carries = (Constant (Whole (pos 1)), at f t around, (refl, (next t, cell_at_site f new here t a stands cell, refl))); deep = stands.deep; shown = tt });
+  more = λ f t u around stands typed. tt;
+}
+
+-- one value more, on top of others
+values_code_more : (t : Site) (es : List Expression) (e : Expression) → values_code t (es ++ e ∷ []) ≡ values_code t es ++ expression_code (after_values t es) (next (after_values t es)) e
+values_code_more t [] e = append-nil (expression_code t (next t) e)
+values_code_more t (x ∷ es) e =
+    let u : Site = above t (expression_mode t.scope x) in
+    let last : List Placed = expression_code (after_values u es) (next (after_values u es)) e in
+    ap (λ (c : List Placed). expression_code t (next t) x ++ c) (values_code_more u es e) ∙ sym (append_assoc (expression_code t (next t) x) (values_code u es) last)
+
+every_split : {A : Type 0} (P : A → Type 0) (xs : List A) (x : A) → Every P (xs ++ x ∷ []) → Every P xs × P x
+every_split P [] x h = (tt, h.0)
+every_split P (y ∷ xs) x h = let k = every_split P xs x h.1 in ((h.0, k.0), k.1)
+
+pub values_more : (old mid new : Generator) (p q s : Lined) (here higher : Here) (es : List Expression) (e : Expression) → Emits old mid p q here (λ k. Every (λ x. Typed x k) es) (λ t. values_code t es) → here.height + length es ≤ mid.deepest → higher.line ≡ here.line → (here.height + length es < 2 ^ 64 → higher.height ≡ here.height + length es) → Emits mid new q s higher (Typed e) (λ t. expression_code t (next t) e) → Emits old new p s here (λ k. Every (λ x. Typed x k) (es ++ e ∷ [])) (λ t. values_code t (es ++ e ∷ []))
+values_more old mid new p q s here higher es e m room line above_ n = record {
+  grows = grows_then old mid new m.grows n.grows;
+  adds = λ f t u around stands typed.
+      let mine = around_old f mid new n.grows around in
+      let there = stands_old f mid new here t n.grows stands in
+      let each = every_split (λ (x : Expression). Typed x t.scope) es e typed in
+      let long : height (after_values t es) ≡ length es + height t = values_high t.scope es t.cells in
+      let high : height (after_values t es) ≡ height t + length es = omega (arith, long) in
+      let deep : height (after_values t es) ≤ f.depth = omega (arith, high, stands.high, room, mine.depth) in
+      let on_top = stands_above f new here higher t (after_values t es) (length es) around.small stands line above_ refl refl high deep in
+      adds_same f p s (values_code t es ++ expression_code (after_values t es) (next (after_values t es)) e) (values_code t (es ++ e ∷ [])) (sym (values_code_more t es e))
+      (adds_then f p q s (values_code t es) (expression_code (after_values t es) (next (after_values t es)) e) (m.adds f t tt mine there each.0)
+      (n.adds f (after_values t es) tt around on_top each.1));
+  more = λ f t u around stands typed. tt;
+}
+
+-- the values so far, with the next one
+pub next_value : (old mid new : Generator) (p q s : Lined) (here higher : Here) (xs : List expressions.Expression) (i : ℕ) (x : expressions.Expression) → i < length xs → x ≡ get_or xs i x → Emits old mid p q here (λ k. Every (λ e. Typed e k) (map view_expression (take i xs))) (λ t. values_code t (map view_expression (take i xs))) → here.height + i ≤ mid.deepest → higher.line ≡ here.line → (here.height + i < 2 ^ 64 → higher.height ≡ here.height + i) → Emits mid new q s higher (Typed (view_expression x)) (λ t. expression_code t (next t) (view_expression x)) → Emits old new p s here (λ k. Every (λ e. Typed e k) (map view_expression (take (i + 1) xs))) (λ t. values_code t (map view_expression (take (i + 1) xs)))
+next_value old mid new p q s here higher xs i x lt is m room line above_ n =
+    let es = map view_expression (take i xs) in
+    let long = taken_long view_expression xs i lt in
+    let fits : here.height + length es ≤ mid.deepest = omega (arith, long, room) in
+    subst (λ (l : List Expression). Emits old new p s here (λ k. Every (λ e. Typed e k) l) (λ t. values_code t l)) (sym (next_taken view_expression xs i x lt is))
+    (values_more old mid new p q s here higher es (view_expression x) m fits line (subst (λ (k : ℕ). here.height + k < 2 ^ 64 → higher.height ≡ here.height + k) (sym long) above_) n)
+
+-- and all of them
+pub all_values : (old new : Generator) (p q : Lined) (here : Here) (xs : List expressions.Expression) (i : ℕ) → length xs ≤ i → Emits old new p q here (λ k. Every (λ e. Typed e k) (map view_expression (take i xs))) (λ t. values_code t (map view_expression (take i xs))) → Emits old new p q here (λ k. Every (λ e. Typed e k) (map view_expression xs)) (λ t. values_code t (map view_expression xs))
+all_values old new p q here xs i le m = subst (λ (l : List expressions.Expression). Emits old new p q here (λ k. Every (λ e. Typed e k) (map view_expression l)) (λ t. values_code t (map view_expression l))) (take_all i xs le) m
+
+-- ## Items of a loop
+
+-- the item, the turn, and on to the next one
+pub items_taken : (g : Generator) (a b c turn : Lined) (here : Here) (n back : ℕ) (s : VariableSpot) → TakesItem g nothing a here n s → b.instructions ≡ a.instructions ++ turn.instructions → b.lines ≡ a.lines ++ turn.lines → back ≡ length b.instructions → c.instructions ≡ b.instructions ++ r.Next n back ∷ [] → c.lines ≡ b.lines ++ here.line ∷ [] → TakesItems g c here n s turn
+items_taken g a b c turn here n back s m both both_lines long made ls = record {
+  grows = grows_same g;
+  adds = λ f u x around stands fits.
+      let one = m.adds f u x around stands fits.0 in
+      let head : List Placed = take_code u x.cell x.variable in
+      let two = adds_piece f a b turn x.turn both both_lines fits.1 in
+      let whole = adds_then f nothing a b head x.turn one two in
+      let back_is : back ≡ length head + length x.turn = long ∙ piece_long f b (head ++ x.turn) whole ∙ length-append head x.turn in
+      let last : Placed = place u (i.Next x.cell (length head + length x.turn)) in
+      adds_then f nothing a c head (x.turn ++ last ∷ []) one
+      (adds_then f a b c x.turn (last ∷ []) two
+      (adds_one f b c here.line last (r.Next n back) made ls stands.line (record { carries = (x.cell, fits.0.1, ap (i.Next x.cell) (sym back_is)); deep = stands.deep; shown = tt })));
+  more = λ f u x around stands fits. tt;
+}

@@ -1,0 +1,31 @@
+-- What the items of a PRINT are, with their modes.
+use Rattle.std.specs.Prelude.{ℕ}
+use Rattle.ss_base.specs.declared.layout.Mode.{Mode}
+use Rattle.ss_base.specs.declared.layout.Mode.TheVariants.{Integer, Alpha}
+use Rattle.ss_program.specs.Program.{Item, AValue, AMean, AMeanOf}
+use Rattle.ss_program.specs.WellTyped.{Scope}
+use Rattle.ss_code_instructions.specs.declared.item.ItemKind.{ItemKind}
+use Rattle.ss_code_instructions.specs.declared.item.ItemKind.TheVariants as shows
+use Rattle.ss_code_instructions.specs.Translation.{expression_mode}
+use Rattle.ss_code_generator.specs.Emitted.{Typed, IsNumber}
+
+abbrev pub value_kind : Mode → ItemKind
+value_kind Integer = shows.Number
+value_kind Alpha = shows.Text
+
+abbrev pub kind_of : Scope → Item → ItemKind
+kind_of s (AValue e) = value_kind (expression_mode s e)
+kind_of s (AMean k) = shows.Mean k
+kind_of s (AMeanOf k e) = shows.MeanOf k
+
+-- how many cells an item takes
+abbrev pub item_width : Item → ℕ
+item_width (AValue e) = 1
+item_width (AMean k) = 0
+item_width (AMeanOf k e) = 1
+
+-- what is asked of an item alone
+abbrev pub GoodItem : Item → Scope → Type 0
+GoodItem (AValue e) s = Typed e s
+GoodItem (AMean k) s = Unit {0}
+GoodItem (AMeanOf k e) s = IsNumber e s

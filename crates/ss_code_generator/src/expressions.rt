@@ -1,0 +1,427 @@
+//! The code of expressions.
+
+ghost use Rattle.std.specs.Prelude.{◌≡◌, ◌+◌, ◌<◌, ◌≤◌, ◌^◌, ◌∷◌, [], length, map, pos, IfOk, OnOk};
+ghost use Rattle.std.specs.List.{AllByRecursion as Every};
+ghost use Rattle.ss_base.specs.declared.value.Value.TheVariants.{Whole};
+ghost use Rattle.ss_program.specs.Program.{Attribute, OfSet, OfMember, FigureOf, Signed};
+ghost use Rattle.ss_program.specs.View.{view_expression, view_owner, view_option};
+ghost use Rattle.ss_meaning.specs.Values.{operator_of};
+ghost use Rattle.ss_code_instructions.specs.Instructions.{Constant, Move};
+ghost use Rattle.ss_code_instructions.specs.declared.instruction.Instruction.TheVariants.{Figure as Figures};
+ghost use Rattle.ss_code_instructions.specs.Facts.{expression_of};
+ghost use Rattle.ss_code_instructions.specs.Translation.{expression_code, values_code, place, next};
+ghost use Rattle.ss_code_instructions.specs.Forms.{calculating, asking_set, asking_member, moving, fetching};
+ghost use Rattle.ss_code_generator.specs.Calculations.{Operates};
+ghost use Rattle.ss_code_generator.specs.Emitted.{Grows, Emits, EmitsTo, Typed, IsLeaf, Reads, Bears};
+
+use ss_code_pieces::facts::{attribute_mode, variable_mode};
+use crate::generator::{Generator, Site};
+use ss_code_pieces::leaves::{Leaf, leaf_of};
+use ss_code_pieces::piece::{Piece, as_index};
+use ss_base::Mode;
+use ss_code_instructions::address::Address;
+use ss_code_instructions::instruction::Instruction;
+use ss_program::expression::{
+    Expression, Fold, MemberQuery, Operation, Operator, SetOwner, SetQuery, Sign,
+};
+use std::alloc::AllocError;
+
+/// A value that an instruction reads: where it lies, and how many cells it takes for that.
+#[derive(Clone, Copy)]
+pub struct Operand {
+    pub address: Address,
+    pub cells: usize,
+}
+
+impl Operand {
+    // A variable or a constant.
+    fn leaf(address: Address) -> Operand
+        ensures { result ≡ record { address = address; cells = 0 } }
+    {
+        Operand { address, cells: 0 }
+    }
+
+    // The next cell.
+    fn cell(address: Address) -> Operand
+        ensures { result ≡ record { address = address; cells = 1 } }
+    {
+        Operand { address, cells: 1 }
+    }
+}
+
+// What an operator makes of two numbers.
+fn calculate(operator: Operator, left: Address, right: Address, to: Address) -> Instruction
+    ensures { result ≡ calculating operator left right to }
+{
+    match operator {
+        Operator::Add => Instruction::Add { left, right, to },
+        Operator::Subtract => Instruction::Subtract { left, right, to },
+        Operator::Multiply => Instruction::Multiply { left, right, to },
+        Operator::Quotient => Instruction::Quotient { left, right, to },
+        Operator::Remainder => Instruction::Remainder { left, right, to },
+        Operator::Least => Instruction::Least { left, right, to },
+        Operator::Greatest => Instruction::Greatest { left, right, to },
+    }
+}
+
+// What is asked of the set of an owner.
+fn ask_set(query: SetQuery, set: u32, owner: Address, to: Address) -> Instruction
+    ensures { result ≡ asking_set query set owner to }
+{
+    match query {
+        SetQuery::FirstMember => Instruction::FirstMember { set, owner, to },
+        SetQuery::LastMember => Instruction::LastMember { set, owner, to },
+        SetQuery::MemberCount => Instruction::MemberCount { set, owner, to },
+    }
+}
+
+// What is asked of a member.
+fn ask_member(query: MemberQuery, set: u32, member: Address, to: Address) -> Instruction
+    ensures { result ≡ asking_member query set member to }
+{
+    match query {
+        MemberQuery::Predecessor => Instruction::Predecessor { set, member, to },
+        MemberQuery::Successor => Instruction::Successor { set, member, to },
+        MemberQuery::Membership => Instruction::Membership { set, member, to },
+    }
+}
+
+/// A value of a mode goes from one place to another.
+pub fn move_of(mode: Mode, from: Address, to: Address) -> Instruction
+    ensures { result ≡ moving mode from to }
+{
+    match mode {
+        Mode::Integer => Instruction::Move { from, to },
+        Mode::Alpha => Instruction::MoveText { from, to },
+    }
+}
+
+// An attribute of an entity goes to a place.
+fn attribute_of(mode: Mode, class: u32, field: u32, entity: Address, to: Address) -> Instruction
+    ensures { result ≡ fetching mode class field entity to }
+{
+    match mode {
+        Mode::Integer => Instruction::Attribute {
+            class,
+            field,
+            entity,
+            to,
+        },
+        Mode::Alpha => Instruction::TextAttribute {
+            class,
+            field,
+            entity,
+            to,
+        },
+    }
+}
+
+// A number with a sign before it.
+fn signed(sign: Sign, left: Address, right: Address, to: Address) -> Instruction
+    ensures { result ≡ calculating (operator_of sign) left right to }
+{
+    match sign {
+        Sign::Plus => Instruction::Add { left, right, to },
+        Sign::Minus => Instruction::Subtract { left, right, to },
+    }
+}
+
+// What a statistic says of an entity.
+fn figure_of(fold: Fold, statistic: u32, entity: Address, to: Address) -> Instruction
+    ensures { result ≡ Figures statistic entity to fold }
+{
+    Instruction::Figure {
+        statistic,
+        entity,
+        to,
+        fold,
+    }
+}
+
+impl Generator<'_> {
+    // The address of an expression that takes no code: a variable or a constant.
+    fn leaf(&mut self, e: &Expression) -> Result<Option<Address>, AllocError>
+        ensures grows { OnOk result (Grows self.old self.new) }
+        ensures leaf { IfOk result (λ found. IsLeaf self.new (view_expression e.now) found) }
+    {
+        match leaf_of(e) {
+            Some(Leaf::Constant { value }) => Ok(Some(self.constant(value)?)),
+            Some(Leaf::Held { variable }) => Ok(Some(self.variable(variable)?)),
+            None => Ok(None),
+        }
+    }
+
+    /// An expression as an operand: it takes a cell unless it is a variable or a constant.
+    #[cycle(expressions)]
+    pub fn operand(
+        &mut self,
+        code: &mut Piece,
+        site: Site,
+        e: &Expression,
+    ) -> Result<Operand, AllocError>
+        ensures { IfOk result (λ o. Reads self.old self.new code.old code.new site (view_expression e.now) o) }
+    {
+        if let Some(address) = self.leaf(e)? {
+            return Ok(Operand::leaf(address));
+        }
+        let to = self.cell(site)?;
+        self.expression(code, site, e, to)?;
+        Ok(Operand::cell(to))
+    }
+
+    /// An expression goes to a place, which its last instruction writes. Operations on a number are worked off from left to right:
+    /// what the last of them makes goes to the place, and what the others make into the next cell.
+    #[tactic(auto, unfolding(ss_program::specs::View::view_expression))]
+    #[cycle(expressions)]
+    pub fn expression(
+        &mut self,
+        code: &mut Piece,
+        site: Site,
+        e: &Expression,
+        to: Address,
+    ) -> Result<(), AllocError>
+        ensures { OnOk result (EmitsTo self.old self.new code.old code.new site to (Typed (view_expression e.now)) (λ t x. expression_code t x (view_expression e.now))) }
+    {
+        match e {
+            Expression::Constant { value } => {
+                let from = self.constant(*value)?;
+                code.put(site.line, move_of(value.mode(), from, to))
+            }
+            Expression::Fetch { variable } => {
+                let from = self.variable(*variable)?;
+                let mode = variable_mode(self.program, &self.locals, *variable);
+                code.put(site.line, move_of(mode, from, to))
+            }
+            Expression::Attribute { class, field, of } => {
+                self.attribute(code, site, *class, *field, of, to)
+            }
+            Expression::OfSystemSet { query, set } => {
+                let owner = self.zero()?;
+                code.put(site.line, ask_set(*query, as_index(*set)?, owner, to))
+            }
+            Expression::OfSet { query, set, owner } => {
+                self.of_set(code, site, *query, *set, owner, to)
+            }
+            Expression::OfMember { query, set, member } => {
+                self.of_member(code, site, *query, *set, member, to)
+            }
+            Expression::Clock => code.put(site.line, Instruction::Clock { to }),
+            Expression::TimeOf { notice } => {
+                let notice = self.operand(code, site, notice)?.address;
+                code.put(site.line, Instruction::TimeOf { notice, to })
+            }
+            Expression::Figure { fold, statistic } => {
+                let entity = self.zero()?;
+                code.put(
+                    site.line,
+                    figure_of(*fold, as_index(*statistic)?, entity, to),
+                )
+            }
+            Expression::FigureOf {
+                fold,
+                statistic,
+                entity,
+            } => self.figure_of(code, site, *fold, *statistic, entity, to),
+            Expression::Signed { sign, term } => self.signed(code, site, *sign, term, to),
+            Expression::Absolute { argument } => {
+                let of = self.operand(code, site, argument)?.address;
+                code.put(site.line, Instruction::Absolute { of, to })
+            }
+            Expression::Calculate { first, further } => {
+                let count = further.len();
+                if count == 0 {
+                    return self.expression(code, site, first, to);
+                }
+                let mut left = self.operand(code, site, first)?;
+                for i in 0..count - 1 {
+                    let next = self.cell(site)?;
+                    self.operation(code, site, left, &further[i], next)?;
+                    left = Operand::cell(next);
+                }
+                self.operation(code, site, left, &further[count - 1], to)
+            }
+        }
+    }
+
+    // An attribute of the entity to which an expression refers.
+    #[cycle(expressions)]
+    fn attribute(
+        &mut self,
+        code: &mut Piece,
+        site: Site,
+        class: usize,
+        field: usize,
+        of: &Expression,
+        to: Address,
+    ) -> Result<(), AllocError>
+        ensures { OnOk result (EmitsTo self.old self.new code.old code.new site to (Typed (Attribute class field (view_expression of.now))) (λ t x. expression_code t x (Attribute class field (view_expression of.now)))) }
+    {
+        let entity = self.operand(code, site, of)?.address;
+        let mode = attribute_mode(self.program, class, field);
+        let (class, field) = (as_index(class)?, as_index(field)?);
+        code.put(site.line, attribute_of(mode, class, field, entity, to))
+    }
+
+    // What is asked of the set of an owner that is no system.
+    #[cycle(expressions)]
+    fn of_set(
+        &mut self,
+        code: &mut Piece,
+        site: Site,
+        query: SetQuery,
+        set: usize,
+        of: &Expression,
+        to: Address,
+    ) -> Result<(), AllocError>
+        ensures { OnOk result (EmitsTo self.old self.new code.old code.new site to (Typed (OfSet query set (view_expression of.now))) (λ t x. expression_code t x (OfSet query set (view_expression of.now)))) }
+    {
+        let owner = self.operand(code, site, of)?.address;
+        code.put(site.line, ask_set(query, as_index(set)?, owner, to))
+    }
+
+    // What is asked of a member of a set.
+    #[cycle(expressions)]
+    fn of_member(
+        &mut self,
+        code: &mut Piece,
+        site: Site,
+        query: MemberQuery,
+        set: usize,
+        of: &Expression,
+        to: Address,
+    ) -> Result<(), AllocError>
+        ensures { OnOk result (EmitsTo self.old self.new code.old code.new site to (Typed (OfMember query set (view_expression of.now))) (λ t x. expression_code t x (OfMember query set (view_expression of.now)))) }
+    {
+        let member = self.operand(code, site, of)?.address;
+        code.put(site.line, ask_member(query, as_index(set)?, member, to))
+    }
+
+    // A figure of a statistic of an entity.
+    #[cycle(expressions)]
+    fn figure_of(
+        &mut self,
+        code: &mut Piece,
+        site: Site,
+        fold: Fold,
+        statistic: usize,
+        of: &Expression,
+        to: Address,
+    ) -> Result<(), AllocError>
+        ensures { OnOk result (EmitsTo self.old self.new code.old code.new site to (Typed (FigureOf fold statistic (view_expression of.now))) (λ t x. expression_code t x (FigureOf fold statistic (view_expression of.now)))) }
+    {
+        let entity = self.operand(code, site, of)?.address;
+        code.put(site.line, figure_of(fold, as_index(statistic)?, entity, to))
+    }
+
+    // A number with a sign before it: the sign works on the constant 0 and that number.
+    #[cycle(expressions)]
+    fn signed(
+        &mut self,
+        code: &mut Piece,
+        site: Site,
+        sign: Sign,
+        term: &Expression,
+        to: Address,
+    ) -> Result<(), AllocError>
+        ensures { OnOk result (EmitsTo self.old self.new code.old code.new site to (Typed (Signed sign (view_expression term.now))) (λ t x. expression_code t x (Signed sign (view_expression term.now)))) }
+    {
+        let right = self.operand(code, site, term)?.address;
+        let left = self.zero()?;
+        code.put(site.line, signed(sign, left, right, to))
+    }
+
+    // An operation on a number that is there. What it makes goes to a place.
+    #[cycle(expressions)]
+    fn operation(
+        &mut self,
+        code: &mut Piece,
+        site: Site,
+        left: Operand,
+        operation: &Operation,
+        to: Address,
+    ) -> Result<(), AllocError>
+        ensures { OnOk result (Operates self.old self.new code.old code.new site left to operation.now) }
+    {
+        let right = self
+            .operand(code, site.above(left.cells), &operation.operand)?
+            .address;
+        code.put(
+            site.line,
+            calculate(operation.operator, left.address, right, to),
+        )?;
+        Ok(())
+    }
+
+    /// An expression goes into the next cell.
+    pub fn push(
+        &mut self,
+        code: &mut Piece,
+        site: Site,
+        e: &Expression,
+    ) -> Result<(), AllocError>
+        ensures code { OnOk result (Emits self.old self.new code.old code.new site (Typed (view_expression e.now)) (λ t. expression_code t (next t) (view_expression e.now))) }
+        ensures room { OnOk result (site.height < self.new.deepest) }
+        ensures small { OnOk result (site.height < 2 ^ 32) }
+    {
+        let to = self.cell(site)?;
+        self.expression(code, site, e, to)
+    }
+
+    /// Values go into the next cells, one above the other.
+    pub fn values(
+        &mut self,
+        code: &mut Piece,
+        site: Site,
+        values: &[Expression],
+    ) -> Result<(), AllocError>
+        ensures code { OnOk result (Emits self.old self.new code.old code.new site (λ s. Every (λ e. Typed e s) (map view_expression values.now)) (λ t. values_code t (map view_expression values.now))) }
+        ensures room { OnOk result (site.height + length values.now ≤ self.new.deepest) }
+    {
+        self.reach(site.height);
+        for (i, value) in values.iter().enumerate() {
+            self.push(code, site.above(i), value)?;
+        }
+        Ok(())
+    }
+
+    /// The owner of a set, as an operand: the system is the constant 0.
+    pub fn owner(
+        &mut self,
+        code: &mut Piece,
+        site: Site,
+        owner: &SetOwner,
+    ) -> Result<Operand, AllocError>
+        ensures { IfOk result (λ o. Bears self.old self.new code.old code.new site (expression_of (view_owner owner.now)) o) }
+    {
+        match owner {
+            SetOwner::TheSystem => Ok(Operand::leaf(self.zero()?)),
+            SetOwner::Entity { entity } => self.operand(code, site, entity),
+        }
+    }
+
+    /// The entity of a statistic, as an operand: none is the constant 0.
+    pub fn entity_of(
+        &mut self,
+        code: &mut Piece,
+        site: Site,
+        e: &Option<Expression>,
+    ) -> Result<Operand, AllocError>
+        ensures { IfOk result (λ o. Bears self.old self.new code.old code.new site (view_option view_expression e.now) o) }
+    {
+        match e {
+            None => Ok(Operand::leaf(self.zero()?)),
+            Some(entity) => self.operand(code, site, entity),
+        }
+    }
+
+    /// The number 1 goes into the next cell.
+    pub fn push_one(&mut self, code: &mut Piece, site: Site) -> Result<(), AllocError>
+        ensures code { OnOk result (Emits self.old self.new code.old code.new site (λ s. Unit {0}) (λ t. place t (Move (Constant (Whole (pos 1))) (next t)) ∷ [])) }
+        ensures room { OnOk result (site.height < self.new.deepest) }
+    {
+        let to = self.cell(site)?;
+        let from = self.one()?;
+        code.put(site.line, Instruction::Move { from, to })?;
+        Ok(())
+    }
+}

@@ -1,0 +1,231 @@
+//! The code that works on sets.
+
+ghost use Rattle.std.specs.Prelude.{◌≡◌, ◌++◌, if◌then◌else◌, IfOk, OnOk};
+ghost use Rattle.ss_program.specs.Program.{BeforeMember, AfterMember, File, RemoveEnd, Remove};
+ghost use Rattle.ss_program.specs.View.{view_expression, view_owner, view_place, view_position};
+ghost use Rattle.ss_program.specs.WellTyped.{OwnerFits, Good};
+ghost use Rattle.ss_code_instructions.specs.Translation.{with_owner, after as beyond, operand, member_code, file_code, remove_code, remove_end_code};
+ghost use Rattle.ss_code_instructions.specs.Facts.{may_fault, expression_of};
+ghost use Rattle.ss_code_instructions.specs.Instructions.{File as Files};
+ghost use Rattle.ss_code_pieces.specs.Preamble.{filing_of};
+ghost use Rattle.ss_code_instructions.specs.Forms.{removing};
+ghost use Rattle.ss_code_generator.specs.Filings.{filing};
+ghost use Rattle.ss_code_generator.specs.Emitted.{Emits, IsNumber, ReadsBy};
+
+use crate::expressions::Operand;
+use ss_code_pieces::facts::{Ordering, is_count_watched, ordering_of};
+use crate::generator::{Generator, Site};
+use ss_code_pieces::leaves::owner_may_fault;
+use ss_code_pieces::piece::{Piece, as_index};
+use ss_code_instructions::address::Address;
+use ss_code_instructions::instruction::Instruction;
+use ss_program::expression::{Expression, SetOwner};
+use ss_program::statement::{End, Place, Position};
+use std::alloc::AllocError;
+
+// A member is filed where the discipline says.
+fn file_by(
+    ordering: Ordering,
+    set: u32,
+    member: Address,
+    owner: Address,
+    noted: bool,
+) -> Instruction
+    ensures { result ≡ filing ordering set member owner noted }
+{
+    match ordering {
+        Ordering::First => Instruction::FileFirst {
+            set,
+            member,
+            owner,
+            noted,
+        },
+        Ordering::Last => Instruction::FileLast {
+            set,
+            member,
+            owner,
+            noted,
+        },
+        Ordering::Ranked => Instruction::FileRanked {
+            set,
+            member,
+            owner,
+            noted,
+        },
+    }
+}
+
+// The member at an end is removed.
+fn remove_by(end: End, set: u32, owner: Address, to: Address, noted: bool) -> Instruction
+    ensures { result ≡ removing end set owner to noted }
+{
+    match end {
+        End::First => Instruction::RemoveFirst {
+            set,
+            owner,
+            to,
+            noted,
+        },
+        End::Last => Instruction::RemoveLast {
+            set,
+            owner,
+            to,
+            noted,
+        },
+    }
+}
+
+impl Generator<'_> {
+    /// A reference to an entity that may be a member of a set. It is looked at where something that may fault comes between.
+    pub fn member(
+        &mut self,
+        code: &mut Piece,
+        site: Site,
+        set: usize,
+        e: &Expression,
+        is_looked: bool,
+    ) -> Result<Operand, AllocError>
+        ensures { IfOk result (λ o. ReadsBy self.old self.new code.old code.new site (IsNumber (view_expression e.now)) (view_expression e.now) o (λ t. member_code t is_looked set (view_expression e.now))) }
+    {
+        let member = self.operand(code, site, e)?;
+        if !is_looked {
+            return Ok(member);
+        }
+        let (set, entity) = (as_index(set)?, member.address);
+        code.put(
+            site.line,
+            Instruction::LookMember {
+                set,
+                member: entity,
+            },
+        )?;
+        Ok(member)
+    }
+
+    // A member is filed by an ordering.
+    fn file_at(
+        &mut self,
+        code: &mut Piece,
+        site: Site,
+        set: usize,
+        member: &Expression,
+        ordering: Ordering,
+        owner: &SetOwner,
+    ) -> Result<(), AllocError>
+        ensures { OnOk result (Emits self.old self.new code.old code.new site (λ s. IsNumber (view_expression member.now) s × OwnerFits s set (view_owner owner.now)) (λ t. member_code t (may_fault (expression_of (view_owner owner.now))) set (view_expression member.now) ++ with_owner (beyond t (view_expression member.now)) (view_owner owner.now) (Files (filing_of ordering) set (operand t (view_expression member.now))))) }
+    {
+        let member = self.member(code, site, set, member, owner_may_fault(owner))?;
+        let owner = self.owner(code, site.above(member.cells), owner)?.address;
+        let noted = is_count_watched(self.program, set);
+        code.put(
+            site.line,
+            file_by(ordering, as_index(set)?, member.address, owner, noted),
+        )?;
+        Ok(())
+    }
+
+    // A member is filed directly before another one, or directly after it.
+    fn file_beside(
+        &mut self,
+        code: &mut Piece,
+        site: Site,
+        set: usize,
+        member: &Expression,
+        after: bool,
+        beside: &Expression,
+        owner: &SetOwner,
+    ) -> Result<(), AllocError>
+        ensures { OnOk result (Emits self.old self.new code.old code.new site (λ s. IsNumber (view_expression member.now) s × IsNumber (view_expression beside.now) s × OwnerFits s set (view_owner owner.now)) (λ t. file_code t set (view_expression member.now) (if after then AfterMember (view_expression beside.now) else BeforeMember (view_expression beside.now)) (view_owner owner.now))) }
+    {
+        let member = self.member(code, site, set, member, true)?;
+        let above = site.above(member.cells);
+        let beside = self.member(code, above, set, beside, true)?;
+        let owner = self.owner(code, above.above(beside.cells), owner)?.address;
+        code.put(
+            site.line,
+            Instruction::FileBeside {
+                noted: is_count_watched(self.program, set),
+                after,
+                set: as_index(set)?,
+                member: member.address,
+                beside: beside.address,
+                owner,
+            },
+        )?;
+        Ok(())
+    }
+
+    /// FILE.
+    pub fn file(
+        &mut self,
+        code: &mut Piece,
+        site: Site,
+        set: usize,
+        member: &Expression,
+        position: &Position,
+        owner: &SetOwner,
+    ) -> Result<(), AllocError>
+        ensures { OnOk result (Emits self.old self.new code.old code.new site (λ s. Good s (File site.line set (view_expression member.now) (view_position position.now) (view_owner owner.now))) (λ t. file_code t set (view_expression member.now) (view_position position.now) (view_owner owner.now))) }
+    {
+        match position {
+            Position::ByDiscipline => {
+                let ordering = ordering_of(self.program, set);
+                self.file_at(code, site, set, member, ordering, owner)
+            }
+            Position::AsFirst => self.file_at(code, site, set, member, Ordering::First, owner),
+            Position::AsLast => self.file_at(code, site, set, member, Ordering::Last, owner),
+            Position::BeforeMember { member: beside } => {
+                self.file_beside(code, site, set, member, false, beside, owner)
+            }
+            Position::AfterMember { member: beside } => {
+                self.file_beside(code, site, set, member, true, beside, owner)
+            }
+        }
+    }
+
+    /// REMOVE.
+    pub fn remove(
+        &mut self,
+        code: &mut Piece,
+        site: Site,
+        set: usize,
+        member: &Expression,
+        owner: &SetOwner,
+    ) -> Result<(), AllocError>
+        ensures { OnOk result (Emits self.old self.new code.old code.new site (λ s. Good s (Remove site.line set (view_expression member.now) (view_owner owner.now))) (λ t. remove_code t set (view_expression member.now) (view_owner owner.now))) }
+    {
+        let member = self.member(code, site, set, member, owner_may_fault(owner))?;
+        let owner = self.owner(code, site.above(member.cells), owner)?.address;
+        code.put(
+            site.line,
+            Instruction::Remove {
+                set: as_index(set)?,
+                member: member.address,
+                owner,
+                noted: is_count_watched(self.program, set),
+            },
+        )?;
+        Ok(())
+    }
+
+    /// REMOVE FIRST and REMOVE LAST.
+    pub fn remove_end(
+        &mut self,
+        code: &mut Piece,
+        site: Site,
+        end: End,
+        set: usize,
+        place: &Place,
+        owner: &SetOwner,
+    ) -> Result<(), AllocError>
+        ensures { OnOk result (Emits self.old self.new code.old code.new site (λ s. Good s (RemoveEnd site.line end set (view_place place.now) (view_owner owner.now))) (λ t. remove_end_code t end set (view_place place.now) (view_owner owner.now))) }
+    {
+        let spot = self.looked_spot(code, site, place)?;
+        let above = site.above(spot.cells());
+        let owner = self.owner(code, above, owner)?.address;
+        let to = self.landing(above, spot)?;
+        let noted = is_count_watched(self.program, set);
+        code.put(site.line, remove_by(end, as_index(set)?, owner, to, noted))?;
+        self.take(code, above, spot, to)
+    }
+}

@@ -1,0 +1,3 @@
+pub mod Leafs
+pub mod Steps
+pub mod Calculated

@@ -1,0 +1,3 @@
+pub mod Preamble
+pub mod Lined
+pub mod Plain

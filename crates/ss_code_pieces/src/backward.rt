@@ -1,0 +1,63 @@
+//! Code that is made from its end to its beginning.
+
+ghost use Rattle.std.specs.Prelude.{◌≡◌, ◌++◌, ◌<◌, ◌^◌, length, OnOk};
+ghost use Rattle.ss_code_pieces.specs.Lined.{nothing};
+
+use crate::piece::Piece;
+use std::alloc::{AllocError, Global};
+use std::marker::Model;
+
+/// Instructions, of which the last are made first.
+///
+/// A contract sees them in their order.
+#[derive(Drop)]
+pub struct Backward {
+    // The last first.
+    piece: Piece,
+}
+
+impl Model for Backward {
+    ghost use Rattle.std.specs.Prelude.{reverse};
+    ghost use Rattle.ss_code_pieces.specs.Lined.{Lined};
+
+    ghost Value = { Lined };
+
+    ghost view = { λ b. record { instructions = reverse b.piece.instructions; lines = reverse b.piece.lines } };
+}
+
+impl Backward {
+    /// No instruction.
+    pub fn new(alloc: Global) -> Backward
+        ensures { result ≡ nothing }
+    {
+        Backward {
+            piece: Piece::new(alloc),
+        }
+    }
+
+    /// How many instructions there are.
+    pub fn len(&self) -> usize
+        ensures value { result ≡ length self.now.instructions }
+        ensures small { result < 2 ^ 63 }
+    {
+        self.piece.len()
+    }
+
+    /// What comes before the instructions that were made so far.
+    pub fn put_before(&mut self, mut piece: Piece) -> Result<(), AllocError>
+        ensures instructions { OnOk result (self.new.instructions ≡ piece.instructions ++ self.old.instructions) }
+        ensures lines { OnOk result (self.new.lines ≡ piece.lines ++ self.old.lines) }
+    {
+        piece.reverse();
+        self.piece.append(piece)
+    }
+
+    /// All of them, the first first.
+    pub fn into_piece(self) -> Piece
+        ensures { result ≡ self }
+    {
+        let mut whole = self.piece;
+        whole.reverse();
+        whole
+    }
+}

@@ -1,0 +1,147 @@
+-- A head that went out of its place, and whether a follower has a notice.
+use Rattle.std.proofs.Common.{◌≡◌, ◌≢◌, ◌⊎◌, ℕ, ◌+◌, ◌<◌, ◌≤◌, ℤ, pos, int_eq, Bool, true, false, cond, List, length, get_or, set, take, swap, sym, ap, subst, ◌∙◌, ⊎_elim, inl, inr, arith}
+use Rattle.std.specs.Prelude.{◌==◌, slice_index_or}
+use Rattle.std.specs.List.{list_any, swap_remove}
+use Rattle.std.specs.Cmp.{int_eq_equiv}
+use Rattle.std.proofs.lemmas.Bool.{cases_Bool}
+use Rattle.std.proofs.lemmas.Bool.Decides.{nat_tests}
+use Rattle.std.proofs.lemmas.List.{length-map, get_or-map, get_or-set_other, get_or_default}
+use Rattle.ss_events_entries.specs.declared.entry.Entry.{Entry}
+use Rattle.ss_events_entries.specs.declared.entry.directory.SlotDirectory.{SlotDirectory}
+use Rattle.ss_events_entries.specs.declared.entry.slots.Slot.{Slot}
+use Rattle.ss_events_entries.specs.declared.entry.slots.HeapNode.{HeapNode}
+use Rattle.ss_events_entries.specs.Slots.{no_entry, blank_slot, no_slot, no_node, following, slot_at, node, entry_at, AreHeld, IsGuess, heads, followers, exchanged, not_plain}
+use Rattle.ss_events_entries.specs.HeapEntries.{HeadsAndFollowers, Advances, notices_of}
+use Rattle.ss_events_entries.proofs.Marks.{notice_in}
+use Rattle.ss_events_entries.proofs.Lists.{removed_by_swap, each_fails, none_passes}
+use Rattle.ss_events_entries.proofs.Exchanging.{exchange}
+use Rattle.ss_events_entries.proofs.Swapped.{slot_at-exchanged, node-swapped, held-swapped, heads-swapped, followers-swapped}
+use Rattle.ss_events_entries.proofs.HeadsAndFollowers.{long_heads, head_at, follower, follower_at, slot_of_follower}
+use Rattle.ss_events_entries.proofs.Removed.{followers-advanced, heads-advanced, heads-dropped, held-advanced, held-dropped, advanced, advanced_nodes, differ}
+
+-- what is seen of them
+abbrev pub lines : ℕ → List Slot → List Entry → List HeapNode → HeadsAndFollowers
+lines n ys vs us = record { heads = heads n ys vs us; followers = followers ys }
+
+-- an entry went out of the place k
+pub record Gone (old : HeadsAndFollowers) (k : ℕ) (e : Entry) (n f : ℕ) (ys : List Slot) (vs : List Entry) (us : List HeapNode) (g : SlotDirectory) : Type 0 where
+  pub held : AreHeld n (f + 1) ys vs us g
+  pub rest : (lines n ys vs us ≡ record old { heads = swap_remove old.heads k e }) ⊎ Advances old (lines n ys vs us) k
+
+pub gone_like : (old : HeadsAndFollowers) (k : ℕ) (e : Entry) (n m f l : ℕ) (ys xs : List Slot) (vs ws : List Entry) (us ss : List HeapNode) (g : SlotDirectory)
+    → n ≡ m → f ≡ l → ys ≡ xs → vs ≡ ws → us ≡ ss → Gone old k e m l xs ws ss g → Gone old k e n f ys vs us g
+gone_like old k e n m f l ys xs vs ws us ss g n_is f_is ys_is vs_is us_is gone =
+    subst (λ a. Gone old k e a f ys vs us g) (sym n_is)
+    (subst (λ a. Gone old k e m a ys vs us g) (sym f_is)
+    (subst (λ a. Gone old k e m l a vs us g) (sym ys_is)
+    (subst (λ a. Gone old k e m l xs a us g) (sym vs_is)
+    (subst (λ a. Gone old k e m l xs ws a g) (sym us_is) gone))))
+
+last_place : (k n : ℕ) → exchange k n n ≡ k
+last_place k n = grind (arith, nat_tests)
+
+-- a slot that is cleared
+cleared_by : (b : Bool) (ws vs : List Entry) (s : ℕ) (e : Entry) → vs ≡ cond b (set ws s e) ws → (t : ℕ) → t ≢ s → get_or vs t no_entry ≡ get_or ws t no_entry
+cleared_by true ws vs s e is t other = ap (λ l. get_or l t no_entry) is ∙ get_or-set_other ws s t e no_entry other
+cleared_by false ws vs s e is t other = ap (λ l. get_or l t no_entry) is
+
+module _ (count free : ℕ) (slots : List Slot) (wholes : List Entry) (nodes : List HeapNode) (d : SlotDirectory) (h : AreHeld count free slots wholes nodes d) (k : ℕ) (k_in : k < count) where
+  abbrev pub seen : HeadsAndFollowers
+  seen = lines count slots wholes nodes
+
+  -- the entry in the place
+  abbrev pub out : Entry
+  out = entry_at slots wholes (node nodes k).slot
+
+  node_in : k < length nodes
+  node_in = omega (arith, k_in, h.few)
+
+  pub out_there : (e : Entry) → out ≡ get_or (heads count slots wholes nodes) k e
+  out_there e = sym (head_at count slots wholes nodes (omega (arith, h.few)) k e k_in)
+
+  pub out_slot : (node nodes k).slot < length slots
+  out_slot = (h.there k (omega (arith, k_in))).0
+
+  pub out_time : (node nodes k).mark.time ≡ out.key.time
+  out_time =
+      let at = (h.there k (omega (arith, k_in))).1 in
+      ap (λ m. m.time) (h.marked k k_in ∙ h.fits (node nodes k).slot out_slot (inl (omega (arith, at, k_in))))
+
+  pub out_notice : (slot_at slots (node nodes k).slot).notice ≡ out.notice
+  out_notice = sym (notice_in (slot_at slots (node nodes k).slot).mark (slot_at slots (node nodes k).slot).notice (slice_index_or wholes (node nodes k).slot no_entry))
+
+  -- what is read
+  pub read_node : (y : HeapNode) → y ≡ get_or nodes k y → y ≡ node nodes k
+  read_node y is = is ∙ get_or_default nodes k y no_node node_in
+
+  pub read_head : (y : HeapNode) (x : Slot) → y ≡ get_or nodes k y → x ≡ get_or slots y.slot x → x ≡ slot_at slots (node nodes k).slot
+  read_head y x y_is x_is =
+      let same = ap (λ (u : HeapNode). u.slot) (read_node y y_is) in
+      x_is ∙ ap (λ s. get_or slots s x) same ∙ get_or_default slots (node nodes k).slot x blank_slot out_slot
+
+  pub gone-advanced : (real : (slot_at slots (node nodes k).slot).next ≢ no_slot) (g : SlotDirectory)
+      → ((m : ℤ) (t : ℕ) → m ≢ (slot_at slots (node nodes k).slot).notice → t ≢ (node nodes k).slot → IsGuess d m t → IsGuess g m t)
+      → Gone seen k out count free (advanced count free slots wholes nodes d h k k_in real) wholes (advanced_nodes count free slots wholes nodes d h k k_in real) g
+  gone-advanced real g others = record {
+    held = held-advanced count free slots wholes nodes d h k k_in real g others;
+    rest = inr (record {
+      next = follower (slot_at slots (slot_at slots (node nodes k).slot).next);
+      heads = heads-advanced count free slots wholes nodes d h k k_in real;
+      followers = followers-advanced count free slots wholes nodes d h k k_in real;
+    });
+  }
+
+  pub gone-dropped : (n : ℕ) → count ≡ n + 1 → (slot_at slots (node nodes k).slot).next ≡ no_slot → (o : ℕ) (vs : List Entry) → vs ≡ cond (o == not_plain) (set wholes (node nodes k).slot no_entry) wholes → (g : SlotDirectory)
+      → ((m : ℤ) (t : ℕ) → m ≢ (slot_at slots (node nodes k).slot).notice → t ≢ (node nodes k).slot → IsGuess d m t → IsGuess g m t)
+      → Gone seen k out n free (exchanged nodes slots k n) vs (swap nodes k n) g
+  gone-dropped n one none o vs vs_is g others =
+      let s = (node nodes k).slot in
+      let n_in : n < count = omega (arith, one) in
+      let ys = exchanged nodes slots k n in
+      let nodes_put = swap nodes k n in
+      let held = held-swapped count free slots wholes nodes d h k n k_in n_in in
+      let slot_so = slot_at-exchanged count free slots wholes nodes d h k n k_in n_in s out_slot in
+      let s_is : (node nodes_put n).slot ≡ s
+      = ap (λ (x : HeapNode). x.slot) (node-swapped count free slots wholes nodes d h k n k_in n_in n) ∙ ap (λ j. (node nodes j).slot) (last_place k n) in
+      let none_then : (slot_at ys s).next ≡ no_slot = ap (λ (x : Slot). x.next) slot_so ∙ none in
+      let clear = cleared_by (o == not_plain) wholes vs s no_entry vs_is in
+      let few : count ≤ length nodes = omega (arith, h.few) in
+      let long = long_heads count slots wholes nodes few in
+      let seen_heads : heads n ys vs nodes_put ≡ swap_remove (heads count slots wholes nodes) k out
+      = heads-dropped count free ys wholes nodes_put d held n one s s_is none_then vs clear
+      ∙ ap (take n) (heads-swapped count free slots wholes nodes d h k n k_in n_in)
+      ∙ sym (removed_by_swap (heads count slots wholes nodes) k n out (long ∙ one) (omega (arith, long, k_in))) in
+      record {
+        held =
+            held-dropped count free ys wholes nodes_put d held n one s s_is none_then vs clear g
+            (λ m t apart other led. others m t (λ e. apart (e ∙ sym (ap (λ (x : Slot). x.notice) slot_so))) other led);
+        rest = inl (λ i. record { heads = seen_heads i; followers = followers-swapped count free slots wholes nodes d h k n k_in n_in i });
+      }
+
+-- ---- whether a follower has a notice
+
+pub read_slot : (xs : List Slot) (s : ℕ) (y : Slot) → y ≡ get_or xs s y → s < length xs → y ≡ slot_at xs s
+read_slot xs s y is s_in = is ∙ get_or_default xs s y blank_slot s_in
+
+pub no_follower_has : (xs : List Slot) (m : ℤ) → ((s : ℕ) → s < length xs → following ≤ (slot_at xs s).at → (slot_at xs s).notice ≢ m) → list_any (int_eq m) (notices_of (followers xs)) ≡ false
+no_follower_has xs m none =
+    none_passes (int_eq m) (notices_of (followers xs)) (pos 0)
+    (λ k k_in.
+    let within : k < length (followers xs) = omega (arith, k_in, length-map (followers xs) (λ (e : Entry). e.notice)) in
+    let it = slot_of_follower xs k within in
+    let is : get_or (notices_of (followers xs)) k (pos 0) ≡ (slot_at xs it.0).notice
+    = get_or-map (λ (e : Entry). e.notice) (followers xs) k no_entry (pos 0) within ∙ ap (λ (e : Entry). e.notice) (it.1.is no_entry) in
+    differ m (get_or (notices_of (followers xs)) k (pos 0)) (λ e. none it.0 it.1.within it.1.nodes (sym is ∙ sym e)))
+
+pub follower_has : (xs : List Slot) (m : ℤ) (s : ℕ) → s < length xs → following ≤ (slot_at xs s).at → (slot_at xs s).notice ≡ m → list_any (int_eq m) (notices_of (followers xs)) ≡ true
+follower_has xs m s s_in s_follows is = ⊎_elim
+    (λ yes. yes)
+    (λ no.
+    let it = follower_at xs s s_in s_follows in
+    let there : get_or (notices_of (followers xs)) it.0 (pos 0) ≡ m
+    = get_or-map (λ (e : Entry). e.notice) (followers xs) it.0 no_entry (pos 0) it.1.listed ∙ ap (λ (e : Entry). e.notice) (it.1.is no_entry) ∙ is in
+    let fails : int_eq m m ≡ false
+    = ap (int_eq m) (sym there) ∙ each_fails (int_eq m) (notices_of (followers xs)) (pos 0) no it.0 (omega (arith, it.1.listed, length-map (followers xs) (λ (e : Entry). e.notice))) in
+    let passes : int_eq m m ≡ true = int_eq_equiv.refl m in
+    cc)
+    (cases_Bool (list_any (int_eq m) (notices_of (followers xs))))

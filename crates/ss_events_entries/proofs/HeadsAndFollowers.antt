@@ -1,0 +1,164 @@
+-- What is read of slots, of the entries in places, and of followers.
+use Rattle.std.proofs.Common.{◌≡◌, ℕ, zero, suc, ◌<◌, ◌≤◌, Bool, true, false, cond, List, [], ◌∷◌, ◌++◌, length, get_or, set, take, sym, ap, subst, ◌∙◌, ⊎_elim, arith}
+use Rattle.std.specs.Prelude.{nat_le}
+use Rattle.std.specs.List.Sorted.{IsPermutation}
+use Rattle.std.proofs.lemmas.Bool.{cases_lt}
+use Rattle.std.proofs.lemmas.Bool.Decides.{nat_tests}
+use Rattle.std.proofs.lemmas.List.{length-map, length-take-le, get_or-map, get_or-take, get_or-set_same, get_or-set_other, same_lists}
+use Rattle.std.proofs.lemmas.List.Sorted.{IsPermutation-refl, IsPermutation-cons, IsPermutation-trans, IsPermutation-middle}
+use Rattle.ss_events_entries.specs.declared.entry.Entry.{Entry}
+use Rattle.ss_events_entries.specs.declared.entry.slots.Slot.{Slot}
+use Rattle.ss_events_entries.specs.declared.entry.slots.HeapNode.{HeapNode}
+use Rattle.ss_events_entries.specs.Slots.{blank_slot, no_node, following, slot_at, node, plain_entry, entry_at, heads, followers}
+
+-- ---- the contents of a slot, once another was written
+
+pub slot_at-same : (xs : List Slot) (s : ℕ) (y : Slot) → s < length xs → slot_at (set xs s y) s ≡ y
+slot_at-same xs s y within = get_or-set_same xs s y blank_slot within
+
+pub slot_at-other : (xs : List Slot) (s t : ℕ) (y : Slot) → (t ≡ s → ⊥) → slot_at (set xs s y) t ≡ slot_at xs t
+slot_at-other xs s t y other = get_or-set_other xs s t y blank_slot other
+
+-- ---- the heads
+
+module _ (count : ℕ) (slots : List Slot) (wholes : List Entry) (nodes : List HeapNode) (few : count ≤ length nodes) where
+  pub long_heads : length (heads count slots wholes nodes) ≡ count
+  long_heads = length-map (take count nodes) (λ (t : HeapNode). entry_at slots wholes t.slot) ∙ length-take-le count nodes few
+
+  pub head_at : (k : ℕ) (d : Entry) → k < count → get_or (heads count slots wholes nodes) k d ≡ entry_at slots wholes (node nodes k).slot
+  head_at k d within =
+      get_or-map (λ (t : HeapNode). entry_at slots wholes t.slot) (take count nodes) k no_node d (omega (arith, within, length-take-le count nodes few))
+      ∙ ap (λ (t : HeapNode). entry_at slots wholes t.slot) (get_or-take count nodes k no_node within)
+
+-- heads that are equal one by one
+pub same_heads : (count n : ℕ) (xs ys : List Slot) (ws vs : List Entry) (ss ts : List HeapNode) → n ≡ count → count ≤ length ss → count ≤ length ts
+    → ((k : ℕ) → k < count → entry_at ys vs (node ts k).slot ≡ entry_at xs ws (node ss k).slot) → heads n ys vs ts ≡ heads count xs ws ss
+same_heads count n xs ys ws vs ss ts is few_ss few_ts same =
+    ap (λ m. heads m ys vs ts) is
+    ∙ same_lists (heads count ys vs ts) (heads count xs ws ss) (long_heads count ys vs ts few_ts ∙ sym (long_heads count xs ws ss few_ss))
+    (λ k d k_in.
+    let within : k < count = omega (arith, k_in, long_heads count ys vs ts few_ts) in
+    head_at count ys vs ts few_ts k d within ∙ same k within ∙ sym (head_at count xs ws ss few_ss k d within))
+
+-- ---- the followers
+
+abbrev pub follower : Slot → Entry
+follower x = plain_entry x.mark x.notice
+
+is_follower : (x : Slot) → following ≤ x.at → nat_le following x.at ≡ true
+is_follower x h = grind (arith, nat_tests)
+
+nodes_apart : (x : Slot) → x.at < following → nat_le following x.at ≡ false
+nodes_apart x h = grind (arith, nat_tests)
+
+pub followers-following : (x : Slot) (xs : List Slot) → following ≤ x.at → followers (x ∷ xs) ≡ follower x ∷ followers xs
+followers-following x xs h = ap (λ b. cond b (follower x ∷ followers xs) (followers xs)) (is_follower x h)
+
+pub followers-apart : (x : Slot) (xs : List Slot) → x.at < following → followers (x ∷ xs) ≡ followers xs
+followers-apart x xs h = ap (λ b. cond b (follower x ∷ followers xs) (followers xs)) (nodes_apart x h)
+
+-- a slot that is in a place before and after
+pub followers-placed : (xs : List Slot) (s : ℕ) (y : Slot) → s < length xs → (slot_at xs s).at < following → y.at < following → followers (set xs s y) ≡ followers xs
+followers-placed [] s y within h k = absurd (omega (arith, within))
+followers-placed (x ∷ xs) zero y within h k = followers-apart y xs k ∙ sym (followers-apart x xs h)
+followers-placed (x ∷ xs) (suc s) y within h k =
+    ap (λ l. cond (nat_le following x.at) (follower x ∷ l) l) (followers-placed xs s y (omega (arith, within)) h k)
+
+-- a slot that follows another before and after
+pub followers-kept : (xs : List Slot) (s : ℕ) (y : Slot) → s < length xs → following ≤ (slot_at xs s).at → following ≤ y.at → follower y ≡ follower (slot_at xs s) → followers (set xs s y) ≡ followers xs
+followers-kept [] s y within h k same = absurd (omega (arith, within))
+followers-kept (x ∷ xs) zero y within h k same = followers-following y xs k ∙ ap (λ e. e ∷ followers xs) same ∙ sym (followers-following x xs h)
+followers-kept (x ∷ xs) (suc s) y within h k same =
+    ap (λ l. cond (nat_le following x.at) (follower x ∷ l) l) (followers-kept xs s y (omega (arith, within)) h k same)
+
+pub swap_two : (e f : Entry) (l : List Entry) → IsPermutation (e ∷ f ∷ l) (f ∷ e ∷ l)
+swap_two e f l = IsPermutation-middle (e ∷ []) f l
+
+-- with one more in front, if it is there
+front_joined : (b : Bool) (x e : Entry) (l m : List Entry) → IsPermutation (e ∷ l) m → IsPermutation (e ∷ cond b (x ∷ l) l) (cond b (x ∷ m) m)
+front_joined true x e l m p = IsPermutation-trans (e ∷ x ∷ l) (x ∷ e ∷ l) (x ∷ m) (swap_two e x l) (IsPermutation-cons x (e ∷ l) m p)
+front_joined false x e l m p = p
+
+front_left : (b : Bool) (x e : Entry) (l m : List Entry) → IsPermutation l (e ∷ m) → IsPermutation (cond b (x ∷ l) l) (e ∷ cond b (x ∷ m) m)
+front_left true x e l m p = IsPermutation-trans (x ∷ l) (x ∷ e ∷ m) (e ∷ x ∷ m) (IsPermutation-cons x l (e ∷ m) p) (swap_two x e m)
+front_left false x e l m p = p
+
+-- a slot that now follows another
+pub followers-joined : (xs : List Slot) (s : ℕ) (y : Slot) → s < length xs → (slot_at xs s).at < following → following ≤ y.at → IsPermutation (follower y ∷ followers xs) (followers (set xs s y))
+followers-joined [] s y within h k = absurd (omega (arith, within))
+followers-joined (x ∷ xs) zero y within h k =
+    subst (λ l. IsPermutation l (followers (y ∷ xs))) (ap (λ l. follower y ∷ l) (sym (followers-apart x xs h)))
+    (subst (λ l. IsPermutation (follower y ∷ followers xs) l) (sym (followers-following y xs k)) (IsPermutation-refl (follower y ∷ followers xs)))
+followers-joined (x ∷ xs) (suc s) y within h k =
+    front_joined (nat_le following x.at) (follower x) (follower y) (followers xs) (followers (set xs s y)) (followers-joined xs s y (omega (arith, within)) h k)
+
+-- a slot that no longer follows another
+pub followers-left : (xs : List Slot) (s : ℕ) (y : Slot) → s < length xs → following ≤ (slot_at xs s).at → y.at < following → IsPermutation (followers xs) (follower (slot_at xs s) ∷ followers (set xs s y))
+followers-left [] s y within h k = absurd (omega (arith, within))
+followers-left (x ∷ xs) zero y within h k =
+    subst (λ l. IsPermutation l (follower x ∷ followers (y ∷ xs))) (sym (followers-following x xs h))
+    (subst (λ l. IsPermutation (follower x ∷ followers xs) (follower x ∷ l)) (sym (followers-apart y xs k)) (IsPermutation-refl (follower x ∷ followers xs)))
+followers-left (x ∷ xs) (suc s) y within h k =
+    front_left (nat_le following x.at) (follower x) (follower (slot_at xs s)) (followers xs) (followers (set xs s y)) (followers-left xs s y (omega (arith, within)) h k)
+
+-- a new slot that is in a place
+pub followers-pushed : (xs : List Slot) (y : Slot) → y.at < following → followers (xs ++ y ∷ []) ≡ followers xs
+followers-pushed [] y k = followers-apart y [] k
+followers-pushed (x ∷ xs) y k = ap (λ l. cond (nat_le following x.at) (follower x ∷ l) l) (followers-pushed xs y k)
+
+-- where a follower is in the list, and of which slot
+pub record Follows (xs : List Slot) (s k : ℕ) : Type 0 where
+  pub within : s < length xs
+  pub nodes : following ≤ (slot_at xs s).at
+  pub listed : k < length (followers xs)
+  pub is : (d : Entry) → get_or (followers xs) k d ≡ follower (slot_at xs s)
+
+pub follower_at : (xs : List Slot) (s : ℕ) → s < length xs → following ≤ (slot_at xs s).at → (k : ℕ) × Follows xs s k
+follower_at [] s within h = absurd (omega (arith, within))
+follower_at (x ∷ xs) zero within h =
+    let is = followers-following x xs h in (
+      zero,
+      record { within = within; nodes = h; listed = omega (arith, ap length is); is = λ d. ap (λ l. get_or l 0 d) is },
+    )
+follower_at (x ∷ xs) (suc s) within h =
+    let k = follower_at xs s (omega (arith, within)) h in
+    ⊎_elim
+    (λ lt. let is = followers-apart x xs lt in (
+      k.0,
+      record { within = within; nodes = h; listed = omega (arith, k.1.listed, ap length is); is = λ d. ap (λ l. get_or l k.0 d) is ∙ k.1.is d },
+    ))
+    (λ ge. let is = followers-following x xs ge in (
+      suc k.0,
+      record { within = within; nodes = h; listed = omega (arith, k.1.listed, ap length is); is = λ d. ap (λ l. get_or l (suc k.0) d) is ∙ k.1.is d },
+    ))
+    (cases_lt x.at following)
+
+pub slot_of_follower : (xs : List Slot) (k : ℕ) → k < length (followers xs) → (s : ℕ) × Follows xs s k
+slot_of_follower [] k h = absurd (omega (arith, h))
+slot_of_follower (x ∷ xs) zero h = ⊎_elim
+    (λ lt.
+    let is = followers-apart x xs lt in
+    let s = slot_of_follower xs zero (omega (arith, h, ap length is)) in (
+      suc s.0,
+      record { within = omega (arith, s.1.within); nodes = s.1.nodes; listed = h; is = λ d. ap (λ l. get_or l zero d) is ∙ s.1.is d },
+    ))
+    (λ ge.
+    let is = followers-following x xs ge in (
+      zero,
+      record { within = omega arith; nodes = ge; listed = h; is = λ d. ap (λ l. get_or l zero d) is },
+    ))
+    (cases_lt x.at following)
+slot_of_follower (x ∷ xs) (suc k) h = ⊎_elim
+    (λ lt.
+    let is = followers-apart x xs lt in
+    let s = slot_of_follower xs (suc k) (omega (arith, h, ap length is)) in (
+      suc s.0,
+      record { within = omega (arith, s.1.within); nodes = s.1.nodes; listed = h; is = λ d. ap (λ l. get_or l (suc k) d) is ∙ s.1.is d },
+    ))
+    (λ ge.
+    let is = followers-following x xs ge in
+    let s = slot_of_follower xs k (omega (arith, h, ap length is)) in (
+      suc s.0,
+      record { within = omega (arith, s.1.within); nodes = s.1.nodes; listed = h; is = λ d. ap (λ l. get_or l (suc k) d) is ∙ s.1.is d },
+    ))
+    (cases_lt x.at following)

@@ -1,0 +1,15 @@
+pub mod EntryOrder
+pub mod Heaps
+pub mod Exchanging
+pub mod Lists
+pub mod Times
+pub mod Marks
+pub mod HeadsAndFollowers
+pub mod Seen
+pub mod Swapped
+pub mod Fewer
+pub mod Removed
+pub mod Gone
+pub mod Joined
+pub mod Grown
+pub mod Rises

@@ -1,0 +1,76 @@
+-- Lists that calls change.
+use Rattle.std.proofs.Common.{◌≡◌, ℕ, zero, suc, ◌+◌, ◌-◌, ◌<◌, ◌≤◌, Bool, true, false, cond, ltb, Vec, List, [], ◌∷◌, length, get_or, set, take, swap, position, Some, None, refl, sym, ap, ◌∙◌, arith}
+use Rattle.std.specs.List.{list_any, swap_remove}
+use Rattle.std.specs.Vec.{with_items}
+use Rattle.std.proofs.lemmas.Bool.{or_parts, or_from, lt-ltb, le-ltb}
+use Rattle.std.proofs.lemmas.Bool.Decides.{nat_tests}
+use Rattle.std.proofs.lemmas.List.{length-take-le, with_items_is, get_or_default, get_or-take, same_lists, take-set}
+use Rattle.std.proofs.lemmas.List.Edits.{length-swap, swap_is}
+use Rattle.std.proofs.lemmas.List.Sums.{position_or_len_is}
+use Rattle.ss_events_entries.proofs.Exchanging.{exchange, exchange-within, get_or-swap}
+
+-- ---- what a call left
+
+-- a vector whose items a call wrote as a slice
+pub written : {X Z : Type 0} (v : Vec X Z) (ws xs : List X) → ws ≡ xs → length xs ≡ v.len → (with_items v ws).items ≡ xs
+written v ws xs is long = with_items_is v ws (ap length is ∙ long) ∙ is
+
+-- where a test passes, by index
+
+module _ {X : Type 0} (p : X → Bool) where
+  pub each_fails : (xs : List X) (d : X) → list_any p xs ≡ false → (k : ℕ) → k < length xs → p (get_or xs k d) ≡ false
+  each_fails [] d e k lt = absurd (omega arith)
+  each_fails (x ∷ xs) d e zero lt = (or_parts (p x) (list_any p xs) e).0
+  each_fails (x ∷ xs) d e (suc k) lt = each_fails xs d (or_parts (p x) (list_any p xs) e).1 k (omega arith)
+
+  pub none_passes : (xs : List X) (d : X) → ((k : ℕ) → k < length xs → p (get_or xs k d) ≡ false) → list_any p xs ≡ false
+  none_passes [] d h = refl
+  none_passes (x ∷ xs) d h = or_from (p x) (list_any p xs) (h zero (omega arith)) (none_passes xs d (λ k lt. h (suc k) (omega arith)))
+
+  pub first_at : (xs : List X) (i : ℕ) (d : X) → i < length xs → ((k : ℕ) → k < i → p (get_or xs k d) ≡ false) → p (get_or xs i d) ≡ true → position p xs ≡ Some i
+  first_at xs i d within before here =
+      ap (λ n. cond (ltb n (length xs)) (Some n) None) (position_or_len_is p xs i d (omega arith) before (λ _. here))
+      ∙ ap (λ b. cond b (Some i) None) (lt-ltb i (length xs) within)
+
+  pub first_nowhere : (xs : List X) (d : X) → ((k : ℕ) → k < length xs → p (get_or xs k d) ≡ false) → position p xs ≡ None
+  first_nowhere xs d fails =
+      ap (λ n. cond (ltb n (length xs)) (Some n) None) (position_or_len_is p xs (length xs) d (omega arith) fails (λ lt. absurd (omega (arith, lt))))
+      ∙ ap (λ b. cond b (Some (length xs)) None) (le-ltb (length xs) (length xs) (omega arith))
+
+-- ---- two numbers in each other's place
+
+pub exchange-first : (a b m : ℕ) → m ≡ a → exchange a b m ≡ b
+exchange-first a b m e = grind (arith, nat_tests)
+
+exchange-second : (a b m : ℕ) → m ≡ b → exchange a b m ≡ a
+exchange-second a b m e = grind (arith, nat_tests)
+
+pub exchange-other : (a b m : ℕ) → (m ≡ a → ⊥) → (m ≡ b → ⊥) → exchange a b m ≡ m
+exchange-other a b m na nb = grind (arith, nat_tests)
+
+-- ---- parts of lists
+
+-- the last in the place of one, as an exchange with the last and a cut
+pub removed_by_swap : {X : Type 0} (xs : List X) (i n : ℕ) (d : X) → length xs ≡ n + 1 → i < length xs → swap_remove xs i d ≡ take n (swap xs i n)
+removed_by_swap xs i n d long within =
+    let less : length xs - 1 ≡ n = omega (arith, long) in
+    ap (λ m. take m (set xs i (get_or xs m d))) less
+    ∙ sym (take-set (set xs i (get_or xs n d)) n (get_or xs i d))
+    ∙ ap (take n) (swap_is xs i n d within (omega (arith, long)))
+
+-- the default for an item that isn't there is read of an empty list alone
+pub whatever_default : {X : Type 0} (xs : List X) (i : ℕ) (d c : X) → 0 < length xs → swap_remove xs i d ≡ swap_remove xs i c
+whatever_default xs i d c some = ap (λ x. take (length xs - 1) (set xs i x)) (get_or_default xs (length xs - 1) d c (omega arith))
+
+-- the first few, after two of them changed places
+pub take-swap : {X : Type 0} (n : ℕ) (xs : List X) (a b : ℕ) → a < n → b < n → n ≤ length xs → take n (swap xs a b) ≡ swap (take n xs) a b
+take-swap n xs a b a_in b_in few =
+    let cut : length (take n xs) ≡ n = length-take-le n xs few in
+    let cut_too : length (take n (swap xs a b)) ≡ n = length-take-le n (swap xs a b) (omega (arith, few, length-swap xs a b)) in
+    same_lists (take n (swap xs a b)) (swap (take n xs) a b) (cut_too ∙ sym cut ∙ sym (length-swap (take n xs) a b))
+    (λ k d k_in.
+    let lt : k < n = omega (arith, k_in, cut_too) in
+    get_or-take n (swap xs a b) k d lt
+    ∙ get_or-swap xs a b d (omega (arith, a_in, few)) (omega (arith, b_in, few)) k
+    ∙ sym (get_or-take n xs (exchange a b k) d (exchange-within a b n k a_in b_in lt))
+    ∙ sym (get_or-swap (take n xs) a b d (omega (arith, a_in, cut)) (omega (arith, b_in, cut)) k))

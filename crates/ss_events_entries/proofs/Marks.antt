@@ -1,0 +1,75 @@
+-- Plain entries, which their marks describe, and entries that are stored whole.
+use Rattle.std.proofs.Common.{◌≡◌, ◌≢◌, ℕ, ◌+◌, ◌*◌, ◌/◌, ◌%◌, ◌<◌, ℤ, Bool, true, false, cond, ltb, [], refl, sym, ap, ◌∙◌, ⊎_elim, arith}
+use Rattle.std.specs.Prelude.{◌==◌}
+use Rattle.std.proofs.lemmas.Bool.{cases_eq, lt-ltb}
+use Rattle.std.proofs.lemmas.Bool.Decides.{nat_tests}
+use Rattle.ss_events_entries.specs.declared.entry.Entry.{Entry}
+use Rattle.ss_events_entries.specs.declared.entry.Mark.{Mark}
+use Rattle.ss_events_entries.specs.Slots.{not_plain, plain_ranks, plain_numbers, is_tied, mark_of, order_of, plain_entry, entry_in}
+use Rattle.ss_events_entries.proofs.Times.{by_three, untied, below}
+
+-- ---- one entry
+
+by_test : (b : Bool) (e f : Entry) (n : ℤ) → e.notice ≡ n → f.notice ≡ n → (cond b e f).notice ≡ n
+by_test true e f n h k = h
+by_test false e f n h k = k
+
+pub notice_in : (m : Mark) (n : ℤ) (w : Entry) → (entry_in m n w).notice ≡ n
+notice_in m n w = by_test (m.order == not_plain) (record { key = w.key; number = w.number; notice = n }) (plain_entry m n) n refl refl
+
+pub plain_test : (o : ℕ) → o ≢ not_plain → (o == not_plain) ≡ false
+plain_test o h = grind (arith, nat_tests)
+
+not_plain_test : (o : ℕ) → o ≡ not_plain → (o == not_plain) ≡ true
+not_plain_test o h = grind (arith, nat_tests)
+
+pub in-not_plain : (m : Mark) (n : ℤ) (w : Entry) → m.order ≡ not_plain → entry_in m n w ≡ record { key = w.key; number = w.number; notice = n }
+in-not_plain m n w h = ap (λ b. cond b (record { key = w.key; number = w.number; notice = n }) (plain_entry m n)) (not_plain_test m.order h)
+
+pub in-plain : (m : Mark) (n : ℤ) (w : Entry) → m.order ≢ not_plain → entry_in m n w ≡ plain_entry m n
+in-plain m n w h = ap (λ b. cond b (record { key = w.key; number = w.number; notice = n }) (plain_entry m n)) (plain_test m.order h)
+
+-- what the mark of a plain entry holds
+rank_back : (o r n : ℕ) → o ≡ r * plain_numbers + n → n < plain_numbers → o / plain_numbers ≡ r
+rank_back o r n is lt = omega (arith, is, lt)
+
+number_back : (o r n : ℕ) → o ≡ r * plain_numbers + n → n < plain_numbers → o % plain_numbers ≡ n
+number_back o r n is lt = omega (arith, is, lt)
+
+plain_all : (e : Entry) → (order_of e ≡ not_plain → ⊥) → (e.key.ties ≡ []) × (e.key.rank < plain_ranks) × (e.number < plain_numbers) × (order_of e ≡ e.key.rank * plain_numbers + e.number)
+plain_all e h =
+    let it = by_three (is_tied e.key.ties) (ltb (e.key.rank) (plain_ranks)) (ltb (e.number) (plain_numbers)) not_plain (e.key.rank * plain_numbers + e.number) h in (
+      untied e.key.ties it.0,
+      below e.key.rank plain_ranks it.1,
+      below e.number plain_numbers it.2,
+      (λ i. cond (it.0 i) not_plain (cond (it.1 i) (cond (it.2 i) (e.key.rank * plain_numbers + e.number) not_plain) not_plain)),
+    )
+
+pub plain_again : (e : Entry) (n : ℤ) → (order_of e ≡ not_plain → ⊥) → plain_entry (mark_of e) n ≡ record { key = e.key; number = e.number; notice = n }
+plain_again e n h =
+    let it = plain_all e h in
+    let rank = rank_back (order_of e) e.key.rank e.number it.3 it.2 in
+    let number = number_back (order_of e) e.key.rank e.number it.3 it.2 in
+    λ i. record { key = record { time = e.key.time; rank = rank i; ties = sym it.0 i }; number = number i; notice = n }
+
+pub plain_small : (e : Entry) → (order_of e ≡ not_plain → ⊥) → order_of e < plain_ranks * plain_numbers
+plain_small e h = let it = plain_all e h in omega (arith, it.1, it.2, it.3)
+
+-- the mark of the plain entry that a mark describes
+plain_order : (o : ℕ) → o < plain_ranks * plain_numbers → cond (ltb (o / plain_numbers) plain_ranks) (cond (ltb (o % plain_numbers) plain_numbers) (o / plain_numbers * plain_numbers + o % plain_numbers) not_plain) not_plain ≡ o
+plain_order o lt =
+    (λ i. cond (lt-ltb (o / plain_numbers) plain_ranks (omega (arith, lt)) i) (cond (lt-ltb (o % plain_numbers) plain_numbers (omega arith) i) (o / plain_numbers * plain_numbers + o % plain_numbers) not_plain) not_plain)
+    ∙ omega arith
+
+pub plain_mark : (m : Mark) (n : ℤ) → m.order < plain_ranks * plain_numbers → mark_of (plain_entry m n) ≡ m
+plain_mark m n lt = λ i. record { time = m.time; order = plain_order m.order lt i }
+
+pub plain_differs : (o : ℕ) → o < plain_ranks * plain_numbers → o ≢ not_plain
+plain_differs o lt = omega (arith, lt)
+
+-- an entry from its own mark
+pub in_again : (e w : Entry) → (order_of e ≡ not_plain → w ≡ e) → entry_in (mark_of e) e.notice w ≡ e
+in_again e w h = ⊎_elim
+    (λ is. in-not_plain (mark_of e) e.notice w is ∙ ap (λ (x : Entry). record { key = x.key; number = x.number; notice = e.notice }) (h is))
+    (λ other. in-plain (mark_of e) e.notice w other ∙ plain_again e e.notice other)
+    (cases_eq (order_of e) not_plain)

@@ -1,0 +1,42 @@
+-- A machine before its first step, and one that goes on.
+use Rattle.std.proofs.Common.{◌≡◌, ℕ, ◌+◌, ◌-◌, ◌*◌, ◌≤◌, Bool, true, false, [], length, None, refl, sym, ap, subst, arith}
+use Rattle.std.specs.Prelude.{slice_get}
+use Rattle.ss_code.specs.Running.{Compiled as Generated, IsCompiled as IsGenerated}
+use Rattle.ss_code_instructions.specs.Laws.{HasShape}
+use Rattle.ss_code_instructions.specs.Running.{start}
+use Rattle.ss_code_instructions.specs.Measure.{left_from}
+use Rattle.ss_machine_instructions.specs.declared.state.State.{State}
+use Rattle.ss_machine.specs.declared.stop.Stop.{Stop}
+use Rattle.ss_machine.specs.declared.stop.Stop.TheVariants.{Ended, Fault, Paused, Memory, Output, Input, Failed}
+use Rattle.ss_machine.specs.Situations.{situated}
+use Rattle.ss_machine.specs.Beginning.{IsFirstState, first_here}
+use Rattle.ss_machine.specs.Start.{IsAtStart}
+use Rattle.ss_machine.specs.Counts.{takes_tick_at, left_in_calls}
+use Rattle.ss_machine.proofs.Reaching.{made_of}
+use Rattle.ss_machine.specs.Held.{IsReady, kept_after}
+
+-- before the first step no call is open
+none_open : (due : Bool) (n place calls : ℕ) → calls ≡ 0 → 0 + left_from due (n - place) calls ≤ 0 * (2 * n + 1) + n
+none_open true n place calls e = omega (arith, e)
+none_open false n place calls e = omega (arith, e)
+
+pub first_ready : HasShape → (code : Generated) → IsGenerated code → (s : State) → IsFirstState code s → IsAtStart code (situated (first_here code) s) → IsReady (record { code = code; at = situated (first_here code) s; used = 0; steps = s.steps; stopped = None })
+first_ready shape code made s first at =
+    let m = made_of shape code made in
+    let n = length code.run.instructions in
+    record {
+      made = record { least = omega arith; most = omega (arith, first.steps) };
+      situated = λ e. (m.0, m.1, ((start m.0.code [] 0).core, at m.0 m.1 []));
+      left = λ e. subst (λ k. k + left_from (takes_tick_at (slice_get code.run.instructions code.run.main.place)) (n - code.run.main.place) (left_in_calls n s.frames) ≤ 0 * (2 * n + 1) + n) (sym first.steps)
+          (none_open (takes_tick_at (slice_get code.run.instructions code.run.main.place)) n code.run.main.place (left_in_calls n s.frames) (ap (left_in_calls n) first.frames));
+    }
+
+-- only after a pause the next run goes on
+pub kept_none : (stop : Stop) → kept_after stop ≡ None → stop ≡ Paused
+kept_none Ended e = absurd cc
+kept_none (Fault kind line) e = absurd cc
+kept_none Paused e = refl
+kept_none Memory e = absurd cc
+kept_none Output e = absurd cc
+kept_none Input e = absurd cc
+kept_none Failed e = absurd cc

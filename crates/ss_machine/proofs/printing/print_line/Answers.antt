@@ -1,0 +1,10 @@
+use Rattle.std.proofs.Common.{rules, ◌≡◌, ◌++◌, [], ◌∷◌}
+use Rattle.ss_meaning.specs.Values.{line_end}
+use Rattle.ss_picture.specs.Pictures.{filled}
+use Rattle.ss_machine.proofs.Known.{first_of}
+use Rattle.ss_machine.proofs.printing.print_line.Goals as goal
+
+pub returns-in-Err-clause-err : goal.returns-in-Err-clause-err
+returns-in-Err-clause-err g c =
+    let line : c.deref.result.now ≡ filled c.args.picture.now c.args.items.now ++ line_end ∷ [] = search rules in
+    first_of g.W.FaultyWrite.contents c.args.sink.now c.write.new.self c.deref.result.now (filled c.args.picture.now c.args.items.now ++ line_end ∷ []) line c.in-Err.ensures.err

@@ -1,0 +1,109 @@
+//! The first state of a machine.
+
+ghost use Rattle.std.specs.Prelude.{◌≡◌, ◌+◌, ◌<◌, ◌^◌, length, IfOk, OnOk};
+ghost use Rattle.ss_machine.specs.Beginning.{Laid, values_laid, firsts_laid, IsFirstScene, IsFirstState, first_here};
+ghost use Rattle.ss_machine.specs.Start.{IsAtStart};
+ghost use Rattle.ss_machine.specs.Situations.{situated};
+
+use ss_base::{FaultKind, Mode, Value, copied_disciplines};
+use ss_code::code::Code;
+use ss_code_instructions::copied_notices;
+use ss_machine_frames::frames::Frames;
+use ss_machine_frames::rows::Rows;
+use ss_machine_instructions::flow::Ending;
+use ss_machine_instructions::state::State;
+use ss_machine_world::scene::Scene;
+use std::alloc::{AllocError, Global};
+
+// First values of modes come after others.
+fn put_firsts(rows: &mut Rows, modes: &[Mode]) -> Result<(), AllocError>
+    ensures { OnOk result (rows.new ≡ firsts_laid rows.old modes.now) }
+{
+    for mode in modes {
+        rows.push(mode.first_value())?;
+    }
+    Ok(())
+}
+
+// Constants come after others.
+fn put_constants(rows: &mut Rows, constants: &[Value]) -> Result<(), AllocError>
+    ensures { OnOk result (rows.new ≡ values_laid rows.old constants.now) }
+{
+    for constant in constants {
+        rows.push(*constant)?;
+    }
+    Ok(())
+}
+
+// The rows before the first instruction: the global variables, the constants, and the frame of MAIN.
+fn first_rows(alloc: Global, code: &Code) -> Result<Rows, AllocError>
+    ensures { IfOk result (λ rows. Laid code.now rows) }
+{
+    let _made = code.len();
+    let mut rows = Rows::new(alloc);
+    put_firsts(&mut rows, code.globals())?;
+    put_constants(&mut rows, code.constants())?;
+    let frame = rows.len();
+    let main = code.main();
+    rows.lengthen(frame.saturating_add(main.room))?;
+    rows.clear(frame, &main.others);
+    Ok(rows)
+}
+
+// The world before the first instruction.
+fn first_scene(alloc: Global, code: &Code) -> Result<Scene, AllocError>
+    ensures { IfOk result (λ scene. IsFirstScene code.now scene) }
+{
+    let layout = code.layout().copied(alloc)?;
+    let disciplines = copied_disciplines(alloc, code.disciplines())?;
+    let notices = copied_notices(alloc, code.notices())?;
+    Scene::new(
+        alloc,
+        layout,
+        disciplines,
+        notices,
+        code.ties(),
+        code.statistics(),
+    )
+}
+
+/// What the machine works on before the first instruction of this code. The error comes where memory was refused.
+pub fn first_state(alloc: Global, code: &Code) -> Result<State, AllocError>
+    ensures { IfOk result (λ state. IsFirstState code.now state) }
+{
+    let rows = first_rows(alloc, code)?;
+    let scene = first_scene(alloc, code)?;
+    Ok(State {
+        rows,
+        frames: Frames::new(alloc),
+        scene,
+        alloc,
+        ticks: 0,
+        steps: 0,
+        ending: Ending::Ended,
+        fault: FaultKind::NoEntity,
+        fault_line: None,
+    })
+}
+
+/// Where the machine is before the first instruction of this code, but for its ticks: the place, and where the frame of MAIN
+/// begins.
+pub fn first_place(code: &Code) -> (usize, u32)
+    requires { length code.now.globals + length code.now.run.constants < 2 ^ 32 }
+    ensures { record { place = result.0; frame = result.1 } ≡ first_here code.now }
+{
+    let frame = code.globals().len() + code.constants().len();
+    (code.main().place, frame as u32)
+}
+
+/// A machine holds its first state there.
+#[inline(always)]
+pub fn stands_first(code: &Code, state: &State)
+    requires { IsFirstState code.now state.now }
+    ensures { IsAtStart code.now (situated (first_here code.now) state.now) }
+{}
+
+/// Gives the memory of what a machine works on back.
+pub fn release_state(state: State) {
+    let _released = state;
+}

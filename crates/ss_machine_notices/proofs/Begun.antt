@@ -1,0 +1,148 @@
+-- What is known where an event begins: its rank, its entry, and its notice.
+use Rattle.std.proofs.Common.{◌≡◌, ℕ, zero, suc, ◌+◌, ◌<◌, ◌≤◌, ◌^◌, ℤ, true, List, [], ◌∷◌, length, Option, Some, None, refl, sym, ap, ◌∙◌, subst, arith}
+use Rattle.std.proofs.lemmas.Option.{slice_get_within}
+use Rattle.std.specs.Prelude.{IfSome, is_some, slice_get}
+use Rattle.ss_base.specs.declared.layout.ClassKind.TheVariants.{Notice}
+use Rattle.ss_base.specs.declared.layout.Mode.{Mode}
+use Rattle.ss_base.specs.declared.layout.Mode.TheVariants.{Integer}
+use Rattle.ss_base.specs.declared.value.Value.{Value}
+use Rattle.ss_base.specs.Layout.{mode_of}
+use Rattle.ss_world.specs.PendingList.{next}
+use Rattle.ss_world.specs.State.{kind_in, kind_of, modes_of}
+use Rattle.ss_program.specs.Program.{Event, Program}
+use Rattle.ss_program.specs.WellTyped.{kind_of_class, field_mode, GoodEvent, IsPlain}
+use Rattle.ss_program.specs.declared.expression.Variable.TheVariants.{Global}
+use Rattle.ss_meaning.specs.Entities.{comes_singly, is_single}
+use Rattle.ss_meaning.specs.Events.{Coming, coming_with}
+use Rattle.ss_meaning.specs.Fitting.{Fits}
+use Rattle.ss_meaning.specs.Meaning.{said_of}
+use Rattle.ss_meaning.specs.Store.{Notices, Store}
+use Rattle.ss_meaning.proofs.Entities.{HasField, field_said, class_said}
+use Rattle.ss_meaning.proofs.Events.{ComingAs, fields_are, next_event_there}
+use Rattle.ss_meaning.proofs.Fine.{There}
+use Rattle.ss_meaning.proofs.Lists.{every_get}
+use Rattle.ss_code_instructions.specs.declared.instruction.Instruction.TheVariants.{TakeEvent}
+use Rattle.ss_code_instructions.specs.Instructions.{EntryPoint}
+use Rattle.ss_code_instructions.specs.States.{Core}
+use Rattle.ss_code_instructions.specs.Machine.{Code}
+use Rattle.ss_code_instructions.specs.Translation.{main_code, all_routines, prints_before_events, event_entry, event_entries, event_code, block_prints}
+use Rattle.ss_machine_events.proofs.Filing.{said_there}
+use Rattle.ss_machine_world.specs.Seen.{with_seen}
+use Rattle.ss_machine_frames.proofs.Reading.{above_constants, hold_length, found_in}
+use Rattle.ss_machine_instructions.specs.declared.flow.Here.{Here}
+use Rattle.ss_machine_instructions.specs.declared.state.State.{State}
+use Rattle.ss_machine_instructions.specs.Doing.{Compiled}
+use Rattle.ss_machine_notices.specs.Beginning.{ComesNext}
+use Rattle.ss_machine_instructions.proofs.Calling.{HasEntry, has_entry}
+use Rattle.ss_machine_instructions.proofs.Placing.{site, stands}
+
+-- an event has its entry
+pub event_entered : (p : Program) (at first : ℕ) (es : List Event) (r : ℕ) (e : Event) → slice_get es r ≡ Some e → (place : ℕ) × (slice_get (event_entries p at first es) r ≡ Some (event_entry place e))
+event_entered p at first [] r e q = absurd cc
+event_entered p at first (x ∷ es) zero e q = let same : x ≡ e = cc in (at, ap (λ e. Some (event_entry at e)) same)
+event_entered p at first (x ∷ es) (suc r) e q = event_entered p (at + length (event_code p first x)) (first + length (block_prints x.body)) es r e q
+
+awaited : (o : Option (ℤ × ℤ)) (s : Store) (c : Coming) → coming_with o s ≡ Some c → is_some o ≡ true
+awaited None s c e = absurd cc
+awaited (Some n) s c e = refl
+
+module _ (w : Compiled) (c : Core) (here : Here) (s : State) (cell : ℕ) (x : ℤ) (class : ℕ) (n : ComesNext w c here s cell x class) where
+  -- what the definition knows of it
+  pub known : ComingAs w.program n.ready.compiled.typed n.ready.placed.locals n.coming
+  known =
+      subst (There (ComingAs w.program n.ready.compiled.typed n.ready.placed.locals)) n.next
+      (next_event_there w.program n.ready.compiled.typed n.ready.placed.locals c.store (awaited (next c.store.scene.pending) c.store n.coming n.next) n.ready.fits.store)
+
+  abbrev pub event : Event
+  event = known.ranked.event
+
+  pub good : GoodEvent w.program event
+  good = every_get (GoodEvent w.program) w.program.events n.coming.ranked.rank event n.ready.compiled.typed.events known.ranked.there
+
+  pub said_is : n.coming.ranked.said ≡ said_of event
+  said_is = known.ranked.said
+
+  class_is : event.class ≡ class
+  class_is = sym (ap (λ (m : Notices). m.class) said_is) ∙ n.of
+
+  pub fits_now : Fits w.program n.ready.placed.locals (with_seen c.store s.scene)
+  fits_now = subst (Fits w.program n.ready.placed.locals) n.store known.fits
+
+  kind : kind_of_class w.program class ≡ Some Notice
+  kind = subst (λ k. kind_of_class w.program k ≡ Some Notice) class_is good.notice
+
+  pub begun_class : class < length s.scene.heap.layout.classes
+  begun_class =
+      let d = class_said w.program class Notice kind in
+      slice_get_within s.scene.heap.layout.classes class d.0 (ap (λ l. slice_get l.classes class) fits_now.sound.scene.layout ∙ d.1)
+
+  pub begun_single : is_single (slice_get s.scene.heap.layout.classes class) ≡ true
+  begun_single =
+      let d = class_said w.program class Notice kind in
+      ap (λ l. is_single (slice_get l.classes class)) fits_now.sound.scene.layout ∙ ap is_single d.1 ∙ ap comes_singly d.2
+
+  -- its rank
+  pub begun_said : slice_get s.scene.notices n.coming.ranked.rank ≡ Some n.coming.ranked.said
+  begun_said = said_there s.scene.notices class n.coming.ranked n.place
+
+  pub begun_rank : n.coming.ranked.rank < length s.scene.notices
+  begun_rank = slice_get_within s.scene.notices n.coming.ranked.rank n.coming.ranked.said begun_said
+
+  -- its entry
+  abbrev pub entry_point : EntryPoint
+  entry_point = event_entry (event_entered w.program (length (main_code w.program) + length (all_routines w.program)) (prints_before_events w.program) w.program.events n.coming.ranked.rank event known.ranked.there).0 event
+
+  -- which is that of the definition
+  pub code_entry : slice_get w.code.events n.coming.ranked.rank ≡ Some entry_point
+  code_entry =
+      ap (λ (code : Code). slice_get code.events n.coming.ranked.rank) n.ready.compiled.code
+      ∙ (event_entered w.program (length (main_code w.program) + length (all_routines w.program)) (prints_before_events w.program) w.program.events n.coming.ranked.rank event known.ranked.there).1
+
+  pub begun_entry : HasEntry w.run.depth n.coming.ranked.rank entry_point w.run.events
+  begun_entry =
+      has_entry w.run.depth n.coming.ranked.rank w.code.events w.run.events entry_point n.ready.compiled.run.events code_entry
+
+  pub begun_entry_within : n.coming.ranked.rank < length w.run.events
+  begun_entry_within = slice_get_within w.run.events n.coming.ranked.rank begun_entry.run begun_entry.there
+
+  -- what its routine is given are its first attributes
+  pub begun_modes : (i : ℕ) (m : Mode) → slice_get event.given i ≡ Some m → slice_get (modes_of s.scene.heap.layout class) i ≡ Some m
+  begun_modes i m e =
+      let none_on : 0 + i ≡ i = omega arith in
+      let field : field_mode w.program event.class i ≡ Some m = subst (λ j. field_mode w.program event.class j ≡ Some m) none_on (fields_are w.program n.ready.compiled.typed n.ready.placed.locals event.class (length event.given) good.modes good.fields i m (ap (λ ms. slice_get ms i) (sym good.given) ∙ e)) in
+      let there : HasField w.program event.class i m = field_said w.program event.class i m field in
+      ap (λ l. slice_get (modes_of l class) i) fits_now.sound.scene.layout ∙ ap (λ k. slice_get (modes_of w.program.layout k) i) (sym class_is) ∙ there.field
+
+  -- the variable that the notice is saved in lies below the frame
+  pub begun_saved : IfSome n.coming.ranked.said.saved (λ k. k < here.frame)
+  begun_saved = subst (λ o. IfSome o (λ k. k < here.frame)) (sym (ap (λ (m : Notices). m.saved) said_is)) (by event.saved good.saved)
+    where
+      globals_long : length c.store.globals ≡ length w.program.globals
+      globals_long = hold_length c.store.globals w.program.globals n.ready.fits.store.sound.globals
+
+      by : (o : Option ℕ) → IfSome o (λ k. (slice_get w.program.globals k ≡ Some Integer) × IsPlain w.program (Global k)) → IfSome o (λ k. k < here.frame)
+      by None h = h
+      by (Some k) h =
+          let lt = slice_get_within w.program.globals k Integer h.0 in
+          omega (arith, lt, globals_long, above_constants (site w c here n.before (TakeEvent cell) n.ready) (stands w c here n.before (TakeEvent cell) n.ready))
+
+  -- it holds a number
+  pub begun_saving : IfSome n.coming.ranked.said.saved (λ k. (old : Value) × (slice_get c.store.globals k ≡ Some old) × (mode_of old ≡ Integer))
+  begun_saving = subst (λ o. IfSome o (λ k. (old : Value) × (slice_get c.store.globals k ≡ Some old) × (mode_of old ≡ Integer))) (sym (ap (λ (m : Notices). m.saved) said_is)) (by event.saved good.saved)
+    where
+      by : (o : Option ℕ) → IfSome o (λ k. (slice_get w.program.globals k ≡ Some Integer) × IsPlain w.program (Global k)) → IfSome o (λ k. (old : Value) × (slice_get c.store.globals k ≡ Some old) × (mode_of old ≡ Integer))
+      by None h = h
+      by (Some k) h = let f = found_in c.store.globals k Integer (ap (λ ms. slice_get ms k) n.ready.fits.store.sound.globals ∙ h.0) in (f.value, f.there, f.mode)
+
+  -- the class is one of notices
+  pub begun_kind : kind_of s.scene.heap.layout class ≡ Notice
+  begun_kind =
+      let d = class_said w.program class Notice kind in
+      ap (λ l. kind_in (slice_get l.classes class)) fits_now.sound.scene.layout ∙ ap kind_in d.1 ∙ d.2
+
+  -- the rows are those of the state before, and reach beyond the frame's beginning
+  pub held_small : length s.rows.numbers < 2 ^ 32
+  held_small = subst (λ (t : State). length t.rows.numbers < 2 ^ 32) (sym n.is) n.ready.holds.held.small
+
+  pub frame_within : here.frame ≤ length s.rows.numbers
+  frame_within = subst (λ (t : State). here.frame ≤ length t.rows.numbers) (sym n.is) (omega (arith, n.ready.holds.held.room))

@@ -1,0 +1,9 @@
+pub mod Giving
+pub mod Notices
+pub mod Scheduling
+pub mod Receiving
+pub mod Beginning
+pub mod Begun
+pub mod Opening
+pub mod Framing
+pub mod Started

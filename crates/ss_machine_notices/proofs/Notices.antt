@@ -1,0 +1,335 @@
+-- MakeNotice and Reschedule: what a notice is given lies in cells, and its time in the cell above them.
+use Rattle.std.proofs.Common.{◌≡◌, inr, ℕ, zero, suc, ◌+◌, ◌<◌, ◌≤◌, Bool, false, List, [], ◌∷◌, length, map, take, Option, Some, None, Ok, Err, refl, sym, ap, ◌∙◌, subst, arith, if◌then◌else◌}
+use Rattle.std.proofs.lemmas.Bool.{eq-eqb}
+use Rattle.std.specs.Prelude.{ℤ, slice_get, Result as OkOr}
+use Rattle.std.specs.Option.{option_and_then}
+use Rattle.ss_base.specs.declared.fault.Refused.{Refused}
+use Rattle.ss_base.specs.declared.fault.Refused.TheVariants.{Fault, Memory}
+use Rattle.ss_base.specs.declared.layout.Mode.{Mode}
+use Rattle.ss_base.specs.declared.layout.Mode.TheVariants.{Integer}
+use Rattle.ss_base.specs.declared.value.Value.{Value}
+use Rattle.ss_base.specs.declared.value.Value.TheVariants.{Whole, Text}
+use Rattle.ss_base.specs.Layout.{mode_of}
+use Rattle.ss_program.specs.declared.sections.Subject.TheVariants.{OfAttribute}
+use Rattle.ss_program.specs.Program.{Program}
+use Rattle.ss_program.specs.WellTyped.{field_mode}
+use Rattle.ss_meaning.specs.Values.{Trouble}
+use Rattle.ss_meaning.specs.Store.{Store}
+use Rattle.ss_meaning.specs.Events.{made_notice, rescheduled}
+use Rattle.ss_meaning.specs.Fitting.{Hold, Fits}
+use Rattle.ss_meaning.proofs.Fine.{Fine}
+use Rattle.ss_meaning.proofs.Events.{made_notice_fine, rescheduled_fine}
+use Rattle.ss_code_instructions.specs.declared.address.Address.{Address}
+use Rattle.ss_code_instructions.specs.declared.instruction.Instruction.{Instruction as Running}
+use Rattle.ss_code_instructions.specs.Facts.{watch}
+use Rattle.ss_code_instructions.specs.Instructions as i
+use Rattle.ss_code_instructions.specs.Instructions.{Instruction}
+use Rattle.ss_code_instructions.specs.States.{Core, Moved, Stuck, did, fit, onward, at_height, TakenOff, take_off, with_number, with_block, with_value, deliver_with}
+use Rattle.ss_code_instructions.specs.Machine.{act, is_due}
+use Rattle.ss_code_instructions.specs.Shape.{Suits, Block, GivenFit}
+use Rattle.ss_code_instructions.specs.Carried.{At, From, To, Is}
+use Rattle.ss_machine_frames.specs.Rows.{TwoRows, with_number as with_number_at, place_at}
+use Rattle.ss_machine_frames.specs.Holding.{AllAt, CellsAt}
+use Rattle.ss_machine_frames.proofs.Entering.{cut}
+use Rattle.ss_machine_frames.proofs.Places.{Elsewhere, agree_out, elsewhere_value, value_same, all_agree, cells_agree, calls_agree}
+use Rattle.ss_machine_frames.proofs.Reading.{hold_length, own_is, above_constants, place_within, only_number, reads, read_within}
+use Rattle.ss_machine_world.specs.Seen.{Seen, with_seen}
+use Rattle.ss_machine_instructions.specs.declared.flow.Ending.TheVariants.{NoMemory}
+use Rattle.ss_machine_instructions.specs.declared.flow.Here.{Here}
+use Rattle.ss_machine_instructions.specs.declared.state.State.{State}
+use Rattle.ss_machine_instructions.specs.Doing.{Compiled, Ready, NoTick, Comes, Delivers, as_value}
+use Rattle.ss_machine_instructions.specs.Ways.{stopped, refused_by}
+use Rattle.ss_machine_instructions.specs.Worldly.{Settles, on_where, refused_where}
+use Rattle.ss_machine_notices.specs.Giving.{SettledInWithMemory, MadeIn, Gives}
+use Rattle.ss_machine_instructions.proofs.Placing.{site, stands, suits, small, deep_at, deep_here, calm}
+use Rattle.ss_machine_instructions.proofs.Calling.{blocked}
+use Rattle.ss_machine_instructions.proofs.Settling.{fine_right, fine_is, store_is, statistics_seen, fails_on}
+use Rattle.ss_machine_notices.proofs.Scheduling.{refuses}
+
+-- a number on top of other cells
+record Topped (cells : List Value) (rest : List Mode) : Type 0 where
+  number : ℤ
+  over : List Value
+  is : cells ≡ Whole number ∷ over
+  modes : Hold over rest
+
+topped : (cells : List Value) (rest : List Mode) → Hold cells (Integer ∷ rest) → Topped cells rest
+topped [] rest h = absurd cc
+topped (Whole z ∷ over) rest h = let q : map mode_of over ≡ rest = cc in record { number = z; over = over; is = refl; modes = q }
+topped (Text t ∷ over) rest h = absurd cc
+
+taken_long : (k : ℕ) (cells vs : List Value) (b : TakenOff) → take_off k cells vs ≡ Some b → length cells ≡ k + length b.below
+taken_long zero cells vs b e =
+    let d : TakenOff = record { values = vs; below = cells } in
+    let q : d ≡ b = cc in
+    let n : length cells ≡ length b.below = ap (λ (b : TakenOff). length b.below) q in
+    omega (arith, n)
+taken_long (suc k) [] vs b e = absurd cc
+taken_long (suc k) (v ∷ cells) vs b e = omega (arith, taken_long k cells (v ∷ vs) b e)
+
+-- the first modes of a class are those of its first attributes
+taken_get : {A : Type 0} (n : ℕ) (xs : List A) (i : ℕ) (a : A) → slice_get (take n xs) i ≡ Some a → slice_get xs i ≡ Some a
+taken_get zero xs i a q = absurd cc
+taken_get (suc n) [] i a q = absurd cc
+taken_get (suc n) (x ∷ xs) zero a q = q
+taken_get (suc n) (x ∷ xs) (suc i) a q = taken_get n xs i a q
+
+pub given_fields : (p : Program) (class : ℕ) (modes : List Mode) → GivenFit p class modes → (i : ℕ) (m : Mode) → slice_get modes i ≡ Some m → field_mode p class i ≡ Some m
+given_fields p class modes g i m q =
+    ap (λ o. option_and_then (λ fs. slice_get fs i) o) g.1.1
+    ∙ taken_get (length modes) g.1.0 i m (ap (λ ms. slice_get ms i) (sym g.1.2) ∙ q)
+
+module _ (w : Compiled) (c : Core) (here : Here) (s : State) (run : Running) (r : Ready w c here s run) where
+  abbrev SuitsHere : Instruction → Type 0
+  SuitsHere x = Suits w.program w.code c.place r.placed.locals r.placed.cells x
+
+  abbrev Low : ℕ
+  Low = here.frame + length c.store.locals
+
+  abbrev pub IsQuietGiven : (notes : Bool) → (class given : ℕ) → Type 0
+  IsQuietGiven notes class given = notes ≡ false → (field : ℕ) → field < given → watch w.code.setting.statistics (OfAttribute class field) ≡ false
+
+  -- ## What lies in the cells
+
+  -- so many values from a cell on, and the time above them
+  pub record Spread (h cell given : ℕ) (modes rest : List Mode) : Type 0 where
+    pub time : ℤ
+    pub over : List Value
+    pub taken : TakenOff
+    pub cells : c.cells ≡ Whole time ∷ over
+    pub off : take_off given over [] ≡ Some taken
+    pub kinds : Hold taken.values modes
+    pub below : Hold taken.below rest
+    pub high : length taken.below ≡ h
+    pub many : length taken.values ≡ given
+    pub place : here.frame + cell ≡ Low + length taken.below
+    pub top : here.frame + cell + given ≡ Low + length over
+    pub lie : AllAt s.rows (here.frame + cell) taken.values
+    pub under : CellsAt s.rows Low taken.below
+    pub room : here.frame + cell + given < length s.rows.numbers
+    pub time_at : slice_get s.rows.numbers (here.frame + cell + given) ≡ Some time
+
+  spread : (h cell given : ℕ) (above modes rest : List Mode) → cell ≡ length r.placed.locals + h → r.placed.cells ≡ Integer ∷ above → length modes ≡ given → Block h modes above rest → Spread h cell given modes rest
+  spread h cell given above modes rest at e n block =
+      let t = topped c.cells above (r.fits.cells ∙ e) in
+      let b = blocked modes rest t.over (t.modes ∙ block.is) in
+      let off : take_off given t.over [] ≡ Some b.taken = ap (λ k. take_off k t.over []) (sym n) ∙ b.is in
+      let high : length b.taken.below ≡ h = hold_length b.taken.below rest b.below ∙ block.height in
+      let own = own_is (site w c here s run r) (stands w c here s run r) in
+      let place : here.frame + cell ≡ Low + length b.taken.below = omega (arith, at, high, own) in
+      let long = taken_long given t.over [] b.taken off in
+      let top : here.frame + cell + given ≡ Low + length t.over = omega (arith, place, long) in
+      let all = subst (λ l. CellsAt s.rows Low l) t.is r.holds.held.cells in
+      let parts = cut s.rows Low given t.over [] b.taken all.1 tt off in
+      let deep : length r.placed.cells ≡ suc (length t.over) = sym (hold_length c.cells r.placed.cells r.fits.cells) ∙ ap length t.is in
+      record {
+        time = t.number;
+        over = t.over;
+        taken = b.taken;
+        cells = t.is;
+        off = off;
+        kinds = b.values;
+        below = b.below;
+        high = high;
+        many = hold_length b.taken.values modes b.values ∙ n;
+        place = place;
+        top = top;
+        lie = subst (λ j. AllAt s.rows j b.taken.values) (sym place) parts.values;
+        under = parts.below;
+        room = place_within (site w c here s run r) (stands w c here s run r) (here.frame + cell + given) (omega (arith, top, deep, deep_here w c here s run r));
+        time_at = ap (slice_get s.rows.numbers) top ∙ all.0;
+      }
+
+  -- what the notice is given
+  abbrev gives_of : (h cell given class : ℕ) (notes : Bool) (modes rest : List Mode) → Spread h cell given modes rest → GivenFit w.program class modes → IsQuietGiven notes class given → Gives class notes (here.frame + cell) given s.rows s.scene
+  gives_of h cell given class notes modes rest z fit told = record {
+    program = w.program;
+    typed = r.compiled.typed;
+    modes = r.placed.locals;
+    store = c.store;
+    fits = subst (λ (t : Store). Fits w.program r.placed.locals t) (store_is w c here s run r) r.fits.store;
+    notice = fit.0;
+    values = z.taken.values;
+    kinds = modes;
+    hold = z.kinds;
+    fields = given_fields w.program class modes fit;
+    many = z.many;
+    lie = z.lie;
+    within = omega (arith, z.room);
+    small = let few = r.holds.held.small in omega (arith, z.room, few);
+    told = λ none field lt. ap (λ ss. watch ss (OfAttribute class field)) (statistics_seen w c here s run r) ∙ told none field lt;
+  }
+
+  -- how the definition reads the cells
+  reads_spread : (h cell given : ℕ) (modes rest : List Mode) (z : Spread h cell given modes rest) (go : ℤ → List Value → List Value → Moved) → with_number c.cells (λ t above. with_block given h above (λ vs below. go t vs below)) ≡ go z.time z.taken.values z.taken.below
+  reads_spread h cell given modes rest z go =
+      ap (λ l. with_number l (λ t above. with_block given h above (λ vs below. go t vs below))) z.cells
+      ∙ ap (λ o. fit o (λ b. at_height h b.below (go z.time b.values b.below))) z.off
+      ∙ ap (λ b. if b then go z.time z.taken.values z.taken.below else Stuck) (eq-eqb (length z.taken.below) h z.high)
+
+  -- the number that was read is the time
+  time_is : (h cell given : ℕ) (modes rest : List Mode) (z : Spread h cell given modes rest) (t : ℤ) → slice_get s.rows.numbers (here.frame + cell + given) ≡ Some t → z.time ≡ t
+  time_is h cell given modes rest z t e = let q : Some z.time ≡ Some t = sym z.time_at ∙ e in cc
+
+  fields_from : (class : ℕ) (modes : List Mode) → GivenFit w.program class modes → (i : ℕ) (m : Mode) → slice_get modes i ≡ Some m → field_mode w.program class (0 + i) ≡ Some m
+  fields_from class modes fit i m q = let none_on : 0 + i ≡ i = omega arith in subst (λ j. field_mode w.program class j ≡ Some m) (sym none_on) (given_fields w.program class modes fit i m q)
+
+  -- ## MakeNotice
+
+  abbrev pub MakesNotice : (class cell given : ℕ) → Address → Type 0
+  MakesNotice class cell given to = At w.code w.run.constants r.placed cell (λ h. To w.code w.run.constants r.placed to (λ t. Is w.code w.run.constants r.placed (i.MakeNotice class h given t)))
+
+  -- the cells of the instruction
+  pub make_spread : (class cell given : ℕ) (to : Address) (z : MakesNotice class cell given to) → let y = subst SuitsHere z.2.2 (suits w c here s run r) in Spread z.0 cell given y.1 y.5.0
+  make_spread class cell given to z =
+      let y = subst SuitsHere z.2.2 (suits w c here s run r) in
+      spread z.0 cell given y.0 y.1 y.5.0 z.1 y.2 y.3 y.5.1
+
+  pub makes_in : (class cell given : ℕ) (to : Address) → MakesNotice class cell given to → here.frame + cell + given < length s.rows.numbers
+  makes_in class cell given to z = (make_spread class cell given to z).room
+
+  abbrev pub make_gives : (class cell given : ℕ) (to : Address) (notes : Bool) → MakesNotice class cell given to → IsQuietGiven notes class given → Gives class notes (here.frame + cell) given s.rows s.scene
+  make_gives class cell given to notes z told =
+      let y = subst SuitsHere z.2.2 (suits w c here s run r) in
+      gives_of z.0 cell given class notes y.1 y.5.0 (make_spread class cell given to z) y.4 told
+
+  make_acts : (class cell given : ℕ) (to : Address) (z : MakesNotice class cell given to) (t : ℤ) → slice_get s.rows.numbers (here.frame + cell + given) ≡ Some t → act w.code r.placed.line r.placed.instruction c ≡ deliver_with r.placed.line z.2.0 (made_notice class (make_spread class cell given to z).taken.values t c.store) (Whole t ∷ (make_spread class cell given to z).taken.below) c
+  make_acts class cell given to z t e =
+      let y = subst SuitsHere z.2.2 (suits w c here s run r) in
+      let v = make_spread class cell given to z in
+      let l = r.placed.line in
+      ap (λ x. act w.code l x c) z.2.2
+      ∙ reads_spread z.0 cell given y.1 y.5.0 v (λ t vs below. deliver_with l z.2.0 (made_notice class vs t c.store) (Whole t ∷ below) c)
+      ∙ ap (λ t. deliver_with l z.2.0 (made_notice class v.taken.values t c.store) (Whole t ∷ v.taken.below) c) (time_is z.0 cell given y.1 y.5.0 v t e)
+
+  -- a value and a store that fit
+  abbrev IsFitting : Value × Store → Type 0
+  IsFitting b = (mode_of b.0 ≡ Integer) × Fits w.program r.placed.locals b.1
+
+  make_fine : (class cell given : ℕ) (to : Address) (z : MakesNotice class cell given to) (t : ℤ) → Fine IsFitting (made_notice class (make_spread class cell given to z).taken.values t c.store)
+  make_fine class cell given to z t =
+      let y = subst SuitsHere z.2.2 (suits w c here s run r) in
+      let v = make_spread class cell given to z in
+      made_notice_fine w.program r.compiled.typed r.placed.locals class v.taken.values y.1 t c.store y.4.0 v.kinds (fields_from class y.1 y.4) r.fits.store
+
+  -- the state of the definition, but for the cells that are left
+  abbrev pub make_core : (class cell given : ℕ) (to : Address) (z : MakesNotice class cell given to) (t : ℤ) → Core
+  make_core class cell given to z t = record c { cells = Whole t ∷ (make_spread class cell given to z).taken.below }
+
+  -- the number of the notice is to go to the target, once its time lies in the first of the cells
+  pub make_delivers : (class cell given : ℕ) (to : Address) (notes : Bool) (told : IsQuietGiven notes class given) (z : MakesNotice class cell given to) (t n : ℤ) (e : Seen) → slice_get s.rows.numbers (here.frame + cell + given) ≡ Some t → MadeIn c.store class (make_gives class cell given to notes z told).values t s.scene e (Ok n) → Delivers w (make_core class cell given to z t) r.placed.line (act w.code r.placed.line r.placed.instruction c) here (record s { scene = e; rows = with_number_at s.rows (here.frame + cell) t }) to (as_value (Ok n))
+  make_delivers class cell given to notes told z t n e at_time made =
+      let y = subst SuitsHere z.2.2 (suits w c here s run r) in
+      let v = make_spread class cell given to z in
+      let l = r.placed.line in
+      let i = here.frame + cell in
+      let rows = with_number_at s.rows i t in
+      let ew : Elsewhere s.rows rows i = elsewhere_value s.rows i (Whole t) in
+      let room = v.room in
+      let place = v.place in
+      let under = above_constants (site w c here s run r) (stands w c here s run r) in
+      let k = length c.store.globals in
+      let cells = Whole t ∷ v.taken.below in
+      let gives : made_notice class v.taken.values t c.store ≡ Ok (Whole n, with_seen c.store e) = ap (made_notice class v.taken.values t) (store_is w c here s run r) ∙ made in
+      let cells_here : CellsAt rows Low cells = (
+        subst (λ j. slice_get rows.numbers j ≡ Some t) place (value_same s.rows i (Whole t) r.holds.even (omega (arith, room))),
+        cells_agree s.rows rows Low v.taken.below (agree_out s.rows rows i Low (Low + length v.taken.below) ew (inr (omega (arith, place)))) v.under,
+      ) in
+      record {
+        compiled = r.compiled;
+        placed = r.placed;
+        store = with_seen c.store e;
+        cells = cells;
+        target = z.2.0;
+        mode = Integer;
+        modes = Integer ∷ y.5.0;
+        after = y.5.2.0;
+        small = small w c here s run r;
+        acts = make_acts class cell given to z t at_time ∙ ap (λ q. deliver_with l z.2.0 q cells c) gives;
+        accepts = y.5.2.1;
+        to_at = z.2.1;
+        deep = deep_at w c here s run r (c.place + 1) r.placed.locals y.5.2.0 y.5.2.2;
+        right = refl;
+        hold = ap (λ ms. Integer ∷ ms) v.below;
+        at = cells_here;
+        fits = (fine_is IsFitting (made_notice class v.taken.values t c.store) (Whole n, with_seen c.store e) (make_fine class cell given to z t) gives).1;
+        holds = record {
+          place = r.holds.place;
+          held = record {
+            globals = all_agree s.rows rows 0 c.store.globals (agree_out s.rows rows i 0 (0 + k) ew (inr (omega (arith, place, under)))) r.holds.held.globals;
+            fixed = all_agree s.rows rows k w.run.constants (agree_out s.rows rows i k (k + length w.run.constants) ew (inr (omega (arith, place, under)))) r.holds.held.fixed;
+            locals = all_agree s.rows rows here.frame c.store.locals (agree_out s.rows rows i here.frame Low ew (inr (omega (arith, place)))) r.holds.held.locals;
+            cells = cells_here;
+            open_calls = calls_agree s.rows rows (k + length w.run.constants) here.frame s.frames c.frames (agree_out s.rows rows i (k + length w.run.constants) here.frame ew (inr (omega (arith, place)))) r.holds.held.open_calls;
+            room = omega (arith, ew.long, r.holds.held.room);
+            small = omega (arith, ew.long, r.holds.held.small);
+          };
+          scene = refl;
+          even = r.holds.even ∙ sym ew.long;
+          line = r.holds.line;
+        };
+      }
+
+  -- what came of the delivery
+  pub makes : (class cell given : ℕ) (to : Address) (z : MakesNotice class cell given to) (e : Seen) (rows : TwoRows) (new : State) (result : Option Here) → NoTick w r.placed.line (act w.code r.placed.line r.placed.instruction c) (record s { scene = e; rows = rows }) new result → Comes (is_due r.placed.instruction) w r.placed.line (act w.code r.placed.line r.placed.instruction c) s new result
+  makes class cell given to z e rows new result h = calm w c here s run r new result (ap is_due z.2.2) (record { leads = h.leads; ticks = h.ticks; steps = h.steps })
+
+  -- or none was made
+  pub makes_not : (class cell given : ℕ) (to : Address) (notes : Bool) (told : IsQuietGiven notes class given) (z : MakesNotice class cell given to) (t : ℤ) (e : Seen) (refused : Refused) (new : State) (result : Option Here) → slice_get s.rows.numbers (here.frame + cell + given) ≡ Some t → MadeIn c.store class (make_gives class cell given to notes z told).values t s.scene e (Err refused) → new ≡ refused_by refused (record s { scene = e }) → result ≡ None → Comes (is_due r.placed.instruction) w r.placed.line (act w.code r.placed.line r.placed.instruction c) s new result
+  makes_not class cell given to notes told z t e (Fault kind) new result at_time made same none =
+      let v = make_spread class cell given to z in
+      fails_on w c here s run r kind e new result (ap is_due z.2.2)
+      (make_acts class cell given to z t at_time ∙ ap (λ q. deliver_with r.placed.line z.2.0 q (Whole t ∷ v.taken.below) c) (ap (made_notice class v.taken.values t) (store_is w c here s run r) ∙ made))
+      same none
+  makes_not class cell given to notes told z t e Memory new result at_time made same none =
+      let m = act w.code r.placed.line r.placed.instruction c in
+      let l = r.placed.line in
+      let s' : State = stopped NoMemory (record s { scene = e }) in
+      let plain : NoTick w l m s s' None = record { leads = tt; ticks = refl; steps = refl } in
+      calm w c here s run r new result (ap is_due z.2.2)
+      (subst (λ o. NoTick w l m s new o) (sym none) (subst (λ u. NoTick w l m s u None) (sym same) plain))
+
+  -- ## Reschedule
+
+  abbrev pub Reschedules : (class : ℕ) → (notice : Address) → (cell given : ℕ) → Type 0
+  Reschedules class notice cell given = From w.code w.run.constants r.placed notice (λ y. At w.code w.run.constants r.placed cell (λ h. Is w.code w.run.constants r.placed (i.Reschedule class y h given)))
+
+  pub again_spread : (class : ℕ) (notice : Address) (cell given : ℕ) (z : Reschedules class notice cell given) → let y = subst SuitsHere z.2.2 (suits w c here s run r) in Spread z.2.0 cell given y.1 y.5.0
+  again_spread class notice cell given z =
+      let y = subst SuitsHere z.2.2 (suits w c here s run r) in
+      spread z.2.0 cell given y.0 y.1 y.5.0 z.2.1 y.2 y.3 y.5.1
+
+  pub again_in : (class : ℕ) (notice : Address) (cell given : ℕ) → Reschedules class notice cell given → (place_at here.frame notice < length s.rows.numbers) × (here.frame + cell + given < length s.rows.numbers)
+  again_in class notice cell given z =
+      let y = subst SuitsHere z.2.2 (suits w c here s run r) in
+      let v = again_spread class notice cell given z in
+      let few : length y.5.0 ≤ w.run.depth = omega (arith, hold_length v.taken.below y.5.0 v.below, taken_long given v.over [] v.taken v.off, hold_length c.cells r.placed.cells r.fits.cells, ap length v.cells, deep_here w c here s run r) in (
+        read_within (site w c here s run r) (stands w c here s run r) z.0 Integer y.5.0 y.5.2.0 notice y.5.2.1 z.1 few,
+        v.room,
+      )
+
+  abbrev pub again_gives : (class : ℕ) (notice : Address) (cell given : ℕ) (notes : Bool) → Reschedules class notice cell given → IsQuietGiven notes class given → Gives class notes (here.frame + cell) given s.rows s.scene
+  again_gives class notice cell given notes z told =
+      let y = subst SuitsHere z.2.2 (suits w c here s run r) in
+      gives_of z.2.0 cell given class notes y.1 y.5.0 (again_spread class notice cell given z) y.4 told
+
+  pub reschedules : (class : ℕ) (notice : Address) (cell given : ℕ) (notes : Bool) (told : IsQuietGiven notes class given) (z : Reschedules class notice cell given) (n t : ℤ) (e : Seen) (answer : OkOr (Unit {0}) Refused) (new : State) (result : Option Here) → slice_get s.rows.numbers (place_at here.frame notice) ≡ Some n → slice_get s.rows.numbers (here.frame + cell + given) ≡ Some t → SettledInWithMemory c.store (rescheduled class (Whole n) (again_gives class notice cell given notes z told).values t) s.scene e answer → new ≡ refused_where answer (record s { scene = e }) → result ≡ on_where here answer → Comes (is_due r.placed.instruction) w r.placed.line (act w.code r.placed.line r.placed.instruction c) s new result
+  reschedules class notice cell given notes told z n t e answer new result at_notice at_time d same way =
+      let l = r.placed.line in
+      let is = z.2.2 in
+      let y = subst SuitsHere is (suits w c here s run r) in
+      let v = again_spread class notice cell given z in
+      let vs = v.taken.values in
+      let one = reads (site w c here s run r) (stands w c here s run r) z.0 Integer y.5.0 y.5.2.0 notice v.taken.below (Whole n) y.5.2.1 z.1 v.under v.below (only_number s.rows (place_at here.frame notice) n at_notice) in
+      let op : Store → OkOr Store Trouble = rescheduled class (Whole n) vs t in
+      let left : Settles c l (act w.code l r.placed.instruction c) here s op = record {
+        below = one.below;
+        acts =
+            ap (λ x. act w.code l x c) is
+            ∙ reads_spread z.2.0 cell given y.1 y.5.0 v (λ t vs above. with_value z.0 c.store above (λ x below. did l (rescheduled class x vs t c.store) (λ s. onward below c s)))
+            ∙ one.is (λ x below. did l (rescheduled class x vs v.time c.store) (λ s. onward below c s))
+            ∙ ap (λ t. did l (rescheduled class (Whole n) vs t c.store) (λ s. onward one.below c s)) (time_is z.2.0 cell given y.1 y.5.0 v t at_time);
+        right = fine_right (Fits w.program r.placed.locals) (op c.store) (rescheduled_fine w.program r.compiled.typed r.placed.locals class (Whole n) vs y.1 t c.store y.4.0 v.kinds (fields_from class y.1 y.4) refl r.fits.store);
+        at = one.cells;
+      } in
+      refuses w c here s run r op e answer new result (ap is_due is) left d same way

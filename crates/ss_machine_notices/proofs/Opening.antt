@@ -1,0 +1,152 @@
+-- An event begins in the definition as it does in the machine.
+use Rattle.std.proofs.Common.{◌≡◌, ℕ, zero, suc, ◌+◌, ◌<◌, ℤ, Bool, true, false, List, [], ◌∷◌, length, Option, Some, None, Ok, Err, refl, sym, ap, ◌∙◌, subst, arith, if◌then◌else◌}
+use Rattle.std.proofs.lemmas.Bool.{eq-eqb}
+use Rattle.std.specs.Prelude.{◌==◌, pos, negsuc, IfSome, is_some, slice_get, slice_set, slice_index_or, Result as OkOr}
+use Rattle.ss_base.specs.declared.fault.FaultKind.{FaultKind}
+use Rattle.ss_base.specs.declared.fault.FaultKind.TheVariants.{WrongClass}
+use Rattle.ss_base.specs.declared.layout.ClassKind.{ClassKind}
+use Rattle.ss_base.specs.declared.layout.ClassKind.TheVariants.{Permanent, Temporary, Notice}
+use Rattle.ss_base.specs.declared.layout.Mode.TheVariants.{Integer}
+use Rattle.ss_base.specs.declared.value.Value.{Value}
+use Rattle.ss_base.specs.declared.value.Value.TheVariants.{Whole}
+use Rattle.ss_base.specs.Layout.{mode_of}
+use Rattle.ss_world.specs.State.{State as Heap, Record, kind_of, modes_of, and_then, numbered, of_class, issued_record, entity_of_kind, entity_in, value_in}
+use Rattle.ss_program.specs.declared.sections.Subject.TheVariants.{OfVariable}
+use Rattle.ss_meaning.specs.Values.{Trouble, Fails, Misfit, same_mode, if_ok, turned, due}
+use Rattle.ss_meaning.specs.Store.{Notices, Store, put_at}
+use Rattle.ss_meaning.specs.Entities.{gone}
+use Rattle.ss_meaning.specs.Histories.{noted}
+use Rattle.ss_meaning.specs.Events.{Beginning, attributes_given, saved_or_gone, event_begun}
+use Rattle.ss_meaning.specs.Fitting.{class_of_record, living}
+use Rattle.ss_meaning.proofs.Events.{BegunAs, begun_fine}
+use Rattle.ss_code_instructions.specs.States.{AnEvent, Core, Rest, Breaks, did, fit, at_height}
+use Rattle.ss_code_instructions.specs.Machine.{act, enter, take_event, take_next}
+use Rattle.ss_machine_world.specs.Seen.{Seen, IsRight, Changes, with_seen}
+use Rattle.ss_machine_world.proofs.Reading.{value_once}
+use Rattle.ss_machine_instructions.specs.declared.flow.Here.{Here}
+use Rattle.ss_machine_instructions.specs.declared.state.State.{State}
+use Rattle.ss_machine_instructions.specs.Doing.{Compiled}
+use Rattle.ss_machine_notices.specs.Beginning.{AreRead, LetsGo, ComesNext}
+use Rattle.ss_machine_instructions.proofs.Settling.{fine_right}
+use Rattle.ss_machine_notices.proofs.Begun.{known, event, said_is}
+
+-- ## The attributes of a living notice can be read
+
+entity_lives : (h : Heap) (class : ℕ) (x : ℤ) → living h x ≡ Some class → kind_of h.layout class ≡ Notice → (r : Record) × (entity_in h class x ≡ Ok r)
+entity_lives h class x lives kind = by (kind_of h.layout class) kind
+  where
+    same_class : (r : Record) → r.class ≡ class → (b : Bool) → (r.class == class) ≡ b → (if b then Ok r else Err WrongClass) ≡ Ok r
+    same_class r e true q = refl
+    same_class r e false q = let on : (r.class == class) ≡ true = eq-eqb r.class class e in absurd (let wrong : true ≡ false = sym on ∙ q in cc)
+
+    from_record : (o : Option (Option Record)) → class_of_record o ≡ Some class → (r : Record) × (and_then (issued_record o) (of_class class) ≡ Ok r)
+    from_record None e = absurd cc
+    from_record (Some None) e = absurd cc
+    from_record (Some (Some r)) e = let q : r.class ≡ class = cc in (r, same_class r q (r.class == class) refl)
+
+    numbered_lives : (x : ℤ) → living h x ≡ Some class → (r : Record) × (and_then (numbered h x) (of_class class) ≡ Ok r)
+    numbered_lives (pos zero) e = absurd cc
+    numbered_lives (pos (suc i)) e = from_record (slice_get h.records i) e
+    numbered_lives (negsuc k) e = absurd cc
+
+    by : (k : ClassKind) → k ≡ Notice → (r : Record) × (entity_of_kind h k class x ≡ Ok r)
+    by Permanent e = absurd cc
+    by Temporary e = numbered_lives x lives
+    by Notice e = numbered_lives x lives
+
+pub value_lives : (h : Heap) (class field : ℕ) (x : ℤ) → living h x ≡ Some class → kind_of h.layout class ≡ Notice → (v : Value) × (value_in h class field x ≡ Ok v)
+value_lives h class field x lives kind =
+    let r = entity_lives h class x lives kind in
+    (slice_index_or r.0.values field (Whole (pos 0)), ap (λ q. and_then {B = Value} q (λ r. Ok (slice_index_or r.values field (Whole (pos 0))))) r.1)
+
+-- so many of them
+pub all_lives : (h : Heap) (class field count : ℕ) (x : ℤ) → living h x ≡ Some class → kind_of h.layout class ≡ Notice → (vs : List Value) × (length vs ≡ count) × AreRead h class field x vs
+all_lives h class field zero x lives kind = ([], refl, tt)
+all_lives h class field (suc k) x lives kind =
+    let v = value_lives h class field x lives kind in
+    let rest = all_lives h class (field + 1) k x lives kind in
+    (v.0 ∷ rest.0, ap suc rest.1, (v.1, rest.2))
+
+-- the definition reads them
+pub read_is : (e : Seen) (class field : ℕ) (x : ℤ) (vs : List Value) (s : Store) → ((i : ℕ) → i < length vs → is_some (slice_get (modes_of e.heap.layout class) (field + i)) ≡ true) → AreRead e.heap class field x vs → attributes_given class field (length vs) (Whole x) (with_seen s e) ≡ Ok vs
+read_is e class field x [] s there read = refl
+read_is e class field x (v ∷ vs) s there read =
+    let none_on : field + 0 ≡ field = omega arith in
+    let here : is_some (slice_get (modes_of e.heap.layout class) field) ≡ true = subst (λ j. is_some (slice_get (modes_of e.heap.layout class) j) ≡ true) none_on (there 0 (omega arith)) in
+    ap (λ q. if_ok q (λ v. turned (λ ws. v ∷ ws) (attributes_given class (field + 1) (length vs) (Whole x) (with_seen s e)))) (value_once e class field x s here ∙ ap due read.0)
+    ∙ ap (turned (λ ws. v ∷ ws)) (read_is e class (field + 1) x vs s (λ i lt. let one : field + suc i ≡ field + 1 + i = omega arith in subst (λ j. is_some (slice_get (modes_of e.heap.layout class) j) ≡ true) one (there (suc i) (omega (arith, lt)))) read.1)
+
+-- ## A variable is assigned a number
+
+put_number : (vs : List Value) (k : ℕ) (z : ℤ) (old : Value) → slice_get vs k ≡ Some old → mode_of old ≡ Integer → put_at vs k (Whole z) ≡ Ok (slice_set vs k (Whole z))
+put_number [] k z old e m = absurd cc
+put_number (u ∷ vs) zero z old e m =
+    let q : u ≡ old = cc in
+    ap (λ n. if same_mode Integer n then Ok (Whole z ∷ vs) else Err Misfit) (ap mode_of q ∙ m)
+put_number (u ∷ vs) (suc k) z old e m = ap (turned (λ rest. u ∷ rest)) (put_number vs k z old e m)
+
+module _ (w : Compiled) (c : Core) (here : Here) (s : State) (cell : ℕ) (x : ℤ) (class : ℕ) (n : ComesNext w c here s cell x class) where
+  -- ## Letting the notice go
+
+  -- the store once it is let go, and the world is as seen
+  abbrev pub left_store : Option ℕ → Seen → Store
+  left_store None e = with_seen c.store e
+  left_store (Some k) e = record (with_seen c.store e) { globals = slice_set c.store.globals k (Whole x) }
+
+  abbrev pub GoesAs : Option ℕ → Seen → OkOr (Unit {0}) FaultKind → Type 0
+  GoesAs saved e (Ok u) = saved_or_gone saved class (Whole x) (with_seen c.store s.scene) ≡ Ok (left_store saved e)
+  GoesAs saved e (Err kind) = saved_or_gone saved class (Whole x) (with_seen c.store s.scene) ≡ Err (Fails kind)
+
+  -- a saving variable holds a number
+  abbrev pub IsSaving : Option ℕ → Type 0
+  IsSaving saved = IfSome saved (λ k. (old : Value) × (slice_get c.store.globals k ≡ Some old) × (mode_of old ≡ Integer))
+
+  pub goes_as : (saved : Option ℕ) (mid new : State) (q : OkOr (Unit {0}) FaultKind) → mid.scene ≡ s.scene → IsSaving saved → IsRight (saved_or_gone saved class (Whole x) (with_seen c.store s.scene)) → LetsGo saved class x mid new q → GoesAs saved new.scene q
+  goes_as None mid new q same saving right d = by q (subst (λ (e : Seen). Changes (gone class (Whole x)) e new.scene q) same d.0)
+    where
+      by : (q : OkOr (Unit {0}) FaultKind) → Changes (gone class (Whole x)) s.scene new.scene q → GoesAs None new.scene q
+      by (Ok u) d = d c.store right
+      by (Err kind) d = d.0 c.store right
+  goes_as (Some k) mid new q same saving right d = saved_as k new q saving right (subst (λ (e : Seen). Changes (noted (OfVariable k) (pos 0) (Whole x)) e new.scene q) same d.0)
+    where
+      saved_as : (k : ℕ) (new : State) (q : OkOr (Unit {0}) FaultKind) → IsSaving (Some k) → IsRight (saved_or_gone (Some k) class (Whole x) (with_seen c.store s.scene)) → Changes (noted (OfVariable k) (pos 0) (Whole x)) s.scene new.scene q → GoesAs (Some k) new.scene q
+      saved_as k new q saving right d = by q d
+        where
+          put_then : saved_or_gone (Some k) class (Whole x) (with_seen c.store s.scene) ≡ noted (OfVariable k) (pos 0) (Whole x) (with_seen (record c.store { globals = slice_set c.store.globals k (Whole x) }) s.scene)
+          put_then = ap (λ r. if_ok (turned (λ vs. record (with_seen c.store s.scene) { globals = vs }) r) (noted (OfVariable k) (pos 0) (Whole x))) (put_number c.store.globals k x saving.0 saving.1 saving.2)
+
+          by : (q : OkOr (Unit {0}) FaultKind) → Changes (noted (OfVariable k) (pos 0) (Whole x)) s.scene new.scene q → GoesAs (Some k) new.scene q
+          by (Ok u) d = put_then ∙ d (record c.store { globals = slice_set c.store.globals k (Whole x) }) (λ wrong. right (put_then ∙ wrong))
+          by (Err kind) d = put_then ∙ d.0 (record c.store { globals = slice_set c.store.globals k (Whole x) }) (λ wrong. right (put_then ∙ wrong))
+
+  -- ## The event begins
+
+  abbrev begun_by : (cl count : ℕ) → Value → Store → OkOr Beginning Trouble
+  begun_by cl count v t = if_ok (attributes_given cl 0 count v t) (λ vs. turned (λ t. record { rank = n.coming.ranked.rank; given = vs; store = t }) (saved_or_gone n.coming.ranked.said.saved cl v t))
+
+  begun_is : event_begun n.coming ≡ begun_by class (length (event w c here s cell x class n).given) (Whole x) (with_seen c.store s.scene)
+  begun_is =
+      ap (λ cl. begun_by cl n.coming.ranked.said.given n.coming.notice n.coming.store) n.of
+      ∙ ap (λ v. begun_by class n.coming.ranked.said.given v n.coming.store) n.number
+      ∙ ap (begun_by class n.coming.ranked.said.given (Whole x)) n.store
+      ∙ ap (λ k. begun_by class k (Whole x) (with_seen c.store s.scene)) (ap (λ (m : Notices). m.given) (said_is w c here s cell x class n))
+
+  -- with these attributes
+  module _ (vs : List Value) (given : attributes_given class 0 (length (event w c here s cell x class n).given) (Whole x) (with_seen c.store s.scene) ≡ Ok vs) where
+    pub begun_then : event_begun n.coming ≡ turned (λ t. record { rank = n.coming.ranked.rank; given = vs; store = t }) (saved_or_gone n.coming.ranked.said.saved class (Whole x) (with_seen c.store s.scene))
+    begun_then = begun_is ∙ ap (λ q. if_ok q (λ vs. turned (λ t. record { rank = n.coming.ranked.rank; given = vs; store = t }) (saved_or_gone n.coming.ranked.said.saved class (Whole x) (with_seen c.store s.scene)))) given
+
+    pub goes_right : IsRight (saved_or_gone n.coming.ranked.said.saved class (Whole x) (with_seen c.store s.scene))
+    goes_right = λ wrong.
+        fine_right (BegunAs w.program n.ready.compiled.typed n.ready.placed.locals) (event_begun n.coming) (begun_fine w.program n.ready.compiled.typed n.ready.placed.locals n.coming (known w c here s cell x class n))
+        (begun_then ∙ ap (turned (λ t. record { rank = n.coming.ranked.rank; given = vs; store = t })) wrong)
+
+    -- what TakeEvent does then
+    pub take_is : act w.code n.ready.placed.line n.ready.placed.instruction c ≡ take_event w.code n.ready.runs.carries.0 n.coming c
+    take_is = ap (λ i. act w.code n.ready.placed.line i c) n.ready.runs.carries.2 ∙ ap (λ o. take_next w.code n.ready.runs.carries.0 o c) n.next
+
+    -- a fault as the notice is let go has the line of the routine
+    pub begins_not : (e : Seen) (kind : FaultKind) → GoesAs n.coming.ranked.said.saved e (Err kind) → act w.code n.ready.placed.line n.ready.placed.instruction c ≡ Rest (Breaks kind n.coming.ranked.said.line)
+    begins_not e kind goes =
+        take_is
+        ∙ ap (λ q. did n.coming.ranked.said.line q (λ b. fit (slice_get w.code.events b.rank) (λ e. at_height n.ready.runs.carries.0 c.cells (enter e (AnEvent b.rank) b.given c.cells c b.store)))) (begun_then ∙ ap (turned (λ t. record { rank = n.coming.ranked.rank; given = vs; store = t })) goes)

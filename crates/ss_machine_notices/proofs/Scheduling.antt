@@ -1,0 +1,174 @@
+-- Times to schedule for, filing a notice, and cancelling.
+use Rattle.std.proofs.Common.{◌≡◌, ℕ, ◌+◌, ◌<◌, ◌≤◌, false, List, length, Option, Some, None, Ok, Err, refl, sym, ap, ◌∙◌, subst}
+use Rattle.std.specs.Prelude.{ℤ, IsOk, slice_get, Result as OkOr}
+use Rattle.ss_base.specs.declared.fault.FaultKind.{FaultKind}
+use Rattle.ss_base.specs.declared.fault.Refused.{Refused}
+use Rattle.ss_base.specs.declared.fault.Refused.TheVariants.{Fault, Memory}
+use Rattle.ss_base.specs.declared.layout.ClassKind.TheVariants.{Notice}
+use Rattle.ss_base.specs.declared.layout.Mode.{Mode}
+use Rattle.ss_base.specs.declared.layout.Mode.TheVariants.{Integer}
+use Rattle.ss_base.specs.declared.value.Value.{Value}
+use Rattle.ss_base.specs.declared.value.Value.TheVariants.{Whole}
+use Rattle.ss_program.specs.WellTyped.{kind_of_class}
+use Rattle.ss_meaning.specs.Values.{Trouble, Fails, if_ok, turned, due, number_of}
+use Rattle.ss_meaning.specs.Store.{Store}
+use Rattle.ss_meaning.specs.Events.{Moment, AtTime, Later, not_past, time_at, filed_notice, unscheduled}
+use Rattle.ss_meaning.specs.Fitting.{Fits}
+use Rattle.ss_meaning.proofs.Fine.{Any}
+use Rattle.ss_meaning.proofs.Events.{time_at_fine, filed_notice_fine, unscheduled_fine}
+use Rattle.ss_code_instructions.specs.declared.address.Address.{Address}
+use Rattle.ss_code_instructions.specs.declared.instruction.Instruction.{Instruction as Running}
+use Rattle.ss_code_instructions.specs.Instructions as i
+use Rattle.ss_code_instructions.specs.Instructions.{Instruction, Operand, Target}
+use Rattle.ss_code_instructions.specs.States.{Core, did, onward, with_value, deliver}
+use Rattle.ss_code_instructions.specs.Machine.{act, is_due}
+use Rattle.ss_code_instructions.specs.Shape.{Suits, Gives, Accepts, scope_of}
+use Rattle.ss_code_instructions.specs.Carried.{From, To, Is, OperandAt, TargetAt}
+use Rattle.ss_machine_frames.specs.Rows.{place_at}
+use Rattle.ss_machine_frames.proofs.Reading.{only_number, reads, read_within, reads_both, BothWithin, both_within}
+use Rattle.ss_machine_events.specs.Scheduled.{time_after, IsNoticeClass}
+use Rattle.ss_machine_world.specs.Seen.{Seen, IsRight, Looks, Changes, ChangesWithMemory, with_seen}
+use Rattle.ss_machine_instructions.specs.declared.flow.Ending.TheVariants.{NoMemory}
+use Rattle.ss_machine_instructions.specs.declared.flow.Here.{Here}
+use Rattle.ss_machine_instructions.specs.declared.state.State.{State}
+use Rattle.ss_machine_instructions.specs.Doing.{Compiled, Ready, NoTick, Comes, Delivers, as_value}
+use Rattle.ss_machine_instructions.specs.Ways.{stopped, faulted_by, on_unless}
+use Rattle.ss_machine_instructions.specs.Worldly.{Settles, on_where, refused_where}
+use Rattle.ss_machine_notices.specs.Giving.{SettledInWithMemory}
+use Rattle.ss_machine_instructions.proofs.Placing.{site, stands, suits, deep_at, deep_here, calm}
+use Rattle.ss_machine_instructions.proofs.Delivering.{delivers, deliver_is, number_right}
+use Rattle.ss_machine_instructions.proofs.Programs.{noticed_in}
+use Rattle.ss_machine_instructions.proofs.Settling.{fine_right, store_is, layout_seen, notices_seen, changes_settle, settles, went_on, fails_on}
+
+module _ (w : Compiled) (c : Core) (here : Here) (s : State) (run : Running) (r : Ready w c here s run) where
+  abbrev SuitsHere : Instruction → Type 0
+  SuitsHere x = Suits w.program w.code c.place r.placed.locals r.placed.cells x
+
+  -- ## Times
+
+  -- the time of a moment whose number was read
+  when_delivers : (moment : Value → Moment) (y : Operand) (target : Target) (time to : Address) (rest after : List Mode) (n : ℤ) (answer : OkOr ℤ FaultKind) → act w.code r.placed.line r.placed.instruction c ≡ with_value y c.store c.cells (λ v below. deliver r.placed.line target (turned Whole (time_at (moment v) c.store)) below c) → Gives (scope_of w.program w.code r.placed.locals) y Integer r.placed.cells rest → OperandAt w.code w.run.constants r.placed y time → Accepts (scope_of w.program w.code r.placed.locals) target Integer rest after → TargetAt w.code w.run.constants r.placed target to → length after ≤ w.run.depth → slice_get s.rows.numbers (place_at here.frame time) ≡ Some n → time_at (moment (Whole n)) c.store ≡ due answer → Delivers w c r.placed.line (act w.code r.placed.line r.placed.instruction c) here s to (as_value answer)
+  when_delivers moment y target time to rest after n answer acts gives at_y accepts at_to deep at_time e =
+      let l = r.placed.line in
+      let one = reads (site w c here s run r) (stands w c here s run r) y Integer r.placed.cells rest time c.cells (Whole n) gives at_y r.holds.held.cells r.fits.cells (only_number s.rows (place_at here.frame time) n at_time) in
+      delivers w c here s run r (as_value answer) to target Integer rest after one.below
+      (acts
+      ∙ one.is (λ v below. deliver l target (turned Whole (time_at (moment v) c.store)) below c)
+      ∙ ap (λ q. deliver l target (turned Whole q) one.below c) e
+      ∙ deliver_is l target answer one.below c)
+      accepts at_to deep (number_right answer) one.modes one.cells
+
+  pub at_in : (time to : Address) → From w.code w.run.constants r.placed time (λ y. To w.code w.run.constants r.placed to (λ t. Is w.code w.run.constants r.placed (i.At y t))) → place_at here.frame time < length s.rows.numbers
+  at_in time to z =
+      let y = subst SuitsHere z.2.2 (suits w c here s run r) in
+      read_within (site w c here s run r) (stands w c here s run r) z.0 Integer r.placed.cells y.0 time y.1 z.1 (deep_here w c here s run r)
+
+  pub ats : (time to : Address) (n : ℤ) (answer : OkOr ℤ FaultKind) → From w.code w.run.constants r.placed time (λ y. To w.code w.run.constants r.placed to (λ t. Is w.code w.run.constants r.placed (i.At y t))) → slice_get s.rows.numbers (place_at here.frame time) ≡ Some n → Looks (not_past n) s.scene answer → Delivers w c r.placed.line (act w.code r.placed.line r.placed.instruction c) here s to (as_value answer)
+  ats time to n answer z at looks =
+      let is = z.2.2 in
+      let y = subst SuitsHere is (suits w c here s run r) in
+      let f : Store → OkOr ℤ Trouble = not_past n in
+      let right : IsRight (f c.store) = fine_right Any (f c.store) (time_at_fine w.program r.compiled.typed r.placed.locals (AtTime (Whole n)) c.store refl) in
+      let e : f c.store ≡ due answer = ap f (store_is w c here s run r) ∙ looks c.store (λ wrong. right (ap f (store_is w c here s run r) ∙ wrong)) in
+      when_delivers AtTime z.0 z.2.0 time to y.0 y.2.0 n answer (ap (λ x. act w.code r.placed.line x c) is) y.1 z.1 y.2.1 z.2.1 (deep_at w c here s run r (c.place + 1) r.placed.locals y.2.0 y.2.2) at e
+
+  pub in_in : (units to : Address) → From w.code w.run.constants r.placed units (λ y. To w.code w.run.constants r.placed to (λ t. Is w.code w.run.constants r.placed (i.In y t))) → place_at here.frame units < length s.rows.numbers
+  in_in units to z =
+      let y = subst SuitsHere z.2.2 (suits w c here s run r) in
+      read_within (site w c here s run r) (stands w c here s run r) z.0 Integer r.placed.cells y.0 units y.1 z.1 (deep_here w c here s run r)
+
+  pub ins : (units to : Address) (n : ℤ) (answer : OkOr ℤ FaultKind) → From w.code w.run.constants r.placed units (λ y. To w.code w.run.constants r.placed to (λ t. Is w.code w.run.constants r.placed (i.In y t))) → slice_get s.rows.numbers (place_at here.frame units) ≡ Some n → Looks (time_after n) s.scene answer → Delivers w c r.placed.line (act w.code r.placed.line r.placed.instruction c) here s to (as_value answer)
+  ins units to n answer z at looks =
+      let is = z.2.2 in
+      let y = subst SuitsHere is (suits w c here s run r) in
+      let f : Store → OkOr ℤ Trouble = time_after n in
+      let right : IsRight (f c.store) = fine_right Any (f c.store) (time_at_fine w.program r.compiled.typed r.placed.locals (Later (Whole n)) c.store refl) in
+      let e : f c.store ≡ due answer = ap f (store_is w c here s run r) ∙ looks c.store (λ wrong. right (ap f (store_is w c here s run r) ∙ wrong)) in
+      when_delivers Later z.0 z.2.0 units to y.0 y.2.0 n answer (ap (λ x. act w.code r.placed.line x c) is) y.1 z.1 y.2.1 z.2.1 (deep_at w c here s run r (c.place + 1) r.placed.locals y.2.0 y.2.2) at e
+
+  -- ## A class of notices
+
+  pub noticed : (class : ℕ) → kind_of_class w.program class ≡ Some Notice → IsNoticeClass s.scene class
+  noticed class kind = noticed_in w.program r.compiled.typed r.placed.locals s.scene c.store class kind r.fits.store (notices_seen w c here s run r) (layout_seen w c here s run r)
+
+  pub class_within : (class : ℕ) → kind_of_class w.program class ≡ Some Notice → class < length s.scene.heap.layout.classes
+  class_within class kind = (noticed class kind).within
+
+  -- ## Where memory may be refused
+
+  -- by the answer
+  pub refuses : (f : Store → OkOr Store Trouble) (e : Seen) (answer : OkOr (Unit {0}) Refused) (new : State) (result : Option Here) → is_due r.placed.instruction ≡ false → Settles c r.placed.line (act w.code r.placed.line r.placed.instruction c) here s f → SettledInWithMemory c.store f s.scene e answer → new ≡ refused_where answer (record s { scene = e }) → result ≡ on_where here answer → Comes (is_due r.placed.instruction) w r.placed.line (act w.code r.placed.line r.placed.instruction c) s new result
+  refuses f e (Ok u) new result calmly z d same way = went_on w c here s run r f e new result calmly z d same way
+  refuses f e (Err (Fault kind)) new result calmly z d same way =
+      fails_on w c here s run r kind e new result calmly
+      (z.acts ∙ ap (λ q. did r.placed.line q (λ t. onward z.below c t)) (ap f (store_is w c here s run r) ∙ d)) same way
+  refuses f e (Err Memory) new result calmly z d same way =
+      let m = act w.code r.placed.line r.placed.instruction c in
+      let l = r.placed.line in
+      let s' : State = stopped NoMemory (record s { scene = e }) in
+      let plain : NoTick w l m s s' None = record { leads = tt; ticks = refl; steps = refl } in
+      calm w c here s run r new result calmly
+      (subst (λ o. NoTick w l m s new o) (sym way) (subst (λ n. NoTick w l m s n None) (sym same) plain))
+
+  -- what holds of each store holds of this one
+  pub in_store : (f : Store → OkOr Store Trouble) (e : Seen) (answer : OkOr (Unit {0}) Refused) → ChangesWithMemory f s.scene e answer → SettledInWithMemory c.store f s.scene e answer
+  in_store f e (Ok u) d = d c.store
+  in_store f e (Err (Fault kind)) d = d.0 c.store
+  in_store f e (Err Memory) d = λ kind fails. absurd (wrong (f (with_seen c.store s.scene)) kind fails (d.0 c.store))
+    where
+      wrong : (q : OkOr Store Trouble) (kind : FaultKind) → q ≡ Err (Fails kind) → IsOk q → ⊥
+      wrong (Ok t) kind e ok = absurd cc
+      wrong (Err t) kind e ok = absurd cc
+
+  -- ## FileNotice
+
+  abbrev pub FilesNotice : (class : ℕ) → (notice time : Address) → Type 0
+  FilesNotice class notice time = From w.code w.run.constants r.placed notice (λ y. From w.code w.run.constants r.placed time (λ z. Is w.code w.run.constants r.placed (i.FileNotice class y z)))
+
+  pub file_notice_in : (class : ℕ) (notice time : Address) → FilesNotice class notice time → BothWithin (site w c here s run r) (stands w c here s run r) notice time × IsNoticeClass s.scene class
+  file_notice_in class notice time z =
+      let y = subst SuitsHere z.2.2 (suits w c here s run r) in (
+        both_within (site w c here s run r) (stands w c here s run r) z.0 z.2.0 Integer Integer r.placed.cells y.1.0 notice time y.1.1 z.1 z.2.1 (deep_here w c here s run r),
+        noticed class y.0,
+      )
+
+  pub file_notices : (class : ℕ) (notice time : Address) (n t : ℤ) (e : Seen) (answer : OkOr (Unit {0}) Refused) (new : State) (result : Option Here) → FilesNotice class notice time → slice_get s.rows.numbers (place_at here.frame notice) ≡ Some n → slice_get s.rows.numbers (place_at here.frame time) ≡ Some t → ChangesWithMemory (filed_notice class (Whole n) t) s.scene e answer → new ≡ refused_where answer (record s { scene = e }) → result ≡ on_where here answer → Comes (is_due r.placed.instruction) w r.placed.line (act w.code r.placed.line r.placed.instruction c) s new result
+  file_notices class notice time n t e answer new result z at_notice at_time d same way =
+      let l = r.placed.line in
+      let is = z.2.2 in
+      let y = subst SuitsHere is (suits w c here s run r) in
+      let both = reads_both (site w c here s run r) (stands w c here s run r) z.0 z.2.0 Integer Integer r.placed.cells y.1.0 notice time c.cells (Whole n) (Whole t) y.1.1 z.1 z.2.1 r.holds.held.cells r.fits.cells (only_number s.rows (place_at here.frame notice) n at_notice) (only_number s.rows (place_at here.frame time) t at_time) in
+      let op : Store → OkOr Store Trouble = filed_notice class (Whole n) t in
+      let left : Settles c l (act w.code l r.placed.instruction c) here s op = record {
+        below = both.below;
+        acts =
+            ap (λ x. act w.code l x c) is
+            ∙ both.is (λ x t below. did l (if_ok (number_of t) (λ t. filed_notice class x t c.store)) (λ s. onward below c s));
+        right = fine_right (Fits w.program r.placed.locals) (op c.store) (filed_notice_fine w.program r.compiled.typed r.placed.locals class (Whole n) t c.store y.0 refl r.fits.store);
+        at = both.cells;
+      } in
+      refuses op e answer new result (ap is_due is) left (in_store op e answer d) same way
+
+  -- ## Cancel
+
+  pub cancels_in : (class : ℕ) (notice : Address) → From w.code w.run.constants r.placed notice (λ y. Is w.code w.run.constants r.placed (i.Cancel class y)) → (place_at here.frame notice < length s.rows.numbers) × (class < length s.scene.heap.layout.classes)
+  cancels_in class notice z =
+      let y = subst SuitsHere z.2 (suits w c here s run r) in (
+        read_within (site w c here s run r) (stands w c here s run r) z.0 Integer r.placed.cells y.1.0 notice y.1.1 z.1 (deep_here w c here s run r),
+        class_within class y.0,
+      )
+
+  pub cancels : (class : ℕ) (notice : Address) (n : ℤ) (e : Seen) (answer : OkOr (Unit {0}) FaultKind) (new : State) (result : Option Here) → From w.code w.run.constants r.placed notice (λ y. Is w.code w.run.constants r.placed (i.Cancel class y)) → slice_get s.rows.numbers (place_at here.frame notice) ≡ Some n → Changes (unscheduled class (Whole n)) s.scene e answer → new ≡ faulted_by answer (record s { scene = e }) → result ≡ on_unless here answer → Comes (is_due r.placed.instruction) w r.placed.line (act w.code r.placed.line r.placed.instruction c) s new result
+  cancels class notice n e answer new result z at d same way =
+      let l = r.placed.line in
+      let is = z.2 in
+      let y = subst SuitsHere is (suits w c here s run r) in
+      let one = reads (site w c here s run r) (stands w c here s run r) z.0 Integer r.placed.cells y.1.0 notice c.cells (Whole n) y.1.1 z.1 r.holds.held.cells r.fits.cells (only_number s.rows (place_at here.frame notice) n at) in
+      let op : Store → OkOr Store Trouble = unscheduled class (Whole n) in
+      let left : Settles c l (act w.code l r.placed.instruction c) here s op = record {
+        below = one.below;
+        acts = ap (λ x. act w.code l x c) is ∙ one.is (λ x below. did l (unscheduled class x c.store) (λ s. onward below c s));
+        right = fine_right (Fits w.program r.placed.locals) (op c.store) (unscheduled_fine w.program r.compiled.typed r.placed.locals class (Whole n) c.store y.0 refl r.fits.store);
+        at = one.cells;
+      } in
+      settles w c here s run r op e answer new result (ap is_due is) left (changes_settle op s.scene e answer d) same way

@@ -1,0 +1,195 @@
+use Rattle.std.proofs.Common.{rules, ◌≡◌, ◌+◌, ◌<◌, ℤ, List, Some, Ok, Err, length, refl, ap, sym, ◌∙◌, subst, to_z, of_z, w64, arith}
+use Rattle.std.specs.Prelude.{IfSome, slice_get}
+use Rattle.std.proofs.lemmas.Option.{slice_get_read}
+use Rattle.ss_base.specs.declared.layout.Mode.{Mode}
+use Rattle.ss_world.specs.State.{modes_of}
+use Rattle.ss_meaning.specs.Entities.{is_single}
+use Rattle.ss_meaning.specs.Store.{Notices}
+use Rattle.ss_code_instructions.specs.declared.entry.Entry.{Entry}
+use Rattle.ss_code_instructions.specs.declared.instruction.Instruction.TheVariants.{TakeEvent}
+use Rattle.ss_machine_frames.proofs.Entering.{cleared_long}
+use Rattle.ss_machine_world.specs.Seen.{Seen}
+use Rattle.ss_machine_notices.specs.Beginning.{IsUnbegun, Receives}
+use Rattle.ss_machine_instructions.specs.Entered.{Enters, IsRefused}
+use Rattle.ss_machine_instructions.specs.declared.state.State.{State}
+use Rattle.ss_machine_instructions.proofs.Placing.{small}
+use Rattle.ss_machine_instructions.proofs.Filing.{one}
+use Rattle.ss_machine_notices.proofs.Beginning.{saved_within, receives_not}
+use Rattle.ss_machine_notices.proofs.Begun.{begun_class, begun_single, begun_rank, begun_said, begun_saved, begun_modes, begun_entry_within, held_small, frame_within}
+use Rattle.ss_machine_notices.proofs.Started.{entry_is, begins, begins_fault, unbegun_as}
+use Rattle.ss_machine_notices.proofs.events.begin_event.Goals as goal
+
+pub rank-rank-requires : goal.rank-rank-requires
+rank-rank-requires c = let z = c.requires in record { class = begun_class z.0 z.1 c.args.here c.args.state.now c.args.cell c.args.notice c.args.class z.3 }
+
+pub bounds-events-rank : goal.bounds-events-rank
+bounds-events-rank c =
+    let z = c.requires in
+    let rank : c.rank-rank.result ≡ z.3.coming.ranked.rank = c.rank-rank.ensures z.3.coming.ranked z.3.place in
+    omega (arith, rank, begun_entry_within z.0 z.1 c.args.here c.args.state.now c.args.cell c.args.notice c.args.class z.3, ap length z.2)
+
+pub offset_bounds-events-rank : goal.offset_bounds-events-rank
+offset_bounds-events-rank c =
+    let z = c.requires in
+    let rank : c.rank-rank.result ≡ z.3.coming.ranked.rank = c.rank-rank.ensures z.3.coming.ranked z.3.place in
+    let within : c.rank-rank.result < length c.args.events.now = omega (arith, rank, begun_entry_within z.0 z.1 c.args.here c.args.state.now c.args.cell c.args.notice c.args.class z.3, ap length z.2) in
+    search rules
+
+pub enter-requires-clause-sized : goal.enter-requires-clause-sized
+enter-requires-clause-sized c =
+    let z = c.requires in let es = c.args.events.now in let d = c.index-events-rank.result in let k = c.rank-rank.result in
+    let rank : k ≡ z.3.coming.ranked.rank = c.rank-rank.ensures z.3.coming.ranked z.3.place in
+    let within : k < length es = omega (arith, rank, begun_entry_within z.0 z.1 c.args.here c.args.state.now c.args.cell c.args.notice c.args.class z.3, ap length z.2) in
+    let at : slice_get z.0.run.events z.3.coming.ranked.rank ≡ Some d = ap (slice_get z.0.run.events) (sym rank) ∙ ap (λ (l : List Entry). slice_get l k) (sym z.2) ∙ slice_get_read es (length es) k d refl within c.index-events-rank.is in
+    (entry_is z.0 z.1 c.args.here c.args.state.now c.args.cell c.args.notice c.args.class z.3 d at).sized
+
+pub enter-requires-clause-small : goal.enter-requires-clause-small
+enter-requires-clause-small c = let z = c.requires in held_small z.0 z.1 c.args.here c.args.state.now c.args.cell c.args.notice c.args.class z.3
+
+pub enter-requires-clause-place : goal.enter-requires-clause-place
+enter-requires-clause-place c = let z = c.requires in let lt = small z.0 z.1 c.args.here z.3.before (TakeEvent c.args.cell) z.3.ready in omega (arith, lt)
+
+pub unbegun-requires-clause-rank : goal.unbegun-requires-clause-rank
+unbegun-requires-clause-rank c =
+    let z = c.requires in
+    let refused : IsRefused c.args.state.now c.enter.new.self = search rules in
+    let rank : c.rank-rank.result ≡ z.3.coming.ranked.rank = c.rank-rank.ensures z.3.coming.ranked z.3.place in
+    omega (arith, rank, begun_rank z.0 z.1 c.args.here c.args.state.now c.args.cell c.args.notice c.args.class z.3, ap (λ (e : Seen). length e.notices) refused.scene)
+
+pub unbegun-requires-clause-class : goal.unbegun-requires-clause-class
+unbegun-requires-clause-class c =
+    let z = c.requires in
+    let refused : IsRefused c.args.state.now c.enter.new.self = search rules in
+    omega (arith, begun_class z.0 z.1 c.args.here c.args.state.now c.args.cell c.args.notice c.args.class z.3, ap (λ (e : Seen). length e.heap.layout.classes) refused.scene)
+
+pub unbegun-requires-clause-single : goal.unbegun-requires-clause-single
+unbegun-requires-clause-single c =
+    let z = c.requires in
+    let refused : IsRefused c.args.state.now c.enter.new.self = search rules in
+    ap (λ (e : Seen). is_single (slice_get e.heap.layout.classes c.args.class)) refused.scene ∙ begun_single z.0 z.1 c.args.here c.args.state.now c.args.cell c.args.notice c.args.class z.3
+
+pub unbegun-requires-clause-saved : goal.unbegun-requires-clause-saved
+unbegun-requires-clause-saved c = λ said here.
+    let z = c.requires in
+    let refused : IsRefused c.args.state.now c.enter.new.self = search rules in
+    let rank : c.rank-rank.result ≡ z.3.coming.ranked.rank = c.rank-rank.ensures z.3.coming.ranked z.3.place in
+    let it : z.3.coming.ranked.said ≡ said = one (sym (begun_said z.0 z.1 c.args.here c.args.state.now c.args.cell c.args.notice c.args.class z.3) ∙ ap (λ (e : Seen). slice_get e.notices z.3.coming.ranked.rank) (sym refused.scene) ∙ ap (slice_get c.enter.new.self.scene.notices) (sym rank) ∙ here) in
+    let low = subst (λ (m : Notices). IfSome m.saved (λ k. k < c.args.here.frame)) it (begun_saved z.0 z.1 c.args.here c.args.state.now c.args.cell c.args.notice c.args.class z.3) in
+    saved_within said.saved c.args.here.frame (length c.enter.new.self.rows.numbers) (omega (arith, frame_within z.0 z.1 c.args.here c.args.state.now c.args.cell c.args.notice c.args.class z.3, refused.longer)) low
+
+pub unbegun-requires-clause-ticks : goal.unbegun-requires-clause-ticks
+unbegun-requires-clause-ticks c =
+    let z = c.requires in
+    let refused : IsRefused c.args.state.now c.enter.new.self = search rules in
+    omega (arith, z.3.left, refused.ticks, z.3.few)
+
+pub returns-in_default : goal.returns-in_default
+returns-in_default c = λ w core all n.
+    let s = c.args.state.now in let x = c.args.notice in let class = c.args.class in let s1 = c.enter.new.self in let new = c.unbegun.new.state in
+    let same : to_z w64 (of_z w64 x) ≡ x = search rules in
+    let es = c.args.events.now in let d = c.index-events-rank.result in let k = c.rank-rank.result in
+    let refused : IsRefused s s1 = search rules in
+    let rank : k ≡ n.coming.ranked.rank = c.rank-rank.ensures n.coming.ranked n.place in
+    let within : k < length es = omega (arith, rank, begun_entry_within w core c.args.here s c.args.cell c.args.notice c.args.class n, ap length all) in
+    let at : slice_get w.run.events n.coming.ranked.rank ≡ Some d = ap (slice_get w.run.events) (sym rank) ∙ ap (λ (l : List Entry). slice_get l k) (sym all) ∙ slice_get_read es (length es) k d refl within c.index-events-rank.is in
+    let here : slice_get s1.scene.notices k ≡ Some n.coming.ranked.said = ap (slice_get s1.scene.notices) rank ∙ ap (λ (e : Seen). slice_get e.notices n.coming.ranked.rank) refused.scene ∙ begun_said w core c.args.here s c.args.cell c.args.notice c.args.class n in
+    let u = subst (λ (y : ℤ). IsUnbegun n.coming.ranked.said class y s1 new) same (c.unbegun.ensures.state n.coming.ranked.said here) in
+    unbegun_as w core c.args.here s c.args.cell c.args.notice c.args.class n d at s1 new c.unbegun.result refused u c.unbegun.ensures.none
+
+pub receive-requires-clause-rank : goal.receive-requires-clause-rank
+receive-requires-clause-rank c =
+    let z = c.requires in
+    let enters : Enters c.args.here c.args.state.now c.enter.new.self c.index-events-rank.result c.args.cell c.in-Ok.frame = search rules in
+    let rank : c.rank-rank.result ≡ z.3.coming.ranked.rank = c.rank-rank.ensures z.3.coming.ranked z.3.place in
+    omega (arith, rank, begun_rank z.0 z.1 c.args.here c.args.state.now c.args.cell c.args.notice c.args.class z.3, ap (λ (t : State). length t.scene.notices) enters.is)
+
+pub receive-requires-clause-class : goal.receive-requires-clause-class
+receive-requires-clause-class c =
+    let z = c.requires in
+    let enters : Enters c.args.here c.args.state.now c.enter.new.self c.index-events-rank.result c.args.cell c.in-Ok.frame = search rules in
+    omega (arith, begun_class z.0 z.1 c.args.here c.args.state.now c.args.cell c.args.notice c.args.class z.3, ap (λ (t : State). length t.scene.heap.layout.classes) enters.is)
+
+pub receive-requires-clause-single : goal.receive-requires-clause-single
+receive-requires-clause-single c =
+    let z = c.requires in
+    let enters : Enters c.args.here c.args.state.now c.enter.new.self c.index-events-rank.result c.args.cell c.in-Ok.frame = search rules in
+    ap (λ (t : State). is_single (slice_get t.scene.heap.layout.classes c.args.class)) enters.is ∙ begun_single z.0 z.1 c.args.here c.args.state.now c.args.cell c.args.notice c.args.class z.3
+
+pub receive-requires-clause-saved : goal.receive-requires-clause-saved
+receive-requires-clause-saved c = λ said here.
+    let z = c.requires in
+    let enters : Enters c.args.here c.args.state.now c.enter.new.self c.index-events-rank.result c.args.cell c.in-Ok.frame = search rules in
+    let rank : c.rank-rank.result ≡ z.3.coming.ranked.rank = c.rank-rank.ensures z.3.coming.ranked z.3.place in
+    let it : z.3.coming.ranked.said ≡ said = one (sym (begun_said z.0 z.1 c.args.here c.args.state.now c.args.cell c.args.notice c.args.class z.3) ∙ ap (λ (t : State). slice_get t.scene.notices z.3.coming.ranked.rank) (sym enters.is) ∙ ap (slice_get c.enter.new.self.scene.notices) (sym rank) ∙ here) in
+    let low = subst (λ (m : Notices). IfSome m.saved (λ k. k < c.args.here.frame)) it (begun_saved z.0 z.1 c.args.here c.args.state.now c.args.cell c.args.notice c.args.class z.3) in
+    saved_within said.saved c.args.here.frame c.in-Ok.frame (omega (arith, enters.begin)) low
+
+pub receive-requires-clause-modes : goal.receive-requires-clause-modes
+receive-requires-clause-modes c = λ i m e.
+    let z = c.requires in let es = c.args.events.now in let d = c.index-events-rank.result in let k = c.rank-rank.result in
+    let enters : Enters c.args.here c.args.state.now c.enter.new.self d c.args.cell c.in-Ok.frame = search rules in
+    let rank : k ≡ z.3.coming.ranked.rank = c.rank-rank.ensures z.3.coming.ranked z.3.place in
+    let within : k < length es = omega (arith, rank, begun_entry_within z.0 z.1 c.args.here c.args.state.now c.args.cell c.args.notice c.args.class z.3, ap length z.2) in
+    let at : slice_get z.0.run.events z.3.coming.ranked.rank ≡ Some d = ap (slice_get z.0.run.events) (sym rank) ∙ ap (λ (l : List Entry). slice_get l k) (sym z.2) ∙ slice_get_read es (length es) k d refl within c.index-events-rank.is in
+    let given = c.deref.ensures.value ∙ (entry_is z.0 z.1 c.args.here c.args.state.now c.args.cell c.args.notice c.args.class z.3 d at).given in
+    ap (λ (t : State). slice_get (modes_of t.scene.heap.layout c.args.class) i) enters.is ∙ begun_modes z.0 z.1 c.args.here c.args.state.now c.args.cell c.args.notice c.args.class z.3 i m (ap (λ (ms : List Mode). slice_get ms i) (sym given) ∙ e)
+
+pub receive-requires-clause-places : goal.receive-requires-clause-places
+receive-requires-clause-places c =
+    let z = c.requires in let es = c.args.events.now in let d = c.index-events-rank.result in let k = c.rank-rank.result in
+    let enters : Enters c.args.here c.args.state.now c.enter.new.self d c.args.cell c.in-Ok.frame = search rules in
+    let rank : k ≡ z.3.coming.ranked.rank = c.rank-rank.ensures z.3.coming.ranked z.3.place in
+    let within : k < length es = omega (arith, rank, begun_entry_within z.0 z.1 c.args.here c.args.state.now c.args.cell c.args.notice c.args.class z.3, ap length z.2) in
+    let at : slice_get z.0.run.events z.3.coming.ranked.rank ≡ Some d = ap (slice_get z.0.run.events) (sym rank) ∙ ap (λ (l : List Entry). slice_get l k) (sym z.2) ∙ slice_get_read es (length es) k d refl within c.index-events-rank.is in
+    let long = cleared_long enters.grown (c.in-Ok.frame + length d.given.items) d.others.items in
+    omega (arith, enters.room, (entry_is z.0 z.1 c.args.here c.args.state.now c.args.cell c.args.notice c.args.class z.3 d at).sized.variables, ap length c.deref.ensures.value, long, ap (λ (t : State). length t.rows.numbers) enters.is)
+
+pub fault_of_event-requires : goal.fault_of_event-requires
+fault_of_event-requires c =
+    let z = c.requires in
+    let enters : Enters c.args.here c.args.state.now c.enter.new.self c.index-events-rank.result c.args.cell c.in-Ok.frame = search rules in
+    let rank : c.rank-rank.result ≡ z.3.coming.ranked.rank = c.rank-rank.ensures z.3.coming.ranked z.3.place in
+    let here : slice_get c.enter.new.self.scene.notices c.rank-rank.result ≡ Some z.3.coming.ranked.said = ap (slice_get c.enter.new.self.scene.notices) rank ∙ ap (λ (t : State). slice_get t.scene.notices z.3.coming.ranked.rank) enters.is ∙ begun_said z.0 z.1 c.args.here c.args.state.now c.args.cell c.args.notice c.args.class z.3 in
+    let kept = receives_not z.3.coming.ranked.said c.args.class (to_z w64 (of_z w64 c.args.notice)) c.deref.result.now c.in-Ok.frame c.enter.new.self c.receive.new.state c.in-Err.kind (c.in-Err.ensures z.3.coming.ranked.said here) in
+    omega (arith, rank, begun_rank z.0 z.1 c.args.here c.args.state.now c.args.cell c.args.notice c.args.class z.3, ap (λ (e : Seen). length e.notices) kept, ap (λ (t : State). length t.scene.notices) enters.is)
+
+pub returns-in-Ok-receive : goal.returns-in-Ok-receive
+returns-in-Ok-receive c = λ w core all n.
+    let s = c.args.state.now in let x = c.args.notice in let class = c.args.class in let s1 = c.enter.new.self in let frame = c.in-Ok.frame in
+    let es = c.args.events.now in let d = c.index-events-rank.result in let k = c.rank-rank.result in
+    let enters : Enters c.args.here s s1 d c.args.cell frame = search rules in
+    let rank : k ≡ n.coming.ranked.rank = c.rank-rank.ensures n.coming.ranked n.place in
+    let within : k < length es = omega (arith, rank, begun_entry_within w core c.args.here s c.args.cell c.args.notice c.args.class n, ap length all) in
+    let at : slice_get w.run.events n.coming.ranked.rank ≡ Some d = ap (slice_get w.run.events) (sym rank) ∙ ap (λ (l : List Entry). slice_get l k) (sym all) ∙ slice_get_read es (length es) k d refl within c.index-events-rank.is in
+    let here : slice_get s1.scene.notices k ≡ Some n.coming.ranked.said = ap (slice_get s1.scene.notices) rank ∙ ap (λ (t : State). slice_get t.scene.notices n.coming.ranked.rank) enters.is ∙ begun_said w core c.args.here s c.args.cell c.args.notice c.args.class n in
+    let same : to_z w64 (of_z w64 x) ≡ x = search rules in
+    let got =
+    subst (λ (ms : List Mode). Receives n.coming.ranked.said class x ms frame s1 c.receive.new.state (Ok tt)) c.deref.ensures.value
+    (subst (λ (y : ℤ). Receives n.coming.ranked.said class y c.deref.result.now frame s1 c.receive.new.state (Ok tt)) same (c.in-Ok-receive.ensures n.coming.ranked.said here)) in
+    begins w core c.args.here s c.args.cell c.args.notice c.args.class n d at s1 frame enters c.receive.new.state got c.to.result c.to.ensures (omega (arith, enters.begin))
+
+pub returns-in-Err : goal.returns-in-Err
+returns-in-Err c = λ w core all n.
+    let s = c.args.state.now in let x = c.args.notice in let class = c.args.class in let s1 = c.enter.new.self in let frame = c.in-Ok.frame in
+    let es = c.args.events.now in let d = c.index-events-rank.result in let k = c.rank-rank.result in
+    let enters : Enters c.args.here s s1 d c.args.cell frame = search rules in
+    let rank : k ≡ n.coming.ranked.rank = c.rank-rank.ensures n.coming.ranked n.place in
+    let within : k < length es = omega (arith, rank, begun_entry_within w core c.args.here s c.args.cell c.args.notice c.args.class n, ap length all) in
+    let at : slice_get w.run.events n.coming.ranked.rank ≡ Some d = ap (slice_get w.run.events) (sym rank) ∙ ap (λ (l : List Entry). slice_get l k) (sym all) ∙ slice_get_read es (length es) k d refl within c.index-events-rank.is in
+    let here : slice_get s1.scene.notices k ≡ Some n.coming.ranked.said = ap (slice_get s1.scene.notices) rank ∙ ap (λ (t : State). slice_get t.scene.notices n.coming.ranked.rank) enters.is ∙ begun_said w core c.args.here s c.args.cell c.args.notice c.args.class n in
+    let same : to_z w64 (of_z w64 x) ≡ x = search rules in
+    let got =
+    subst (λ (ms : List Mode). Receives n.coming.ranked.said class x ms frame s1 c.receive.new.state (Err c.in-Err.kind)) c.deref.ensures.value
+    (subst (λ (y : ℤ). Receives n.coming.ranked.said class y c.deref.result.now frame s1 c.receive.new.state (Err c.in-Err.kind)) same (c.in-Err.ensures n.coming.ranked.said here)) in
+    let kept = receives_not n.coming.ranked.said class x d.given.items frame s1 c.receive.new.state c.in-Err.kind got in
+    let still : slice_get c.receive.new.state.scene.notices k ≡ Some n.coming.ranked.said = ap (λ (e : Seen). slice_get e.notices k) kept ∙ here in
+    begins_fault w core c.args.here s c.args.cell c.args.notice c.args.class n d at s1 frame enters c.receive.new.state c.in-Err.kind got c.fault_of_event.new.state c.fault_of_event.result (c.fault_of_event.ensures.state n.coming.ranked.said still) c.fault_of_event.ensures.none
+
+pub receive-requires-clause-small : goal.receive-requires-clause-small
+receive-requires-clause-small c =
+    let z = c.requires in let es = c.args.events.now in let d = c.index-events-rank.result in let k = c.rank-rank.result in
+    let enters : Enters c.args.here c.args.state.now c.enter.new.self d c.args.cell c.in-Ok.frame = search rules in
+    let rank : k ≡ z.3.coming.ranked.rank = c.rank-rank.ensures z.3.coming.ranked z.3.place in
+    let within : k < length es = omega (arith, rank, begun_entry_within z.0 z.1 c.args.here c.args.state.now c.args.cell c.args.notice c.args.class z.3, ap length z.2) in
+    let at : slice_get z.0.run.events z.3.coming.ranked.rank ≡ Some d = ap (slice_get z.0.run.events) (sym rank) ∙ ap (λ (l : List Entry). slice_get l k) (sym z.2) ∙ slice_get_read es (length es) k d refl within c.index-events-rank.is in
+    omega (arith, enters.room, enters.small, (entry_is z.0 z.1 c.args.here c.args.state.now c.args.cell c.args.notice c.args.class z.3 d at).sized.variables, ap length c.deref.ensures.value)

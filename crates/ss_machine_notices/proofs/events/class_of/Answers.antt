@@ -1,0 +1,10 @@
+use Rattle.std.proofs.Common.{rules, ◌≡◌, ℤ, subst, to_z, of_z, w64}
+use Rattle.ss_meaning.specs.Fitting.{living}
+use Rattle.ss_machine_world.specs.Seen.{Seen}
+use Rattle.ss_machine_notices.proofs.events.class_of.Goals as goal
+
+pub returns : goal.returns
+returns c =
+    let n = c.args.notice in let r = c.class_of.result in
+    let same : to_z w64 (of_z w64 n) ≡ n = search rules in
+    subst (λ (v : Seen). r ≡ living v.heap n) c.scene.view_is (subst (λ (z : ℤ). r ≡ living c.scene.inside.population z) same c.class_of.ensures)

@@ -1,0 +1,49 @@
+use Rattle.std.proofs.Common.{rules, ◌≡◌, ℤ, Ok, Err, length, refl, subst, to_z, of_z, w64, arith}
+use Rattle.ss_machine_notices.specs.Beginning.{LetsGo}
+use Rattle.ss_machine_notices.proofs.Beginning.{saved_within}
+use Rattle.ss_machine_notices.proofs.events.receive.Goals as goal
+
+pub read_given-requires-clause-class : goal.read_given-requires-clause-class
+read_given-requires-clause-class c = c.requires.class
+
+pub read_given-requires-clause-modes : goal.read_given-requires-clause-modes
+read_given-requires-clause-modes c = c.requires.modes
+
+pub read_given-requires-clause-places : goal.read_given-requires-clause-places
+read_given-requires-clause-places c = c.requires.places
+
+pub let_go-requires-clause-rank : goal.let_go-requires-clause-rank
+let_go-requires-clause-rank c = c.requires.rank
+
+pub let_go-requires-clause-class : goal.let_go-requires-clause-class
+let_go-requires-clause-class c = c.requires.class
+
+pub let_go-requires-clause-single : goal.let_go-requires-clause-single
+let_go-requires-clause-single c = c.requires.single
+
+pub let_go-requires-clause-saved : goal.let_go-requires-clause-saved
+let_go-requires-clause-saved c = λ said here.
+    saved_within said.saved c.args.what.from (length c.read_given.new.rows.numbers) (omega (arith, c.requires.places, c.read_given.ensures.long)) (c.requires.saved said here)
+
+pub returns-in-Err : goal.returns-in-Err
+returns-in-Err c = λ said here. record {
+  rows = c.read_given.new.rows;
+  read = Err c.in-Err.kind;
+  read_is = c.in-Err.ensures.received;
+  lets_go = (refl, refl);
+}
+
+pub returns-in-Ok : goal.returns-in-Ok
+returns-in-Ok c = λ said here.
+    let n = c.args.what.notice in
+    let same : to_z w64 (of_z w64 n) ≡ n = search rules in
+    let mid = record c.args.state.now { rows = c.read_given.new.rows } in
+    record {
+      rows = c.read_given.new.rows;
+      read = Ok tt;
+      read_is = c.in-Ok.ensures.received;
+      lets_go = subst (λ (z : ℤ). LetsGo said.saved c.args.what.class z mid c.let_go.new.state c.let_go.result) same (c.let_go.ensures said here);
+    }
+
+pub read_given-requires-clause-small : goal.read_given-requires-clause-small
+read_given-requires-clause-small c = c.requires.small

@@ -1,5 +1,0 @@
-use Rattle.ss_machine_steps.proofs.Starting.{at_start}
-use Rattle.ss_machine_steps.proofs.first.stands_first.Goals as goal
-
-pub returns : goal.returns
-returns c = at_start c.args.code.now c.args.state.now c.requires

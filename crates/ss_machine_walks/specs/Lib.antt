@@ -1,0 +1,3 @@
+pub mod Walked
+pub mod Sifted
+pub mod Many
