@@ -12,9 +12,9 @@ ghost use Rattle.ss_program.specs.View.{view_program as program_seen};
 ghost use Rattle.ss_tables.specs.Tables.{AreTablesOf};
 ghost use Rattle.ss_check.specs.Checking.{Becomes, ReportsCheckError, refusal_of};
 
+use crate::program::resolve;
 use ss_check_laws::program_laws::programs_resolve;
 use ss_check_laws::size_laws::laws_of_sizes;
-use ss_check_programs::resolve;
 use ss_check_rules::{CheckError, judge};
 use ss_names::Names;
 use ss_names_scopes::Locals;

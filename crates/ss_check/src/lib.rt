@@ -2,6 +2,10 @@
 #![tactic(auto)]
 
 mod checking;
+mod events;
+mod program;
+mod routines;
+mod sections;
 
 pub use checking::check;
 pub use ss_check_laws::program_laws::programs_resolve;

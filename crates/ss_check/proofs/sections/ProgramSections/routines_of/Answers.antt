@@ -5,8 +5,8 @@ use Rattle.ss_program.specs.View.{view_routine}
 use Rattle.ss_names_meaning.specs.Resolved.{routine_from}
 use Rattle.ss_names_meaning.proofs.Each.{no_items, each_plain_fails, each_made_next}
 use Rattle.ss_names_meaning.proofs.Steps.{failed}
-use Rattle.ss_check_programs.specs.View.{parts_in}
-use Rattle.ss_check_programs.proofs.sections.ProgramSections.routines_of.Goals as goal
+use Rattle.ss_check.specs.View.{parts_in}
+use Rattle.ss_check.proofs.sections.ProgramSections.routines_of.Goals as goal
 
 abbrev none : RoutineSection
 none = record { section = 0; given = 0; yielding = 0 }

@@ -5,7 +5,7 @@ ghost use Rattle.ss_names_declarations.specs.Firsts.{value_for};
 ghost use Rattle.ss_program.specs.View.{view_event};
 ghost use Rattle.ss_names_meaning.specs.Answers.{Gives, each};
 ghost use Rattle.ss_names_meaning.specs.Resolved.{class_event_from, event_from, event_of_class, saved};
-ghost use Rattle.ss_check_programs.specs.View.{parts_in, table_in, view_parts};
+ghost use Rattle.ss_check.specs.View.{parts_in, table_in, view_parts};
 
 use crate::sections::{Parts, ProgramSections, split};
 use ss_base::{Name, RankKey, RankKeys};

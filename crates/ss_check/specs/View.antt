@@ -6,8 +6,8 @@ use Rattle.ss_names.specs.Table.{Table}
 use Rattle.ss_names_scopes.specs.Locals.{Moded}
 use Rattle.ss_program.specs.View.{view_body}
 use Rattle.ss_names_meaning.specs.Resolved.{Parts, parts_with_locals}
-use Rattle.ss_check_programs.specs.declared.sections.Parts.{Parts as PartsValue}
-use Rattle.ss_check_programs.specs.declared.sections.ProgramSections.{ProgramSections}
+use Rattle.ss_check.specs.declared.sections.Parts.{Parts as PartsValue}
+use Rattle.ss_check.specs.declared.sections.ProgramSections.{ProgramSections}
 
 abbrev pub view_parts : PartsValue → Parts
 view_parts p = record { line = p.line; modes = p.modes.items; body = view_body p.body.items }

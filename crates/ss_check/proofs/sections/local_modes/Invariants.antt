@@ -1,7 +1,7 @@
 use Rattle.std.proofs.Common.{◌≡◌, Some}
 use Rattle.ss_names_meaning.specs.Answers.{each, upto}
 use Rattle.ss_names_meaning.specs.Resolved.{local_mode}
-use Rattle.ss_check_programs.proofs.sections.local_modes.Given as goal
+use Rattle.ss_check.proofs.sections.local_modes.Given as goal
 
 abbrev pub invariant-loop-number : goal.invariant-loop-number
 invariant-loop-number l = each (local_mode l.locals) (upto l.number) ≡ Some l.resolved.items

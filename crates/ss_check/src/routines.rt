@@ -5,7 +5,7 @@ ghost use Rattle.std.specs.Map.{values_of};
 ghost use Rattle.ss_program.specs.View.{view_routine};
 ghost use Rattle.ss_names_meaning.specs.Answers.{Gives, each};
 ghost use Rattle.ss_names_meaning.specs.Resolved.{routine_from, routine_of};
-ghost use Rattle.ss_check_programs.specs.View.{parts_in, table_in, view_parts};
+ghost use Rattle.ss_check.specs.View.{parts_in, table_in, view_parts};
 
 use crate::sections::{Parts, ProgramSections, split};
 use ss_names::RoutineSection;

@@ -4,8 +4,8 @@ use Rattle.ss_program.specs.View.{view_event}
 use Rattle.ss_names_meaning.specs.Resolved.{event_from}
 use Rattle.ss_names_meaning.proofs.Each.{no_items, each_plain_fails, each_made_next}
 use Rattle.ss_names_meaning.proofs.Steps.{failed}
-use Rattle.ss_check_programs.specs.View.{parts_in, table_in}
-use Rattle.ss_check_programs.proofs.sections.ProgramSections.events_of.Goals as goal
+use Rattle.ss_check.specs.View.{parts_in, table_in}
+use Rattle.ss_check.proofs.sections.ProgramSections.events_of.Goals as goal
 
 pub loop-tree-init : goal.loop-tree-init
 loop-tree-init c = no_items (event_from (table_in c.args.self.now) (parts_in c.args.self.now)) view_event c.new-resolved.result.items c.new-resolved.ensures.items

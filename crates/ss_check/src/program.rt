@@ -6,7 +6,7 @@ ghost use Rattle.ss_tree.specs.View.{view_section};
 ghost use Rattle.ss_program.specs.View.{view_option, view_program};
 ghost use Rattle.ss_names_meaning.specs.Answers.{Gives};
 ghost use Rattle.ss_names_meaning.specs.Resolved.{has_main_kind, is_known, is_ranked, main_from, resolved_with_locals};
-ghost use Rattle.ss_check_programs.specs.View.{locals_in, parts_in, sections_in, table_in, view_parts};
+ghost use Rattle.ss_check.specs.View.{locals_in, parts_in, sections_in, table_in, view_parts};
 
 use crate::sections::{Parts, ProgramSections};
 use ss_names::Names;
@@ -110,7 +110,7 @@ impl ProgramSections<'_> {
 ///
 /// # Errors
 /// `AllocError` where memory is refused.
-pub fn resolve(
+pub(crate) fn resolve(
     alloc: Global,
     program: &Program,
     names: &Names,
