@@ -7,3 +7,5 @@ mod engine;
 mod layers;
 #[cfg(test)]
 mod texts;
+#[cfg(test)]
+mod trees;
