@@ -1,5 +1,5 @@
 // Lists of calls of a heap, and what calls do to the lists of the sets.
-ghost use Rattle.std.specs.Prelude.{◌≡◌, ℕ, ℤ, List, [], ◌∷◌, ◌++◌, Ok, IfOk, OnOk, OnErr, All, IsTrue, ◌↔◌};
+ghost use Rattle.std.specs.Prelude.{◌≡◌, ◌≤◌, ℕ, ℤ, List, [], ◌∷◌, ◌++◌, Ok, IfOk, OnOk, OnErr, All, IsTrue, ◌↔◌};
 ghost use Rattle.ss_base.specs.declared.value.Value.{Value};
 ghost use Rattle.ss_records.specs.declared.commands.Command.{Command};
 ghost use Rattle.ss_world.specs.State.{State, members_of, created, created_all, destroyed, assigned, timed};
@@ -122,7 +122,7 @@ pub enum CommandAnswer {
 }
 
 /// Makes calls in turn, and answers what each answered. A call that is refused with a fault leaves all as it was.
-/// Where memory is refused, the first of the calls were made, and no other.
+/// Where memory is refused, the first of the calls were made, and no other. No call sets the total of touches back.
 pub fn run(
     heap: &mut Heap,
     alloc: Global,
@@ -132,6 +132,7 @@ pub fn run(
     ensures answers { IfOk result (λ answers. answers.items ≡ command_answers commands.now heap.old.state) }
     ensures state { OnOk result (heap.new.state ≡ after_commands commands.now heap.old.state) }
     ensures refused { OnErr result (IsAfterSome commands.now heap.old.state heap.new.state) }
+    ensures touches { heap.old.total ≤ heap.new.total }
 {
     let mut answers = Vec::with_capacity(alloc, commands.len())?;
     for command in commands {
@@ -176,6 +177,7 @@ fn make(heap: &mut Heap, command: &Command) -> Result<CommandAnswer, AllocError>
     ensures answer { IfOk result (λ answer. answer ≡ command_answer command.now heap.old.state) }
     ensures ok { OnOk result (heap.new.state ≡ after_command command.now heap.old.state) }
     ensures err { OnErr result (heap.new.state ≡ heap.old.state) }
+    ensures touches { heap.old.total ≤ heap.new.total }
 {
     match command {
         Command::Create { class } => make_one(heap, *class),
@@ -217,6 +219,7 @@ fn make_one(heap: &mut Heap, class: usize) -> Result<CommandAnswer, AllocError>
     ensures answer { IfOk result (λ answer. answer ≡ command_answer (Command.Create class) heap.old.state) }
     ensures ok { OnOk result (heap.new.state ≡ after_command (Command.Create class) heap.old.state) }
     ensures err { OnErr result (heap.new.state ≡ heap.old.state) }
+    ensures touches { heap.old.total ≤ heap.new.total }
 {
     match heap.create(class) {
         Ok(number) => Ok(CommandAnswer::Number(number)),
@@ -230,6 +233,7 @@ fn make_all(heap: &mut Heap, class: usize, n: i64) -> Result<CommandAnswer, Allo
     ensures answer { IfOk result (λ answer. answer ≡ command_answer (Command.CreateAll class n) heap.old.state) }
     ensures ok { OnOk result (heap.new.state ≡ after_command (Command.CreateAll class n) heap.old.state) }
     ensures err { OnErr result (heap.new.state ≡ heap.old.state) }
+    ensures touches { heap.old.total ≤ heap.new.total }
 {
     match heap.create_all(class, n) {
         Ok(()) => Ok(CommandAnswer::Done),

@@ -1,4 +1,4 @@
-ghost use Rattle.std.specs.Prelude.{◌≡◌, ◌+◌, ◌*◌, ◌^◌, ◌<◌, ◌≤◌, true, false, if◌then◌else◌, length, pos, MatchResult, IfSome, Ok, Err, Some, None, IsOk, slice_get, ⊤, ℕ};
+ghost use Rattle.std.specs.Prelude.{◌≡◌, ◌+◌, ◌*◌, ◌^◌, ◌<◌, ◌≤◌, true, false, if◌then◌else◌, length, pos, MatchResult, IfOk, IfSome, Ok, Err, Some, None, IsOk, slice_get, nat_abs, ⊤, ℕ};
 ghost use Rattle.ss_base.specs.Arithmetic.{plus_of, minus_of};
 ghost use Rattle.ss_base.specs.Layout.{mode_of};
 ghost use Rattle.ss_base.specs.declared.fault.FaultKind.{FaultKind as FaultSeen};
@@ -9,6 +9,7 @@ ghost use Rattle.ss_world.specs.Sets.{member_class, joiner, owner, owner_kind, f
 ghost use Rattle.ss_records_entities.specs.Attributes.{IsAssigned, IsChanged, changed_number};
 ghost use Rattle.ss_records_entities.specs.Classed.{HasClass};
 ghost use Rattle.ss_records_words.specs.Kept.{IsPermanent};
+ghost use Rattle.ss_records_words.specs.Shape.{set_places};
 ghost use Rattle.ss_records_entities.specs.Skimming.{IsSkimmed};
 ghost use Rattle.ss_records_entities.specs.Passing.{ranks_past, first_where, before_where};
 
@@ -49,9 +50,11 @@ impl Drop for Heap {
 }
 
 impl Heap {
-    /// A heap without entities, all sets empty. The error comes where memory was refused.
+    /// A heap without entities, all sets empty: three touches for each set of THE SYSTEM. The error comes where memory was
+    /// refused.
     pub fn new(alloc: Global, layout: Layout) -> Result<Heap, AllocError>
-        ensures { MatchResult result (λ h. h.state ≡ first_state layout) (λ _. ⊤) }
+        ensures state { MatchResult result (λ h. h.state ≡ first_state layout) (λ _. ⊤) }
+        ensures touches { IfOk result (λ h. (h.touches ≡ 3 * set_places layout System) × (h.total ≡ h.touches)) }
     {
         let records = Records::new(alloc, layout)?;
         Ok(Heap { alloc, records })
@@ -243,13 +246,15 @@ impl Heap {
     }
 
     /// A new entity of a temporary class or a class of notices, with first values, in no set: its creation
-    /// number. Faults: 14 after the last creation number. `Memory` is answered only where no fault is due.
+    /// number. It takes three touches for each set that its class may join, and for each that it owns. Faults: 14 after the last
+    /// creation number. `Memory` is answered only where no fault is due.
     #[inline(always)]
     pub fn create(&mut self, class: usize) -> Result<i64, Refused>
         requires class { class < length self.old.state.layout.classes }
         requires kind { IsPermanent (kind_of self.old.state.layout class) → ⊥ }
         ensures done { MatchResult result (λ n. created self.old.state class ≡ Ok (n, self.new.state)) (λ e. (self.new.state ≡ self.old.state) × RefusedFor (created self.old.state class) e) }
         ensures touches { self.new.total ≡ self.old.total + self.new.touches }
+        ensures links { MatchResult result (λ _. self.new.touches ≡ 3 * set_places self.old.state.layout (Class class)) (λ _. self.new.touches ≡ 0) }
     {
         self.records.start();
         self.records.create(&self.alloc, class)
@@ -263,6 +268,7 @@ impl Heap {
         requires kind { IsPermanent (kind_of self.old.state.layout class) }
         ensures done { MatchResult result (λ _. created_all self.old.state class n ≡ Ok self.new.state) (λ e. (self.new.state ≡ self.old.state) × RefusedFor (created_all self.old.state class n) e) }
         ensures touches { self.new.total ≡ self.old.total + self.new.touches }
+        ensures links { MatchResult result (λ _. self.new.touches ≡ nat_abs n * (3 * set_places self.old.state.layout (Class class))) (λ _. self.new.touches ≡ 0) }
     {
         self.records.start();
         self.records.create_all(&self.alloc, class, n)
@@ -275,18 +281,21 @@ impl Heap {
         ensures value { result ≡ no_value (destroyed self.old.state class r) }
         ensures same { self.new.state ≡ self.old.state }
         ensures touches { self.new.total ≡ self.old.total + self.new.touches }
+        ensures looked { self.new.touches ≤ set_places self.old.state.layout (Class class) }
     {
         self.records.start();
         self.records.may_destroy(class, r)
     }
 
-    /// Destroys an entity that is in no set and has no members. Faults: 1 to 4, then 9, then 10.
+    /// Destroys an entity that is in no set and has no members. It takes at most one touch for each set that its class may join,
+    /// and for each that it owns. Faults: 1 to 4, then 9, then 10.
     #[inline(always)]
     pub fn destroy(&mut self, class: usize, r: i64) -> Result<(), FaultKind>
         requires class { class < length self.old.state.layout.classes }
         requires kind { IsPermanent (kind_of self.old.state.layout class) → ⊥ }
         ensures done { MatchResult result (λ _. destroyed self.old.state class r ≡ Ok self.new.state) (λ e. (destroyed self.old.state class r ≡ Err e) × (self.new.state ≡ self.old.state)) }
         ensures touches { self.new.total ≡ self.old.total + self.new.touches }
+        ensures looked { self.new.touches ≤ set_places self.old.state.layout (Class class) }
     {
         self.records.start();
         self.records.destroy(&self.alloc, class, r)

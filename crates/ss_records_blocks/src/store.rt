@@ -170,7 +170,7 @@ impl Blocks {
     /// One new block of so many words, and no other. The error comes where memory was refused.
     pub fn with_one(alloc: &Global, words: usize) -> Result<(Blocks, Address), AllocError>
         requires size { (0 < words) × (words * 8 < 2 ^ 63) }
-        ensures { IfOk result (λ b. (b.0.cells ≡ (b.1.at, blanks words) ∷ []) × (b.0.touches ≡ 0)) }
+        ensures { IfOk result (λ b. (b.0.cells ≡ (b.1.at, blanks words) ∷ []) × (b.0.touches ≡ 0) × (b.0.total ≡ 0)) }
     {
         let mut blocks = Blocks::new();
         match blocks.place(alloc, words) {

@@ -4,6 +4,7 @@ ghost use Rattle.ss_base.specs.declared.fault.FaultKind.{FaultKind as FaultSeen}
 ghost use Rattle.ss_world.specs.State.{entity_in, notice, numbered, and_then, of_class, kind_of, is_notice, in_a_set, owns_members, destroyed};
 ghost use Rattle.ss_records_blocks.specs.Cells.{words_at};
 ghost use Rattle.ss_records_words.specs.Reading.{record_of};
+ghost use Rattle.ss_records_words.specs.Shape.{count_sets, joins, owned_by, set_places};
 ghost use Rattle.ss_records_blocks.specs.Places.{row_in};
 ghost use Rattle.ss_records_words.specs.Kept.{numbered_place, indexed_place, IsPermanent};
 ghost use Rattle.ss_records_words.specs.Places.{class_at_place};
@@ -105,6 +106,7 @@ impl Records {
         ensures same { self.new ≡ record self.old { blocks = self.new.blocks } }
         ensures cells { self.new.blocks.cells ≡ self.old.blocks.cells }
         ensures touches { (self.new.blocks.touches ≤ self.old.blocks.touches + 1048576) × (self.new.blocks.total + self.old.blocks.touches ≡ self.old.blocks.total + self.new.blocks.touches) }
+        ensures looked { self.new.blocks.touches ≤ self.old.blocks.touches + count_sets (joins class) self.old.layout.sets }
     {
         let end = self.layout.owned_start(Owner::Class(class));
         let mut k = self.layout.links_start(class);
@@ -129,6 +131,7 @@ impl Records {
         ensures same { self.new ≡ record self.old { blocks = self.new.blocks } }
         ensures cells { self.new.blocks.cells ≡ self.old.blocks.cells }
         ensures touches { (self.new.blocks.touches ≤ self.old.blocks.touches + 1048576) × (self.new.blocks.total + self.old.blocks.touches ≡ self.old.blocks.total + self.new.blocks.touches) }
+        ensures looked { self.new.blocks.touches ≤ self.old.blocks.touches + count_sets (owned_by (Owner.Class class)) self.old.layout.sets }
     {
         let mut left = self.layout.owned_count(Owner::Class(class));
         if left == 0 {
@@ -159,6 +162,7 @@ impl Records {
         ensures same { self.new ≡ record self.old { blocks = self.new.blocks } }
         ensures cells { self.new.blocks.cells ≡ self.old.blocks.cells }
         ensures touches { self.new.blocks.total + self.old.blocks.touches ≡ self.old.blocks.total + self.new.blocks.touches }
+        ensures looked { self.new.blocks.touches ≤ set_places self.old.layout (Owner.Class class) }
     {
         match self.find(class, r) {
             Ok(place) => {

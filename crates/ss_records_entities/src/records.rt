@@ -1,12 +1,12 @@
 // The records, and what the block of each says.
-ghost use Rattle.std.specs.Prelude.{◌≡◌, ℕ, List, ◌+◌, ◌-◌, ◌*◌, ◌/◌, ◌^◌, ◌<◌, ◌≤◌, length, MatchResult, IfOk, Ok, Err, Some, None, slice_get, true, false, ⊤};
+ghost use Rattle.std.specs.Prelude.{◌≡◌, ℕ, List, ◌+◌, ◌-◌, ◌*◌, ◌/◌, ◌^◌, ◌<◌, ◌≤◌, length, MatchResult, IfOk, Ok, Err, Some, None, slice_get, nat_abs, true, false, ⊤};
 ghost use Rattle.ss_world.specs.State.{Members, kind_of, modes_of, is_notice, first_state, living_numbers, living_records, value_in, time_in, destroyed, created, created_all, is_made, with_made, assigned, timed, no_value, RefusedFor};
 ghost use Rattle.ss_world.specs.Sets.{owner_kind};
 ghost use Rattle.ss_records_blocks.specs.Cells.{words_at};
 ghost use Rattle.ss_records_blocks.specs.Pages.{in_page};
 ghost use Rattle.ss_base.specs.Layout.{mode_of};
 ghost use Rattle.ss_base.specs.Arithmetic.{plus_of, minus_of};
-ghost use Rattle.ss_records_words.specs.Shape.{values_end};
+ghost use Rattle.ss_records_words.specs.Shape.{values_end, set_places};
 ghost use Rattle.ss_records_words.specs.Kept.{Kept, Small, IsPermanent, RowsHeld};
 ghost use Rattle.ss_records_words.specs.Places.{class_at_place, lying};
 ghost use Rattle.ss_records_entities.specs.Parts.{IsKept, state};
@@ -40,7 +40,8 @@ pub struct Records {
 impl Records {
     /// No record, all sets empty.
     pub fn new(alloc: Global, layout: Layout) -> Result<Records, AllocError>
-        ensures { MatchResult result (λ r. IsKept r × (state r ≡ first_state layout)) (λ _. ⊤) }
+        ensures made { MatchResult result (λ r. IsKept r × (state r ≡ first_state layout)) (λ _. ⊤) }
+        ensures touches { IfOk result (λ r. (r.blocks.touches ≡ 3 * set_places layout Owner.System) × (r.blocks.total ≡ r.blocks.touches)) }
     {
         let layout = LayoutPlan::new(alloc, layout)?;
         let words = layout.block_words(Owner::System);
@@ -380,6 +381,7 @@ impl Records {
         ensures kept { IsKept self.new }
         ensures done { MatchResult result (λ n. created (state self.old) class ≡ Ok (n, state self.new)) (λ e. (state self.new ≡ state self.old) × RefusedFor (created (state self.old) class) e) }
         ensures touches { self.new.blocks.total ≡ self.old.blocks.total + self.new.blocks.touches }
+        ensures links { MatchResult result (λ _. self.new.blocks.touches ≡ 3 * set_places self.old.layout (Owner.Class class)) (λ _. self.new.blocks.touches ≡ 0) }
     {
         let i = self.directory.len();
         if i as u64 >= LAST_NUMBER {
@@ -418,6 +420,7 @@ impl Records {
         ensures kept { IsKept self.new }
         ensures done { MatchResult result (λ _. created_all (state self.old) class n ≡ Ok (state self.new)) (λ e. (state self.new ≡ state self.old) × RefusedFor (created_all (state self.old) class n) e) }
         ensures touches { self.new.blocks.total ≡ self.old.blocks.total + self.new.blocks.touches }
+        ensures links { MatchResult result (λ _. self.new.blocks.touches ≡ nat_abs n * (3 * set_places self.old.layout (Owner.Class class))) (λ _. self.new.blocks.touches ≡ 0) }
     {
         if self.permanents[class].is_made() {
             return Err(Refused::Fault(FaultKind::CreatedTwice));
@@ -442,6 +445,7 @@ impl Records {
         ensures kept { IsKept self.new }
         ensures done { MatchResult result (λ _. state self.new ≡ with_made (state self.old) class count) (λ _. state self.new ≡ state self.old) }
         ensures touches { self.new.blocks.total ≡ self.old.blocks.total + self.new.blocks.touches }
+        ensures links { MatchResult result (λ _. self.new.blocks.touches ≡ count * (3 * set_places self.old.layout (Owner.Class class))) (λ _. self.new.blocks.touches ≡ 0) }
     {
         let words = self.layout.block_words(Owner::Class(class));
         let Ok(places) = place_all(&mut self.blocks, alloc, words, count) else {
@@ -462,6 +466,7 @@ impl Records {
         ensures value { result ≡ no_value (destroyed (state self.old) class r) }
         ensures same { state self.new ≡ state self.old }
         ensures touches { self.new.blocks.total + self.old.blocks.touches ≡ self.old.blocks.total + self.new.blocks.touches }
+        ensures looked { self.new.blocks.touches ≤ set_places self.old.layout (Owner.Class class) }
     {
         match self.find_free(class, r) {
             Ok(_) => Ok(()),
@@ -479,6 +484,7 @@ impl Records {
         ensures kept { IsKept self.new }
         ensures done { MatchResult result (λ _. destroyed (state self.old) class r ≡ Ok (state self.new)) (λ e. (destroyed (state self.old) class r ≡ Err e) × (state self.new ≡ state self.old)) }
         ensures touches { self.new.blocks.total + self.old.blocks.touches ≡ self.old.blocks.total + self.new.blocks.touches }
+        ensures looked { self.new.blocks.touches ≤ set_places self.old.layout (Owner.Class class) }
     {
         match self.find_free(class, r) {
             Ok(place) => {

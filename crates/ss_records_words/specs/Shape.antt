@@ -40,3 +40,8 @@ owned_start l (Class c) = links_start l c + 3 * count_sets (joins c) l.sets
 -- how many words the block of an entity of a class has, or that of the system
 abbrev pub block_words : Layout → Owner → ℕ
 block_words l o = owned_start l o + 3 * count_sets (owned_by o) l.sets
+
+-- how many sets have three words in such a block: those that the system owns; those that an entity of the class may join, and those that it owns
+abbrev pub set_places : Layout → Owner → ℕ
+set_places l System = count_sets (owned_by System) l.sets
+set_places l (Class c) = count_sets (joins c) l.sets + count_sets (owned_by (Class c)) l.sets

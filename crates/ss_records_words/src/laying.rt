@@ -1,8 +1,8 @@
 // The words of a new block: its head, links that lead to itself, and empty sets.
-ghost use Rattle.std.specs.Prelude.{◌≡◌, ℕ, ◌+◌, ◌^◌, ◌<◌, ◌≤◌, length};
+ghost use Rattle.std.specs.Prelude.{◌≡◌, ℕ, ◌+◌, ◌*◌, ◌^◌, ◌<◌, ◌≤◌, length};
 ghost use Rattle.ss_records_blocks.specs.Cells.{blank, word_at, words_at};
 ghost use Rattle.ss_records_words.specs.Laid.{Laid, LaidSystem};
-ghost use Rattle.ss_records_words.specs.Shape.{block_words};
+ghost use Rattle.ss_records_words.specs.Shape.{block_words, set_places};
 ghost use Rattle.ss_records_words.specs.Kept.{Small};
 
 use crate::plan::LayoutPlan;
@@ -28,6 +28,7 @@ pub fn lay(
     requires touches { blocks.old.touches ≤ 2 ^ 60 }
     ensures laid { Laid layout.now blocks.old.cells blocks.new.cells end.at place.at class number }
     ensures touches { blocks.new.total + blocks.old.touches ≡ blocks.old.total + blocks.new.touches }
+    ensures links { blocks.new.touches ≡ blocks.old.touches + 3 * set_places layout.now (Owner.Class class) }
     ensures few { blocks.new.touches ≤ blocks.old.touches + 8388608 }
 {
     let links = layout.links_start(class);
@@ -50,6 +51,7 @@ pub fn lay_system(blocks: &mut Blocks, layout: &LayoutPlan, place: Address)
     requires touches { blocks.old.touches ≡ 0 }
     ensures laid { LaidSystem layout.now blocks.old.cells blocks.new.cells place.at }
     ensures touches { blocks.new.total ≡ blocks.old.total + blocks.new.touches }
+    ensures links { blocks.new.touches ≡ 3 * set_places layout.now Owner.System }
 {
     let count = layout.owned_count(Owner::System);
     lay_head(blocks, place, 0, 0);

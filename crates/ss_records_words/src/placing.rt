@@ -1,10 +1,10 @@
 // The blocks of the permanent entities of a class, which lie together.
-ghost use Rattle.std.specs.Prelude.{◌≡◌, ℕ, ◌+◌, ◌^◌, ◌<◌, ◌≤◌, length, Some, slice_get};
+ghost use Rattle.std.specs.Prelude.{◌≡◌, ℕ, ◌+◌, ◌*◌, ◌^◌, ◌<◌, ◌≤◌, length, Some, slice_get};
 ghost use Rattle.ss_base.specs.declared.layout.Owner.TheVariants.{Class};
 ghost use Rattle.ss_records_blocks.specs.declared.store.Address.{Address};
 ghost use Rattle.ss_records_blocks.specs.Cells.{words_at, blanks};
 ghost use Rattle.ss_records_words.specs.Laid.{LaidTo};
-ghost use Rattle.ss_records_words.specs.Shape.{block_words};
+ghost use Rattle.ss_records_words.specs.Shape.{block_words, set_places};
 ghost use Rattle.ss_records_words.specs.Kept.{Small};
 
 use crate::laying;
@@ -27,6 +27,7 @@ pub fn lay_all(
     requires touches { blocks.old.touches ≡ 0 }
     ensures laid { LaidTo layout.now blocks.old.cells blocks.new.cells end.at places.now class (length places.now) }
     ensures touches { blocks.new.total ≡ blocks.old.total + blocks.new.touches }
+    ensures links { blocks.new.touches ≡ length places.now * (3 * set_places layout.now (Class class)) }
 {
     for i in 0..places.len() {
         let number = i as u64 + 1;

@@ -9,3 +9,5 @@ mod layers;
 mod outcomes;
 #[cfg(test)]
 mod texts;
+#[cfg(test)]
+mod trees;

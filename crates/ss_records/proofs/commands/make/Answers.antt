@@ -1,4 +1,4 @@
-use Rattle.std.proofs.Common.{rules, ◌≡◌, sym, ap, subst, ◌∙◌, w64, to_z, of_z}
+use Rattle.std.proofs.Common.{rules, ◌≡◌, sym, ap, subst, ◌∙◌, arith, w64, to_z, of_z}
 use Rattle.std.specs.Prelude.{IfOk, OnOk}
 use Rattle.ss_records.specs.declared.commands.Command.TheVariants.{CreateAll}
 use Rattle.ss_world.specs.State.{destroyed, assigned, timed}
@@ -213,3 +213,33 @@ returns-in-Remove-clause-ok c =
 
 pub returns-in-Remove-clause-err : goal.returns-in-Remove-clause-err
 returns-in-Remove-clause-err c = tt
+
+pub returns-in-Create-clause-touches : goal.returns-in-Create-clause-touches
+returns-in-Create-clause-touches c = c.make_one.ensures.touches
+
+pub returns-in-CreateAll-clause-touches : goal.returns-in-CreateAll-clause-touches
+returns-in-CreateAll-clause-touches c = c.make_all.ensures.touches
+
+pub returns-in-Destroy-clause-touches : goal.returns-in-Destroy-clause-touches
+returns-in-Destroy-clause-touches c = omega (arith, c.destroy.ensures.touches)
+
+pub returns-in-SetValue-clause-touches : goal.returns-in-SetValue-clause-touches
+returns-in-SetValue-clause-touches c = omega (arith, c.set_value.ensures.touches.1)
+
+pub returns-in-SetTime-clause-touches : goal.returns-in-SetTime-clause-touches
+returns-in-SetTime-clause-touches c = omega (arith, c.set_time_a.ensures.touches.1)
+
+pub returns-in-FileFirst-clause-touches : goal.returns-in-FileFirst-clause-touches
+returns-in-FileFirst-clause-touches c = omega (arith, c.file_first.ensures.touches.2)
+
+pub returns-in-FileLast-clause-touches : goal.returns-in-FileLast-clause-touches
+returns-in-FileLast-clause-touches c = omega (arith, c.file_last.ensures.touches.2)
+
+pub returns-in-FileBefore-clause-touches : goal.returns-in-FileBefore-clause-touches
+returns-in-FileBefore-clause-touches c = omega (arith, c.file_before.ensures.touches.2)
+
+pub returns-in-FileAfter-clause-touches : goal.returns-in-FileAfter-clause-touches
+returns-in-FileAfter-clause-touches c = omega (arith, c.file_after.ensures.touches.2)
+
+pub returns-in-Remove-clause-touches : goal.returns-in-Remove-clause-touches
+returns-in-Remove-clause-touches c = omega (arith, c.remove.ensures.touches.2)

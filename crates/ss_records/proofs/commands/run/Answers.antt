@@ -1,4 +1,4 @@
-use Rattle.std.proofs.Common.{◌∷◌, [], ◌++◌, drop, ◌+◌, ap, ◌∙◌}
+use Rattle.std.proofs.Common.{◌∷◌, [], ◌++◌, drop, ◌+◌, ap, ◌∙◌, arith}
 use Rattle.ss_world.specs.State.{State}
 use Rattle.ss_records.specs.Commands.{command_answers, after_commands}
 use Rattle.ss_records.proofs.SameLayout.{same_layout}
@@ -23,6 +23,7 @@ loop-command-preserved c =
       rest = ap (after_commands (drop (i + 1) xs)) t ∙ rest ∙ c.loop-command.invariant.rest;
       layout = ap (λ (v : State). v.layout) t ∙ same ∙ c.loop-command.invariant.layout;
       made = t ∙ made_next xs i x c.loop-command-test.true c.command-item.is s c.args.heap.now.state c.loop-command.invariant.made;
+      rising = omega (arith, c.make.ensures.touches, c.loop-command.invariant.rising);
     }
 
 pub returns-in_err-push-clause-refused : goal.returns-in_err-push-clause-refused
@@ -33,3 +34,12 @@ returns-in_err-push-clause-refused c =
     let x = c.command-item.result in
     let made = made_next xs i x c.loop-command-test.true c.command-item.is s c.args.heap.now.state c.loop-command.invariant.made in
     on_err c.from_residual-in_err-push.result (i + 1, c.in_ok-make.ensures.ok ∙ made)
+
+pub returns-in_err-make-clause-touches : goal.returns-in_err-make-clause-touches
+returns-in_err-make-clause-touches c = omega (arith, c.make.ensures.touches, c.loop-command.invariant.rising)
+
+pub returns-in_err-push-clause-touches : goal.returns-in_err-push-clause-touches
+returns-in_err-push-clause-touches c = omega (arith, c.make.ensures.touches, c.loop-command.invariant.rising)
+
+pub returns-clause-touches : goal.returns-clause-touches
+returns-clause-touches c = c.loop-command.invariant.rising

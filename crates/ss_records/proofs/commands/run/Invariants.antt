@@ -1,4 +1,4 @@
-use Rattle.std.proofs.Common.{◌≡◌, ◌++◌, drop, take}
+use Rattle.std.proofs.Common.{◌≡◌, ◌≤◌, ◌++◌, drop, take}
 use Rattle.ss_records.specs.Commands.{command_answers, after_commands}
 use Rattle.ss_records.proofs.commands.run.Given as goal
 
@@ -9,4 +9,5 @@ invariant-loop-command l = record {
   rest : after_commands (drop l.command-index l.commands) l.heap.state ≡ after_commands l.commands l.fn.heap.state;
   made : l.heap.state ≡ after_commands (take l.command-index l.commands) l.fn.heap.state;
   layout : l.heap.state.layout ≡ l.fn.heap.state.layout;
+  rising : l.fn.heap.total ≤ l.heap.total;
 }

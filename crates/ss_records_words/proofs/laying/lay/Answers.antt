@@ -35,5 +35,8 @@ returns-clause-laid c =
     let g4 = subst (λ n. Filled d e p (owned_start l (Class c.args.class)) (owned_start l (Class c.args.class) + 3 * n) (owned_from c.args.end.at (owned_start l (Class c.args.class)))) c.owned_count-count.ensures.value f4 in
     rw c.expect.ensures.cells (laid_from l c.args.blocks.now.cells a b d e c.args.end.at p c.args.class c.args.number c.lay_head.ensures.filled f2 g3 g4)
 
+pub returns-clause-links : goal.returns-clause-links
+returns-clause-links c = omega (arith, c.lay_head.ensures.touches.0, c.fill_numbers.ensures.touches.0, c.fill_links.ensures.touches.0, c.fill_owned.ensures.touches.0, c.expect.ensures.touches.0, c.block_words-words.ensures.size, c.links_start-links.ensures.at)
+
 pub returns-clause-few : goal.returns-clause-few
 returns-clause-few c = omega (arith, c.lay_head.ensures.touches.0, c.fill_numbers.ensures.touches.0, c.fill_links.ensures.touches.0, c.fill_owned.ensures.touches.0, c.expect.ensures.touches.0, c.joined_count-joined.ensures.bound, c.owned_count-count.ensures.bound)

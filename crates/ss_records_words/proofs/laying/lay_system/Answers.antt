@@ -14,3 +14,6 @@ pub returns-clause-laid : goal.returns-clause-laid
 returns-clause-laid c =
     rw c.expect.ensures.cells (laid_system_from c.args.layout.now c.args.blocks.now.cells c.lay_head.new.blocks.cells c.fill_owned.new.blocks.cells c.args.place.at c.lay_head.ensures.filled
     (subst (λ n. Filled c.lay_head.new.blocks.cells c.fill_owned.new.blocks.cells c.args.place.at 2 (2 + 3 * n) (owned_from c.args.place.at 2)) c.owned_count-count.ensures.value c.fill_owned.ensures.filled))
+
+pub returns-clause-links : goal.returns-clause-links
+returns-clause-links c = omega (arith, c.lay_head.ensures.touches.0, c.fill_owned.ensures.touches.0, c.expect.ensures.touches.0, c.requires.touches, c.owned_count-count.ensures.value)

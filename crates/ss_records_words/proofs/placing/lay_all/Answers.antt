@@ -1,5 +1,7 @@
-use Rattle.std.proofs.Common.{◌≡◌, length, ap, subst, ◌∙◌, arith}
+use Rattle.std.proofs.Common.{◌≡◌, ◌*◌, length, ap, subst, ◌∙◌, arith}
+use Rattle.ss_base.specs.declared.layout.Owner.TheVariants.{Class}
 use Rattle.ss_records_blocks.specs.Cells.{word_of}
+use Rattle.ss_records_words.specs.Shape.{set_places}
 use Rattle.ss_records_words.specs.Laid.{LaidTo}
 use Rattle.ss_records_blocks.proofs.Puts.{word_blank, length-blanks}
 use Rattle.ss_records_blocks.proofs.Placings.{place_at}
@@ -7,7 +9,7 @@ use Rattle.ss_records_words.proofs.Makings.{laid_none, laid_more}
 use Rattle.ss_records_words.proofs.placing.lay_all.Goals as goal
 
 pub loop-i-init : goal.loop-i-init
-loop-i-init c = record { laid = laid_none c.args.layout.now c.args.blocks.now.cells c.args.end.at c.args.places.now c.args.class; touches = (omega (arith, c.requires.touches), omega (arith, c.requires.touches)) }
+loop-i-init c = record { laid = laid_none c.args.layout.now c.args.blocks.now.cells c.args.end.at c.args.places.now c.args.class; touches = (omega (arith, c.requires.touches), omega (arith, c.requires.touches), omega (arith, c.requires.touches)) }
 
 pub lay-requires-clause-room : goal.lay-requires-clause-room
 lay-requires-clause-room c =
@@ -28,7 +30,7 @@ loop-i-preserved c =
     let size = ap length (h.laid.rest c.loop-i.i _ g (omega arith) ∙ c.requires.blank c.loop-i.i _ g) ∙ length-blanks _ in
     record {
       laid = laid_more c.args.layout.now c.args.blocks.now.cells c.loop-i.blocks.cells c.lay.new.blocks.cells c.args.end.at c.args.places.now c.args.class c.loop-i.i _ g c.requires.apart size h.laid c.lay.ensures.laid;
-      touches = (omega (arith, h.touches.0, c.lay.ensures.few), omega (arith, h.touches.1, c.lay.ensures.touches));
+      touches = (omega (arith, h.touches.0, c.lay.ensures.few), omega (arith, h.touches.1, c.lay.ensures.touches), omega (arith, h.touches.2, c.lay.ensures.links));
     }
 
 pub returns-clause-laid : goal.returns-clause-laid
@@ -38,3 +40,8 @@ returns-clause-laid c =
 
 pub returns-clause-touches : goal.returns-clause-touches
 returns-clause-touches c = c.loop-i.invariant.touches.1
+
+pub returns-clause-links : goal.returns-clause-links
+returns-clause-links c =
+    let n : c.loop-i.i ≡ length c.args.places.now = omega (arith, c.loop-i-test.false, c.loop-i.auto.i-end) in
+    c.loop-i.invariant.touches.2 ∙ ap (λ k. k * (3 * set_places c.args.layout.now (Class c.args.class))) n

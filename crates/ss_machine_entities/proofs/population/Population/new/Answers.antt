@@ -13,4 +13,4 @@ none_counted (c ∷ cs) = ap (λ l. None ∷ l) (none_counted cs)
 pub invariant_of-result : goal.invariant_of-result
 invariant_of-result c =
     c.in_ok-made.ensures ∙ ap (λ n. replicate n None) c.class_count.ensures ∙ none_counted c.args.layout.classes
-    ∙ sym (ap (λ (h : State). counts_of h.permanents) c.in_ok-heap.ensures)
+    ∙ sym (ap (λ (h : State). counts_of h.permanents) c.in_ok-heap.ensures.state)

@@ -84,3 +84,15 @@ pub returns-in-Err-clause-touches : goal.returns-in-Err-clause-touches
 returns-in-Err-clause-touches c =
     let r = c.args.self.now in let b = c.give_back.new.self in let placed = c.in-Ok.ensures.touches in let back = c.give_back.ensures.touches in
     rests r.blocks.touches r.blocks.total b.touches b.total c.requires.touches (back.0 ∙ placed.0, back.1 ∙ placed.1)
+
+pub returns-then-i-ge-LAST_NUMBER-clause-links : goal.returns-then-i-ge-LAST_NUMBER-clause-links
+returns-then-i-ge-LAST_NUMBER-clause-links c = c.requires.touches
+
+pub returns-in_default-clause-links : goal.returns-in_default-clause-links
+returns-in_default-clause-links c = c.in_default.ensures.touches.0 ∙ c.requires.touches
+
+pub returns-in-Ok-push-clause-links : goal.returns-in-Ok-push-clause-links
+returns-in-Ok-push-clause-links c = omega (arith, c.lay.ensures.links, c.in-Ok.ensures.touches.0, c.requires.touches)
+
+pub returns-in-Err-clause-links : goal.returns-in-Err-clause-links
+returns-in-Err-clause-links c = c.give_back.ensures.touches.0 ∙ c.in-Ok.ensures.touches.0 ∙ c.requires.touches

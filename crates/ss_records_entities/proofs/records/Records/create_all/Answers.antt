@@ -1,8 +1,10 @@
-use Rattle.std.proofs.Common.{Ok, Some, length, w64, to_z, of_z, refl, sym, ap, subst, ◌∙◌}
-use Rattle.std.specs.Prelude.{ℤ, IsOk}
+use Rattle.std.proofs.Common.{◌*◌, Ok, Some, length, w64, to_z, of_z, refl, sym, ap, subst, ◌∙◌}
+use Rattle.std.specs.Prelude.{ℤ, nat_abs, IsOk}
 use Rattle.std.proofs.lemmas.Int.{to_z-of_z}
 use Rattle.std.proofs.lemmas.Option.{slice_get_read}
+use Rattle.ss_base.specs.declared.layout.Owner.TheVariants.{Class}
 use Rattle.ss_world.specs.State.{created_all}
+use Rattle.ss_records_words.specs.Shape.{set_places}
 use Rattle.ss_records_entities.specs.Parts.{places, state}
 use Rattle.ss_records_entities.proofs.Issuing.{at_rest, none_is, made_twice, made_once}
 use Rattle.ss_records_entities.proofs.records.Records.create_all.Goals as goal
@@ -69,3 +71,16 @@ returns-in-Err-clause-done c =
     let made = made_once r.layout r.blocks.cells (places r) r.notes.lists c.args.class row there (to_z w64 (of_z w64 c.args.n)) (sym c.is_made.ensures ∙ c.if-is_made.false) c.if-n-lt0.false c.if-n-gt-MOST_ENTITIES.false in
     let fine = subst (λ (z : ℤ). IsOk (created_all (state r) c.args.class z)) (to_z-of_z w64 c.args.n c.ranges.n) (rw made refl) in
     (c.in-Err.ensures.done, fine)
+
+pub returns-then-is_made-clause-links : goal.returns-then-is_made-clause-links
+returns-then-is_made-clause-links c = c.requires.touches
+
+pub returns-then-n-lt0-clause-links : goal.returns-then-n-lt0-clause-links
+returns-then-n-lt0-clause-links c = c.requires.touches
+
+pub returns-in-Ok-clause-links : goal.returns-in-Ok-clause-links
+returns-in-Ok-clause-links c =
+    c.in-Ok.ensures.links ∙ ap (λ (z : ℤ). nat_abs z * (3 * set_places c.args.self.now.layout (Class c.args.class))) (to_z-of_z w64 c.args.n c.ranges.n)
+
+pub returns-in-Err-clause-links : goal.returns-in-Err-clause-links
+returns-in-Err-clause-links c = c.in-Err.ensures.links

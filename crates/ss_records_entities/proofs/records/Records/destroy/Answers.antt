@@ -1,4 +1,4 @@
-use Rattle.std.proofs.Common.{◌≡◌, ◌-◌, Ok, Some, length, slice_get, slice_set, None, sym, ap, subst, ◌∙◌, arith}
+use Rattle.std.proofs.Common.{◌≡◌, ◌≤◌, ◌-◌, Ok, Some, length, slice_get, slice_set, None, sym, ap, subst, ◌∙◌, arith}
 use Rattle.std.specs.Prelude.{nat_abs}
 use Rattle.std.proofs.lemmas.Int.{to_z-of_z}
 use Rattle.std.specs.Int.{cast_signed, cast_unsigned}
@@ -7,7 +7,7 @@ use Rattle.ss_base.specs.declared.layout.Owner.TheVariants.{Class}
 use Rattle.ss_records_entities.specs.declared.records.Records.{Records}
 use Rattle.ss_records_blocks.specs.Cells.{without_block, words_at}
 use Rattle.ss_records_words.specs.Places.{lying}
-use Rattle.ss_records_words.specs.Shape.{block_words}
+use Rattle.ss_records_words.specs.Shape.{block_words, set_places}
 use Rattle.ss_records_words.specs.Kept.{Kept, state_of}
 use Rattle.ss_world.specs.State.{destroyed}
 use Rattle.ss_records_entities.specs.Parts.{places, state, uncounted}
@@ -79,3 +79,9 @@ returns-in-Err-clause-done c =
 
 pub returns-in-Err-clause-touches : goal.returns-in-Err-clause-touches
 returns-in-Err-clause-touches c = c.find_free.ensures.touches
+
+pub returns-in-Ok-clause-looked : goal.returns-in-Ok-clause-looked
+returns-in-Ok-clause-looked c = subst (λ n. n ≤ set_places c.args.self.now.layout (Class c.args.class)) (sym c.give_back.ensures.touches.0) c.find_free.ensures.looked
+
+pub returns-in-Err-clause-looked : goal.returns-in-Err-clause-looked
+returns-in-Err-clause-looked c = c.find_free.ensures.looked

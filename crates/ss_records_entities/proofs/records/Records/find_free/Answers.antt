@@ -1,4 +1,6 @@
-use Rattle.std.proofs.Common.{◌≡◌, suc, true, false, Some, slice_get, sym, ap, subst, ◌∙◌}
+use Rattle.std.proofs.Common.{◌≡◌, suc, ◌+◌, ◌≤◌, true, false, Some, slice_get, sym, ap, subst, ◌∙◌, arith}
+use Rattle.ss_base.specs.declared.layout.Owner.TheVariants.{Class}
+use Rattle.ss_records_words.specs.Shape.{count_sets, owned_by}
 use Rattle.std.specs.Prelude.{nat_abs}
 use Rattle.std.proofs.lemmas.Int.{to_z-of_z}
 use Rattle.std.specs.Int.{cast_signed, cast_unsigned}
@@ -120,3 +122,23 @@ pub returns-in-Err-clause-found : goal.returns-in-Err-clause-found
 returns-in-Err-clause-found c =
     let fits = c.ranges.r in let f = simp to_z-of_z at c.in-Err.ensures.found in
     ap (λ z. and_then z (λ r. let_go (state c.args.self.now) c.args.class (number_in c.args.r))) f
+
+pub returns-then-in_a_set-clause-looked : goal.returns-then-in_a_set-clause-looked
+returns-then-in_a_set-clause-looked c = omega (arith, c.in_a_set.ensures.looked, c.requires.touches)
+
+pub returns-then-owns_members-clause-looked : goal.returns-then-owns_members-clause-looked
+returns-then-owns_members-clause-looked c =
+    let r = c.args.self.now in let a = c.in_a_set.new.self in
+    let first : a ≡ record r { blocks = a.blocks } = c.in_a_set.ensures.same in
+    let more = subst (λ (z : Records). c.owns_members.new.self.blocks.touches ≤ a.blocks.touches + count_sets (owned_by (Class c.args.class)) z.layout.sets) first c.owns_members.ensures.looked in
+    omega (arith, more, c.in_a_set.ensures.looked, c.requires.touches)
+
+pub returns-else-owns_members-clause-looked : goal.returns-else-owns_members-clause-looked
+returns-else-owns_members-clause-looked c =
+    let r = c.args.self.now in let a = c.in_a_set.new.self in
+    let first : a ≡ record r { blocks = a.blocks } = c.in_a_set.ensures.same in
+    let more = subst (λ (z : Records). c.owns_members.new.self.blocks.touches ≤ a.blocks.touches + count_sets (owned_by (Class c.args.class)) z.layout.sets) first c.owns_members.ensures.looked in
+    omega (arith, more, c.in_a_set.ensures.looked, c.requires.touches)
+
+pub returns-in-Err-clause-looked : goal.returns-in-Err-clause-looked
+returns-in-Err-clause-looked c = omega (arith, c.requires.touches)

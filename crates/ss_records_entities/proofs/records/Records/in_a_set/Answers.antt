@@ -96,3 +96,11 @@ pub returns-clause-touches : goal.returns-clause-touches
 returns-clause-touches c =
     let r = c.args.self.now in let f = c.links.invariant.left in
     (few_touched r.layout c.args.class c.args.number r.notes.lists c.links.k c.links.self.blocks.touches r.blocks.touches c.requires.kept.small.sets (omega (arith, f.1)) c.links.invariant.touches.0, c.links.invariant.touches.1)
+
+pub returns-then-next-number-clause-looked : goal.returns-then-next-number-clause-looked
+returns-then-next-number-clause-looked c =
+    let r = c.args.self.now in let h = links_here (goal.at.returns-then-next-number-clause-looked c).In-links in
+    omega (arith, c.follow-next.ensures.touches.0, c.links.invariant.touches.0, room r.layout c.args.class c.args.number r.notes.lists c.links.k h)
+
+pub returns-clause-looked : goal.returns-clause-looked
+returns-clause-looked c = omega (arith, c.links.invariant.touches.0, c.links.invariant.left.1)

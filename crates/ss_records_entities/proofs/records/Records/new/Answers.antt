@@ -1,11 +1,11 @@
-use Rattle.std.proofs.Common.{◌≡◌, [], length, None, sym, ap, subst, ◌∙◌}
+use Rattle.std.proofs.Common.{◌≡◌, ◌*◌, [], length, None, sym, ap, subst, ◌∙◌, arith}
 use Rattle.std.specs.Prelude.{replicate}
 use Rattle.std.proofs.lemmas.Result.{IfOk-at_ok, MatchResult-at_ok}
 use Rattle.ss_base.specs.declared.layout.Layout.{Layout}
 use Rattle.ss_base.specs.declared.layout.Owner.TheVariants.{System}
 use Rattle.ss_records_blocks.specs.Cells.{blanks}
 use Rattle.ss_world.specs.State.{first_state}
-use Rattle.ss_records_words.specs.Shape.{block_words}
+use Rattle.ss_records_words.specs.Shape.{block_words, set_places}
 use Rattle.ss_records_words.specs.Kept.{Small}
 use Rattle.ss_records_words.specs.Laid.{LaidSystem}
 use Rattle.ss_records_blocks.proofs.Puts.{words_new, word_blank, length-blanks}
@@ -25,8 +25,8 @@ lay_system-requires-clause-blank c =
     let one = IfOk-at_ok _ (c.in_ok-held.ensures).1 c.with_one.ensures in
     λ k. rw (one.0, words_new [] x.1.1.at (blanks n)) (word_blank n k)
 
-pub returns : goal.returns
-returns c =
+pub returns-clause-made : goal.returns-clause-made
+returns-clause-made c =
     let a = c.in_ok-tables.ensures in let b = c.in_ok-tables-2.ensures in let d = c.in_ok-held.ensures in let x = c.in_ok-held.held in let n = c.block_words-words.result in
     let one = IfOk-at_ok _ d.1 c.with_one.ensures in
     let l = x.0.0.0 in
@@ -42,3 +42,14 @@ returns c =
       kept_first l c.lay_system.new.blocks.cells x.1.1 n small size laid,
       ap (λ rs. record { layout = l; records = []; permanents = rs; lists = [] }) (none_made l c.lay_system.new.blocks.cells l.classes) ∙ ap first_state e,
     )
+
+pub lay_system-requires-clause-touches : goal.lay_system-requires-clause-touches
+lay_system-requires-clause-touches c = (IfOk-at_ok _ (c.in_ok-held.ensures).1 c.with_one.ensures).1
+
+pub returns-clause-touches : goal.returns-clause-touches
+returns-clause-touches c =
+    let a = c.in_ok-tables.ensures in let b = c.in_ok-tables-2.ensures in let d = c.in_ok-held.ensures in let l = c.in_ok-held.held.0.0.0 in
+    let one = IfOk-at_ok _ d.1 c.with_one.ensures in
+    let plan : l ≡ c.in_ok-layout.layout = (λ i. (d.0 i).0.0) ∙ (λ i. (b.0 i).0) ∙ a.0 in
+    let e : l ≡ c.args.layout = plan ∙ c.in_ok-layout.ensures.0 in
+    (c.lay_system.ensures.links ∙ ap (λ (z : Layout). 3 * set_places z System) e, omega (arith, c.lay_system.ensures.touches, one.2))

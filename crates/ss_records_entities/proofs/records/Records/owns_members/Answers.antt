@@ -1,4 +1,4 @@
-use Rattle.std.proofs.Common.{◌≡◌, ℕ, ◌+◌, ◌<◌, Bool, drop, slice_get, Some, length, inl, sym, ap, subst, ◌∙◌, arith}
+use Rattle.std.proofs.Common.{◌≡◌, ℕ, ◌+◌, ◌<◌, Bool, drop, slice_get, Some, length, inl, refl, sym, ap, subst, ◌∙◌, arith}
 use Rattle.ss_base.specs.declared.layout.Owner.TheVariants.{Class}
 use Rattle.ss_base.specs.declared.layout.SetLayout.{SetLayout}
 use Rattle.ss_records_entities.specs.declared.records.Records.{Records}
@@ -29,6 +29,16 @@ owned_count-left-requires c = let e = c.requires.entry in λ k z. subst (λ n. n
 
 pub returns-then-left-eq0-clause-value : goal.returns-then-left-eq0-clause-value
 returns-then-left-eq0-clause-value c = let r = c.args.self.now in sym (owns_none r.layout.sets 0 c.args.class c.args.number r.notes.lists (omega (arith, c.owned_count-left.ensures.value, c.if-left-eq0.true)))
+
+pub loop-s-init : goal.loop-s-init
+loop-s-init c = record {
+  same = refl;
+  cells = refl;
+  rest = refl;
+  left = c.owned_count-left.ensures.value;
+  touches = (omega arith, refl);
+  looked = ap (λ n. c.args.self.now.blocks.touches + n) c.owned_count-left.ensures.value;
+}
 
 pub is_owner-requires : goal.is_owner-requires
 is_owner-requires c = subst (λ (z : Records). c.loop-s.s < length z.layout.sets) (sym c.loop-s.invariant.same) (omega (arith, c.loop-s-test.true, c.names-s-end.ensures))
@@ -88,6 +98,7 @@ loop-s-preserved c =
         rest = sym (owns_not ts s c.args.class c.args.number y.0 r.notes.lists y.1 (has_in r m.self h.same s c.args.number _ w.if-owns_in.ensures.value)) ∙ h.rest;
         left = omega (arith, h.left, counts_one (owned_by (Class c.args.class)) ts s y.0 y.1 (sym (as_owner y.0.owner c.args.class) ∙ sym (w.if-is_owner.ensures y.0 g)));
         touches = rw w.self-is (omega (arith, w.owns_in.ensures.touches.0, h.touches.0), omega (arith, w.owns_in.ensures.touches.0, w.owns_in.ensures.touches.1, h.touches.1));
+        looked = rw w.self-is (omega (arith, h.looked, h.left, w.owns_in.ensures.touches.0, counts_one (owned_by (Class c.args.class)) ts s y.0 y.1 (sym (as_owner y.0.owner c.args.class) ∙ sym (w.if-is_owner.ensures y.0 g))));
       }
       | else-is_owner w ↦ record {
         same = rw w.self-is h.same;
@@ -95,5 +106,22 @@ loop-s-preserved c =
         rest = sym (owns_other ts s c.args.class c.args.number y.0 r.notes.lists y.1 (sym (w.if-is_owner.ensures y.0 g))) ∙ h.rest;
         left = omega (arith, h.left, counts_none (owned_by (Class c.args.class)) ts s y.0 y.1 (sym (as_owner y.0.owner c.args.class) ∙ sym (w.if-is_owner.ensures y.0 g)));
         touches = rw w.self-is (omega (arith, h.touches.0), h.touches.1);
+        looked = rw w.self-is (omega (arith, h.looked));
       }
     ]
+
+pub returns-then-left-eq0-clause-looked : goal.returns-then-left-eq0-clause-looked
+returns-then-left-eq0-clause-looked c = omega arith
+
+pub returns-then-owns_in-clause-looked : goal.returns-then-owns_in-clause-looked
+returns-then-owns_in-clause-looked c =
+    let r = c.args.self.now in let m = c.loop-s in let ts = r.layout.sets in let s = m.s in let h = m.invariant in let y = get_there ts s (omega (arith, c.loop-s-test.true, c.names-s-end.ensures)) in
+    omega (arith, h.looked, h.left, c.owns_in.ensures.touches.0, counts_one (owned_by (Class c.args.class)) ts s y.0 y.1 (sym (as_owner y.0.owner c.args.class) ∙ sym (c.if-is_owner.ensures y.0 (set_in r m.self h.same s y.0 y.1))))
+
+pub returns-then-left-eq0-2-clause-looked : goal.returns-then-left-eq0-2-clause-looked
+returns-then-left-eq0-2-clause-looked c =
+    let r = c.args.self.now in let m = c.loop-s in let ts = r.layout.sets in let s = m.s in let h = m.invariant in let y = get_there ts s (omega (arith, c.loop-s-test.true, c.names-s-end.ensures)) in
+    omega (arith, h.looked, h.left, c.owns_in.ensures.touches.0, counts_one (owned_by (Class c.args.class)) ts s y.0 y.1 (sym (as_owner y.0.owner c.args.class) ∙ sym (c.if-is_owner.ensures y.0 (set_in r m.self h.same s y.0 y.1))))
+
+pub returns-clause-looked : goal.returns-clause-looked
+returns-clause-looked c = omega (arith, c.loop-s.invariant.looked)

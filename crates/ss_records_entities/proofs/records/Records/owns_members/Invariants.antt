@@ -13,4 +13,5 @@ invariant-loop-s l =
       rest : owns_members (drop l.s r.layout.sets) l.s r.notes.lists l.class l.number ≡ owns_members r.layout.sets 0 r.notes.lists l.class l.number;
       left : l.left ≡ count_sets (owned_by (Class l.class)) (drop l.s r.layout.sets);
       touches : (l.self.blocks.touches ≤ r.blocks.touches + l.s) × (l.self.blocks.total + r.blocks.touches ≡ r.blocks.total + l.self.blocks.touches);
+      looked : l.self.blocks.touches + l.left ≡ r.blocks.touches + count_sets (owned_by (Class l.class)) r.layout.sets;
     }
