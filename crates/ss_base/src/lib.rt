@@ -33,4 +33,4 @@ pub use picture_line::PictureLine;
 pub use plan::Plan;
 pub use spelling::{SPELLING_LIMIT, Spelling};
 pub use value::Value;
-pub use words::{End, GuardKind, PhraseKind, Relation, Sign, Weighting};
+pub use words::{End, GuardKind, Operator, PhraseKind, Relation, Sign, UnaryOperator, Weighting};

@@ -18,6 +18,29 @@ pub enum Sign {
     Minus,
 }
 
+/// What makes one whole number of two.
+#[derive(Clone, Copy, Debug, PartialEq, Eq)]
+pub enum Operator {
+    Add,
+    Subtract,
+    Multiply,
+    /// DIV.F
+    Quotient,
+    /// MOD.F
+    Remainder,
+    /// MIN.F
+    Least,
+    /// MAX.F
+    Greatest,
+}
+
+/// What makes one whole number of another.
+#[derive(Clone, Copy, Debug, PartialEq, Eq)]
+pub enum UnaryOperator {
+    /// ABS.F
+    Absolute,
+}
+
 /// What a phrase does with a candidate, by its condition.
 #[derive(Clone, Copy, Debug, PartialEq, Eq)]
 pub enum PhraseKind {

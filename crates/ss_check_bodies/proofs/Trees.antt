@@ -14,7 +14,7 @@ use Rattle.ss_tree.specs.Tree.{ExpressionTree, named, call, expression_row, term
 use Rattle.ss_tree.specs.View.{view_expression, view_term}
 use Rattle.ss_tree.specs.Views.{view_named_made, view_call_made, view_product_made, view_sum_made}
 use Rattle.ss_program.specs.declared.expression.Operation.{Operation}
-use Rattle.ss_program.specs.declared.expression.Operator.TheVariants.{Multiply}
+use Rattle.ss_base.specs.declared.words.Operator.TheVariants.{Multiply}
 use Rattle.ss_program.specs.declared.expression.Expression.{Expression as Made}
 use Rattle.ss_program.specs.declared.expression.Expression.TheVariants as made
 use Rattle.ss_program.specs.Program.{Expression, Calculate}

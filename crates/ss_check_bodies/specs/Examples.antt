@@ -8,7 +8,7 @@ use Rattle.ss_base.specs.declared.words.Sign.TheVariants as signs
 use Rattle.ss_base.specs.declared.words.Weighting.TheVariants.{Tally, Accumulate}
 use Rattle.ss_tree.specs.declared.expression.Designator.{Designator}
 use Rattle.ss_tree.specs.declared.expression.Designator.TheVariants.{Name, TimeV, TimeA}
-use Rattle.ss_tree.specs.declared.expression.Function.TheVariants.{Div}
+use Rattle.ss_tree.specs.declared.expression.Function.TheVariants.{Two}
 use Rattle.ss_tree.specs.declared.preamble.Mode.TheVariants.{Integer}
 use Rattle.ss_tree.specs.declared.preamble.StatisticKind.TheVariants as figures
 use Rattle.ss_tree.specs.declared.statement.FindOutcome.TheVariants as outcomes
@@ -19,7 +19,7 @@ use Rattle.ss_names_scopes.specs.Locals.{Moded}
 use Rattle.ss_names_scopes.specs.Scopes.{Scope}
 use Rattle.ss_program.specs.declared.expression.Fold.TheVariants.{Sum}
 use Rattle.ss_program.specs.declared.expression.MemberQuery.TheVariants.{Successor}
-use Rattle.ss_program.specs.declared.expression.Operator.TheVariants.{Add, Subtract, Multiply}
+use Rattle.ss_base.specs.declared.words.Operator.TheVariants.{Add, Subtract, Multiply, Quotient}
 use Rattle.ss_program.specs.declared.expression.SetQuery.TheVariants.{MemberCount}
 use Rattle.ss_program.specs.declared.expression.Variable.TheVariants.{Global, Local}
 use Rattle.ss_program.specs.Program.{Expression, Constant, Fetch, Attribute, OfSystemSet, OfSet, OfMember, Clock, TimeOf, Figure, Calculate, AValue, AMean, AMeanOf, TheSystem, Entity, ToVariable, ToAttribute, ToCount, ByDiscipline, At, Each, Call, Stop, Read, Find, Create, CreateEvery, File, ScheduleNew, Reset, Print, Done, Then}
@@ -172,7 +172,7 @@ unfolding expression subscript factors terms
 sum_from_the_left = refl
 
 -- DIV.F(7)
-pub one_argument : expression in_main (call Div (and_expression (number (pos 7)) no_expression)) ≡ None
+pub one_argument : expression in_main (call (Two Quotient) (and_expression (number (pos 7)) no_expression)) ≡ None
 unfolding expression two
 one_argument = refl
 

@@ -2,7 +2,7 @@
 use Rattle.std.specs.Prelude.{◌≡◌, List, map, Option, Some, Result, Ok, Err}
 use Rattle.std.specs.Global.{Vec}
 use Rattle.ss_tree.specs.Tree.{ExpressionRow, HeadTree}
-use Rattle.ss_program.specs.declared.expression.Operator.{Operator}
+use Rattle.ss_base.specs.declared.words.Operator.{Operator}
 use Rattle.ss_program.specs.declared.head.Head.{Head as HeadMade}
 use Rattle.ss_program.specs.declared.head.Phrase.{Phrase as PhraseMade}
 use Rattle.ss_program.specs.Program.{Calculate, Expression, Head, Phrase}

@@ -308,15 +308,12 @@ impl Resolver<'_> {
         ensures { Gives view_resolved result (expression (scope_in self.now) (call function (expression_row (map view_expression arguments.now)))) }
     {
         match function {
-            Function::Abs => {
+            Function::One(operator) => {
                 let argument = self.resolve_one(arguments)?;
                 let argument = Box::new(self.alloc, argument)?;
-                Ok(Resolved::Absolute { argument })
+                Ok(Resolved::Unary { operator, argument })
             }
-            Function::Div => self.resolve_operation(Operator::Quotient, arguments),
-            Function::Mod => self.resolve_operation(Operator::Remainder, arguments),
-            Function::Min => self.resolve_operation(Operator::Least, arguments),
-            Function::Max => self.resolve_operation(Operator::Greatest, arguments),
+            Function::Two(operator) => self.resolve_operation(operator, arguments),
         }
     }
 

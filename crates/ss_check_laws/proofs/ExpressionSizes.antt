@@ -3,10 +3,10 @@ use Rattle.std.proofs.Common.{ℕ, ◌+◌, ◌≤◌, Option, Some, None, optio
 use Rattle.ss_base.specs.declared.layout.Owner.{Owner}
 use Rattle.ss_base.specs.declared.layout.Owner.TheVariants as owners
 use Rattle.ss_tree.specs.declared.expression.Designator.{Designator}
-use Rattle.ss_tree.specs.declared.expression.Function.TheVariants.{Abs}
+use Rattle.ss_tree.specs.declared.expression.Function.TheVariants.{One, Two}
 use Rattle.ss_tree.specs.Nodes as tree
 use Rattle.ss_tree.specs.Tree.{ExpressionTree, named, call, parenthesised, product, signed, sum, ExpressionRow, no_expression, and_expression, TermRow, no_term, and_term, NamedTree}
-use Rattle.ss_program.specs.declared.expression.Operator.TheVariants.{Multiply}
+use Rattle.ss_base.specs.declared.words.Operator.TheVariants.{Multiply}
 use Rattle.ss_program.specs.declared.expression.Variable.{Variable}
 use Rattle.ss_program.specs.Nodes.{option_nodes, unless_plain, expression_nodes, subscript_nodes, item_nodes, set_nodes, place_nodes}
 use Rattle.ss_program.specs.Program.{Expression, Fetch, Calculate, AValue, SetOwner}
@@ -112,8 +112,8 @@ module _ (s : Scope) where
 
     pub small : (e : ExpressionTree) → Within expression_nodes (tree.expression_nodes e) (expression s e)
     small (named d es) = followed (subscript_small es) (λ e p. followed (named_small d e) (λ q r. so (value_small q.0 q.1) (λ x t. omega arith)))
-    small (call Abs es) = followed (one_small es) (λ x p. omega arith)
-    small (call f es) = followed (two_small es) (λ x p. omega arith)
+    small (call (One op) es) = followed (one_small es) (λ x p. omega arith)
+    small (call (Two op) es) = followed (two_small es) (λ x p. omega arith)
     small (parenthesised e) = small e
     small (product e es) = followed (small e) (λ left p. so (factors_small left es) (λ x q. omega (arith, factors_less es)))
     small (signed sign e) = followed (small e) (λ x p. omega arith)

@@ -10,11 +10,11 @@ use Rattle.ss_base.specs.declared.value.Value.TheVariants.{Whole, Text}
 use Rattle.ss_tree.specs.Tree.{ExpressionTree, number, text, named, call, parenthesised, product, signed, sum, ExpressionRow, no_expression, and_expression, TermRow, no_term, and_term}
 use Rattle.ss_tree.specs.declared.expression.Designator.{Designator}
 use Rattle.ss_tree.specs.declared.expression.Function.{Function}
-use Rattle.ss_tree.specs.declared.expression.Function.TheVariants.{Div, Mod, Abs, Min, Max}
-use Rattle.ss_program.specs.Program.{Expression, Constant, Fetch, Attribute, OfSystemSet, OfSet, OfMember, Clock, TimeOf, Figure, FigureOf, Signed, Absolute, Calculate}
+use Rattle.ss_tree.specs.declared.expression.Function.TheVariants.{One, Two}
+use Rattle.ss_program.specs.Program.{Expression, Constant, Fetch, Attribute, OfSystemSet, OfSet, OfMember, Clock, TimeOf, Figure, FigureOf, Signed, Unary, Calculate}
 use Rattle.ss_program.specs.WellTyped.{Scope as Place, HasMode}
-use Rattle.ss_program.specs.declared.expression.Operator.{Operator}
-use Rattle.ss_program.specs.declared.expression.Operator.TheVariants.{Multiply, Quotient, Remainder, Least, Greatest}
+use Rattle.ss_base.specs.declared.words.Operator.{Operator}
+use Rattle.ss_base.specs.declared.words.Operator.TheVariants.{Multiply}
 use Rattle.ss_program.specs.declared.expression.Variable.TheVariants.{Global}
 use Rattle.ss_names_uses.specs.Uses as uses
 use Rattle.ss_names_uses.specs.Uses.{place, row_length}
@@ -120,13 +120,10 @@ module _ (s : Scope) (g : Place) where
 
   call_number : (f : Function) (es : ExpressionRow) → row_length es ≡ argument_count f → Numbers s g es → Number s g (call f es)
   unfolding expression
-  call_number Abs es h n =
+  call_number (One op) es h n =
       let r : IsNumber (one s es) = one_argument es h n in
-      (Absolute r.0, goes (one s es) (λ x. Some (Absolute x)) r.0 (Absolute r.0) r.1 refl, (refl, r.2))
-  call_number Div es h n = calculated Quotient es (two_arguments es h n)
-  call_number Mod es h n = calculated Remainder es (two_arguments es h n)
-  call_number Min es h n = calculated Least es (two_arguments es h n)
-  call_number Max es h n = calculated Greatest es (two_arguments es h n)
+      (Unary op r.0, goes (one s es) (λ x. Some (Unary op x)) r.0 (Unary op r.0) r.1 refl, (refl, r.2))
+  call_number (Two op) es h n = calculated op es (two_arguments es h n)
 
 module _ (s : Scope) (g : Place) (k : IsLinked s g) where
   -- ---- what is named

@@ -1,7 +1,7 @@
 -- Rule 74: other counts of arguments than are taken.
 use Rattle.std.specs.Prelude.{ℕ, Bool, true, ◌==◌, Option, Some, None, length, get_or, [], nat_le}
 use Rattle.ss_tree.specs.declared.expression.Function.{Function}
-use Rattle.ss_tree.specs.declared.expression.Function.TheVariants.{Div, Mod, Abs, Min, Max}
+use Rattle.ss_tree.specs.declared.expression.Function.TheVariants.{One, Two}
 use Rattle.ss_names_declarations.specs.Firsts.{place_in, value_for}
 use Rattle.ss_names_uses.specs.declared.used.CountNeed.{CountNeed}
 use Rattle.ss_names_uses.specs.declared.used.CountNeed.TheVariants as needs
@@ -10,11 +10,8 @@ use Rattle.ss_names.specs.Table.{Table}
 
 -- how many arguments a function takes
 abbrev pub argument_count : Function → ℕ
-argument_count Div = 2
-argument_count Mod = 2
-argument_count Abs = 1
-argument_count Min = 2
-argument_count Max = 2
+argument_count (One op) = 1
+argument_count (Two op) = 2
 
 abbrev pub is_given : ℕ → Option RoutineSection → Bool
 is_given count None = true

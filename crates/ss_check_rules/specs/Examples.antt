@@ -2,7 +2,8 @@
 use Rattle.std.specs.Prelude.{◌≡◌, ℕ, pos, false, List, [], ◌∷◌, ◌++◌, Option, Some, None, codes, refl}
 use Rattle.ss_base.specs.declared.line.Line.{Line}
 use Rattle.ss_tree.specs.declared.expression.Designator.TheVariants as designators
-use Rattle.ss_tree.specs.declared.expression.Function.TheVariants.{Abs}
+use Rattle.ss_tree.specs.declared.expression.Function.TheVariants.{One}
+use Rattle.ss_base.specs.declared.words.UnaryOperator.TheVariants.{Absolute}
 use Rattle.ss_base.specs.declared.words.Sign.TheVariants.{Plus}
 use Rattle.ss_base.specs.declared.layout.ClassKind.TheVariants.{Permanent, Temporary, Notice}
 use Rattle.ss_tree.specs.declared.preamble.Mode.TheVariants as said
@@ -147,7 +148,7 @@ a_count_as_target = refl
 pub too_many_given : in_main (call_statement (line 16) (codes "R") (one ∷ []) [] ∷ []) ≡ broken rules.Arguments 16
 too_many_given = refl
 
-pub two_arguments : in_main (let_statement (line 16) (at (codes "X")) (call Abs (and_expression one (and_expression one no_expression))) ∷ []) ≡ broken rules.Arguments 16
+pub two_arguments : in_main (let_statement (line 16) (at (codes "X")) (call (One Absolute) (and_expression one (and_expression one no_expression))) ∷ []) ≡ broken rules.Arguments 16
 two_arguments = refl
 
 pub more_than_attributes : in_main (schedule_new (line 16) (codes "BELL") None (one ∷ one ∷ []) now ∷ []) ≡ broken rules.Arguments 16

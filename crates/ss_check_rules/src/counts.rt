@@ -16,11 +16,8 @@ fn argument_count(function: Function) -> usize
     ensures { result ≡ argument_count function }
 {
     match function {
-        Function::Div => 2,
-        Function::Mod => 2,
-        Function::Abs => 1,
-        Function::Min => 2,
-        Function::Max => 2,
+        Function::One(_) => 1,
+        Function::Two(_) => 2,
     }
 }
 

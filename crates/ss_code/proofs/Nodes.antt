@@ -5,7 +5,7 @@ use Rattle.ss_base.specs.declared.words.GuardKind.{GuardKind}
 use Rattle.ss_base.specs.declared.words.GuardKind.TheVariants as guards
 use Rattle.ss_base.specs.declared.words.PhraseKind.{PhraseKind}
 use Rattle.ss_base.specs.declared.words.PhraseKind.TheVariants as kinds
-use Rattle.ss_program.specs.Program.{Expression, Constant, Fetch, Attribute, OfSystemSet, OfSet, OfMember, Clock, TimeOf, Figure, FigureOf, Signed, Absolute, Calculate, SetOwner, TheSystem, Entity, Test, Compare, DataEnded, Empty, Member, Condition, Head, Numbers, Members, Each, Start, AtEnd, From, After, Phrase, Guard, Place, ToVariable, ToAttribute, ToCount, Target, Position, ByDiscipline, AsFirst, AsLast, BeforeMember, AfterMember, When, At, In, Now, Restart, Item, AValue, AMean, AMeanOf, Statement, Let, Change, Call, Return, Stop, Read, Simulate, If, Loop, For, Find, Create, CreateEvery, Destroy, File, RemoveEnd, Remove, ScheduleNew, Schedule, Cancel, Reset, Print, Skip, Block, Done, Then, Routine, Event, Program}
+use Rattle.ss_program.specs.Program.{Expression, Constant, Fetch, Attribute, OfSystemSet, OfSet, OfMember, Clock, TimeOf, Figure, FigureOf, Signed, Unary, Calculate, SetOwner, TheSystem, Entity, Test, Compare, DataEnded, Empty, Member, Condition, Head, Numbers, Members, Each, Start, AtEnd, From, After, Phrase, Guard, Place, ToVariable, ToAttribute, ToCount, Target, Position, ByDiscipline, AsFirst, AsLast, BeforeMember, AfterMember, When, At, In, Now, Restart, Item, AValue, AMean, AMeanOf, Statement, Let, Change, Call, Return, Stop, Read, Simulate, If, Loop, For, Find, Create, CreateEvery, Destroy, File, RemoveEnd, Remove, ScheduleNew, Schedule, Cancel, Reset, Print, Skip, Block, Done, Then, Routine, Event, Program}
 use Rattle.ss_program.specs.Nodes.{total, option_nodes, expression_nodes, subscript_nodes, set_nodes, test_nodes, alternative_nodes, condition_nodes, guard_nodes, phrase_nodes, place_nodes, target_nodes, start_nodes, head_nodes, position_nodes, when_nodes, restart_nodes, item_nodes, statement_nodes, block_nodes, routine_nodes, event_nodes, nodes}
 use Rattle.ss_code_instructions.specs.Facts.{is_watched, must_look, needs_look, expression_of, may_fault, beside}
 use Rattle.ss_code_instructions.specs.Size.{one_if, one_if_some, expression_size, operand_size, operand_cells, values_size, looked_size, any_size, test_size, tests_size, alternatives_size, condition_size, guard_size, guards_size, phrase_size, phrases_size}
@@ -34,7 +34,7 @@ operand_under (TimeOf e) h = h
 operand_under (Figure fold k) h = h
 operand_under (FigureOf fold k e) h = h
 operand_under (Signed sign e) h = h
-operand_under (Absolute e) h = h
+operand_under (Unary op e) h = h
 operand_under (Calculate op a b) h = h
 
 subscript_under : (e : Expression) → subscript_nodes e ≤ expression_nodes e
@@ -49,7 +49,7 @@ subscript_under (TimeOf e) = omega arith
 subscript_under (Figure fold k) = omega arith
 subscript_under (FigureOf fold k e) = omega arith
 subscript_under (Signed sign e) = omega arith
-subscript_under (Absolute e) = omega arith
+subscript_under (Unary op e) = omega arith
 subscript_under (Calculate op a b) = omega arith
 
 expression_small : (e : Expression) → expression_size e ≤ expression_nodes e
@@ -64,7 +64,7 @@ expression_small (TimeOf e) = omega (arith, operand_under e (expression_small e)
 expression_small (Figure fold k) = omega arith
 expression_small (FigureOf fold k e) = omega (arith, operand_under e (expression_small e))
 expression_small (Signed sign e) = omega (arith, operand_under e (expression_small e), subscript_under e)
-expression_small (Absolute e) = omega (arith, operand_under e (expression_small e), subscript_under e)
+expression_small (Unary op e) = omega (arith, operand_under e (expression_small e), subscript_under e)
 expression_small (Calculate op a b) = omega (arith, operand_under a (expression_small a), subscript_under a, operand_under b (expression_small b), subscript_under b)
 
 operand_small : (e : Expression) → operand_size e ≤ subscript_nodes e
@@ -86,7 +86,7 @@ meant_small (TimeOf e) = omega (arith, expression_small (TimeOf e))
 meant_small (Figure fold k) = omega arith
 meant_small (FigureOf fold k e) = omega (arith, expression_small (FigureOf fold k e))
 meant_small (Signed sign e) = omega (arith, expression_small (Signed sign e))
-meant_small (Absolute e) = omega (arith, expression_small (Absolute e))
+meant_small (Unary op e) = omega (arith, expression_small (Unary op e))
 meant_small (Calculate op a b) = omega (arith, expression_small (Calculate op a b))
 
 values_small : (es : List Expression) → values_size es ≤ total expression_nodes es
@@ -175,7 +175,7 @@ cells_small (TimeOf e) = omega arith
 cells_small (Figure fold k) = omega arith
 cells_small (FigureOf fold k e) = omega arith
 cells_small (Signed sign e) = omega arith
-cells_small (Absolute e) = omega arith
+cells_small (Unary op e) = omega arith
 cells_small (Calculate op a b) = omega arith
 
 module _ (p : Program) where

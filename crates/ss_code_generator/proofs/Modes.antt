@@ -10,7 +10,7 @@ use Rattle.ss_base.specs.declared.layout.ClassLayout.{ClassLayout}
 use Rattle.ss_world.specs.State.{modes_in}
 use Rattle.ss_program.specs.declared.expression.Variable.{Variable}
 use Rattle.ss_program.specs.declared.expression.Variable.TheVariants.{Global, Local}
-use Rattle.ss_program.specs.Program.{Program, Expression, Constant, Fetch, Attribute, OfSystemSet, OfSet, OfMember, Clock, TimeOf, Figure, FigureOf, Signed, Absolute, Calculate}
+use Rattle.ss_program.specs.Program.{Program, Expression, Constant, Fetch, Attribute, OfSystemSet, OfSet, OfMember, Clock, TimeOf, Figure, FigureOf, Signed, Unary, Calculate}
 use Rattle.ss_program.specs.View.{view_program}
 use Rattle.ss_program.specs.WellTyped.{Scope, HasMode, mode_at, field_mode}
 use Rattle.ss_code_instructions.specs.Instructions.{Operand, Instruction, Held, Taken, Stays, Placed}
@@ -41,7 +41,7 @@ mode_is s (TimeOf e) m h = sym h.0
 mode_is s (Figure fold k) m h = sym h.0
 mode_is s (FigureOf fold k e) m h = sym h.0
 mode_is s (Signed sign e) m h = sym h.0
-mode_is s (Absolute e) m h = sym h.0
+mode_is s (Unary op e) m h = sym h.0
 mode_is s (Calculate op a b) m h = sym h.0
 
 -- an attribute is one of the layout, as the code has it
@@ -108,7 +108,7 @@ module _ (f : Final) where
   operand_mode t (Figure fold k) m make p h = on_top (height t) _ t.cells refl ∙ ap Some (mode_is t.scope (Figure fold k) m h)
   operand_mode t (FigureOf fold k e) m make p h = on_top (height t) _ t.cells refl ∙ ap Some (mode_is t.scope (FigureOf fold k e) m h)
   operand_mode t (Signed sign e) m make p h = on_top (height t) _ t.cells refl ∙ ap Some (mode_is t.scope (Signed sign e) m h)
-  operand_mode t (Absolute e) m make p h = on_top (height t) _ t.cells refl ∙ ap Some (mode_is t.scope (Absolute e) m h)
+  operand_mode t (Unary op e) m make p h = on_top (height t) _ t.cells refl ∙ ap Some (mode_is t.scope (Unary op e) m h)
   operand_mode t (Calculate op a b) m make p h = on_top (height t) _ t.cells refl ∙ ap Some (mode_is t.scope (Calculate op a b) m h)
 
   -- it has that mode under a further cell too
@@ -140,5 +140,5 @@ module _ (f : Final) where
   mode_after u (Figure fold k) y m make other h = mode_under u y m _ make other h
   mode_after u (FigureOf fold k e) y m make other h = mode_under u y m _ make other h
   mode_after u (Signed sign e) y m make other h = mode_under u y m _ make other h
-  mode_after u (Absolute e) y m make other h = mode_under u y m _ make other h
+  mode_after u (Unary op e) y m make other h = mode_under u y m _ make other h
   mode_after u (Calculate op a b) y m make other h = mode_under u y m _ make other h

@@ -15,7 +15,8 @@ use Rattle.ss_program.specs.declared.expression.SetQuery.{SetQuery}
 use Rattle.ss_program.specs.declared.expression.MemberQuery.{MemberQuery}
 use Rattle.ss_program.specs.declared.expression.Fold.{Fold}
 use Rattle.ss_base.specs.declared.words.Sign.{Sign}
-use Rattle.ss_program.specs.Program.{Program, Expression, Constant as AConstant, Fetch, Attribute, OfSystemSet, OfSet, OfMember, TimeOf, Figure, FigureOf, Signed, Absolute}
+use Rattle.ss_base.specs.declared.words.UnaryOperator.{UnaryOperator}
+use Rattle.ss_program.specs.Program.{Program, Expression, Constant as AConstant, Fetch, Attribute, OfSystemSet, OfSet, OfMember, TimeOf, Figure, FigureOf, Signed, Unary}
 use Rattle.ss_program.specs.View.{view_expression, view_program}
 use Rattle.ss_program.specs.Views.{with_operation}
 use Rattle.ss_program.specs.WellTyped.{Scope, HasMode, mode_at, field_mode}
@@ -146,9 +147,9 @@ module _ (old new : Generator) (p : Lined) (here : Here) (to : Address) where
           tt,
         ))
 
-    pub absolute_emitted : s.instructions ≡ q.instructions ++ r.Absolute o.address to ∷ [] → EmitsTo old new p s here to (Typed (Absolute e)) (λ t x. expression_code t x (Absolute e))
-    absolute_emitted is =
-        one_emitted q s e o g (Typed (Absolute e)) (λ x y. i.Absolute y x) (r.Absolute o.address to) grows m (λ k h. h.1.1) is ls (λ f t x around stands at good from. ((operand t e, from, (x, at, refl)), tt))
+    pub unary_emitted : (op : UnaryOperator) → s.instructions ≡ q.instructions ++ r.Unary op o.address to ∷ [] → EmitsTo old new p s here to (Typed (Unary op e)) (λ t x. expression_code t x (Unary op e))
+    unary_emitted op is =
+        one_emitted q s e o g (Typed (Unary op e)) (λ x y. i.Unary op y x) (r.Unary op o.address to) grows m (λ k h. h.1.1) is ls (λ f t x around stands at good from. ((operand t e, from, (x, at, refl)), tt))
 
 -- ## Operations, worked off from left to right
 

@@ -223,9 +223,10 @@ impl Generator<'_> {
                 entity,
             } => self.figure_of(code, site, *fold, *statistic, entity, to),
             Expression::Signed { sign, term } => self.signed(code, site, *sign, term, to),
-            Expression::Absolute { argument } => {
+            Expression::Unary { operator, argument } => {
                 let of = self.operand(code, site, argument)?.address;
-                code.put(site.line, Instruction::Absolute { of, to })
+                let operator = *operator;
+                code.put(site.line, Instruction::Unary { operator, of, to })
             }
             Expression::Calculate { first, further } => {
                 let count = further.len();

@@ -7,7 +7,7 @@ use Rattle.ss_base.specs.declared.line.Line.{Line}
 use Rattle.ss_base.specs.declared.value.Value.{Value}
 use Rattle.ss_base.specs.declared.value.Value.TheVariants.{Whole}
 use Rattle.ss_meaning.specs.Words.{Given, is_ended}
-use Rattle.ss_meaning.specs.Values.{Trouble, if_ok, turned, due, where_fit, number_of, calculated, absolute, related, printed, empty_lines}
+use Rattle.ss_meaning.specs.Values.{Trouble, if_ok, turned, due, where_fit, number_of, calculated, applied, related, printed, empty_lines}
 use Rattle.ss_meaning.specs.Store.{Setting, Store, opened, yielded}
 use Rattle.ss_meaning.specs.Entities.{entity, attribute, time_of, made_one, made_all, without}
 use Rattle.ss_meaning.specs.Places.{assigned_variable, assigned_attribute}
@@ -95,7 +95,7 @@ act_keeps : (code : Code) (l : Line) (x : Instruction) (c : Core) → Every (Lea
 act_keeps code l (i.Move from to) c = value (Saying c.store) from c.store c.cells _ (λ v below. computes l to (Ok v) below c)
 act_keeps code l (i.Keep from x) c = value (Saying c.store) from c.store c.cells _ (λ v below. changes l (assigned_variable x v c.store) below c (variable_same x v c.store))
 act_keeps code l (i.Calculate op left right to) c = values (Saying c.store) left right c.store c.cells _ (λ x y below. computes l to (calculated op x y) below c)
-act_keeps code l (i.Absolute x to) c = value (Saying c.store) x c.store c.cells _ (λ x below. computes l to (absolute x) below c)
+act_keeps code l (i.Unary op x to) c = value (Saying c.store) x c.store c.cells _ (λ x below. computes l to (applied op x) below c)
 act_keeps code l (i.Clock to) c = computes l to (Ok (clock c.store)) c.cells c
 act_keeps code l (i.TimeOf x to) c = value (Saying c.store) x c.store c.cells _ (λ x below. computes l to (time_of x c.store) below c)
 act_keeps code l (i.Attribute class field x to) c = value (Saying c.store) x c.store c.cells _ (λ x below. computes l to (attribute class field x c.store) below c)

@@ -8,7 +8,7 @@ use Rattle.ss_base.specs.declared.layout.Mode.{Mode}
 use Rattle.ss_base.specs.declared.value.Value.{Value}
 use Rattle.ss_program.specs.declared.expression.Variable.{Variable}
 use Rattle.ss_program.specs.declared.expression.Variable.TheVariants.{Global, Local}
-use Rattle.ss_program.specs.Program.{Expression, Constant, Fetch, Attribute, OfSystemSet, OfSet, OfMember, Clock, TimeOf, Figure, FigureOf, Signed, Absolute, Calculate, ToAttribute}
+use Rattle.ss_program.specs.Program.{Expression, Constant, Fetch, Attribute, OfSystemSet, OfSet, OfMember, Clock, TimeOf, Figure, FigureOf, Signed, Unary, Calculate, ToAttribute}
 use Rattle.ss_meaning.specs.Values.{Trouble, Fails, Misfit, if_ok, turned, sure, calculated}
 use Rattle.ss_meaning.specs.Store.{Store, fetched}
 use Rattle.ss_meaning.specs.Entities.{entity, attribute}
@@ -48,7 +48,7 @@ fetch_value x (TimeOf e) v s q f = absurd cc
 fetch_value x (Figure fold j) v s q f = absurd cc
 fetch_value x (FigureOf fold j e) v s q f = absurd cc
 fetch_value x (Signed sign e) v s q f = absurd cc
-fetch_value x (Absolute e) v s q f = absurd cc
+fetch_value x (Unary op e) v s q f = absurd cc
 fetch_value x (Calculate op a b) v s q f = absurd cc
 
 pub err_first : {A B : Type 0} (r : OkOr A Trouble) (f : A → OkOr B Trouble) (t : Trouble) → r ≡ Err t → if_ok r f ≡ Err t
@@ -66,7 +66,7 @@ constant_value (TimeOf e) s q = absurd cc
 constant_value (Figure fold j) s q = absurd cc
 constant_value (FigureOf fold j e) s q = absurd cc
 constant_value (Signed sign e) s q = absurd cc
-constant_value (Absolute e) s q = absurd cc
+constant_value (Unary op e) s q = absurd cc
 constant_value (Calculate op a b) s q = absurd cc
 
 -- it fails as the look does
@@ -85,7 +85,7 @@ first_look class x (OfMember query set e) v s t q f h = err_first (value e s) _ 
 first_look class x (TimeOf e) v s t q f h = err_first (value e s) _ t (first_look class x e v s t q f h)
 first_look class x (FigureOf fold j e) v s t q f h = err_first (value e s) _ t (first_look class x e v s t q f h)
 first_look class x (Signed sign e) v s t q f h = err_first (value e s) _ t (first_look class x e v s t q f h)
-first_look class x (Absolute e) v s t q f h = err_first (value e s) _ t (first_look class x e v s t q f h)
+first_look class x (Unary op e) v s t q f h = err_first (value e s) _ t (first_look class x e v s t q f h)
 first_look class x (Calculate op a b) v s t q f h = by (λ q. first_look class x a v s t q f h) (λ q. first_look class x b v s t q f h) (is_constant a) refl q
   where
     by : (looks_first class x a ≡ true → value a s ≡ Err t) → (looks_first class x b ≡ true → value b s ≡ Err t) → (c : Bool) → is_constant a ≡ c → (if c then looks_first class x b else looks_first class x a) ≡ true → value (Calculate op a b) s ≡ Err t
@@ -128,7 +128,7 @@ unlooked class (TimeOf r) e v s t q p h = inr (leaf_if e q)
 unlooked class (Figure fold j) e v s t q p h = inr (leaf_if e q)
 unlooked class (FigureOf fold j r) e v s t q p h = inr (leaf_if e q)
 unlooked class (Signed sign r) e v s t q p h = inr (leaf_if e q)
-unlooked class (Absolute r) e v s t q p h = inr (leaf_if e q)
+unlooked class (Unary op r) e v s t q p h = inr (leaf_if e q)
 unlooked class (Calculate op a b) e v s t q p h = inr (leaf_if e q)
 
 -- a constant or a variable lies below no cell
@@ -194,7 +194,7 @@ module _ (code : Code) (n : ℕ) where
   valued_faults t class field r (Figure fold j) v kind q cells frames w high p h leaf_ has = absurd (false≢true leaf_)
   valued_faults t class field r (FigureOf fold j e) v kind q cells frames w high p h leaf_ has = absurd (false≢true leaf_)
   valued_faults t class field r (Signed sign e) v kind q cells frames w high p h leaf_ has = absurd (false≢true leaf_)
-  valued_faults t class field r (Absolute e) v kind q cells frames w high p h leaf_ has = absurd (false≢true leaf_)
+  valued_faults t class field r (Unary op e) v kind q cells frames w high p h leaf_ has = absurd (false≢true leaf_)
   valued_faults t class field r (Calculate op a b) v kind q cells frames w high p h leaf_ has = absurd (false≢true leaf_)
 
   -- the reference is evaluated, and looked at, before the value

@@ -6,7 +6,7 @@ use Rattle.ss_base.specs.declared.line.Line.{Line}
 use Rattle.ss_base.specs.declared.value.Value.{Value}
 use Rattle.ss_base.specs.declared.value.Value.TheVariants.{Whole}
 use Rattle.ss_meaning.specs.Words.{is_ended}
-use Rattle.ss_meaning.specs.Values.{Trouble, if_ok, turned, due, number_of, calculated, absolute, related, printed, empty_lines}
+use Rattle.ss_meaning.specs.Values.{Trouble, if_ok, turned, due, number_of, calculated, applied, related, printed, empty_lines}
 use Rattle.ss_meaning.specs.Store.{Store, yielded}
 use Rattle.ss_meaning.specs.Entities.{entity, attribute, time_of, made_one, made_all, without}
 use Rattle.ss_meaning.specs.Places.{assigned_variable, assigned_attribute}
@@ -75,7 +75,7 @@ act_way : (code : Code) (l : Line) (x : Instruction) (c : Core) → is_due x ≡
 act_way code l (i.Move from to) c calm = value (Way None c) from c.store c.cells _ (λ v below. computes l to (Ok v) below c)
 act_way code l (i.Keep from x) c calm = value (Way None c) from c.store c.cells _ (λ v below. changes l (assigned_variable x v c.store) below c)
 act_way code l (i.Calculate op left right to) c calm = values (Way None c) left right c.store c.cells _ (λ x y below. computes l to (calculated op x y) below c)
-act_way code l (i.Absolute x to) c calm = value (Way None c) x c.store c.cells _ (λ x below. computes l to (absolute x) below c)
+act_way code l (i.Unary op x to) c calm = value (Way None c) x c.store c.cells _ (λ x below. computes l to (applied op x) below c)
 act_way code l (i.Clock to) c calm = computes l to (Ok (clock c.store)) c.cells c
 act_way code l (i.TimeOf x to) c calm = value (Way None c) x c.store c.cells _ (λ x below. computes l to (time_of x c.store) below c)
 act_way code l (i.Attribute class field x to) c calm = value (Way None c) x c.store c.cells _ (λ x below. computes l to (attribute class field x c.store) below c)

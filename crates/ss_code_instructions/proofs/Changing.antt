@@ -5,7 +5,7 @@ use Rattle.std.specs.Prelude.{nat_lt, Result as OkOr, if◌then◌else◌}
 use Rattle.ss_base.specs.declared.line.Line.{Line}
 use Rattle.ss_base.specs.declared.value.Value.{Value}
 use Rattle.ss_base.specs.declared.words.Sign.{Sign}
-use Rattle.ss_program.specs.Program.{Expression, Constant, Fetch, Attribute, OfSystemSet, OfSet, OfMember, Clock, TimeOf, Figure, FigureOf, Signed, Absolute, Calculate, ToAttribute}
+use Rattle.ss_program.specs.Program.{Expression, Constant, Fetch, Attribute, OfSystemSet, OfSet, OfMember, Clock, TimeOf, Figure, FigureOf, Signed, Unary, Calculate, ToAttribute}
 use Rattle.ss_meaning.specs.Values.{Trouble, Fails, Misfit, if_ok, turned, calculated, operator_of}
 use Rattle.ss_meaning.specs.Store.{Store}
 use Rattle.ss_meaning.specs.Entities.{entity, attribute}
@@ -41,7 +41,7 @@ under_none (TimeOf e) x y q = absurd cc
 under_none (Figure fold j) x y q = absurd cc
 under_none (FigureOf fold j e) x y q = absurd cc
 under_none (Signed sign e) x y q = absurd cc
-under_none (Absolute e) x y q = absurd cc
+under_none (Unary op e) x y q = absurd cc
 under_none (Calculate op a b) x y q = absurd cc
 
 -- which of two operands is read first

@@ -5,8 +5,8 @@ use Rattle.ss_base.specs.declared.line.Line.{Line}
 use Rattle.ss_base.specs.declared.value.Value.{Value}
 use Rattle.ss_base.specs.declared.value.Value.TheVariants.{Whole}
 use Rattle.std.specs.Prelude.{pos}
-use Rattle.ss_program.specs.Program.{Expression, Constant, Fetch, Attribute, OfSystemSet, OfSet, OfMember, Clock, TimeOf, Figure, FigureOf, Signed, Absolute, Calculate}
-use Rattle.ss_meaning.specs.Values.{Trouble, Fails, Misfit, if_ok, calculated, operator_of, signed, absolute}
+use Rattle.ss_program.specs.Program.{Expression, Constant, Fetch, Attribute, OfSystemSet, OfSet, OfMember, Clock, TimeOf, Figure, FigureOf, Signed, Unary, Calculate}
+use Rattle.ss_meaning.specs.Values.{Trouble, Fails, Misfit, if_ok, calculated, operator_of, signed, applied}
 use Rattle.ss_meaning.specs.Store.{Store}
 use Rattle.ss_meaning.specs.Entities.{attribute, time_of}
 use Rattle.ss_meaning.specs.Sets.{of_set, of_member}
@@ -117,8 +117,8 @@ module _ (code : Code) (n : ℕ) where
       one_runs t to e (λ x. i.Figure fold j (Some x) to) (λ x. figure fold j (Some x)) tops (as_operand t e (leaves t (next t) refl e)) (λ x. refl) (λ x p cells frames s. refl)
   leaves t to tops (Signed sign e) =
       one_runs t to e (λ x. i.Calculate (operator_of sign) (i.Constant (Whole (pos 0))) x to) (λ v s. signed sign v) tops (as_operand t e (leaves t (next t) refl e)) (λ x. refl) (λ x p cells frames s. refl)
-  leaves t to tops (Absolute e) =
-      one_runs t to e (λ x. i.Absolute x to) (λ v s. absolute v) tops (as_operand t e (leaves t (next t) refl e)) (λ x. refl) (λ x p cells frames s. refl)
+  leaves t to tops (Unary op e) =
+      one_runs t to e (λ x. i.Unary op x to) (λ v s. applied op v) tops (as_operand t e (leaves t (next t) refl e)) (λ x. refl) (λ x p cells frames s. refl)
   leaves t to tops (Calculate op a b) =
       two_runs t to a b (λ x y. i.Calculate op x y to) (λ x y s. calculated op x y) tops (as_operand t a (leaves t (next t) refl a)) (as_operand (after t a) b (leaves (after t a) (next (after t a)) refl b)) (λ x y. refl) (λ x y p cells frames s. refl)
 

@@ -8,7 +8,7 @@ pub holds_four : HoldsFour
 holds_four (i.Move from to) = omega arith
 holds_four (i.Keep from x) = omega arith
 holds_four (i.Calculate op left right to) = omega arith
-holds_four (i.Absolute of to) = omega arith
+holds_four (i.Unary op of to) = omega arith
 holds_four (i.Clock to) = omega arith
 holds_four (i.TimeOf notice to) = omega arith
 holds_four (i.Attribute class field x to) = omega arith

@@ -4,7 +4,7 @@ use Rattle.std.proofs.lemmas.Bool.{eq-eqb}
 use Rattle.std.specs.Prelude.{slice_get, Result as OkOr, if◌then◌else◌}
 use Rattle.ss_base.specs.declared.fault.FaultKind.{FaultKind}
 use Rattle.ss_base.specs.declared.value.Value.{Value}
-use Rattle.ss_program.specs.Program.{Expression, Constant, Fetch, Attribute, OfSystemSet, OfSet, OfMember, Clock, TimeOf, Figure, FigureOf, Signed, Absolute, Calculate, SetOwner}
+use Rattle.ss_program.specs.Program.{Expression, Constant, Fetch, Attribute, OfSystemSet, OfSet, OfMember, Clock, TimeOf, Figure, FigureOf, Signed, Unary, Calculate, SetOwner}
 use Rattle.ss_meaning.specs.Values.{Trouble, Fails, Misfit, if_ok, turned}
 use Rattle.ss_meaning.specs.Store.{Store, fetched}
 use Rattle.ss_meaning.specs.Sets.{member}
@@ -38,7 +38,7 @@ leaf_stays (TimeOf e) x q = absurd cc
 leaf_stays (Figure fold j) x q = absurd cc
 leaf_stays (FigureOf fold j e) x q = absurd cc
 leaf_stays (Signed sign e) x q = absurd cc
-leaf_stays (Absolute e) x q = absurd cc
+leaf_stays (Unary op e) x q = absurd cc
 leaf_stays (Calculate op a b) x q = absurd cc
 
 -- an operand that stays gives the value of its expression
@@ -70,7 +70,7 @@ still t (Some (TimeOf e)) q = absurd cc
 still t (Some (Figure fold j)) q = absurd cc
 still t (Some (FigureOf fold j e)) q = absurd cc
 still t (Some (Signed sign e)) q = absurd cc
-still t (Some (Absolute e)) q = absurd cc
+still t (Some (Unary op e)) q = absurd cc
 still t (Some (Calculate op a b)) q = absurd cc
 
 -- an operation on a member and an owner looks at the member first

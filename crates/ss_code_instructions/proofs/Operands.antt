@@ -7,7 +7,7 @@ use Rattle.ss_base.specs.declared.line.Line.{Line}
 use Rattle.ss_base.specs.declared.layout.Mode.{Mode}
 use Rattle.ss_base.specs.declared.value.Value.{Value}
 use Rattle.ss_program.specs.declared.expression.Variable.{Variable}
-use Rattle.ss_program.specs.Program.{Expression, Constant, Fetch, Attribute, OfSystemSet, OfSet, OfMember, Clock, TimeOf, Figure, FigureOf, Signed, Absolute, Calculate}
+use Rattle.ss_program.specs.Program.{Expression, Constant, Fetch, Attribute, OfSystemSet, OfSet, OfMember, Clock, TimeOf, Figure, FigureOf, Signed, Unary, Calculate}
 use Rattle.ss_meaning.specs.Values.{Trouble, Fails, Misfit, turned, sure, where_fit}
 use Rattle.ss_meaning.specs.Store.{Store, fetched}
 use Rattle.ss_meaning.specs.Places.{assigned_variable}
@@ -96,7 +96,7 @@ leaf_is (TimeOf e) x q = absurd cc
 leaf_is (Figure fold j) x q = absurd cc
 leaf_is (FigureOf fold j e) x q = absurd cc
 leaf_is (Signed sign e) x q = absurd cc
-leaf_is (Absolute e) x q = absurd cc
+leaf_is (Unary op e) x q = absurd cc
 leaf_is (Calculate op a b) x q = absurd cc
 
 -- a constant and a variable are read as they are
@@ -117,7 +117,7 @@ leaf_reads (TimeOf e) x v s q _ cells go = absurd cc
 leaf_reads (Figure fold j) x v s q _ cells go = absurd cc
 leaf_reads (FigureOf fold j e) x v s q _ cells go = absurd cc
 leaf_reads (Signed sign e) x v s q _ cells go = absurd cc
-leaf_reads (Absolute e) x v s q _ cells go = absurd cc
+leaf_reads (Unary op e) x v s q _ cells go = absurd cc
 leaf_reads (Calculate op a b) x v s q _ cells go = absurd cc
 
 -- an operand gives the value of its expression, and takes its cell off
@@ -145,7 +145,7 @@ leaf_low (TimeOf e) x y q = absurd cc
 leaf_low (Figure fold j) x y q = absurd cc
 leaf_low (FigureOf fold j e) x y q = absurd cc
 leaf_low (Signed sign e) x y q = absurd cc
-leaf_low (Absolute e) x y q = absurd cc
+leaf_low (Unary op e) x y q = absurd cc
 leaf_low (Calculate op c d) x y q = absurd cc
 
 -- and takes no cell
@@ -161,7 +161,7 @@ never_taken (TimeOf e) k q = cc
 never_taken (Figure fold j) k q = cc
 never_taken (FigureOf fold j e) k q = cc
 never_taken (Signed sign e) k q = cc
-never_taken (Absolute e) k q = cc
+never_taken (Unary op e) k q = cc
 never_taken (Calculate op c d) k q = cc
 
 second_above : (h : ℕ) (e : Expression) (o : Option Operand) → leaf e ≡ o → lies_above (Taken h) (or_cell (suc h) o) ≡ false
@@ -209,7 +209,7 @@ leaf_fine (TimeOf e) x s kind q _ = cc
 leaf_fine (Figure fold j) x s kind q _ = cc
 leaf_fine (FigureOf fold j e) x s kind q _ = cc
 leaf_fine (Signed sign e) x s kind q _ = cc
-leaf_fine (Absolute e) x s kind q _ = cc
+leaf_fine (Unary op e) x s kind q _ = cc
 leaf_fine (Calculate op a b) x s kind q _ = cc
 
 module _ (code : Code) (n : ℕ) where

@@ -20,7 +20,7 @@ use Rattle.ss_program.specs.WellTyped.{WellTyped, IsSet, field_mode}
 use Rattle.ss_meaning.specs.PendingList.{next}
 use Rattle.ss_meaning.specs.Words.{is_ended, value_given}
 use Rattle.ss_meaning.specs.State.{is_made}
-use Rattle.ss_meaning.specs.Values.{Trouble, Fails, Misfit, if_ok, turned, due, unless_fault, line_end, same_mode, number_of, calculated, operator_of, absolute, related, empty_lines, printed}
+use Rattle.ss_meaning.specs.Values.{Trouble, Fails, Misfit, if_ok, turned, due, unless_fault, line_end, same_mode, number_of, calculated, operator_of, applied, related, empty_lines, printed}
 use Rattle.ss_meaning.specs.Store.{Store, first_values, prepended, taken_by_modes, appended, opened, front, yielded}
 use Rattle.ss_meaning.specs.Entities.{class_at, is_permanent, made_count, entity, attribute, time_of, made_one, made_all, without}
 use Rattle.ss_meaning.specs.Places.{assigned_variable, assigned_attribute}
@@ -36,7 +36,7 @@ use Rattle.ss_meaning.proofs.Kept.{number_fine}
 use Rattle.ss_meaning.proofs.Entities.{permanent_here, entity_fine, attribute_fine, time_of_fine, made_one_fine, made_all_fine, without_fine, variable_fine, attribute_assigned_fine}
 use Rattle.ss_meaning.proofs.Sets.{set_of, member_fine, known_owner_fine, is_empty_fine, is_in_fine, begun_fine as outset_fine, begun_at_fine, coming_fine, goes_on_fine, mean_fine, of_set_fine, of_member_fine, filed_in_fine, removed_from_fine, removed_at_fine, figure_fine, reset_fine}
 use Rattle.ss_meaning.proofs.Events.{FieldsAre, fields_are, time_at_fine, made_notice_fine, filed_notice_fine, rescheduled_fine, unscheduled_fine, ComingAs, next_event_there, BegunAs, begun_fine}
-use Rattle.ss_meaning.proofs.Expressions.{calculated_fine, absolute_fine, asked_alone, asked_of}
+use Rattle.ss_meaning.proofs.Expressions.{calculated_fine, applied_fine, asked_alone, asked_of}
 use Rattle.ss_meaning.proofs.Statements.{held_length, range_of_fine, word_fine, input_fits}
 use Rattle.ss_meaning.proofs.Whole.{first_fits}
 use Rattle.ss_code_instructions.specs.Instructions.{Target, Instruction, Placed, EntryPoint, ItemKind, ShowsValue, ShowsMean, ShowsMeanOf}
@@ -329,8 +329,8 @@ module _ (p : Program) (typed : WellTyped p) (code : Code) where
           change_on l (assigned_variable x v c.store) g.1.0 below c (variable_fine p typed ls true x Integer v c.store g.0 e fits) g.1.2 h k)
       act_well l (i.Calculate op left right to) c ms g fits q k =
           both_well p typed code ls left right Integer Integer ms g.0 c.store c.cells _ g.1 fits q (λ v w below hv hw h. give_on l to Integer ms g.0 (calculated op v w) below c g.2 (calculated_fine op v w hv hw) fits h k)
-      act_well l (i.Absolute of to) c ms g fits q k =
-          value_well p typed code ls of Integer ms g.0 c.store c.cells _ g.1 fits q (λ v below e h. give_on l to Integer ms g.0 (absolute v) below c g.2 (absolute_fine v e) fits h k)
+      act_well l (i.Unary op of to) c ms g fits q k =
+          value_well p typed code ls of Integer ms g.0 c.store c.cells _ g.1 fits q (λ v below e h. give_on l to Integer ms g.0 (applied op v) below c g.2 (applied_fine op v e) fits h k)
       act_well l (i.Clock to) c ms g fits q k = give_on l to Integer ms ms (Ok (clock c.store)) c.cells c g refl fits q k
       act_well l (i.TimeOf notice to) c ms g fits q k =
           value_well p typed code ls notice Integer ms g.0 c.store c.cells _ g.1 fits q (λ v below e h. give_on l to Integer ms g.0 (time_of v c.store) below c g.2 (time_of_fine p typed ls v c.store e) fits h k)

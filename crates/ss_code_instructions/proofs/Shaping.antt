@@ -15,7 +15,7 @@ use Rattle.ss_program.specs.declared.expression.Variable.{Variable}
 use Rattle.ss_program.specs.declared.expression.Variable.TheVariants.{Global, Local}
 use Rattle.ss_base.specs.declared.words.GuardKind.{GuardKind}
 use Rattle.ss_base.specs.declared.words.GuardKind.TheVariants as guards
-use Rattle.ss_program.specs.Program.{Expression, Constant, Fetch, Attribute, OfSystemSet, OfSet, OfMember, Clock, TimeOf, Figure, FigureOf, Signed, Absolute, Calculate, SetOwner, TheSystem, Entity, Test, Compare, DataEnded, Empty, Member, Condition, Guard, Program}
+use Rattle.ss_program.specs.Program.{Expression, Constant, Fetch, Attribute, OfSystemSet, OfSet, OfMember, Clock, TimeOf, Figure, FigureOf, Signed, Unary, Calculate, SetOwner, TheSystem, Entity, Test, Compare, DataEnded, Empty, Member, Condition, Guard, Program}
 use Rattle.ss_program.specs.WellTyped.{Scope, mode_at, field_mode, fields_of, owner_of_set, IsSet, HasMode, HaveModes, OwnerFits, GoodTest, GoodCondition}
 use Rattle.ss_meaning.specs.Values.{operator_of}
 use Rattle.ss_meaning.proofs.Entities.{field_said}
@@ -66,7 +66,7 @@ mode_so s (TimeOf e) m h = sym h.0
 mode_so s (Figure fold j) m h = sym h.0
 mode_so s (FigureOf fold j e) m h = sym h.0
 mode_so s (Signed sign e) m h = sym h.0
-mode_so s (Absolute e) m h = sym h.0
+mode_so s (Unary op e) m h = sym h.0
 mode_so s (Calculate op a c) m h = sym h.0
 
 -- values that lie one above the other
@@ -124,7 +124,7 @@ module _ (p : Program) (code : Code) (ls : List Mode) (b : Bool) where
   gives l (Figure fold j) m ms h = cell_gives Integer m ms (sym h.0)
   gives l (FigureOf fold j e) m ms h = cell_gives Integer m ms (sym h.0)
   gives l (Signed sign e) m ms h = cell_gives Integer m ms (sym h.0)
-  gives l (Absolute e) m ms h = cell_gives Integer m ms (sym h.0)
+  gives l (Unary op e) m ms h = cell_gives Integer m ms (sym h.0)
   gives l (Calculate op a c) m ms h = cell_gives Integer m ms (sym h.0)
 
   -- a constant and a variable are read where they are
@@ -145,7 +145,7 @@ module _ (p : Program) (code : Code) (ls : List Mode) (b : Bool) where
   stays l (Figure fold j) m more ms h = (under_cell more (length ms) Integer ms refl ∙ ap Some (sym h.0), refl)
   stays l (FigureOf fold j e) m more ms h = (under_cell more (length ms) Integer ms refl ∙ ap Some (sym h.0), refl)
   stays l (Signed sign e) m more ms h = (under_cell more (length ms) Integer ms refl ∙ ap Some (sym h.0), refl)
-  stays l (Absolute e) m more ms h = (under_cell more (length ms) Integer ms refl ∙ ap Some (sym h.0), refl)
+  stays l (Unary op e) m more ms h = (under_cell more (length ms) Integer ms refl ∙ ap Some (sym h.0), refl)
   stays l (Calculate op a c) m more ms h = (under_cell more (length ms) Integer ms refl ∙ ap Some (sym h.0), refl)
 
   -- two operands that are read the second first, and the first first
@@ -234,8 +234,8 @@ module _ (p : Program) (code : Code) (ls : List Mode) (b : Bool) where
   expression_shapes l (Signed sign e) m ms rest to h a =
       leaf_then (Onward rest) l e ms (λ x. i.Calculate (operator_of sign) (i.Constant (Whole (pos 0))) x to) (expression_shapes l e Integer ms (expression_mode here e ∷ ms) (next (site l ms)) h.1 (in_cell e Integer ms h.1)) (λ q end.
       (ms, (ms, gives l e Integer ms h.1, (refl, refl)), (rest, takes_number to m ms rest h.0 a, end)))
-  expression_shapes l (Absolute e) m ms rest to h a =
-      leaf_then (Onward rest) l e ms (λ x. i.Absolute x to) (expression_shapes l e Integer ms (expression_mode here e ∷ ms) (next (site l ms)) h.1 (in_cell e Integer ms h.1)) (λ q end.
+  expression_shapes l (Unary op e) m ms rest to h a =
+      leaf_then (Onward rest) l e ms (λ x. i.Unary op x to) (expression_shapes l e Integer ms (expression_mode here e ∷ ms) (next (site l ms)) h.1 (in_cell e Integer ms h.1)) (λ q end.
       (ms, gives l e Integer ms h.1, (rest, takes_number to m ms rest h.0 a, end)))
   expression_shapes l (Calculate op x y) m ms rest to h a =
       let mid : List Mode = operand_cells (site l ms) x in

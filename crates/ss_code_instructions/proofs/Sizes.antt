@@ -12,7 +12,7 @@ use Rattle.ss_base.specs.declared.words.PhraseKind.TheVariants as kinds
 use Rattle.ss_program.specs.declared.statement.CountedClass.{CountedClass}
 use Rattle.ss_base.specs.declared.words.End.{End}
 use Rattle.ss_base.specs.declared.words.Sign.{Sign}
-use Rattle.ss_program.specs.Program.{Expression, Constant, Fetch, Attribute, OfSystemSet, OfSet, OfMember, Clock, TimeOf, Figure, FigureOf, Signed, Absolute, Calculate, SetOwner, TheSystem, Entity, Test, Compare, DataEnded, Empty, Member, Condition, Head, Numbers, Members, Each, Start, AtEnd, From, After, Phrase, Guard, Place, ToVariable, ToAttribute, ToCount, Target, Position, When, At, In, Now, Restart, Item, AValue, AMean, AMeanOf, Statement, Let, Change, Call, Return, Stop, Read, Simulate, If, Loop, For, Find, Create, CreateEvery, Destroy, File, RemoveEnd, Remove, ScheduleNew, Schedule, Cancel, Reset, Print, Skip, Block, Done, Then, Routine, Event, Program}
+use Rattle.ss_program.specs.Program.{Expression, Constant, Fetch, Attribute, OfSystemSet, OfSet, OfMember, Clock, TimeOf, Figure, FigureOf, Signed, Unary, Calculate, SetOwner, TheSystem, Entity, Test, Compare, DataEnded, Empty, Member, Condition, Head, Numbers, Members, Each, Start, AtEnd, From, After, Phrase, Guard, Place, ToVariable, ToAttribute, ToCount, Target, Position, When, At, In, Now, Restart, Item, AValue, AMean, AMeanOf, Statement, Let, Change, Call, Return, Stop, Read, Simulate, If, Loop, For, Find, Create, CreateEvery, Destroy, File, RemoveEnd, Remove, ScheduleNew, Schedule, Cancel, Reset, Print, Skip, Block, Done, Then, Routine, Event, Program}
 use Rattle.ss_program.specs.WellTyped.{Scope}
 use Rattle.std.specs.Prelude.{pos}
 use Rattle.ss_base.specs.declared.value.Value.TheVariants.{Whole}
@@ -41,7 +41,7 @@ leaf_length (TimeOf e) code n q = q
 leaf_length (Figure fold j) code n q = q
 leaf_length (FigureOf fold j e) code n q = q
 leaf_length (Signed sign e) code n q = q
-leaf_length (Absolute e) code n q = q
+leaf_length (Unary op e) code n q = q
 leaf_length (Calculate op a b) code n q = q
 
 -- code, and an instruction after it
@@ -66,7 +66,7 @@ expression_length s to (TimeOf e) = one_length s e (expression_code s (next s) e
 expression_length s to (Figure fold j) = refl
 expression_length s to (FigureOf fold j e) = one_length s e (expression_code s (next s) e) (λ x. i.Figure fold j (Some x) to) (expression_size e) (expression_length s (next s) e)
 expression_length s to (Signed sign e) = one_length s e (expression_code s (next s) e) (λ x. i.Calculate (operator_of sign) (i.Constant (Whole (pos 0))) x to) (expression_size e) (expression_length s (next s) e)
-expression_length s to (Absolute e) = one_length s e (expression_code s (next s) e) (λ x. i.Absolute x to) (expression_size e) (expression_length s (next s) e)
+expression_length s to (Unary op e) = one_length s e (expression_code s (next s) e) (λ x. i.Unary op x to) (expression_size e) (expression_length s (next s) e)
 expression_length s to (Calculate op a b) =
     both_codes (t.unless_leaf (leaf a) (expression_code s (next s) a)) (t.one (after s a) b (expression_code (after s a) (next (after s a)) b) (λ y. i.Calculate op (operand s a) y to)) (z.unless_leaf a (expression_size a)) (z.unless_leaf b (expression_size b) + 1)
     (leaf_length a (expression_code s (next s) a) (expression_size a) (expression_length s (next s) a))
@@ -176,7 +176,7 @@ operand_height s (TimeOf e) = omega arith
 operand_height s (Figure fold j) = omega arith
 operand_height s (FigureOf fold j e) = omega arith
 operand_height s (Signed sign e) = omega arith
-operand_height s (Absolute e) = omega arith
+operand_height s (Unary op e) = omega arith
 operand_height s (Calculate op a b) = omega arith
 
 -- at most one
@@ -192,7 +192,7 @@ one_cell (TimeOf e) = refl
 one_cell (Figure fold j) = refl
 one_cell (FigureOf fold j e) = refl
 one_cell (Signed sign e) = refl
-one_cell (Absolute e) = refl
+one_cell (Unary op e) = refl
 one_cell (Calculate op a b) = refl
 
 forget_length : (u : Site) (k n : ℕ) → k ≡ n → length (t.forget u k) ≡ z.one_if_some n

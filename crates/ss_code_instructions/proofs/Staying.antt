@@ -22,7 +22,7 @@ use Rattle.ss_program.specs.declared.statement.CountedClass.{CountedClass}
 use Rattle.ss_base.specs.declared.words.End.{End}
 use Rattle.ss_base.specs.declared.words.End.TheVariants as sides
 use Rattle.ss_meaning.specs.Words.{value_given, is_ended}
-use Rattle.ss_meaning.specs.Values.{Trouble, if_ok, turned, due, sure, where_fit, number_of, calculated, operator_of, absolute, related, printed, empty_lines}
+use Rattle.ss_meaning.specs.Values.{Trouble, if_ok, turned, due, sure, where_fit, number_of, calculated, operator_of, applied, related, printed, empty_lines}
 use Rattle.ss_meaning.specs.Store.{Store, with_heap, with_pending, with_histories, fetched, put_at, put, opened, yielded}
 use Rattle.ss_meaning.specs.Histories.{all_noting, noted, renewed}
 use Rattle.ss_meaning.specs.Entities.{class_at, field_at, entity, attribute, time_of, comes_singly, is_single, is_permanent, with_new, made_one, with_all, made_all, with_none, gone, without}
@@ -290,7 +290,7 @@ pub act_remains : (code : Code) (l : Line) (x : Instruction) (c : Core) → Rema
 act_remains code l (i.Move from to) c = value (Staying c.store) from c.store c.cells _ (λ v below. computes l to (Ok v) below c)
 act_remains code l (i.Keep from x) c = value (Staying c.store) from c.store c.cells _ (λ v below. changes l (assigned_variable x v c.store) below c (variable_stays x v c.store))
 act_remains code l (i.Calculate op left right to) c = values (Staying c.store) left right c.store c.cells _ (λ x y below. computes l to (calculated op x y) below c)
-act_remains code l (i.Absolute x to) c = value (Staying c.store) x c.store c.cells _ (λ x below. computes l to (absolute x) below c)
+act_remains code l (i.Unary op x to) c = value (Staying c.store) x c.store c.cells _ (λ x below. computes l to (applied op x) below c)
 act_remains code l (i.Clock to) c = computes l to (Ok (clock c.store)) c.cells c
 act_remains code l (i.TimeOf x to) c = value (Staying c.store) x c.store c.cells _ (λ x below. computes l to (time_of x c.store) below c)
 act_remains code l (i.Attribute class field x to) c = value (Staying c.store) x c.store c.cells _ (λ x below. computes l to (attribute class field x c.store) below c)

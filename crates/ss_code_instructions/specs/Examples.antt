@@ -4,7 +4,7 @@ use Rattle.ss_base.specs.declared.value.Value.TheVariants.{Whole}
 use Rattle.ss_base.specs.declared.layout.Mode.TheVariants.{Integer}
 use Rattle.ss_program.specs.declared.expression.Variable.TheVariants.{Global, Local}
 use Rattle.ss_base.specs.declared.words.Sign.TheVariants.{Plus}
-use Rattle.ss_program.specs.declared.expression.Operator.TheVariants as operators
+use Rattle.ss_base.specs.declared.words.Operator.TheVariants as operators
 use Rattle.ss_base.specs.declared.words.Relation.TheVariants.{Less}
 use Rattle.ss_base.specs.declared.words.GuardKind.TheVariants as guards
 use Rattle.ss_base.specs.declared.words.PhraseKind.TheVariants as kinds

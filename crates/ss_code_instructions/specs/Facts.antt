@@ -5,7 +5,7 @@ use Rattle.ss_program.specs.declared.expression.Variable.TheVariants.{Global, Lo
 use Rattle.ss_program.specs.declared.sections.Subject.{Subject}
 use Rattle.ss_program.specs.declared.sections.Subject.TheVariants.{OfVariable}
 use Rattle.ss_program.specs.declared.sections.Statistic.{Statistic}
-use Rattle.ss_program.specs.Program.{Expression, Constant, Fetch, Attribute, OfSet, OfMember, TimeOf, FigureOf, Signed, Absolute, Calculate, SetOwner, TheSystem, Entity, Position, ByDiscipline, AsFirst, AsLast, BeforeMember, AfterMember}
+use Rattle.ss_program.specs.Program.{Expression, Constant, Fetch, Attribute, OfSet, OfMember, TimeOf, FigureOf, Signed, Unary, Calculate, SetOwner, TheSystem, Entity, Position, ByDiscipline, AsFirst, AsLast, BeforeMember, AfterMember}
 use Rattle.ss_meaning.specs.Histories.{same_subject}
 
 -- the statistics watch a subject
@@ -74,7 +74,7 @@ looks_first class x (OfMember query set e) = looks_first class x e
 looks_first class x (TimeOf e) = looks_first class x e
 looks_first class x (FigureOf fold j e) = looks_first class x e
 looks_first class x (Signed sign e) = looks_first class x e
-looks_first class x (Absolute e) = looks_first class x e
+looks_first class x (Unary op e) = looks_first class x e
 looks_first class x (Calculate op a b) = if is_constant a then looks_first class x b else looks_first class x a
 looks_first class x _ = false
 

@@ -5,7 +5,7 @@ use Rattle.ss_base.specs.declared.words.GuardKind.{GuardKind}
 use Rattle.ss_base.specs.declared.words.GuardKind.TheVariants as guards
 use Rattle.ss_base.specs.declared.words.PhraseKind.{PhraseKind}
 use Rattle.ss_base.specs.declared.words.PhraseKind.TheVariants as kinds
-use Rattle.ss_program.specs.Program.{Expression, Constant, Fetch, Attribute, OfSystemSet, OfSet, OfMember, Clock, TimeOf, Figure, FigureOf, Signed, Absolute, Calculate, SetOwner, TheSystem, Entity, Test, Compare, DataEnded, Empty, Member, Condition, Head, Numbers, Members, Each, Start, AtEnd, From, After, Phrase, Guard, Place, ToVariable, ToAttribute, ToCount, Target, When, At, In, Now, Restart, Item, AValue, AMean, AMeanOf, Statement, Let, Change, Call, Return, Stop, Read, Simulate, If, Loop, For, Find, Create, CreateEvery, Destroy, File, RemoveEnd, Remove, ScheduleNew, Schedule, Cancel, Reset, Print, Skip, Block, Done, Then, Routine, Event, Program}
+use Rattle.ss_program.specs.Program.{Expression, Constant, Fetch, Attribute, OfSystemSet, OfSet, OfMember, Clock, TimeOf, Figure, FigureOf, Signed, Unary, Calculate, SetOwner, TheSystem, Entity, Test, Compare, DataEnded, Empty, Member, Condition, Head, Numbers, Members, Each, Start, AtEnd, From, After, Phrase, Guard, Place, ToVariable, ToAttribute, ToCount, Target, When, At, In, Now, Restart, Item, AValue, AMean, AMeanOf, Statement, Let, Change, Call, Return, Stop, Read, Simulate, If, Loop, For, Find, Create, CreateEvery, Destroy, File, RemoveEnd, Remove, ScheduleNew, Schedule, Cancel, Reset, Print, Skip, Block, Done, Then, Routine, Event, Program}
 use Rattle.ss_code_instructions.specs.Facts.{is_watched, must_look, needs_look, expression_of, may_fault, beside}
 
 -- one where something is so, and else none
@@ -36,7 +36,7 @@ expression_size (TimeOf e) = unless_leaf e (expression_size e) + 1
 expression_size (Figure fold j) = 1
 expression_size (FigureOf fold j e) = unless_leaf e (expression_size e) + 1
 expression_size (Signed sign e) = unless_leaf e (expression_size e) + 1
-expression_size (Absolute e) = unless_leaf e (expression_size e) + 1
+expression_size (Unary op e) = unless_leaf e (expression_size e) + 1
 expression_size (Calculate op a b) = unless_leaf a (expression_size a) + (unless_leaf b (expression_size b) + 1)
 
 abbrev pub operand_size : Expression → ℕ

@@ -2,7 +2,7 @@
 
 use crate::address::Address;
 use ss_program::condition::Relation;
-use ss_program::expression::{Fold, Sign};
+use ss_program::expression::{Fold, Sign, UnaryOperator};
 
 /// One instruction.
 ///
@@ -71,8 +71,9 @@ pub enum Instruction {
         right: Address,
         to: Address,
     },
-    /// ABS.F
-    Absolute {
+    /// A function of one number, as ABS.F
+    Unary {
+        operator: UnaryOperator,
         of: Address,
         to: Address,
     },

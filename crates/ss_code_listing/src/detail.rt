@@ -3,7 +3,7 @@
 use ss_code_instructions::address::Address;
 use ss_code_instructions::instruction::Instruction as I;
 use ss_program::condition::Relation;
-use ss_program::expression::{Fold, Sign};
+use ss_program::expression::{Fold, Sign, UnaryOperator};
 
 /// One of the things that an instruction works on.
 #[derive(Clone, Copy)]
@@ -127,6 +127,13 @@ fn fold_word(fold: Fold) -> &'static str {
         Fold::Sum => "sum",
         Fold::Maximum => "maximum",
         Fold::Minimum => "minimum",
+    }
+}
+
+// The name of an operator on one number.
+fn unary_name(operator: UnaryOperator) -> &'static str {
+    match operator {
+        UnaryOperator::Absolute => "absolute",
     }
 }
 
@@ -554,7 +561,7 @@ pub(crate) fn detail_of(instruction: &I) -> Detail {
             Part::From(*right),
             Part::To(*to),
         ),
-        I::Absolute { of, to } => two("absolute", Part::From(*of), Part::To(*to)),
+        I::Unary { operator, of, to } => two(unary_name(*operator), Part::From(*of), Part::To(*to)),
         I::Clock { to } => one("clock", Part::To(*to)),
         I::TimeOf { notice, to } => two("time of", Part::From(*notice), Part::To(*to)),
         I::Attribute {

@@ -5,7 +5,7 @@ use Rattle.std.specs.Prelude.{◌==◌}
 use Rattle.std.specs.Global.{Vec, Box}
 use Rattle.std.specs.List.{fold}
 use Rattle.ss_program.specs.declared.expression.Operation.{Operation}
-use Rattle.ss_program.specs.declared.expression.Operator.{Operator}
+use Rattle.ss_base.specs.declared.words.Operator.{Operator}
 use Rattle.ss_program.specs.declared.expression.Expression as expressions
 use Rattle.ss_program.specs.declared.expression.Expression.TheVariants as variants
 use Rattle.ss_program.specs.Program.{Expression, Calculate}

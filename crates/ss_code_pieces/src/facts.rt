@@ -122,7 +122,7 @@ pub fn expression_mode(program: &Program, locals: &[Mode], e: &Expression) -> Mo
         | Expression::Figure { .. }
         | Expression::FigureOf { .. }
         | Expression::Signed { .. }
-        | Expression::Absolute { .. } => Mode::Integer,
+        | Expression::Unary { .. } => Mode::Integer,
     }
 }
 

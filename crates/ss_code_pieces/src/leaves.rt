@@ -42,7 +42,7 @@ pub fn leaf_of(e: &Expression) -> Option<Leaf>
         | Expression::Figure { .. }
         | Expression::FigureOf { .. }
         | Expression::Signed { .. }
-        | Expression::Absolute { .. } => None,
+        | Expression::Unary { .. } => None,
     }
 }
 
@@ -104,7 +104,7 @@ fn begins_with_look(class: usize, variable: Variable, e: &Expression) -> bool
         Expression::TimeOf { notice: inner } => begins_with_look(class, variable, inner),
         Expression::FigureOf { entity: inner, .. } => begins_with_look(class, variable, inner),
         Expression::Signed { term: inner, .. } => begins_with_look(class, variable, inner),
-        Expression::Absolute { argument: inner } => begins_with_look(class, variable, inner),
+        Expression::Unary { argument: inner, .. } => begins_with_look(class, variable, inner),
         Expression::Calculate { first, further } => {
             if further.is_empty() {
                 begins_with_look(class, variable, first)

@@ -29,7 +29,7 @@ module _ (code : Code) (constants : List Value) (x : Placed) where
   is_like (r.Remainder left right to) z = like _ (r.Remainder left right to) z.2.2.2 refl refl refl
   is_like (r.Least left right to) z = like _ (r.Least left right to) z.2.2.2 refl refl refl
   is_like (r.Greatest left right to) z = like _ (r.Greatest left right to) z.2.2.2 refl refl refl
-  is_like (r.Absolute of to) z = like _ (r.Absolute of to) z.2.2 refl refl refl
+  is_like (r.Unary op of to) z = like _ (r.Unary op of to) z.2.2 refl refl refl
   is_like (r.Clock to) z = like _ (r.Clock to) z.2 refl refl refl
   is_like (r.TimeOf notice to) z = like _ (r.TimeOf notice to) z.2.2 refl refl refl
   is_like (r.Attribute class field entity to) z = like _ (r.Attribute class field entity to) z.1.2.2 refl refl refl

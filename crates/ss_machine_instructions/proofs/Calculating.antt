@@ -7,8 +7,9 @@ use Rattle.ss_base.specs.declared.layout.Mode.TheVariants.{Integer}
 use Rattle.ss_base.specs.declared.value.Value.{Value}
 use Rattle.ss_base.specs.declared.value.Value.TheVariants.{Whole}
 use Rattle.ss_base.specs.Layout.{mode_of}
-use Rattle.ss_program.specs.declared.expression.Operator.{Operator}
-use Rattle.ss_meaning.specs.Values.{turned, due, computed, calculated, distance, absolute}
+use Rattle.ss_base.specs.declared.words.Operator.{Operator}
+use Rattle.ss_base.specs.declared.words.UnaryOperator.{UnaryOperator}
+use Rattle.ss_meaning.specs.Values.{turned, due, computed, calculated, computed_alone, applied}
 use Rattle.ss_code_instructions.specs.declared.address.Address.{Address}
 use Rattle.ss_code_instructions.specs.declared.instruction.Instruction.{Instruction as Running}
 use Rattle.ss_code_instructions.specs.Instructions as i
@@ -53,13 +54,13 @@ module _ (w : Compiled) (c : Core) (here : Here) (s : State) (run : Running) (r 
 
   -- ## One number into one
 
-  pub absolute_in : (of to : Address) → From w.code w.run.constants r.placed of (λ y. To w.code w.run.constants r.placed to (λ t. Is w.code w.run.constants r.placed (i.Absolute y t))) → place_at here.frame of < length s.rows.numbers
-  absolute_in of to z =
+  pub applies_in : (op : UnaryOperator) (of to : Address) → From w.code w.run.constants r.placed of (λ y. To w.code w.run.constants r.placed to (λ t. Is w.code w.run.constants r.placed (i.Unary op y t))) → place_at here.frame of < length s.rows.numbers
+  applies_in op of to z =
       let y = subst SuitsHere z.2.2 (suits w c here s run r) in
       read_within (site w c here s run r) (stands w c here s run r) z.0 Integer r.placed.cells y.0 of y.1 z.1 (deep_here w c here s run r)
 
-  pub absolutes : (of to : Address) (u : ℤ) (answer : OkOr ℤ FaultKind) → From w.code w.run.constants r.placed of (λ y. To w.code w.run.constants r.placed to (λ t. Is w.code w.run.constants r.placed (i.Absolute y t))) → slice_get s.rows.numbers (place_at here.frame of) ≡ Some u → distance u ≡ answer → Delivers w c r.placed.line (act w.code r.placed.line r.placed.instruction c) here s to (as_value answer)
-  absolutes of to u answer z at e =
+  pub applies : (op : UnaryOperator) (of to : Address) (u : ℤ) (answer : OkOr ℤ FaultKind) → From w.code w.run.constants r.placed of (λ y. To w.code w.run.constants r.placed to (λ t. Is w.code w.run.constants r.placed (i.Unary op y t))) → slice_get s.rows.numbers (place_at here.frame of) ≡ Some u → computed_alone op u ≡ answer → Delivers w c r.placed.line (act w.code r.placed.line r.placed.instruction c) here s to (as_value answer)
+  applies op of to u answer z at e =
       let t = site w c here s run r in
       let st = stands w c here s run r in
       let is = z.2.2 in
@@ -68,7 +69,7 @@ module _ (w : Compiled) (c : Core) (here : Here) (s : State) (run : Running) (r 
       let target = z.2.0 in
       delivers w c here s run r (as_value answer) to target Integer y.0 y.2.0 one.below
       (ap (λ x. act w.code r.placed.line x c) is
-      ∙ one.is (λ x below. deliver r.placed.line target (absolute x) below c)
+      ∙ one.is (λ x below. deliver r.placed.line target (applied op x) below c)
       ∙ ap (λ a. deliver r.placed.line target (turned Whole (due a)) one.below c) e
       ∙ deliver_is r.placed.line target answer one.below c)
       y.2.1 z.2.1 (deep_at w c here s run r (c.place + 1) r.placed.locals y.2.0 y.2.2) (number_right answer) one.modes one.cells

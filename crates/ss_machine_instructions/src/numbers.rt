@@ -1,7 +1,7 @@
 //! Values: moves and calculations.
 
 ghost use Rattle.std.specs.Prelude.{◌≡◌};
-ghost use Rattle.ss_meaning.specs.Values.{computed, distance};
+ghost use Rattle.ss_meaning.specs.Values.{computed, computed_alone, distance};
 ghost use Rattle.ss_code_instructions.specs.Forms.{calculating};
 ghost use Rattle.ss_machine_instructions.specs.Doing.{Can, Does, CanDeliver, IsDelivered, as_value, as_text};
 
@@ -10,7 +10,7 @@ use crate::state::State;
 use ss_base::{Alpha, FaultKind, div_f, minus, mod_f, plus, times};
 use ss_code_instructions::address::Address;
 use ss_code_instructions::instruction::Instruction;
-use ss_program::expression::Operator;
+use ss_program::expression::{Operator, UnaryOperator};
 
 // The distance of a number from 0.
 #[inline(always)]
@@ -36,6 +36,16 @@ fn compute(operator: Operator, left: i64, right: i64) -> Result<i64, FaultKind>
         Operator::Remainder => mod_f(left, right),
         Operator::Least => Ok(left.min(right)),
         Operator::Greatest => Ok(left.max(right)),
+    }
+}
+
+// What an operator makes of one number.
+#[inline(always)]
+fn compute_alone(operator: UnaryOperator, number: i64) -> Result<i64, FaultKind>
+    ensures { result ≡ computed_alone operator number }
+{
+    match operator {
+        UnaryOperator::Absolute => distance(number),
     }
 }
 
@@ -112,13 +122,19 @@ impl State {
         self.put(here, to, answer)
     }
 
-    /// Absolute.
+    /// Unary.
     #[inline(always)]
-    pub fn absolute(&mut self, here: Here, of: &Address, to: &Address) -> Option<Here>
-        requires { Can here self.old (Instruction.Absolute of.now to.now) }
-        ensures { Does here self.old self.new result (Instruction.Absolute of.now to.now) }
+    pub fn apply(
+        &mut self,
+        here: Here,
+        operator: UnaryOperator,
+        of: &Address,
+        to: &Address,
+    ) -> Option<Here>
+        requires { Can here self.old (Instruction.Unary operator of.now to.now) }
+        ensures { Does here self.old self.new result (Instruction.Unary operator of.now to.now) }
     {
-        let answer = distance(self.number(here, of));
+        let answer = compute_alone(operator, self.number(here, of));
         self.put(here, to, answer)
     }
 }

@@ -15,11 +15,12 @@ use Rattle.ss_picture.specs.declared.field.Field.{Field}
 use Rattle.ss_picture.specs.declared.items.FieldValue.{FieldValue as Shown}
 use Rattle.ss_picture.specs.declared.items.FieldValue.TheVariants.{Is, Mean}
 use Rattle.ss_base.specs.declared.words.Sign.{Sign}
-use Rattle.ss_program.specs.declared.expression.Operator.{Operator}
+use Rattle.ss_base.specs.declared.words.Operator.{Operator}
+use Rattle.ss_base.specs.declared.words.UnaryOperator.{UnaryOperator}
 use Rattle.ss_base.specs.declared.words.Relation.{Relation}
-use Rattle.ss_program.specs.Program.{Expression, Constant, Fetch, Attribute, OfSystemSet, OfSet, OfMember, Clock, TimeOf, Figure, FigureOf, Signed, Absolute, Calculate, SetOwner, TheSystem, Entity, Test, Compare, DataEnded, Empty, Member, Condition, Guard, Place, ToVariable, ToAttribute, ToCount, Position, ByDiscipline, AsFirst, AsLast, BeforeMember, AfterMember, When, At, In, Now, Item, AValue, AMean, AMeanOf, Program}
+use Rattle.ss_program.specs.Program.{Expression, Constant, Fetch, Attribute, OfSystemSet, OfSet, OfMember, Clock, TimeOf, Figure, FigureOf, Signed, Unary, Calculate, SetOwner, TheSystem, Entity, Test, Compare, DataEnded, Empty, Member, Condition, Guard, Place, ToVariable, ToAttribute, ToCount, Position, ByDiscipline, AsFirst, AsLast, BeforeMember, AfterMember, When, At, In, Now, Item, AValue, AMean, AMeanOf, Program}
 use Rattle.ss_program.specs.WellTyped.{Scope, WellTyped, HasMode, HaveModes, IsSet, OwnerFits, GoodTest, GoodCondition, TakesMode, GoodPosition, GoodWhen, HasSubject, IsAlone, IsOfEntities, TakesItem}
-use Rattle.ss_meaning.specs.Values.{Trouble, if_ok, turned, due, sure, computed, calculated, operator_of, signed, distance, absolute, related, takes, take_all}
+use Rattle.ss_meaning.specs.Values.{Trouble, if_ok, turned, due, sure, computed, calculated, operator_of, signed, computed_alone, applied, related, takes, take_all}
 use Rattle.ss_meaning.specs.Store.{Store, fetched}
 use Rattle.ss_meaning.specs.Entities.{entity, attribute, time_of}
 use Rattle.ss_meaning.specs.Places.{InAttribute}
@@ -44,9 +45,9 @@ calculated_fine op (Text s) y p q = absurd cc
 signed_fine : (sign : Sign) (x : Value) → mode_of x ≡ Integer → Fine (HasMode_is Integer) (signed sign x)
 signed_fine sign x p = calculated_fine (operator_of sign) (Whole (pos 0)) x refl p
 
-pub absolute_fine : (x : Value) → mode_of x ≡ Integer → Fine (HasMode_is Integer) (absolute x)
-absolute_fine (Whole z) p = fine_turned (HasMode_is Integer) Whole (due (distance z)) (any_due (distance z)) (λ y u. refl)
-absolute_fine (Text t) p = absurd cc
+pub applied_fine : (op : UnaryOperator) (x : Value) → mode_of x ≡ Integer → Fine (HasMode_is Integer) (applied op x)
+applied_fine op (Whole z) p = fine_turned (HasMode_is Integer) Whole (due (computed_alone op z)) (any_due (computed_alone op z)) (λ y u. refl)
+applied_fine op (Text t) p = absurd cc
 
 related_there : (r : Relation) (m : Mode) (x y : Value) → mode_of x ≡ m → mode_of y ≡ m → There Any (related r x y)
 related_there r m (Whole x) (Whole y) p q = tt
@@ -103,8 +104,8 @@ module _ (p : Program) (typed : WellTyped p) (ms : List Mode) (b : Bool) where
       (fine_then (HasMode_is Integer) (value e s) (λ x. figure fold k (Some x) s) (value_fine e Integer h.2 s f) (λ x g. figure_fine p typed ms fold k (Some x) s (asked_of k x h.1 g) f))
   value_fine (Signed sign e) m h s f =
       as_integer m (if_ok (value e s) (signed sign)) h.0 (fine_then (HasMode_is Integer) (value e s) (signed sign) (value_fine e Integer h.1 s f) (λ x g. signed_fine sign x g))
-  value_fine (Absolute e) m h s f =
-      as_integer m (if_ok (value e s) absolute) h.0 (fine_then (HasMode_is Integer) (value e s) absolute (value_fine e Integer h.1 s f) (λ x g. absolute_fine x g))
+  value_fine (Unary op e) m h s f =
+      as_integer m (if_ok (value e s) (applied op)) h.0 (fine_then (HasMode_is Integer) (value e s) (applied op) (value_fine e Integer h.1 s f) (λ x g. applied_fine op x g))
   value_fine (Calculate op a c) m h s f =
       as_integer m (if_ok (value a s) (λ x. if_ok (value c s) (λ y. calculated op x y))) h.0
       (fine_then (HasMode_is Integer) (value a s) (λ x. if_ok (value c s) (λ y. calculated op x y)) (value_fine a Integer h.1 s f) (λ x g.

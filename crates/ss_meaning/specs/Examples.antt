@@ -8,10 +8,11 @@ use Rattle.ss_picture.specs.Numerals.{numeral}
 use Rattle.ss_picture.specs.Pictures.{picture_fields, filled}
 use Rattle.ss_program.specs.declared.expression.Variable.TheVariants.{Local}
 use Rattle.ss_base.specs.declared.words.Sign.TheVariants.{Plus, Minus}
-use Rattle.ss_program.specs.declared.expression.Operator.TheVariants.{Add, Subtract, Multiply, Quotient, Remainder}
+use Rattle.ss_base.specs.declared.words.Operator.TheVariants.{Add, Subtract, Multiply, Quotient, Remainder}
+use Rattle.ss_base.specs.declared.words.UnaryOperator.TheVariants.{Absolute}
 use Rattle.ss_base.specs.declared.words.Relation.TheVariants.{Equal, Less}
 use Rattle.ss_base.specs.declared.words.GuardKind.TheVariants.{While}
-use Rattle.ss_program.specs.Program.{Expression, Signed, Absolute, Calculate, Constant, Numbers, Compare, DataEnded, Statement, Let, Change, Call, Return, Stop, Read, If, For, Loop, Print, Skip, AValue, Routine, Program, Done}
+use Rattle.ss_program.specs.Program.{Expression, Signed, Unary, Calculate, Constant, Numbers, Compare, DataEnded, Statement, Let, Change, Call, Return, Stop, Read, If, For, Loop, Print, Skip, AValue, Routine, Program, Done}
 use Rattle.ss_meaning.specs.Building.{line, num, local, to_local, block, only, print_line, integers, program_of_main, ends, pauses, faults}
 use Rattle.ss_meaning.specs.Meaning.{meaning, WentWrong}
 
@@ -72,7 +73,7 @@ pub empty_lines : meaning (alone (Skip (line 2) (num (pos 2)))) [] 9 ≡ ends ([
 empty_lines = refl
 
 -- ABS.F (-9223372036854775807 - 1): its argument is a number, its result none
-pub a_distance_too_large : meaning (assigning (Absolute (Calculate Subtract (Signed Minus (num (pos 9223372036854775807))) (num (pos 1))))) [] 9 ≡ faults [] Overflow 2 9
+pub a_distance_too_large : meaning (assigning (Unary Absolute (Calculate Subtract (Signed Minus (num (pos 9223372036854775807))) (num (pos 1))))) [] 9 ≡ faults [] Overflow 2 9
 unfolding minus_of in_64_bits
 a_distance_too_large = refl
 

@@ -4,10 +4,10 @@ use Rattle.ss_base.specs.declared.value.Value.{Value}
 use Rattle.ss_input.specs.Words.{is_ended}
 use Rattle.ss_base.specs.declared.words.GuardKind.{GuardKind}
 use Rattle.ss_base.specs.declared.words.GuardKind.TheVariants.{While, Until}
-use Rattle.ss_program.specs.Program.{Expression, Constant, Fetch, Attribute, OfSystemSet, OfSet, OfMember, Clock, TimeOf, Figure, FigureOf, Signed, Absolute, Calculate, SetOwner, TheSystem, Entity, Test, Compare, DataEnded, Empty, Member, Condition, Guard, Place, ToVariable, ToAttribute, ToCount, Position, ByDiscipline, AsFirst, AsLast, BeforeMember, AfterMember, When, At, In, Now, Item, AValue, AMean, AMeanOf}
+use Rattle.ss_program.specs.Program.{Expression, Constant, Fetch, Attribute, OfSystemSet, OfSet, OfMember, Clock, TimeOf, Figure, FigureOf, Signed, Unary, Calculate, SetOwner, TheSystem, Entity, Test, Compare, DataEnded, Empty, Member, Condition, Guard, Place, ToVariable, ToAttribute, ToCount, Position, ByDiscipline, AsFirst, AsLast, BeforeMember, AfterMember, When, At, In, Now, Item, AValue, AMean, AMeanOf}
 use Rattle.ss_picture.specs.declared.items.FieldValue.{FieldValue as Shown}
 use Rattle.ss_picture.specs.declared.items.FieldValue.TheVariants.{Is, Mean}
-use Rattle.ss_meaning.specs.Values.{Trouble, if_ok, turned, due, sure, calculated, signed, absolute, related}
+use Rattle.ss_meaning.specs.Values.{Trouble, if_ok, turned, due, sure, calculated, signed, applied, related}
 use Rattle.ss_meaning.specs.Store.{Store, fetched}
 use Rattle.ss_meaning.specs.Entities.{entity, attribute, time_of}
 use Rattle.ss_meaning.specs.Places.{Spot, InVariable, InAttribute, InCount}
@@ -30,7 +30,7 @@ value (TimeOf e) s = if_ok (value e s) (λ x. time_of x s)
 value (Figure fold j) s = figure fold j None s
 value (FigureOf fold j e) s = if_ok (value e s) (λ x. figure fold j (Some x) s)
 value (Signed sign e) s = if_ok (value e s) (signed sign)
-value (Absolute e) s = if_ok (value e s) absolute
+value (Unary op e) s = if_ok (value e s) (applied op)
 value (Calculate op a b) s = if_ok (value a s) (λ x. if_ok (value b s) (λ y. calculated op x y))
 
 -- several values, from left to right

@@ -8,7 +8,7 @@ use Rattle.ss_picture.specs.Numerals.{numeral}
 use Rattle.ss_picture.specs.Pictures.{picture_fields, filled}
 use Rattle.ss_program.specs.declared.expression.Variable.TheVariants.{Global, Local}
 use Rattle.ss_base.specs.declared.words.Sign.TheVariants.{Plus}
-use Rattle.ss_program.specs.declared.expression.Operator.TheVariants.{Add, Quotient}
+use Rattle.ss_base.specs.declared.words.Operator.TheVariants.{Add, Quotient}
 use Rattle.ss_program.specs.declared.expression.SetQuery.TheVariants.{FirstMember, LastMember, MemberCount}
 use Rattle.ss_program.specs.declared.expression.MemberQuery.TheVariants.{Predecessor, Successor}
 use Rattle.ss_base.specs.declared.words.Relation.TheVariants.{Equal, Less}

@@ -18,8 +18,10 @@ use Rattle.ss_picture.specs.declared.items.FieldValue.TheVariants.{Is, Mean}
 use Rattle.ss_picture.specs.Pictures.{filled, field_count, picture_fields}
 use Rattle.ss_base.specs.declared.words.Sign.{Sign}
 use Rattle.ss_base.specs.declared.words.Sign.TheVariants.{Plus, Minus}
-use Rattle.ss_program.specs.declared.expression.Operator.{Operator}
-use Rattle.ss_program.specs.declared.expression.Operator.TheVariants.{Add, Subtract, Multiply, Quotient, Remainder, Least, Greatest}
+use Rattle.ss_base.specs.declared.words.Operator.{Operator}
+use Rattle.ss_base.specs.declared.words.UnaryOperator.{UnaryOperator}
+use Rattle.ss_base.specs.declared.words.Operator.TheVariants.{Add, Subtract, Multiply, Quotient, Remainder, Least, Greatest}
+use Rattle.ss_base.specs.declared.words.UnaryOperator.TheVariants.{Absolute}
 use Rattle.ss_base.specs.declared.words.Relation.{Relation}
 use Rattle.ss_base.specs.declared.words.Relation.TheVariants.{Equal, NotEqual, Less, Greater, LessOrEqual, GreaterOrEqual}
 
@@ -107,9 +109,14 @@ signed sign v = calculated (operator_of sign) (Whole (pos 0)) v
 abbrev pub distance : ℤ → Result ℤ FaultKind
 distance z = if int_lt z (pos 0) then minus_of (pos 0) z else Ok z
 
-abbrev pub absolute : Value → Result Value Trouble
-absolute (Whole z) = turned Whole (due (distance z))
-absolute (Text t) = Err Misfit
+-- what an operator makes of one number
+abbrev pub computed_alone : UnaryOperator → ℤ → Result ℤ FaultKind
+computed_alone Absolute z = distance z
+
+-- an operator applied to one value
+abbrev pub applied : UnaryOperator → Value → Result Value Trouble
+applied op (Whole z) = turned Whole (due (computed_alone op z))
+applied op (Text t) = Err Misfit
 
 -- ## Relations
 

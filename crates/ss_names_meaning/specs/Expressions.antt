@@ -1,15 +1,15 @@
 -- Resolved expressions, targets and sets: each name is replaced by what it means.
 use Rattle.std.specs.Prelude.{ℕ, option_map, Option, Some, None}
 use Rattle.ss_base.specs.declared.value.Value.TheVariants.{Whole, Text}
-use Rattle.ss_tree.specs.declared.expression.Function.TheVariants.{Div, Mod, Abs, Min, Max}
+use Rattle.ss_tree.specs.declared.expression.Function.TheVariants.{One, Two}
 use Rattle.ss_tree.specs.Tree.{ExpressionTree, number, text, named, call, parenthesised, product, signed, sum, ExpressionRow, no_expression, and_expression, TermRow, no_term, and_term, NamedTree}
 use Rattle.ss_program.specs.declared.expression.Variable.{Variable}
 use Rattle.ss_program.specs.declared.expression.Variable.TheVariants.{Global}
 use Rattle.ss_base.specs.declared.words.Sign.{Sign}
 use Rattle.ss_base.specs.declared.words.Sign.TheVariants.{Plus, Minus}
-use Rattle.ss_program.specs.declared.expression.Operator.{Operator}
-use Rattle.ss_program.specs.declared.expression.Operator.TheVariants.{Add, Subtract, Multiply, Quotient, Remainder, Least, Greatest}
-use Rattle.ss_program.specs.Program.{Expression, Constant, Fetch, Attribute, OfSystemSet, OfSet, OfMember, Clock, TimeOf, Figure, FigureOf, Signed, Absolute, Calculate, Item, AValue, AMean, AMeanOf, SetOwner, TheSystem, Entity, Place, ToVariable, ToAttribute, ToCount}
+use Rattle.ss_base.specs.declared.words.Operator.{Operator}
+use Rattle.ss_base.specs.declared.words.Operator.TheVariants.{Add, Subtract, Multiply}
+use Rattle.ss_program.specs.Program.{Expression, Constant, Fetch, Attribute, OfSystemSet, OfSet, OfMember, Clock, TimeOf, Figure, FigureOf, Signed, Unary, Calculate, Item, AValue, AMean, AMeanOf, SetOwner, TheSystem, Entity, Place, ToVariable, ToAttribute, ToCount}
 use Rattle.ss_base.specs.declared.layout.Owner.{Owner}
 use Rattle.ss_base.specs.declared.layout.Owner.TheVariants as owners
 use Rattle.ss_tree.specs.declared.expression.Designator.{Designator}
@@ -134,21 +134,12 @@ module _ (s : Scope) where
       e ← subscript subscripts
       p ← with_entity s designator e
       resolved_value p.0 p.1
-    expression (call Abs arguments) = do
+    expression (call (One op) arguments) = do
       e ← one arguments
-      Some (Absolute e)
-    expression (call Div arguments) = do
+      Some (Unary op e)
+    expression (call (Two op) arguments) = do
       p ← two arguments
-      Some (Calculate Quotient p.0 p.1)
-    expression (call Mod arguments) = do
-      p ← two arguments
-      Some (Calculate Remainder p.0 p.1)
-    expression (call Min arguments) = do
-      p ← two arguments
-      Some (Calculate Least p.0 p.1)
-    expression (call Max arguments) = do
-      p ← two arguments
-      Some (Calculate Greatest p.0 p.1)
+      Some (Calculate op p.0 p.1)
     expression (parenthesised e) = expression e
     expression (product first further) = do
       left ← expression first

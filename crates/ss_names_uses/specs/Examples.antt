@@ -7,7 +7,8 @@ use Rattle.ss_base.specs.declared.words.PhraseKind.TheVariants.{With}
 use Rattle.ss_base.specs.declared.words.End.TheVariants as ends
 use Rattle.ss_picture.specs.Pictures.{picture_fields}
 use Rattle.ss_tree.specs.Names.{NameBytes}
-use Rattle.ss_tree.specs.declared.expression.Function.TheVariants.{Min}
+use Rattle.ss_tree.specs.declared.expression.Function.TheVariants.{Two}
+use Rattle.ss_base.specs.declared.words.Operator.TheVariants.{Least}
 use Rattle.ss_tree.specs.declared.expression.Designator.TheVariants as designators
 use Rattle.ss_tree.specs.declared.preamble.Mode.TheVariants as tree_modes
 use Rattle.ss_tree.specs.Tree.{ExpressionTree, number, text, named, call, parenthesised, sum, no_expression, and_expression, no_term, and_term, NamedTree, compare, empty, from_end, over_range, over_members, over_class, for_head, at_time, in_units, let_statement, call_statement, start_simulation, if_statement, loop_statement, create_statement, create_every, schedule_new, cancel_statement, remove_end, reset_statement, print_statement, skip_statement, no_statement, and_statement, main, routine, event}
@@ -84,8 +85,8 @@ pub parentheses : in_statement (let_statement (line 1) (at (codes "W")) (parenth
 parentheses = refl
 
 -- SKIP MIN.F(1) OUTPUT LINES
-pub a_function : in_statement (skip_statement (line 1) (call Min (and_expression one no_expression))) ≡
-    count_in 1 1 (counts.Arguments Min) ∷ []
+pub a_function : in_statement (skip_statement (line 1) (call (Two Least) (and_expression one no_expression))) ≡
+    count_in 1 1 (counts.Arguments (Two Least)) ∷ []
 a_function = refl
 
 -- IF W = "YES" (in line 4) SKIP N OUTPUT LINES (in line 5) ALWAYS

@@ -7,7 +7,7 @@ ghost use Rattle.ss_names_uses.specs.Uses.{at_line, class_used, count, designate
 
 use crate::used::{ClassNeed, CountNeed, ModeOf, Role, Use, Used};
 use ss_base::{Line, Name};
-use ss_tree::expression::{Designator, Expression, Function, Named, Term};
+use ss_tree::expression::{Designator, Expression, Function, Named, Term, UnaryOperator};
 use std::alloc::AllocError;
 
 // The mode of a named place.
@@ -51,7 +51,7 @@ pub(crate) fn add(into: &mut Vec<Use>, line: Line, what: Used) -> Result<(), All
     // The checker needs to see the types of what a use holds.
     let _place = Designator::TimeV;
     let _mode = ModeOf::Integer;
-    let _count = CountNeed::Arguments(Function::Abs);
+    let _count = CountNeed::Arguments(Function::One(UnaryOperator::Absolute));
     into.push(Use { line, what })?;
     Ok(())
 }

@@ -4,6 +4,8 @@ use Rattle.ss_lex.specs.declared.word.Word.{Word}
 use Rattle.ss_lex.specs.declared.word.Word.TheVariants as words
 use Rattle.ss_base.specs.declared.words.Relation.{Relation}
 use Rattle.ss_base.specs.declared.words.Relation.TheVariants as relations
+use Rattle.ss_base.specs.declared.words.Operator.TheVariants.{Quotient, Remainder, Least, Greatest}
+use Rattle.ss_base.specs.declared.words.UnaryOperator.TheVariants.{Absolute}
 use Rattle.ss_tree.specs.declared.expression.Function.{Function}
 use Rattle.ss_tree.specs.declared.expression.Function.TheVariants as functions
 use Rattle.ss_base.specs.declared.words.PhraseKind.{PhraseKind}
@@ -29,11 +31,11 @@ relation_of words.Ge = Some relations.GreaterOrEqual
 relation_of _ = None
 
 abbrev pub function_of : Word → Option Function
-function_of words.DivF = Some functions.Div
-function_of words.ModF = Some functions.Mod
-function_of words.AbsF = Some functions.Abs
-function_of words.MinF = Some functions.Min
-function_of words.MaxF = Some functions.Max
+function_of words.DivF = Some (functions.Two Quotient)
+function_of words.ModF = Some (functions.Two Remainder)
+function_of words.AbsF = Some (functions.One Absolute)
+function_of words.MinF = Some (functions.Two Least)
+function_of words.MaxF = Some (functions.Two Greatest)
 function_of _ = None
 
 abbrev pub phrase_of : Word → Option PhraseKind

@@ -6,7 +6,7 @@ ghost use Rattle.ss_parse_expressions.specs.WordTables.{relation_of, function_of
 use crate::tables::WordTable;
 use ss_lex::Word;
 use ss_tree::condition::Relation;
-use ss_tree::expression::Function;
+use ss_tree::expression::{Function, Operator, UnaryOperator};
 use ss_tree::head::{GuardKind, PhraseKind};
 use ss_tree::preamble::{Mode, StatisticKind};
 use ss_tree::statement::FindOutcome;
@@ -31,11 +31,11 @@ pub fn function_of(word: Word) -> Option<Function>
     ensures { result ≡ function_of word }
 {
     match word {
-        Word::DivF => Some(Function::Div),
-        Word::ModF => Some(Function::Mod),
-        Word::AbsF => Some(Function::Abs),
-        Word::MinF => Some(Function::Min),
-        Word::MaxF => Some(Function::Max),
+        Word::DivF => Some(Function::Two(Operator::Quotient)),
+        Word::ModF => Some(Function::Two(Operator::Remainder)),
+        Word::AbsF => Some(Function::One(UnaryOperator::Absolute)),
+        Word::MinF => Some(Function::Two(Operator::Least)),
+        Word::MaxF => Some(Function::Two(Operator::Greatest)),
         _ => None,
     }
 }

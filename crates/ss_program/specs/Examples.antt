@@ -12,7 +12,7 @@ use Rattle.ss_base.specs.declared.layout.Layout.{Layout}
 use Rattle.ss_base.specs.declared.layout.Discipline.TheVariants.{Fifo, Ranked}
 use Rattle.ss_picture.specs.Pictures.{picture_fields}
 use Rattle.ss_program.specs.declared.expression.Variable.TheVariants.{Global, Local}
-use Rattle.ss_program.specs.declared.expression.Operator.TheVariants.{Add, Multiply}
+use Rattle.ss_base.specs.declared.words.Operator.TheVariants.{Add, Multiply}
 use Rattle.ss_base.specs.declared.words.Sign.TheVariants.{Plus}
 use Rattle.ss_program.specs.Program.{Expression, Constant, Fetch, Calculate, TheSystem, Entity, AtEnd, Numbers, Members, AValue, ToVariable, ToAttribute, ToCount, ByDiscipline, At, Let, Change, Read, Simulate, For, Create, CreateEvery, File, ScheduleNew, Print, Block, Done, Then, Program}
 use Rattle.ss_program.specs.WellTyped.{WellTyped, Scope, HaveModes, kind_of_class}

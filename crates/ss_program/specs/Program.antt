@@ -8,7 +8,8 @@ use Rattle.ss_base.specs.declared.layout.Layout.{Layout}
 use Rattle.ss_base.specs.declared.layout.Discipline.{Discipline}
 use Rattle.ss_program.specs.declared.expression.Variable.{Variable}
 use Rattle.ss_base.specs.declared.words.Sign.{Sign}
-use Rattle.ss_program.specs.declared.expression.Operator.{Operator}
+use Rattle.ss_base.specs.declared.words.Operator.{Operator}
+use Rattle.ss_base.specs.declared.words.UnaryOperator.{UnaryOperator}
 use Rattle.ss_program.specs.declared.expression.SetQuery.{SetQuery}
 use Rattle.ss_program.specs.declared.expression.MemberQuery.{MemberQuery}
 use Rattle.ss_program.specs.declared.expression.Fold.{Fold}
@@ -44,8 +45,8 @@ pub data Expression : Type 0 where
   FigureOf : Fold → (statistic : ℕ) → (entity : Expression) → Expression
   -- a term after a sign
   Signed : Sign → Expression → Expression
-  -- ABS.F
-  Absolute : Expression → Expression
+  -- a function of one number
+  Unary : UnaryOperator → Expression → Expression
   -- an operation on two numbers
   Calculate : Operator → Expression → Expression → Expression
 

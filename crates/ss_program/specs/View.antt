@@ -29,7 +29,7 @@ use Rattle.ss_program.specs.declared.statement.Statement.{Row_of-Statement, end_
 use Rattle.ss_program.specs.declared.sections.Routine.{Routine as RoutineValue}
 use Rattle.ss_program.specs.declared.sections.Event.{Event as EventValue}
 use Rattle.ss_program.specs.declared.sections.Program.{Program as ProgramValue}
-use Rattle.ss_program.specs.Program.{Expression, Constant, Fetch, Attribute, OfSystemSet, OfSet, OfMember, Clock, TimeOf, Figure, FigureOf, Signed, Absolute, Calculate, SetOwner, TheSystem, Entity, Test, Compare, DataEnded, Empty, Member, Condition, Start, AtEnd, From, After, Head, Numbers, Members, Each, Phrase, Guard, Place, ToVariable, ToAttribute, ToCount, Target, Position, ByDiscipline, AsFirst, AsLast, BeforeMember, AfterMember, When, At, In, Now, Restart, Item, AValue, AMean, AMeanOf, Statement, Let, Change, Call, Return, Stop, Read, Simulate, If, Loop, For, Find, Create, CreateEvery, Destroy, File, RemoveEnd, Remove, ScheduleNew, Schedule, Cancel, Reset, Print, Skip, Block, Done, Then, Routine, Event, Program}
+use Rattle.ss_program.specs.Program.{Expression, Constant, Fetch, Attribute, OfSystemSet, OfSet, OfMember, Clock, TimeOf, Figure, FigureOf, Signed, Unary, Calculate, SetOwner, TheSystem, Entity, Test, Compare, DataEnded, Empty, Member, Condition, Start, AtEnd, From, After, Head, Numbers, Members, Each, Phrase, Guard, Place, ToVariable, ToAttribute, ToCount, Target, Position, ByDiscipline, AsFirst, AsLast, BeforeMember, AfterMember, When, At, In, Now, Restart, Item, AValue, AMean, AMeanOf, Statement, Let, Change, Call, Return, Stop, Read, Simulate, If, Loop, For, Find, Create, CreateEvery, Destroy, File, RemoveEnd, Remove, ScheduleNew, Schedule, Cancel, Reset, Print, Skip, Block, Done, Then, Routine, Event, Program}
 
 unfoldable mutual
   pub view_expression : expressions.Expression → Expression
@@ -44,7 +44,7 @@ unfoldable mutual
   view_expression (expressions.Figure fold statistic) = Figure fold statistic
   view_expression (expressions.FigureOf' fold statistic p e) = FigureOf fold statistic (view_expression e)
   view_expression (expressions.Signed' sign p e) = Signed sign (view_expression e)
-  view_expression (expressions.Absolute' p e) = Absolute (view_expression e)
+  view_expression (expressions.Unary' op p e) = Unary op (view_expression e)
   view_expression (expressions.Calculate' p first shape further) = view_operations (view_expression first) further
 
   -- operations on a number, worked off from left to right

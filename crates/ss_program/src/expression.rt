@@ -1,6 +1,6 @@
 //! Expressions, and the questions in them.
 
-pub use ss_base::Sign;
+pub use ss_base::{Operator, Sign, UnaryOperator};
 use ss_base::Value;
 
 /// A variable: a global one by its number among all of them, or a local one by its number in its
@@ -9,22 +9,6 @@ use ss_base::Value;
 pub enum Variable {
     Global { number: usize },
     Local { number: usize },
-}
-
-/// What makes one whole number of two.
-#[derive(Clone, Copy, Debug, PartialEq, Eq)]
-pub enum Operator {
-    Add,
-    Subtract,
-    Multiply,
-    /// DIV.F
-    Quotient,
-    /// MOD.F
-    Remainder,
-    /// MIN.F
-    Least,
-    /// MAX.F
-    Greatest,
 }
 
 /// A question about a set.
@@ -122,8 +106,9 @@ pub enum Expression {
         sign: Sign,
         term: Box<Expression>,
     },
-    /// ABS.F
-    Absolute {
+    /// A function of one number.
+    Unary {
+        operator: UnaryOperator,
         argument: Box<Expression>,
     },
     /// A number and operations on it, worked off from left to right: a sum, a product, or a function of two

@@ -3,7 +3,8 @@ use Rattle.std.specs.Prelude.{◌≡◌, pos, true, false, [], ◌∷◌, Some, 
 use Rattle.ss_base.specs.declared.line.Line.{Line}
 use Rattle.ss_base.specs.declared.words.Sign.TheVariants.{Plus, Minus}
 use Rattle.ss_tree.specs.declared.expression.Designator.TheVariants.{Name}
-use Rattle.ss_tree.specs.declared.expression.Function.TheVariants.{Mod}
+use Rattle.ss_tree.specs.declared.expression.Function.TheVariants.{Two}
+use Rattle.ss_base.specs.declared.words.Operator.TheVariants.{Remainder}
 use Rattle.ss_base.specs.declared.words.Relation.TheVariants.{Equal, Greater}
 use Rattle.ss_base.specs.declared.words.PhraseKind.TheVariants.{With}
 use Rattle.ss_base.specs.declared.words.GuardKind.TheVariants.{Until}
@@ -27,7 +28,7 @@ pub many_terms : expression_nodes (sum (number (pos 1)) (and_term Plus (number (
 many_terms = refl
 
 -- -MOD.F(X, 3): a sign, a function, a name and a number
-pub a_function : expression_nodes (signed Minus (call Mod (and_expression x (and_expression (number (pos 3)) no_expression)))) ≡ 4
+pub a_function : expression_nodes (signed Minus (call (Two Remainder) (and_expression x (and_expression (number (pos 3)) no_expression)))) ≡ 4
 a_function = refl
 
 -- X > 0 AND DATA IS NOT ENDED OR X = "A": three tests, two names, a number and a text

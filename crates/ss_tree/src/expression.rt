@@ -1,21 +1,15 @@
 //! Expressions, and the places that a program names.
 
-pub use ss_base::Sign;
+pub use ss_base::{Operator, Sign, UnaryOperator};
 use ss_base::{Alpha, Name};
 
-/// A function of the language.
+/// A function of the language, by what it makes of its arguments.
 #[derive(Clone, Copy)]
 pub enum Function {
-    /// DIV.F, the quotient.
-    Div,
-    /// MOD.F, the remainder.
-    Mod,
-    /// ABS.F, the number without its sign.
-    Abs,
-    /// MIN.F, the lesser of two.
-    Min,
-    /// MAX.F, the greater of two.
-    Max,
+    /// Of one number, as ABS.F.
+    One(UnaryOperator),
+    /// Of two numbers, as DIV.F.
+    Two(Operator),
 }
 
 /// What names a value, without its subscripts.

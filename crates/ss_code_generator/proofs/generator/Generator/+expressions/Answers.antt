@@ -6,7 +6,7 @@ use Rattle.ss_code_generator.specs.Calculations.{folded}
 use Rattle.ss_code_instructions.specs.Forms.{asking_set, asking_member, moving, fetching}
 use Rattle.ss_code_generator.proofs.Emitting.{grows_same, one_ok, put_ok, put_as}
 use Rattle.ss_code_pieces.proofs.Leafs.{alone_is, none_counted}
-use Rattle.ss_code_generator.proofs.Values.{constant_emitted, fetch_emitted, system_set_emitted, figure_emitted, attribute_emitted, set_emitted, member_emitted, time_emitted, figure_of_emitted, signed_emitted, absolute_emitted, operation_emitted, more_emitted, next_reads, folded_taken, folded_last, field_known, variable_known}
+use Rattle.ss_code_generator.proofs.Values.{constant_emitted, fetch_emitted, system_set_emitted, figure_emitted, attribute_emitted, set_emitted, member_emitted, time_emitted, figure_of_emitted, signed_emitted, unary_emitted, operation_emitted, more_emitted, next_reads, folded_taken, folded_last, field_known, variable_known}
 use Rattle.ss_code_generator.proofs.generator.Generator.+expressions.Goals as goal
 
 pub expression-returns-in_ok-from-in-Constant : goal.expression-returns-in_ok-from-in-Constant
@@ -133,15 +133,15 @@ pub expression-returns-in-Signed : goal.expression-returns-in-Signed
 unfolding view_expression
 expression-returns-in-Signed t c = rw c.in-Signed.is (rw c.deref-in-Signed.ensures at c.signed.ensures)
 
-pub expression-returns-in_ok-of-in-Absolute : goal.expression-returns-in_ok-of-in-Absolute
+pub expression-returns-in_ok-of-in-Unary : goal.expression-returns-in_ok-of-in-Unary
 unfolding view_expression
-expression-returns-in_ok-of-in-Absolute t c =
-    let of = c.in-Absolute.argument.value in
-    let g = c.operand-in-Absolute.new.self in
-    let code = c.operand-in-Absolute.new.code in
-    let o = c.in_ok-of-in-Absolute.field-0 in
-    rw c.in-Absolute.is (put_ok c.put-in-Absolute.result code c.put-in-Absolute.new.self c.args.site.line (r.Absolute o.address c.args.to) (r.Absolute o.address c.args.to) refl c.put-in-Absolute.ensures.instructions c.put-in-Absolute.ensures.lines
-    (λ is ls. absolute_emitted c.args.self.now g c.args.code.now c.args.site c.args.to code c.put-in-Absolute.new.self (view_expression of) o g (grows_same g) (rw c.deref-in-Absolute.ensures at c.in_ok-of-in-Absolute.ensures) ls is))
+expression-returns-in_ok-of-in-Unary t c =
+    let of = c.in-Unary.argument.value in
+    let g = c.operand-in-Unary.new.self in
+    let code = c.operand-in-Unary.new.code in
+    let o = c.in_ok-of-in-Unary.field-0 in
+    rw c.in-Unary.is (put_ok c.put-in-Unary.result code c.put-in-Unary.new.self c.args.site.line (r.Unary c.in-Unary.operator o.address c.args.to) (r.Unary c.in-Unary.operator o.address c.args.to) refl c.put-in-Unary.ensures.instructions c.put-in-Unary.ensures.lines
+    (λ is ls. unary_emitted c.args.self.now g c.args.code.now c.args.site c.args.to code c.put-in-Unary.new.self (view_expression of) o g (grows_same g) (rw c.deref-in-Unary.ensures at c.in_ok-of-in-Unary.ensures) ls c.in-Unary.operator is))
 
 pub operation-returns : goal.operation-returns
 operation-returns t c =
