@@ -130,13 +130,6 @@ fn fold_word(fold: Fold) -> &'static str {
     }
 }
 
-// The name of an operator on one number.
-fn unary_name(operator: UnaryOperator) -> &'static str {
-    match operator {
-        UnaryOperator::Absolute => "absolute",
-    }
-}
-
 // Those that work on the world and on streams. All others are named below.
 fn world_detail(instruction: &I) -> Detail {
     match instruction {
@@ -561,7 +554,11 @@ pub(crate) fn detail_of(instruction: &I) -> Detail {
             Part::From(*right),
             Part::To(*to),
         ),
-        I::Unary { operator, of, to } => two(unary_name(*operator), Part::From(*of), Part::To(*to)),
+        I::Unary {
+            operator: UnaryOperator::Absolute,
+            of,
+            to,
+        } => two("absolute", Part::From(*of), Part::To(*to)),
         I::Clock { to } => one("clock", Part::To(*to)),
         I::TimeOf { notice, to } => two("time of", Part::From(*notice), Part::To(*to)),
         I::Attribute {
