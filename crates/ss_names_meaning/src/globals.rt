@@ -18,7 +18,10 @@ fn add_count(counted: &mut Vec<CountedClass>, meaning: &Meaning) -> Result<(), A
     ensures { OnOk result (counted.new.items ≡ counted.old.items ++ count_by meaning.now) }
 {
     match meaning {
-        Meaning::Count { count } => counted.push(*count),
+        Meaning::Count { count } => {
+            counted.push(*count)?;
+            Ok(())
+        }
         _ => Ok(()),
     }
 }

@@ -470,7 +470,7 @@ fn group_after(group: Option<ClassKind>, statement: &PreambleStatement) -> Optio
     match statement {
         PreambleStatement::PermanentEntities { .. } => Some(ClassKind::Permanent),
         PreambleStatement::TemporaryEntities { .. } => Some(ClassKind::Temporary),
-        PreambleStatement::EventNotices { .. } => Some(ClassKind::EventNotice),
+        PreambleStatement::EventNotices { .. } => Some(ClassKind::Notice),
         _ => group,
     }
 }
