@@ -48,4 +48,4 @@ module _ (s : Scope) (g : Place) (linked : IsLinked s g) (line : Line) where
   pub print_resolves : (items : List ExpressionTree) (pictures : List (List ℕ)) → Kept s g.is_main (uses.in_print line items pictures) → GoesWell (Good g) (simple_statement s (print_statement line items pictures))
   unfolding simple_statement
   print_resolves items pictures k =
-      after_one (Good g) (each (item s) items) (λ xs. Print line xs pictures) (items_shown items (uses.fields_of pictures) k) (λ xs h. h)
+      after_one (Good g) _ _ (items_shown items (uses.fields_of pictures) k) (λ xs h. h)
