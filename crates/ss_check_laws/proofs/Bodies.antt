@@ -6,12 +6,9 @@ use Rattle.ss_tree.specs.declared.statement.FindOutcome.TheVariants as outcomes
 use Rattle.ss_tree.specs.Tree.{ConditionTree, HeadTree, LoopHeadTree, for_head, guarded, StatementTree, if_statement, loop_statement, find_if_statement, StatementRow, no_statement, and_statement, statement_row}
 use Rattle.ss_names_uses.specs.Uses as uses
 use Rattle.ss_names_scopes.specs.Scopes.{Scope}
-use Rattle.ss_program.specs.Program.{If, Loop, For, Find, Block, Done, Then}
+use Rattle.ss_program.specs.Program.{For, Find, Block, Done}
 use Rattle.ss_program.specs.WellTyped.{Scope as Place, Good, GoodBlock}
-use Rattle.ss_names_meaning.specs.Answers.{◌>>=◌, each}
-use Rattle.ss_names_meaning.specs.Conditions.{condition}
-use Rattle.ss_names_meaning.specs.Heads.{guard}
-use Rattle.ss_names_meaning.specs.Statements.{find_by, if_over, resolved_loop, statement, statements}
+use Rattle.ss_names_meaning.specs.Statements.{find_by, statement, statements}
 use Rattle.ss_check_laws.specs.Links.{IsLinked, Kept}
 use Rattle.ss_check_laws.specs.BodyLaws.{BodiesResolve, ConditionResolves, ForResolves, HeadResolves}
 use Rattle.ss_check_laws.proofs.Steps.{GoesWell, two_parts, three_parts}

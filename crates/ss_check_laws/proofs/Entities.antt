@@ -22,12 +22,11 @@ use Rattle.ss_check_rules.specs.Kinds.{is_kind}
 use Rattle.ss_check_rules.specs.Refusal.{use_breaks}
 use Rattle.ss_program.specs.declared.expression.Variable.{Variable}
 use Rattle.ss_program.specs.declared.statement.CountedClass.{CountedClass}
-use Rattle.ss_program.specs.Program.{Fetch, ToVariable, ByDiscipline, AsFirst, AsLast, BeforeMember, AfterMember, Create, CreateEvery, Destroy, File, RemoveEnd, Remove}
+use Rattle.ss_program.specs.Program.{Fetch, ToVariable, ByDiscipline, AsFirst, AsLast}
 use Rattle.ss_program.specs.WellTyped.{Scope as Place, HasMode, TakesMode, GoodPosition, Good, is_created_singly}
 use Rattle.ss_names_meaning.specs.declared.classes.NamedClass.{NamedClass}
 use Rattle.ss_names_meaning.specs.Answers.{◌>>=◌, each, where_holds}
 use Rattle.ss_names_meaning.specs.Classes.{class_named, class_number, count_of, counted, suits, variable_named}
-use Rattle.ss_names_meaning.specs.Expressions.{expression, set_named, target}
 use Rattle.ss_names_meaning.specs.Statements.{entity_called, new_place, position, simple_statement}
 use Rattle.ss_names_laws.proofs.Steps.{got}
 use Rattle.ss_check_laws.specs.Links.{IsLinked, Kept}

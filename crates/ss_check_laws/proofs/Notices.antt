@@ -24,11 +24,10 @@ use Rattle.ss_check_rules.specs.Counts.{has_attributes}
 use Rattle.ss_check_rules.specs.Kinds.{is_kind}
 use Rattle.ss_check_rules.specs.Modes.{attribute_mode, field_mode as mode_of_field, mode_of_attribute}
 use Rattle.ss_check_rules.specs.Refusal.{unless}
-use Rattle.ss_program.specs.Program.{Expression, At, In, Now, When, Restart, Statement, ScheduleNew, Schedule, Cancel, Reset}
+use Rattle.ss_program.specs.Program.{Expression, Now, When, Restart, Statement, ScheduleNew, Schedule}
 use Rattle.ss_program.specs.WellTyped.{Scope as Place, HasMode, HaveModes, GoodWhen, GoodGiven, GoodRestart, Good}
 use Rattle.ss_names_meaning.specs.declared.classes.NamedClass.{NamedClass}
 use Rattle.ss_names_meaning.specs.Answers.{◌>>=◌, each, where_holds}
-use Rattle.ss_names_meaning.specs.Classes.{class_named}
 use Rattle.ss_names_meaning.specs.Expressions.{expression}
 use Rattle.ss_names_meaning.specs.Layouts.{field_mode}
 use Rattle.ss_names_meaning.specs.Statements.{restart, simple_statement, when}

@@ -9,7 +9,7 @@ use Rattle.ss_tree.specs.Tree.{ExpressionTree, print_statement}
 use Rattle.ss_names_uses.specs.Uses as uses
 use Rattle.ss_names_scopes.specs.Scopes.{Scope}
 use Rattle.ss_check_rules.specs.declared.error.CheckError.TheVariants as errors
-use Rattle.ss_program.specs.Program.{Item, Print}
+use Rattle.ss_program.specs.Program.{Item}
 use Rattle.ss_program.specs.WellTyped.{Scope as Place, TakesItem, Good}
 use Rattle.ss_names_meaning.specs.Answers.{each}
 use Rattle.ss_names_meaning.specs.Expressions.{item}

@@ -6,10 +6,9 @@ use Rattle.ss_tree.specs.Tree.{HeadTree, for_head, StatementTree, let_statement,
 use Rattle.ss_names_uses.specs.Uses as uses
 use Rattle.ss_names_scopes.specs.Scopes.{Scope}
 use Rattle.ss_check_rules.specs.declared.error.CheckError.TheVariants as errors
-use Rattle.ss_program.specs.Program.{Head, Phrase, Statement, Find, Return, Simulate, Skip, Stop, Done}
+use Rattle.ss_program.specs.Program.{Head, Phrase, Statement, Find, Return, Simulate, Stop, Done}
 use Rattle.ss_program.specs.WellTyped.{Scope as Place, Good, GoodHead, GoodPhrase}
 use Rattle.ss_names_meaning.specs.Answers.{◌>>=◌, each}
-use Rattle.ss_names_meaning.specs.Expressions.{expression}
 use Rattle.ss_names_meaning.specs.Heads.{head, phrases_of, resolved_phrase}
 use Rattle.ss_names_meaning.specs.Statements.{simple_statement, statement}
 use Rattle.ss_check_laws.specs.Links.{IsLinked, Kept}

@@ -26,9 +26,9 @@ use Rattle.ss_check_rules.specs.Counts.{is_given, is_yielded}
 use Rattle.ss_check_rules.specs.Kinds.{if_means, is_routine}
 use Rattle.ss_check_rules.specs.Modes.{given_mode, mode_said, yielded_mode}
 use Rattle.ss_check_rules.specs.Refusal.{unless}
-use Rattle.ss_program.specs.Program.{Statement, Let, Change, Call, Read, Target}
+use Rattle.ss_program.specs.Program.{Statement, Change, Call, Target}
 use Rattle.ss_program.specs.WellTyped.{Scope as Place, HasMode, TakesMode, Good}
-use Rattle.ss_names_meaning.specs.Answers.{◌>>=◌, each, upto}
+use Rattle.ss_names_meaning.specs.Answers.{◌>>=◌, upto}
 use Rattle.ss_names_meaning.specs.Expressions.{expression, target}
 use Rattle.ss_names_meaning.specs.Resolved.{local_mode, local_modes}
 use Rattle.ss_names_meaning.specs.Statements.{reader, routine_number, simple_statement}
