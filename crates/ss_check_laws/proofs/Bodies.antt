@@ -6,12 +6,9 @@ use Rattle.ss_tree.specs.declared.statement.FindOutcome.TheVariants as outcomes
 use Rattle.ss_tree.specs.Tree.{ConditionTree, HeadTree, LoopHeadTree, for_head, guarded, StatementTree, if_statement, loop_statement, find_if_statement, StatementRow, no_statement, and_statement, statement_row}
 use Rattle.ss_names_uses.specs.Uses as uses
 use Rattle.ss_names_scopes.specs.Scopes.{Scope}
-use Rattle.ss_program.specs.Program.{If, Loop, For, Find, Block, Done, Then}
+use Rattle.ss_program.specs.Program.{For, Find, Block, Done}
 use Rattle.ss_program.specs.WellTyped.{Scope as Place, Good, GoodBlock}
-use Rattle.ss_names_meaning.specs.Answers.{◌>>=◌, each}
-use Rattle.ss_names_meaning.specs.Conditions.{condition}
-use Rattle.ss_names_meaning.specs.Heads.{guard}
-use Rattle.ss_names_meaning.specs.Statements.{find_by, if_over, resolved_loop, statement, statements}
+use Rattle.ss_names_meaning.specs.Statements.{find_by, statement, statements}
 use Rattle.ss_check_laws.specs.Links.{IsLinked, Kept}
 use Rattle.ss_check_laws.specs.BodyLaws.{BodiesResolve, ConditionResolves, ForResolves, HeadResolves}
 use Rattle.ss_check_laws.proofs.Steps.{GoesWell, two_parts, three_parts}
@@ -35,16 +32,14 @@ module _ (s : Scope) (g : Place) where
   if_made : (line : Line) (test : ConditionTree) (first second : StatementRow) → ConditionResolves s g test → RowResolved first → RowResolved second → Resolved (if_statement line test first second)
   unfolding statement
   if_made line test first second x a b =
-      after (Good g) (statements s first) (λ u. statements s second >>= λ v. if_over line s test u v) a.0 a.1
-      (after (Good g) (statements s second) (λ v. if_over line s test a.0 v) b.0 b.1
-      (after_one (Good g) (condition s test) (λ t. If line t a.0 b.0) x (λ t h. (h, a.2, b.2))))
+      after (Good g) _ _ a.0 a.1 (after (Good g) _ _ b.0 b.1 (after_one (Good g) _ _ x (λ t h. (h, a.2, b.2))))
 
   loop_made : (line : Line) (over : LoopHeadTree) (row : StatementRow) → HeadResolves s g over → RowResolved row → Resolved (loop_statement line over row)
   unfolding statement
   loop_made line (for_head over) row h b =
-      after (Good g) (statements s row) (λ u. resolved_loop line s (for_head over) u) b.0 b.1 (over_head s g over (λ x ps. For line x ps b.0) h (λ x ps f k. (f, k, b.2)))
+      after (Good g) _ _ b.0 b.1 (over_head s g over (λ x ps. For line x ps b.0) h (λ x ps f k. (f, k, b.2)))
   loop_made line (guarded guards) row h b =
-      after (Good g) (statements s row) (λ u. resolved_loop line s (guarded guards) u) b.0 b.1 (after_one (Good g) (each (guard s) guards) (λ gs. Loop line gs b.0) h (λ gs k. (k, b.2)))
+      after (Good g) _ _ b.0 b.1 (after_one (Good g) _ _ h (λ gs k. (k, b.2)))
 
   by_outcome : (outcome : FindOutcome) (line : Line) (over : HeadTree) (first second : Block) → ForResolves s g over → GoodBlock g first → GoodBlock g second → GoesWell (Good g) (find_by outcome line s over first second)
   by_outcome outcomes.Found line over first second h a b = over_head s g over (λ x ps. Find line x ps first second) h (λ x ps f k. (f, k, a, b))
@@ -53,8 +48,7 @@ module _ (s : Scope) (g : Place) where
   find_if_made : (line : Line) (over : HeadTree) (outcome : FindOutcome) (first second : StatementRow) → ForResolves s g over → RowResolved first → RowResolved second → Resolved (find_if_statement line over outcome first second)
   unfolding statement
   find_if_made line over outcome first second h a b =
-      after (Good g) (statements s first) (λ u. statements s second >>= λ v. find_by outcome line s over u v) a.0 a.1
-      (after (Good g) (statements s second) (λ v. find_by outcome line s over a.0 v) b.0 b.1 (by_outcome outcome line over a.0 b.0 h a.2 b.2))
+      after (Good g) _ _ a.0 a.1 (after (Good g) _ _ b.0 b.1 (by_outcome outcome line over a.0 b.0 h a.2 b.2))
 
   -- ---- rows
 
@@ -64,7 +58,7 @@ module _ (s : Scope) (g : Place) where
 
   row_made : (t : StatementTree) (ts : StatementRow) → Resolved t → RowResolved ts → RowResolved (and_statement t ts)
   unfolding statements
-  row_made t ts x r = after_two (GoodBlock g) (statement s t) (statements s ts) (λ u v. Then u v) x r (λ u v h f. (h, f))
+  row_made t ts x r = after_two (GoodBlock g) _ _ _ x r (λ u v h f. (h, f))
 
 module _ (s : Scope) (g : Place) (linked : IsLinked s g) where
   mutual

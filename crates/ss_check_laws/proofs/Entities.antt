@@ -22,12 +22,11 @@ use Rattle.ss_check_rules.specs.Kinds.{is_kind}
 use Rattle.ss_check_rules.specs.Refusal.{use_breaks}
 use Rattle.ss_program.specs.declared.expression.Variable.{Variable}
 use Rattle.ss_program.specs.declared.statement.CountedClass.{CountedClass}
-use Rattle.ss_program.specs.Program.{Fetch, ToVariable, ByDiscipline, AsFirst, AsLast, BeforeMember, AfterMember, Create, CreateEvery, Destroy, File, RemoveEnd, Remove}
+use Rattle.ss_program.specs.Program.{Fetch, ToVariable, ByDiscipline, AsFirst, AsLast}
 use Rattle.ss_program.specs.WellTyped.{Scope as Place, HasMode, TakesMode, GoodPosition, Good, is_created_singly}
 use Rattle.ss_names_meaning.specs.declared.classes.NamedClass.{NamedClass}
 use Rattle.ss_names_meaning.specs.Answers.{◌>>=◌, each, where_holds}
 use Rattle.ss_names_meaning.specs.Classes.{class_named, class_number, count_of, counted, suits, variable_named}
-use Rattle.ss_names_meaning.specs.Expressions.{expression, set_named, target}
 use Rattle.ss_names_meaning.specs.Statements.{entity_called, new_place, position, simple_statement}
 use Rattle.ss_names_laws.proofs.Steps.{got}
 use Rattle.ss_check_laws.specs.Links.{IsLinked, Kept}
@@ -97,15 +96,13 @@ module _ (s : Scope) (g : Place) (linked : IsLinked s g) (line : Line) where
   unfolding simple_statement
   create_resolves name called k =
       let c = classes_resolve s g linked line needs.Single name (is_some called) (k.0, tt) in
-      after (Good g) (class_named s needs.Single name) (λ (d : NamedClass). new_place s d.variable called >>= λ x. Some (Create line d.class x)) c.0 c.2
-      (after_one (Good g) (new_place s c.0.variable called) (λ x. Create line c.0.class x) (new_resolves needs.Single name called c k.1) (λ x h. (ap is_created_singly c.3 ∙ single_kind c.1 c.4, h)))
+      after (Good g) _ _ c.0 c.2 (after_one (Good g) _ _ (new_resolves needs.Single name called c k.1) (λ x h. (ap is_created_singly c.3 ∙ single_kind c.1 c.4, h)))
 
   pub destroy_resolves : (name : NameBytes) (called : Option ExpressionTree) → Kept s g.is_main (uses.in_old line needs.Single name called) → GoesWell (Good g) (simple_statement s (destroy_statement line name called))
   unfolding simple_statement
   destroy_resolves name called k =
       let c = classes_resolve s g linked line needs.Single name (is_some called) (k.0, tt) in
-      after (Good g) (class_named s needs.Single name) (λ (d : NamedClass). entity_called s d.variable called >>= λ x. Some (Destroy line d.class x)) c.0 c.2
-      (after_one (Good g) (entity_called s c.0.variable called) (λ x. Destroy line c.0.class x) (old_resolves needs.Single name called c k.1) (λ x h. (ap is_created_singly c.3 ∙ single_kind c.1 c.4, h)))
+      after (Good g) _ _ c.0 c.2 (after_one (Good g) _ _ (old_resolves needs.Single name called c k.1) (λ x h. (ap is_created_singly c.3 ∙ single_kind c.1 c.4, h)))
 
   counted_there : (name : NameBytes) → use_breaks s g.is_main (uses.create_all line name) ≡ None → GoesWell (Contains g.program.counts) (counted s name)
   counted_there name k =
@@ -121,11 +118,11 @@ module _ (s : Scope) (g : Place) (linked : IsLinked s g) (line : Line) where
   unfolding each
   all_counted [] k = ([], refl, tt)
   all_counted (name ∷ names) k =
-      after_two (Every (Contains g.program.counts)) (counted s name) (each (counted s) names) (λ y ys. y ∷ ys) (counted_there name k.0) (all_counted names k.1) (λ y ys h hs. (h, hs))
+      after_two (Every (Contains g.program.counts)) _ _ _ (counted_there name k.0) (all_counted names k.1) (λ y ys h hs. (h, hs))
 
   pub create_every_resolves : (names : List NameBytes) → Kept s g.is_main (map (uses.create_all line) names) → GoesWell (Good g) (simple_statement s (create_every line names))
   unfolding simple_statement
-  create_every_resolves names k = after_one (Good g) (each (counted s) names) (λ ys. CreateEvery line ys) (all_counted names k) (λ ys h. h)
+  create_every_resolves names k = after_one (Good g) _ _ (all_counted names k) (λ ys h. h)
 
   -- ---- FILE and REMOVE
 
@@ -133,8 +130,8 @@ module _ (s : Scope) (g : Place) (linked : IsLinked s g) (line : Line) where
   position_resolves by_discipline k = (ByDiscipline, refl, tt)
   position_resolves at_first k = (AsFirst, refl, tt)
   position_resolves at_last k = (AsLast, refl, tt)
-  position_resolves (before e) k = after_one (GoodPosition g) (expression s e) (λ x. BeforeMember x) (number_kept s g linked line e k) (λ x h. h)
-  position_resolves (after_member e) k = after_one (GoodPosition g) (expression s e) (λ x. AfterMember x) (number_kept s g linked line e k) (λ x h. h)
+  position_resolves (before e) k = after_one (GoodPosition g) _ _ (number_kept s g linked line e k) (λ x h. h)
+  position_resolves (after_member e) k = after_one (GoodPosition g) _ _ (number_kept s g linked line e k) (λ x h. h)
 
   pub file_resolves : (e : ExpressionTree) (t : PositionTree) (n : NamedTree) → Kept s g.is_main (uses.in_expression line true e ++ uses.in_position line t ++ uses.in_named line roles.Set false n) →
       GoesWell (Good g) (simple_statement s (file_statement line e t n))
@@ -142,19 +139,18 @@ module _ (s : Scope) (g : Place) (linked : IsLinked s g) (line : Line) where
   file_resolves e t n k =
       let p = three_parts s g.is_main (uses.in_expression line true e) (uses.in_position line t) (uses.in_named line roles.Set false n) k in
       let x = number_kept s g linked line e p.0 in
-      after (Good g) (expression s e) (λ y. position s t >>= λ u. set_named s n >>= λ v. Some (File line v.0 y u v.1)) x.0 x.1
-      (after_two (Good g) (position s t) (set_named s n) (λ u v. File line v.0 x.0 u v.1) (position_resolves t p.1) (sets_resolve s g linked line n p.2) (λ u v h f. (x.2, h, f)))
+      after (Good g) _ _ x.0 x.1 (after_two (Good g) _ _ _ (position_resolves t p.1) (sets_resolve s g linked line n p.2) (λ u v h f. (x.2, h, f)))
 
   pub remove_end_resolves : (end : End) (n set : NamedTree) → Kept s g.is_main (uses.in_named line roles.Target true n ++ uses.in_named line roles.Set false set) →
       GoesWell (Good g) (simple_statement s (remove_end line end n set))
   unfolding simple_statement
   remove_end_resolves end n set k =
       let p = two_parts s g.is_main (uses.in_named line roles.Target true n) (uses.in_named line roles.Set false set) k in
-      after_two (Good g) (target s n) (set_named s set) (λ x v. RemoveEnd line end v.0 x v.1) (takes_number s g linked line n p.0) (sets_resolve s g linked line set p.1) (λ x v h f. (h, f))
+      after_two (Good g) _ _ _ (takes_number s g linked line n p.0) (sets_resolve s g linked line set p.1) (λ x v h f. (h, f))
 
   pub remove_resolves : (e : ExpressionTree) (n : NamedTree) → Kept s g.is_main (uses.in_expression line true e ++ uses.in_named line roles.Set false n) →
       GoesWell (Good g) (simple_statement s (remove_statement line e n))
   unfolding simple_statement
   remove_resolves e n k =
       let p = two_parts s g.is_main (uses.in_expression line true e) (uses.in_named line roles.Set false n) k in
-      after_two (Good g) (expression s e) (set_named s n) (λ x v. Remove line v.0 x v.1) (number_kept s g linked line e p.0) (sets_resolve s g linked line n p.1) (λ x v h f. (h, f))
+      after_two (Good g) _ _ _ (number_kept s g linked line e p.0) (sets_resolve s g linked line n p.1) (λ x v h f. (h, f))

@@ -64,7 +64,7 @@ module _ (s : Scope) (in_main : Bool) where
       let fewer : length xs ≤ length cs = omega (arith, few) in
       let first = good 0 x c refl (subst (λ (n : ℕ). Kept s in_main (of n x)) here p.0) in
       let rest = from_place act of Q (i + 1) xs cs (λ j y d e h. let there : (i + 1) + j ≡ i + suc j = omega arith in good (suc j) y d e (subst (λ (n : ℕ). Kept s in_main (of n y)) there h)) fewer p.1 in
-      after_two (Placed Q (x ∷ xs) (c ∷ cs)) (act x) (each act xs) (λ y ys. y ∷ ys) first rest (λ y ys h hs. (ap suc hs.0, (h, hs.1)))
+      after_two (Placed Q (x ∷ xs) (c ∷ cs)) _ _ _ first rest (λ y ys h hs. (ap suc hs.0, (h, hs.1)))
 
   -- a step for each item, which may use what its place says
   pub in_order : {A B C : Type 0} (act : A → Option B) (of : ℕ → A → List Use) (Q : B → C → Type 0) (xs : List A) (cs : List C) →

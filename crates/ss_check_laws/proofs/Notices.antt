@@ -24,14 +24,13 @@ use Rattle.ss_check_rules.specs.Counts.{has_attributes}
 use Rattle.ss_check_rules.specs.Kinds.{is_kind}
 use Rattle.ss_check_rules.specs.Modes.{attribute_mode, field_mode as mode_of_field, mode_of_attribute}
 use Rattle.ss_check_rules.specs.Refusal.{unless}
-use Rattle.ss_program.specs.Program.{Expression, At, In, Now, When, Restart, Statement, ScheduleNew, Schedule, Cancel, Reset}
+use Rattle.ss_program.specs.Program.{Expression, Now, When, Restart, Statement, ScheduleNew, Schedule}
 use Rattle.ss_program.specs.WellTyped.{Scope as Place, HasMode, HaveModes, GoodWhen, GoodGiven, GoodRestart, Good}
 use Rattle.ss_names_meaning.specs.declared.classes.NamedClass.{NamedClass}
 use Rattle.ss_names_meaning.specs.Answers.{◌>>=◌, each, where_holds}
-use Rattle.ss_names_meaning.specs.Classes.{class_named}
 use Rattle.ss_names_meaning.specs.Expressions.{expression}
 use Rattle.ss_names_meaning.specs.Layouts.{field_mode}
-use Rattle.ss_names_meaning.specs.Statements.{entity_called, new_notice, new_place, old_notice, restart, simple_statement, when}
+use Rattle.ss_names_meaning.specs.Statements.{restart, simple_statement, when}
 use Rattle.ss_names_laws.proofs.Steps.{each_at}
 use Rattle.ss_check_laws.specs.Links.{IsLinked, Kept}
 use Rattle.ss_check_laws.specs.BodyLaws.{ClassResolves}
@@ -62,8 +61,8 @@ field_there t names fields i m h e =
 
 module _ (s : Scope) (g : Place) (linked : IsLinked s g) (line : Line) where
   when_resolves : (t : WhenTree) → Kept s g.is_main (uses.in_when line t) → GoesWell (GoodWhen g) (when s t)
-  when_resolves (at_time e) k = after_one (GoodWhen g) (expression s e) (λ x. At x) (number_kept s g linked line e k) (λ x h. h)
-  when_resolves (in_units e) k = after_one (GoodWhen g) (expression s e) (λ x. In x) (number_kept s g linked line e k) (λ x h. h)
+  when_resolves (at_time e) k = after_one (GoodWhen g) _ _ (number_kept s g linked line e k) (λ x h. h)
+  when_resolves (in_units e) k = after_one (GoodWhen g) _ _ (number_kept s g linked line e k) (λ x h. h)
   when_resolves now k = (Now, refl, tt)
 
   -- values for the first attributes of a class of notices
@@ -107,8 +106,7 @@ module _ (s : Scope) (g : Place) (linked : IsLinked s g) (line : Line) where
   scheduled name is_called c given time f k j good =
       let us = given_resolve name is_called c given k in
       let t = when_resolves time j in
-      after (Good g) (each (expression s) given) (λ xs. when s time >>= λ due. where_holds (nat_le (length xs) c.0.attributes) (f xs due)) us.0 us.1
-      (after (Good g) (when s time) (λ due. where_holds (nat_le (length us.0) c.0.attributes) (f us.0 due)) t.0 t.1
+      after (Good g) _ _ us.0 us.1 (after (Good g) _ _ t.0 t.1
       (f us.0 t.0, holds (nat_le (length us.0) c.0.attributes) (f us.0 t.0) us.2.0, good us.0 t.0 us.2.1 t.2))
 
   pub schedule_new_resolves : (name : NameBytes) (called : Option NamedTree) (given : List ExpressionTree) (time : WhenTree) →
@@ -119,8 +117,7 @@ module _ (s : Scope) (g : Place) (linked : IsLinked s g) (line : Line) where
       let p = three_parts s g.is_main (uses.in_new line needs.Notice name called) (uses.in_given line name given) (uses.in_when line time) k in
       let c = classes_resolve s g linked line needs.Notice name (is_some called) (p.0.0, tt) in
       let x = new_resolves s g linked line needs.Notice name called c p.0.1 in
-      after (Good g) (class_named s needs.Notice name) (λ (d : NamedClass). new_place s d.variable called >>= λ y. each (expression s) given >>= λ xs. when s time >>= λ due. new_notice line d y xs due) c.0 c.2
-      (after (Good g) (new_place s c.0.variable called) (λ y. each (expression s) given >>= λ xs. when s time >>= λ due. new_notice line c.0 y xs due) x.0 x.1
+      after (Good g) _ _ c.0 c.2 (after (Good g) _ _ x.0 x.1
       (scheduled name (is_some called) c given time (λ xs due. ScheduleNew line c.0.class x.0 xs due) p.1 p.2 (λ xs due h f. (h, x.2, f))))
 
   pub schedule_resolves : (name : NameBytes) (called : Option ExpressionTree) (given : List ExpressionTree) (time : WhenTree) →
@@ -131,19 +128,16 @@ module _ (s : Scope) (g : Place) (linked : IsLinked s g) (line : Line) where
       let p = three_parts s g.is_main (uses.in_old line needs.Notice name called) (uses.in_given line name given) (uses.in_when line time) k in
       let c = classes_resolve s g linked line needs.Notice name (is_some called) (p.0.0, tt) in
       let x = old_resolves s g linked line needs.Notice name called c p.0.1 in
-      after (Good g) (class_named s needs.Notice name) (λ (d : NamedClass). entity_called s d.variable called >>= λ y. each (expression s) given >>= λ xs. when s time >>= λ due. old_notice line d y xs due) c.0 c.2
-      (after (Good g) (entity_called s c.0.variable called) (λ y. each (expression s) given >>= λ xs. when s time >>= λ due. old_notice line c.0 y xs due) x.0 x.1
+      after (Good g) _ _ c.0 c.2 (after (Good g) _ _ x.0 x.1
       (scheduled name (is_some called) c given time (λ xs due. Schedule line c.0.class x.0 xs due) p.1 p.2 (λ xs due h f. (h, x.2, f))))
 
   pub cancel_resolves : (name : NameBytes) (called : Option ExpressionTree) → Kept s g.is_main (uses.in_old line needs.Notice name called) → GoesWell (Good g) (simple_statement s (cancel_statement line name called))
   unfolding simple_statement
   cancel_resolves name called k =
       let c = classes_resolve s g linked line needs.Notice name (is_some called) (k.0, tt) in
-      after (Good g) (class_named s needs.Notice name) (λ (d : NamedClass). entity_called s d.variable called >>= λ x. Some (Cancel line d.class x)) c.0 c.2
-      (after_one (Good g) (entity_called s c.0.variable called) (λ x. Cancel line c.0.class x) (old_resolves s g linked line needs.Notice name called c k.1) (λ x h. (c.3 ∙ ap Some (notice_kind c.1 c.4), h)))
+      after (Good g) _ _ c.0 c.2 (after_one (Good g) _ _ (old_resolves s g linked line needs.Notice name called c k.1) (λ x h. (c.3 ∙ ap Some (notice_kind c.1 c.4), h)))
 
   pub reset_resolves : (ns : List NamedTree) → Kept s g.is_main (uses.in_all_named line roles.Reset ns) → GoesWell (Good g) (simple_statement s (reset_statement line ns))
   unfolding simple_statement
   reset_resolves ns k =
-      after_one (Good g) (each (restart s) ns) (λ xs. Reset line xs)
-      (each_resolves s g.is_main (restart s) (uses.in_named line roles.Reset false) (λ (r : Restart). GoodRestart g r.statistic r.of) (restarts_resolve s g linked line) ns k) (λ xs h. h)
+      after_one (Good g) _ _ (each_resolves s g.is_main (restart s) (uses.in_named line roles.Reset false) (λ (r : Restart). GoodRestart g r.statistic r.of) (restarts_resolve s g linked line) ns k) (λ xs h. h)

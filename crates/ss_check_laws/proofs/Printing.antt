@@ -9,7 +9,7 @@ use Rattle.ss_tree.specs.Tree.{ExpressionTree, print_statement}
 use Rattle.ss_names_uses.specs.Uses as uses
 use Rattle.ss_names_scopes.specs.Scopes.{Scope}
 use Rattle.ss_check_rules.specs.declared.error.CheckError.TheVariants as errors
-use Rattle.ss_program.specs.Program.{Item, Print}
+use Rattle.ss_program.specs.Program.{Item}
 use Rattle.ss_program.specs.WellTyped.{Scope as Place, TakesItem, Good}
 use Rattle.ss_names_meaning.specs.Answers.{each}
 use Rattle.ss_names_meaning.specs.Expressions.{item}
@@ -48,4 +48,4 @@ module _ (s : Scope) (g : Place) (linked : IsLinked s g) (line : Line) where
   pub print_resolves : (items : List ExpressionTree) (pictures : List (List ℕ)) → Kept s g.is_main (uses.in_print line items pictures) → GoesWell (Good g) (simple_statement s (print_statement line items pictures))
   unfolding simple_statement
   print_resolves items pictures k =
-      after_one (Good g) (each (item s) items) (λ xs. Print line xs pictures) (items_shown items (uses.fields_of pictures) k) (λ xs h. h)
+      after_one (Good g) _ _ (items_shown items (uses.fields_of pictures) k) (λ xs h. h)

@@ -6,10 +6,9 @@ use Rattle.ss_tree.specs.Tree.{HeadTree, for_head, StatementTree, let_statement,
 use Rattle.ss_names_uses.specs.Uses as uses
 use Rattle.ss_names_scopes.specs.Scopes.{Scope}
 use Rattle.ss_check_rules.specs.declared.error.CheckError.TheVariants as errors
-use Rattle.ss_program.specs.Program.{Head, Phrase, Statement, Find, Return, Simulate, Skip, Stop, Done}
+use Rattle.ss_program.specs.Program.{Head, Phrase, Statement, Find, Return, Simulate, Stop, Done}
 use Rattle.ss_program.specs.WellTyped.{Scope as Place, Good, GoodHead, GoodPhrase}
 use Rattle.ss_names_meaning.specs.Answers.{◌>>=◌, each}
-use Rattle.ss_names_meaning.specs.Expressions.{expression}
 use Rattle.ss_names_meaning.specs.Heads.{head, phrases_of, resolved_phrase}
 use Rattle.ss_names_meaning.specs.Statements.{simple_statement, statement}
 use Rattle.ss_check_laws.specs.Links.{IsLinked, Kept}
@@ -30,7 +29,7 @@ module _ (s : Scope) (g : Place) where
   over_head over f h good =
       let x : GoesWell (GoodHead g) (head s over) = (h.0, h.1, h.2) in
       let ps : GoesWell (Every (GoodPhrase g)) (each (resolved_phrase s) (phrases_of over)) = (h.3, h.4, h.5) in
-      after_two (Good g) (head s over) (each (resolved_phrase s) (phrases_of over)) f x ps good
+      after_two (Good g) _ _ f x ps good
 
   -- a statement without statements in it resolves, and is well typed
   abbrev pub AloneResolves : StatementTree → Type 0
@@ -66,4 +65,4 @@ module _ (s : Scope) (g : Place) (linked : IsLinked s g) where
   alone_resolves (cancel_statement line name called) k = cancel_resolves s g linked line name called k
   alone_resolves (reset_statement line targets) k = reset_resolves s g linked line targets k
   alone_resolves (print_statement line items pictures) k = print_resolves s g linked line items pictures k
-  alone_resolves (skip_statement line e) k = after_one (Good g) (expression s e) (λ x. Skip line x) (number_kept s g linked line e k) (λ x h. h)
+  alone_resolves (skip_statement line e) k = after_one (Good g) _ _ (number_kept s g linked line e k) (λ x h. h)

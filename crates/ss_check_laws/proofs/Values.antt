@@ -26,12 +26,12 @@ use Rattle.ss_check_rules.specs.Counts.{is_given, is_yielded}
 use Rattle.ss_check_rules.specs.Kinds.{if_means, is_routine}
 use Rattle.ss_check_rules.specs.Modes.{given_mode, mode_said, yielded_mode}
 use Rattle.ss_check_rules.specs.Refusal.{unless}
-use Rattle.ss_program.specs.Program.{Statement, Let, Change, Call, Read, Target}
+use Rattle.ss_program.specs.Program.{Statement, Change, Call, Target}
 use Rattle.ss_program.specs.WellTyped.{Scope as Place, HasMode, TakesMode, Good}
-use Rattle.ss_names_meaning.specs.Answers.{◌>>=◌, each, upto}
+use Rattle.ss_names_meaning.specs.Answers.{◌>>=◌, upto}
 use Rattle.ss_names_meaning.specs.Expressions.{expression, target}
 use Rattle.ss_names_meaning.specs.Resolved.{local_mode, local_modes}
-use Rattle.ss_names_meaning.specs.Statements.{call_of, reader, routine_named, routine_number, simple_statement}
+use Rattle.ss_names_meaning.specs.Statements.{reader, routine_number, simple_statement}
 use Rattle.ss_names_laws.proofs.Steps.{numbers_at, upto_length}
 use Rattle.ss_check_laws.specs.Links.{IsLinked, IsRoutineAt, Kept}
 use Rattle.ss_check_laws.proofs.Steps.{GoesWell, agree, each_resolves, holds_unless, two_parts}
@@ -99,14 +99,14 @@ module _ (s : Scope) (g : Place) (linked : IsLinked s g) (line : Line) where
       let p = two_parts s g.is_main (uses.in_target line (uses.mode_of e) n) (uses.in_expression line false e) k in
       let y = expressions_resolve s g linked line false e p.1 in
       let value : GoesWell (λ v. HasMode g v y.1) (expression s e) = (y.0, y.2, y.3) in
-      after_two (Good g) (target s n) (expression s e) (λ x v. Let line x v) (takes_value (uses.mode_of e) y.1 n y.4 p.0) value (λ x v h f. (y.1, h, f))
+      after_two (Good g) _ _ _ (takes_value (uses.mode_of e) y.1 n y.4 p.0) value (λ x v h f. (y.1, h, f))
 
   -- ADD and SUBTRACT
   pub change_resolves : (sign : Sign) (e : ExpressionTree) (n : NamedTree) → Kept s g.is_main (uses.in_expression line true e ++ uses.in_named line roles.Target true n) →
       GoesWell (Good g) (expression s e >>= λ v. target s n >>= λ x. Some (Change line sign x v))
   change_resolves sign e n k =
       let p = two_parts s g.is_main (uses.in_expression line true e) (uses.in_named line roles.Target true n) k in
-      after_two (Good g) (expression s e) (target s n) (λ v x. Change line sign x v) (number_kept s g linked line e p.0) (takes_number n p.1) (λ v x h f. (f, h))
+      after_two (Good g) _ _ _ (number_kept s g linked line e p.0) (takes_number n p.1) (λ v x h f. (f, h))
 
   reader_resolves : (n : NamedTree) → Kept s g.is_main (uses.in_named line roles.Target false n) → GoesWell (λ (x : Target). TakesMode g x.place x.mode) (reader s n)
   reader_resolves n k =
@@ -116,8 +116,7 @@ module _ (s : Scope) (g : Place) (linked : IsLinked s g) (line : Line) where
   pub read_resolves : (ns : List NamedTree) → Kept s g.is_main (uses.in_all_named line roles.Target ns) → GoesWell (Good g) (simple_statement s (read_statement line ns))
   unfolding simple_statement
   read_resolves ns k =
-      after_one (Good g) (each (reader s) ns) (λ xs. Read line xs)
-      (each_resolves s g.is_main (reader s) (uses.in_named line roles.Target false) (λ (x : Target). TakesMode g x.place x.mode) reader_resolves ns k) (λ xs h. h)
+      after_one (Good g) _ _ (each_resolves s g.is_main (reader s) (uses.in_named line roles.Target false) (λ (x : Target). TakesMode g x.place x.mode) reader_resolves ns k) (λ xs h. h)
 
   pub call_resolves : (name : NameBytes) (given : List ExpressionTree) (yielding : List NamedTree) → Kept s g.is_main (uses.in_call line name given yielding) →
       GoesWell (Good g) (simple_statement s (call_statement line name given yielding))
@@ -140,10 +139,8 @@ module _ (s : Scope) (g : Place) (linked : IsLinked s g) (line : Line) where
       (ap (λ (o : Option RoutineSection). yielded_mode s o i) entry.2 ∙ parameter_there s g meant.0 known r (known.given + i) m (sym (after_first known.given i r.modes) ∙ f)) h)
       (omega (arith, more, r.enough, length-drop known.given r.modes)) p.1 in
       let made : Statement = Call line meant.0 xs.0 ys.0 in
-      after (Good g) (routine_named s name) (λ (routine : ℕ × RoutineSection). each (expression s) given >>= λ us. each (target s) yielding >>= λ vs. call_of line routine.0 routine.1 us vs)
-      (meant.0, known) (routine_found (value_for s.table.meanings name) (values_of s.table.routines) meant.0 known meant.1 entry.1)
-      (after (Good g) (each (expression s) given) (λ us. each (target s) yielding >>= λ vs. call_of line meant.0 known us vs) xs.0 xs.1
-      (after (Good g) (each (target s) yielding) (λ vs. call_of line meant.0 known xs.0 vs) ys.0 ys.1 (
+      after {A = ℕ × RoutineSection} (Good g) _ _ (meant.0, known) (routine_found (value_for s.table.meanings name) (values_of s.table.routines) meant.0 known meant.1 entry.1)
+      (after (Good g) _ _ xs.0 xs.1 (after (Good g) _ _ ys.0 ys.1 (
         made,
         holds ((length xs.0 == known.given) && (length ys.0 == known.yielding)) made
             (both_same (length xs.0) (length ys.0) known.given known.yielding (xs.2.0 ∙ some) (ys.2.0 ∙ more)),
