@@ -1,7 +1,7 @@
 -- The event routines of a program that breaks no rule.
-use Rattle.std.proofs.Common.{◌≡◌, ◌≢◌, ℕ, zero, suc, ◌+◌, ◌<◌, ◌≤◌, Bool, true, false, not, List, [], ◌∷◌, length, get_or, take, map, flat_map, slice_get, option_map, Option, Some, None, is_some, IfSome, refl, sym, ap, subst, subst₂, ◌∙◌, nat_eq, nat_le, add-zero, take-append-drop, length-take, get_or-take, arith}
+use Rattle.std.proofs.Common.{◌≡◌, ◌≢◌, ℕ, zero, suc, ◌+◌, ◌<◌, ◌≤◌, Bool, true, false, List, [], ◌∷◌, length, get_or, take, map, flat_map, slice_get, option_map, Option, Some, None, is_some, IfSome, refl, sym, ap, subst, subst₂, ◌∙◌, nat_eq, nat_le, add-zero, take-append-drop, length-take, get_or-take, arith}
 use Rattle.std.specs.List.{AllByRecursion as Every, list_any}
-use Rattle.std.specs.Map.{keys_of, values_of}
+use Rattle.std.specs.Map.{keys_of}
 use Rattle.std.proofs.lemmas.Bool.{and_parts, leb-true}
 use Rattle.std.proofs.lemmas.List.{length-take-le}
 use Rattle.std.proofs.lemmas.Map.Entries.{length-keys_of}
@@ -10,7 +10,7 @@ use Rattle.ss_base.specs.declared.line.Line.{Line}
 use Rattle.ss_base.specs.declared.layout.ClassKind.{ClassKind}
 use Rattle.ss_base.specs.declared.layout.ClassKind.TheVariants as kinds
 use Rattle.ss_base.specs.declared.layout.Mode.{Mode}
-use Rattle.ss_base.specs.declared.layout.Mode.TheVariants.{Integer, Alpha}
+use Rattle.ss_base.specs.declared.layout.Mode.TheVariants.{Integer}
 use Rattle.ss_base.specs.declared.layout.RankKey.{RankKey}
 use Rattle.ss_base.specs.Layout.{is_layout, is_sound}
 use Rattle.ss_base.specs.Plain.{PlainClass, PlainLayout}
@@ -36,35 +36,28 @@ use Rattle.ss_program.specs.declared.statement.CountedClass.{CountedClass}
 use Rattle.ss_program.specs.Program.{Done, Event, Program}
 use Rattle.ss_program.specs.WellTyped.{GoodBlock, GoodEvent, GoodKeys, IsPlain}
 use Rattle.ss_check_rules.specs.Counts.{has_attributes, suits_count}
-use Rattle.ss_check_rules.specs.Modes.{attribute_mode, differ, field_mode as mode_of_field, mode_meant, mode_of_attribute, mode_said}
-use Rattle.ss_check_rules.specs.Refusal.{eventless, eventless_of, in_preamble, is_main, unless, use_breaks}
-use Rattle.ss_check_rules.specs.declared.error.CheckError.{CheckError}
+use Rattle.ss_check_rules.specs.Modes.{attribute_mode, field_mode as mode_of_field, mode_meant, mode_of_attribute, mode_said}
+use Rattle.ss_check_rules.specs.Refusal.{eventless, eventless_of, in_preamble, is_main, use_breaks}
 use Rattle.ss_check_rules.specs.declared.error.CheckError.TheVariants as errors
 use Rattle.ss_names_meaning.specs.Answers.{◌>>=◌, each, upto}
 use Rattle.ss_names_meaning.specs.Layouts.{ResolvedLayout, class_laid, disciplines, field_mode, layout, set_laid, statistics, tie_keys}
 use Rattle.ss_names_meaning.specs.Resolved.{Parts, class_variable, event_from, event_of_class, local_mode, local_modes, saved}
 use Rattle.ss_names_laws.specs.ValidTables.{IsNamedClass, parameters_of}
-use Rattle.ss_check_laws.proofs.EachStep.{each_there, got, numbers_at, numbers_length, results, zip_at, zip_every}
-use Rattle.ss_check_laws.proofs.EveryItem.{every_at, every_empty, every_first, every_parts, every_so}
+use Rattle.ss_names_laws.proofs.Each.{at_place, each_empty, every_first, from_places, in_parts}
+use Rattle.ss_names_laws.proofs.Items.{at_item}
+use Rattle.ss_names_laws.proofs.Parts.{class_parts, numbers_length}
+use Rattle.ss_names_laws.proofs.Results.{each_made}
+use Rattle.ss_names_laws.proofs.Steps.{each_at, got, numbers_at}
+use Rattle.ss_check_laws.proofs.Steps.{agree, holds_unless}
 use Rattle.ss_check_laws.proofs.Ranks.{IsNotice, notice_is_ranked, ranks_are_notices}
 use Rattle.ss_check_laws.proofs.Routines.{IsUnbroken, IsWhole, Keeps, body_good, laid_with, none_listed, preamble_kept, program_with, section, section_modes, section_valid, uses_kept}
 use Rattle.ss_check_laws.proofs.TableSections.{ClassesFit, classes_declared, events_quiet, every_declared, head_of}
 
 -- ---- steps
 
-pub allowed : (b : Bool) (breach : CheckError) → unless b breach ≡ None → b ≡ true
-allowed true breach e = refl
-allowed false breach e = absurd (none-some breach (sym e))
-
 some_there : {A : Type 0} (o : Option A) → is_some o ≡ true → (x : A) × (o ≡ Some x)
 some_there None e = absurd cc
 some_there (Some x) e = (x, refl)
-
-same_modes : (a b : Mode) (breach : CheckError) → unless (not (differ (Some a) (Some b))) breach ≡ None → a ≡ b
-same_modes Integer Integer breach e = refl
-same_modes Integer Alpha breach e = absurd (none-some breach (sym e))
-same_modes Alpha Integer breach e = absurd (none-some breach (sym e))
-same_modes Alpha Alpha breach e = refl
 
 equal_takes : {A : Type 0} (n : ℕ) (xs ys : List A) → ((i : ℕ) → i < n → (z : A) × (slice_get xs i ≡ Some z) × (slice_get ys i ≡ Some z)) → take n xs ≡ take n ys
 equal_takes zero xs ys h = refl
@@ -79,10 +72,10 @@ equal_takes (suc n) (x ∷ xs) (y ∷ ys) h =
 places_at : {A : Type 0} (P : Use → Type 0) (f : ℕ → A → List Use) (n : ℕ) (xs : List A) (i : ℕ) (x : A) → Every P (uses.in_places f n xs) → slice_get xs i ≡ Some x → Every P (f (n + i) x)
 places_at P f n [] i x h e = absurd (none-some x e)
 places_at P f n (y ∷ xs) zero x h e =
-    subst₂ (λ j z. Every P (f j z)) (sym (add-zero n)) (same_Some y x e) (every_parts P (f n y) (uses.in_places f (n + 1) xs) h).0
+    subst₂ (λ j z. Every P (f j z)) (sym (add-zero n)) (same_Some y x e) (in_parts P (f n y) (uses.in_places f (n + 1) xs) h).0
 places_at P f n (y ∷ xs) (suc i) x h e =
     let next : n + 1 + i ≡ n + suc i = omega arith in
-    subst (λ j. Every P (f j x)) next (places_at P f (n + 1) xs i x (every_parts P (f n y) (uses.in_places f (n + 1) xs) h).1 e)
+    subst (λ j. Every P (f j x)) next (places_at P f (n + 1) xs i x (in_parts P (f n y) (uses.in_places f (n + 1) xs) h).1 e)
 
 field_said : (o : Option Attribute) → mode_of_attribute o ≡ (o >>= λ a. Some a.mode)
 field_said None = refl
@@ -114,10 +107,8 @@ module _ (p : tree.ProgramTree) (x : ResolvedLayout) (k : IsUnbroken p x) where
 
   class_there : (class : ℕ) (name : NameBytes) (kind : ClassKind) → slice_get t.classes class ≡ Some (name, kind) → (c : PlainClass) × (slice_get x.layout.classes class ≡ Some c) × (c.kind ≡ kind)
   class_there class name kind e =
-      let at = numbers_at (class_laid t) (length t.classes) x.layout.classes laid_classes.0 class (slice_get_within t.classes class (name, kind) e) in
-      let known = got (slice_get (values_of t.classes) class) _ at.0 at.2 in
-      let fields = got (each (field_mode t) (get_or t.fields class [])) _ at.0 known.2 in
-      (at.0, at.1, sym (ap (λ (z : PlainClass). z.kind) (same_Some _ at.0 fields.2)) ∙ same_Some known.0 kind (sym known.1 ∙ value_at t.classes class name kind e))
+      let at = numbers_at (class_laid t) (length t.classes) x.layout.classes class laid_classes.0 (slice_get_within t.classes class (name, kind) e) in
+      (at.0, at.1, same_Some at.0.kind kind (sym (class_parts t class at.0 at.2).0 ∙ value_at t.classes class name kind e))
 
   -- a class of notices is in the order of rank
   pub class_is_ranked : (class : ℕ) (c : PlainClass) → slice_get x.layout.classes class ≡ Some c → c.kind ≡ kinds.Notice → list_any (nat_eq class) t.ranks ≡ true
@@ -135,7 +126,7 @@ module _ (p : tree.ProgramTree) (x : ResolvedLayout) (k : IsUnbroken p x) where
   HasEvent name kind = kind ≡ kinds.Notice → is_some (value_for t.events name) ≡ true
 
   has_event : (line : Line) (name : NameBytes) → eventless t line name ≡ [] → is_some (value_for t.events name) ≡ true
-  has_event line name e = allowed (is_some (value_for t.events name)) (errors.NoEventRoutine line) (none_listed _ e)
+  has_event line name e = holds_unless (is_some (value_for t.events name)) (errors.NoEventRoutine line) (none_listed _ e)
 
   class_has_event : (line : Line) (kind : ClassKind) (name : NameBytes) → eventless_of t line kind name ≡ [] → HasEvent name kind
   class_has_event line kinds.Notice name e f = has_event line name e
@@ -144,12 +135,12 @@ module _ (p : tree.ProgramTree) (x : ResolvedLayout) (k : IsUnbroken p x) where
 
   have_events : (s : tree.PreambleTree) → in_preamble t s ≡ [] → ClassesFit HasEvent s
   have_events (tree.event_notices line names) e =
-      every_so (λ name. eventless t line name ≡ []) (λ name. HasEvent name kinds.Notice) names (λ name f g. has_event line name f) (every_empty (eventless t line) names e)
+      λ name a f. has_event line name (at_item (λ z. eventless t line z ≡ []) names name (each_empty (eventless t line) names e) a)
   have_events (tree.every line kind class clauses) e = class_has_event line kind class e
   have_events _ e = tt
 
   all_have_events : Every (λ (e : NameBytes × ClassKind). HasEvent e.0 e.1) t.classes
-  all_have_events = classes_declared HasEvent p (λ i s e. have_events s (every_at (λ z. in_preamble t z ≡ []) p.preamble i s (preamble_kept p x k) e))
+  all_have_events = classes_declared HasEvent p (λ i s e. have_events s (at_place (λ z. in_preamble t z ≡ []) p.preamble i s (preamble_kept p x k) e))
 
   -- its class, what it is given, and whether it saves its notice
   abbrev pub IsEventSection : NameBytes × EventSection → Type 0
@@ -162,7 +153,7 @@ module _ (p : tree.ProgramTree) (x : ResolvedLayout) (k : IsUnbroken p x) where
   event_head n s (tree.event name given saving) e f = ((s, given, e, f, refl), tt)
 
   of_events : Every IsEventSection t.events
-  of_events = every_first IsEventSection [] (given_by event_by (declarations p)) tt (every_declared IsEventSection event_by events_quiet p (λ n s e. event_head n s s.kind e refl))
+  of_events = every_first IsEventSection (given_by event_by (declarations p)) (every_declared IsEventSection event_by events_quiet p (λ n s e. event_head n s s.kind e refl))
 
   -- a class of notices with its EVENT section
   pub record HasSection (class : ℕ) : Type 0 where
@@ -179,10 +170,10 @@ module _ (p : tree.ProgramTree) (x : ResolvedLayout) (k : IsUnbroken p x) where
       let c = class_there class h.0 kinds.Notice h.1 in
       let n = k.valid.classes class c.0 c.1 in
       let same : h.0 ≡ n.name = same_Some h.0 n.name (sym (key_at t.classes class h.0 kinds.Notice h.1) ∙ n.there) in
-      let event = every_at (λ (e : NameBytes × ClassKind). HasEvent e.0 e.1) t.classes class (h.0, kinds.Notice) all_have_events h.1 refl in
+      let event = at_place (λ (e : NameBytes × ClassKind). HasEvent e.0 e.1) t.classes class (h.0, kinds.Notice) all_have_events h.1 refl in
       let known = some_there (value_for t.events n.name) (subst (λ name. is_some (value_for t.events name) ≡ true) same event) in
       let at = place_of_value t.events n.name known.0 known.1 in
-      record { laid = c.0; there = c.1; notice = c.2; named = n; known = known.0; event = known.1; section = every_at IsEventSection t.events at.0 (n.name, known.0) of_events at.1.1 }
+      record { laid = c.0; there = c.1; notice = c.2; named = n; known = known.0; event = known.1; section = at_place IsEventSection t.events at.0 (n.name, known.0) of_events at.1.1 }
 
   pub event_kept : (n : ℕ) (s : tree.SectionTree) (name : NameBytes) (given : List NameBytes) (saving : Bool) → slice_get p.sections n ≡ Some s → s.kind ≡ tree.event name given saving → Keeps p x k s (uses.in_event s.line name given)
   event_kept n s name given saving e f = subst (λ kind. Keeps p x k s (uses.in_kind s.line kind)) f (uses_kept p x k n s e).0
@@ -210,7 +201,7 @@ module _ (p : tree.ProgramTree) (x : ResolvedLayout) (k : IsUnbroken p x) where
 
     -- it is given no more than the class has attributes
     limit : nat_le (length given) (length (get_or t.fields class [])) ≡ true
-    limit = sym (ap (has_attributes t (length given)) placed) ∙ allowed (suits_count t (length given) (counts.Attributes name)) (errors.Arguments s.line) head.1.0
+    limit = sym (ap (has_attributes t (length given)) placed) ∙ holds_unless (suits_count t (length given) (counts.Attributes name)) (errors.Arguments s.line) head.1.0
 
     -- what it is given in a place has the mode of the attribute in that place
     mode_given : (ms : List Mode) → local_modes (locals_of t s) ≡ Some ms → take (length given) (keys_of (locals_of t s)) ≡ given → length given ≤ length (locals_of t s) →
@@ -224,20 +215,19 @@ module _ (p : tree.ProgramTree) (x : ResolvedLayout) (k : IsUnbroken p x) where
         slice_get-get_or (keys_of locals) i g.0 (omega (arith, length-keys_of locals))
         ∙ ap Some (sym (get_or-take (length given) (keys_of locals) i g.0 lt) ∙ ap (λ l. get_or l i g.0) first ∙ get_or_from_slice_get given i g.0 g.0 g.1) in
         let entry = entry_of_key locals i g.0 key in
-        let mode = numbers_at (local_mode locals) (length locals) ms moded i (omega arith) in
+        let mode = numbers_at (local_mode locals) (length locals) ms i moded (omega arith) in
         let known : entry.0 ≡ Some mode.0 = sym (ap (λ (o : Option (Option Mode)). o >>= λ z. z) (value_at locals i g.0 entry.0 entry.1)) ∙ mode.2 in
         let place = place_from locals i g.0 entry.0 once entry.1 in
         let value = value_from_place locals i g.0 entry.0 once entry.1 in
         let named : mode_said sc (modes.Named g.0) ≡ Some mode.0 =
         (λ j. mode_meant (hidden_by locals g.0 (place j) (value_for t.meanings g.0))) ∙ ap (λ (o : Option (Option Mode)). Some (known_mode o)) (value ∙ ap Some known) in
         let a = there (get_or t.fields class []) i (omega (arith, leb-true (length given) (length (get_or t.fields class [])) limit)) in
-        let field = zip_at (λ z y. field_mode t z ≡ Some y) (get_or t.fields class []) n.laid.fields i a.0 (results (field_mode t) (get_or t.fields class []) n.laid.fields n.named.fields) a.1 in
+        let field = each_at (field_mode t) (get_or t.fields class []) n.laid.fields i a.0 n.named.fields a.1 in
         let attribute : mode_said sc (modes.Attribute name i) ≡ Some field.0 = ap (λ o. attribute_mode t o i) placed ∙ ap (mode_of_field t) a.1 ∙ field_said (value_for t.attributes a.0) ∙ field.2 in
         let same_place : 0 + i ≡ i = omega arith in
-        let places = every_parts holds (map (uses.parameter s.line) given) (uses.in_places (uses.as_attribute s.line name) 0 given) head.1.1 in
+        let places = in_parts holds (map (uses.parameter s.line) given) (uses.in_places (uses.as_attribute s.line name) 0 given) head.1.1 in
         let used = subst (λ j. Every holds (uses.as_attribute s.line name j g.0)) same_place (places_at holds (uses.as_attribute s.line name) 0 given i g.0 places.1 g.1) in
-        let same : mode.0 ≡ field.0 =
-        same_modes mode.0 field.0 (errors.Mode s.line) (subst₂ (λ (z w : Option Mode). unless (not (differ z w)) (errors.Mode s.line) ≡ None) named attribute used.0) in
+        let same = agree (mode_said sc (modes.Named g.0)) (mode_said sc (modes.Attribute name i)) mode.0 field.0 (errors.Mode s.line) used.0 named attribute in
         (mode.0, mode.1, field.1 ∙ ap Some (sym same))
 
     modes_given : (ms : List Mode) → local_modes (locals_of t s) ≡ Some ms → (length given ≤ length ms) × (take (length given) ms ≡ take (length given) n.laid.fields)
@@ -288,12 +278,11 @@ module _ (p : tree.ProgramTree) (x : ResolvedLayout) (k : IsUnbroken p x) where
 
   pub event_there : (i class : ℕ) → slice_get t.ranks i ≡ Some class →
       (e : Event) × (event_from t (section p x k) class ≡ Some e) × (e.class ≡ class) × ((q : Program) → IsWhole p x k q → GoodEvent q e)
-  event_there i class e = event_made class (has_section class (every_at (IsNotice t.classes) t.ranks i class (ranks_are_notices (declarations p)) e))
+  event_there i class e = event_made class (has_section class (at_place (IsNotice t.classes) t.ranks i class (ranks_are_notices (declarations p)) e))
 
-  pub events_there : (es : List Event) × (each (event_from t (section p x k)) t.ranks ≡ Some es)
-  events_there = each_there (event_from t (section p x k)) t.ranks (λ i class e. let r = event_there i class e in (r.0, r.1))
-
-  pub events_good : (q : Program) → IsWhole p x k q → each (event_from t (section p x k)) t.ranks ≡ Some q.events → Every (GoodEvent q) q.events
-  events_good q b h =
-      zip_every (λ class y. event_from t (section p x k) class ≡ Some y) (GoodEvent q) t.ranks q.events (results (event_from t (section p x k)) t.ranks q.events h)
-      (λ i class e f g. let r = event_there i class f in subst (GoodEvent q) (same_Some r.0 e (sym r.1 ∙ g)) (r.3 q b))
+  pub events_there : (es : List Event) × (each (event_from t (section p x k)) t.ranks ≡ Some es) × Every (λ e. (q : Program) → IsWhole p x k q → GoodEvent q e) es
+  events_there =
+      let good = λ (e : Event). (q : Program) → IsWhole p x k q → GoodEvent q e in
+      let found = each_made (event_from t (section p x k)) good t.ranks (from_places (λ class. (e : Event) × (event_from t (section p x k) class ≡ Some e) × good e) t.ranks (λ i class e.
+      let r = event_there i class e in (r.0, r.1, r.3))) in
+      (found.0, found.1, found.3)

@@ -7,7 +7,6 @@ mod Items
 mod Classes
 mod Conditions
 mod Heads
-pub mod Parts
 mod Parts
 mod Lists
 mod Values
@@ -20,10 +19,8 @@ mod Within
 mod ExpressionSizes
 mod PartSizes
 mod StatementSizes
-mod EveryItem
 mod TableSections
 mod SectionSizes
-mod EachStep
 mod Ranks
 mod Routines
 mod Events

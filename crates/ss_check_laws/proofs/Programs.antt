@@ -1,16 +1,14 @@
 -- A program that breaks no rule has a resolved form, which is well typed.
 use Rattle.std.proofs.Common.{◌≡◌, ℕ, ◌<◌, ◌≤◌, Bool, true, false, cond, List, [], ◌∷◌, length, get_or, map, slice_get, option_map, Option, Some, None, Contains, ⊎_elim, refl, sym, ap, subst, ◌∙◌, nat_eq, arith}
-use Rattle.std.specs.List.{fold, list_all, list_any, position, position_or_len}
+use Rattle.std.specs.List.{AllByRecursion as Every, list_all, list_any, position, position_or_len}
 use Rattle.std.specs.Map.{values_of}
 use Rattle.std.proofs.lemmas.Bool.{both_ways, cases_lt, eqb-true, lt-ltb}
 use Rattle.std.proofs.lemmas.List.Folds.{Any-from_list_any}
 use Rattle.std.proofs.lemmas.List.Sums.{fails_before_first, list_all-from_AllPass, passes_at_first}
-use Rattle.std.proofs.lemmas.Option.{get_or_from_slice_get, none-some, same_Some, slice_get-get_or, slice_get-map, slice_get_within}
+use Rattle.std.proofs.lemmas.Option.{get_or_from_slice_get, same_Some, slice_get-get_or, slice_get-map, slice_get_within}
 use Rattle.ss_base.specs.declared.layout.ClassKind.TheVariants as kinds
-use Rattle.ss_base.specs.Layout.{is_sound}
 use Rattle.ss_base.specs.Plain.{PlainClass, PlainLayout}
 use Rattle.ss_tree.specs.Tree as tree
-use Rattle.ss_names_declarations.specs.Earliest.{comes_before, earlier, earliest}
 use Rattle.ss_names_declarations.specs.Firsts.{value_for}
 use Rattle.ss_names_uses.specs.declared.used.ClassNeed.TheVariants as needs
 use Rattle.ss_names.specs.declared.meaning.Meaning.{Meaning}
@@ -18,7 +16,7 @@ use Rattle.ss_names.specs.declared.meaning.Meaning.TheVariants as m
 use Rattle.ss_names.specs.Table.{Table, table}
 use Rattle.ss_names_scopes.specs.Locals.{Moded, locals_of}
 use Rattle.ss_program.specs.Program.{Event, Program, Routine}
-use Rattle.ss_program.specs.WellTyped.{GoodBlock, WellTyped, kind_of_class}
+use Rattle.ss_program.specs.WellTyped.{GoodBlock, GoodEvent, GoodRoutine, WellTyped, kind_of_class}
 use Rattle.ss_check_rules.specs.declared.error.CheckError.{CheckError}
 use Rattle.ss_check_rules.specs.Kinds.{suits_class}
 use Rattle.ss_check_rules.specs.Order.{order_of}
@@ -29,29 +27,14 @@ use Rattle.ss_names_meaning.specs.Resolved.{Parts, event_from, has_main_kind, is
 use Rattle.ss_names_laws.specs.Laws.{LayoutsAreWellTyped, RoutinesAreThere, SectionsAreValid, TablesAreThere, TablesAreValid}
 use Rattle.ss_check_laws.specs.BodyLaws.{BodiesResolve}
 use Rattle.ss_check_laws.specs.ProgramLaws.{ProgramsResolve}
-use Rattle.ss_check_laws.proofs.EachStep.{mapped_from, results, zip_at}
-use Rattle.ss_check_laws.proofs.Events.{class_is_ranked, event_kept, event_there, events_good, events_there, laid_classes}
-use Rattle.ss_check_laws.proofs.Routines.{IsUnbroken, IsWhole, body_good, laid_with, main_kept, program_with, routines_good, routines_there, section, section_modes}
-
--- ---- nothing is found
-
-never_none : {E : Type 0} (order : E → ℕ × ℕ) (found : E) (es : List E) → fold (earlier order) (Some found) es ≡ None → ⊥
-never_none order found [] h = none-some found (sym h)
-never_none {E} order found (e ∷ es) h = by (comes_before (order e) (order found)) (λ next. never_none order next es) h
-  where
-    by : (b : Bool) → ((next : E) → fold (earlier order) (Some next) es ≡ None → ⊥) → fold (earlier order) (cond b (Some e) (Some found)) es ≡ None → ⊥
-    by true next = next e
-    by false next = next found
-
-nothing_found : {E : Type 0} (order : E → ℕ × ℕ) (es : List E) → earliest order es ≡ None → es ≡ []
-nothing_found order [] h = refl
-nothing_found order (e ∷ es) h = absurd (never_none order e es h)
+use Rattle.ss_names_laws.proofs.Items.{at_item, each_item}
+use Rattle.ss_names_laws.proofs.Kept.{nothing_found}
+use Rattle.ss_names_laws.proofs.Steps.{each_at}
+use Rattle.ss_check_laws.proofs.Steps.{first_holds}
+use Rattle.ss_check_laws.proofs.Events.{class_is_ranked, event_kept, event_there, events_there, laid_classes}
+use Rattle.ss_check_laws.proofs.Routines.{IsUnbroken, IsWhole, body_good, laid_with, main_kept, mapped_from, program_with, routines_there, section, section_modes}
 
 -- ---- steps
-
-opened : {A : Type 0} (b : Bool) (o : Option A) (breach : A) → cond b o (Some breach) ≡ None → b ≡ true
-opened true o breach e = refl
-opened false o breach e = absurd (none-some breach (sym e))
 
 any_main : (b : Bool) (breach : CheckError) → cond b [] (breach ∷ []) ≡ [] → b ≡ true
 any_main true breach e = refl
@@ -111,7 +94,7 @@ module _ (p : tree.ProgramTree) (x : ResolvedLayout) (k : IsUnbroken p x) where
   kind_known n s tree.main e f = refl
   kind_known n s (tree.routine name given yielding) e f = refl
   kind_known n s (tree.event name given saving) e f =
-      let c = notice_found (value_for t.meanings name) (opened (suits_class (value_for t.meanings name) needs.Notice) _ _ (event_kept p x k n s name given saving e f).0) in
+      let c = notice_found (value_for t.meanings name) (first_holds (suits_class (value_for t.meanings name) needs.Notice) _ _ (event_kept p x k n s name given saving e f).0).0 in
       let laid = (k.valid.meanings name (m.Class c.0 kinds.Notice c.1) c.2).0 in
       ap (is_ranked t) (k.valid.numbered name c.0 kinds.Notice c.1 c.2) ∙ class_is_ranked p x k c.0 laid.0 laid.1 laid.2
 
@@ -129,36 +112,36 @@ module _ (p : tree.ProgramTree) (x : ResolvedLayout) (k : IsUnbroken p x) where
         let laid : slice_get x.layout.classes class ≡ Some c.0 = ap (λ (l : PlainLayout). slice_get l.classes class) (sym b.layout.layout) ∙ c.1 in
         let any = Any-from_list_any (nat_eq class) t.ranks (class_is_ranked p x k class c.0 laid c.2) in
         let at : slice_get t.ranks any.0 ≡ Some class = slice_get-get_or t.ranks any.0 any.1 any.2 ∙ ap Some (any.3 ∙ sym (eqb-true class any.1 any.4)) in
-        let event = zip_at (λ n e. event_from t (section p x k) n ≡ Some e) t.ranks q.events any.0 class (results (event_from t (section p x k)) t.ranks q.events made) at in
+        let event = each_at (event_from t (section p x k)) t.ranks q.events any.0 class made at in
         let known = event_there p x k any.0 class at in
         let same : event.0.class ≡ class = ap class_of (same_Some event.0 known.0 (sym event.2 ∙ known.1)) ∙ known.2 in
         let mapped : slice_get (map class_of q.events) any.0 ≡ Some class = slice_get-map class_of q.events any.0 ∙ ap (option_map class_of) event.1 ∙ ap Some same in
         (any.0, slice_get_within (map class_of q.events) any.0 class mapped, get_or_from_slice_get (map class_of q.events) any.0 class class mapped)
 
-    well_typed : GoodBlock (record { program = q; locals = q.locals; is_main = true }) q.main → WellTyped q
-    well_typed main =
-        let laid = k.typed q b.layout in
-        record {
-          sets = ap is_sound b.layout.layout ∙ (laid_classes p x k).1;
-          disciplines = laid.disciplines;
-          counts = laid.counts;
-          statistics = laid.statistics;
-          routines = routines_good p x k q b;
-          events = events_good p x k q b made;
-          served = served;
-          main = main;
-        }
+  -- what holds in each whole program holds in this one
+  in_whole : {A : Type 0} (P : Program → A → Type 0) (q : Program) → IsWhole p x k q → (xs : List A) → Every (λ z. (r : Program) → IsWhole p x k r → P r z) xs → Every (P q) xs
+  in_whole P q b xs h = each_item (P q) xs (λ z a. at_item (λ z. (r : Program) → IsWhole p x k r → P r z) xs z h a q b)
 
   program_resolves : (q : Program) × (resolved t p.sections ≡ Some q) × WellTyped q
   program_resolves =
-      let routines = routines_there p x k (section p x k) (section_modes p x k) in
+      let routines = routines_there p x k in
       let events = events_there p x k in
       let main = main_there in
       let parts = section_modes p x k main.0 main.1 main.2 in
       let q = program_with p x k routines.0 events.0 parts.0.modes parts.0.body in
       let b : IsWhole p x k q = record { layout = laid_with p x k routines.0 events.0 parts.0.modes parts.0.body; routines = routines.1 } in
       let body = subst (λ in_main. GoodBlock (record { program = q; locals = parts.0.modes; is_main = in_main }) parts.0.body) main.4 (body_good p x k q b main.0 main.1 parts.0 main.2 parts.1) in
-      (q, assembled t (map (locals_of t) p.sections) p.sections x routines.0 events.0 main.0 parts.0 k.valid.laid all_known routines.1 events.1 main.3 parts.1, well_typed q b events.1 body)
+      let laid = k.typed q b.layout in
+      (q, assembled t (map (locals_of t) p.sections) p.sections x routines.0 events.0 main.0 parts.0 k.valid.laid all_known routines.1 events.1 main.3 parts.1, record {
+        sets = (laid_classes p x k).1;
+        disciplines = laid.disciplines;
+        counts = laid.counts;
+        statistics = laid.statistics;
+        routines = in_whole GoodRoutine q b routines.0 routines.2;
+        events = in_whole GoodEvent q b events.0 events.2;
+        served = served q b events.1;
+        main = body;
+      })
 
 pub programs_resolve : BodiesResolve → TablesAreThere → TablesAreValid → LayoutsAreWellTyped → SectionsAreValid → RoutinesAreThere → ProgramsResolve
 programs_resolve bodies there valid typed sections routines p declared used =

@@ -12,7 +12,8 @@ use Rattle.ss_names_declarations.specs.declared.declaration.Declared.TheVariants
 use Rattle.ss_names_declarations.specs.declared.declaration.Declaration.{Declaration}
 use Rattle.ss_names_declarations.proofs.Entries.{firsts_once, place_from, value_by_place, value_from_place}
 use Rattle.ss_names.specs.Entries.{class_by, classes, given_by, is_notice, notice_by, notice_number, number_if, priority_by, ranks, with_number}
-use Rattle.ss_check_laws.proofs.EveryItem.{every_append, every_at, every_first, every_flat, every_so}
+use Rattle.ss_names_laws.proofs.Each.{at_place, every_first, every_piece, joined}
+use Rattle.ss_names_laws.proofs.Items.{at_item, each_item}
 
 -- ---- numbers, each once
 
@@ -22,7 +23,7 @@ numbers_every P acc (n ∷ ns) h k = numbers_every P (with_number acc n) ns (by 
   where
     by : (b : Bool) → Every P (cond b acc (acc ++ n ∷ []))
     by true = h
-    by false = every_append P acc (n ∷ []) h (k.0, tt)
+    by false = joined P acc (n ∷ []) h (k.0, tt)
 
 kept : (n : ℕ) (acc ns : List ℕ) → list_any (nat_eq n) acc ≡ true → list_any (nat_eq n) (fold with_number acc ns) ≡ true
 kept n acc [] h = h
@@ -87,19 +88,19 @@ module _ (cs : List (NameBytes × ClassKind)) where
   all_among [] = tt
   all_among (x ∷ ds) =
       let rest = given_by (notice_by cs) ds in
-      every_append (IsAmong (notice_by cs x.what ++ rest)) (class_by x.what) (given_by class_by ds) (one_among x.what rest)
-      (every_so (IsAmong rest) (IsAmong (notice_by cs x.what ++ rest)) (given_by class_by ds)
-      (λ e h class n. list_any-append (nat_eq class) (notice_by cs x.what) rest ∙ or_right (list_any (nat_eq class) (notice_by cs x.what)) (list_any (nat_eq class) rest) (h class n))
-      (all_among ds))
+      joined (IsAmong (notice_by cs x.what ++ rest)) (class_by x.what) (given_by class_by ds) (one_among x.what rest)
+      (each_item (IsAmong (notice_by cs x.what ++ rest)) (given_by class_by ds) (λ e a class n.
+      list_any-append (nat_eq class) (notice_by cs x.what) rest
+      ∙ or_right (list_any (nat_eq class) (notice_by cs x.what)) (list_any (nat_eq class) rest) (at_item (IsAmong rest) (given_by class_by ds) e (all_among ds) a class n)))
 
 module _ (ds : List Declaration) where
   pub ranks_are_notices : Every (IsNotice (classes ds)) (ranks ds)
   ranks_are_notices =
       let cs = classes ds in
       numbers_every (IsNotice cs) [] (given_by (priority_by cs) ds ++ given_by (notice_by cs) ds) tt
-      (every_append (IsNotice cs) (given_by (priority_by cs) ds) (given_by (notice_by cs) ds)
-      (every_flat (IsNotice cs) (λ (x : Declaration). priority_by cs x.what) ds (λ x. priorities cs x.what))
-      (every_flat (IsNotice cs) (λ (x : Declaration). notice_by cs x.what) ds (λ x. notices cs x.what)))
+      (joined (IsNotice cs) (given_by (priority_by cs) ds) (given_by (notice_by cs) ds)
+      (every_piece (IsNotice cs) (λ (x : Declaration). priority_by cs x.what) ds (λ x a. priorities cs x.what))
+      (every_piece (IsNotice cs) (λ (x : Declaration). notice_by cs x.what) ds (λ x a. notices cs x.what)))
 
   pub notice_is_ranked : (class : ℕ) → IsNotice (classes ds) class → list_any (nat_eq class) (ranks ds) ≡ true
   notice_is_ranked class h =
@@ -110,5 +111,5 @@ module _ (ds : List Declaration) where
       let value = value_from_place cs class h.0 Notice once h.1 in
       let place = place_from cs class h.0 Notice once h.1 in
       let number : notice_number cs h.0 ≡ class ∷ [] = λ i. cond (is_notice (value i)) (number_if (place i)) [] in
-      let among = every_at (IsAmong cs rest) cs class (h.0, Notice) (every_first (IsAmong cs rest) [] (given_by class_by ds) tt (all_among cs ds)) h.1 in
+      let among = at_place (IsAmong cs rest) cs class (h.0, Notice) (every_first (IsAmong cs rest) (given_by class_by ds) (all_among cs ds)) h.1 in
       taken class [] (first ++ rest) (list_any-append (nat_eq class) first rest ∙ or_right (list_any (nat_eq class) first) (list_any (nat_eq class) rest) (among class number))

@@ -2,7 +2,7 @@
 use Rattle.std.proofs.Common.{◌≡◌, ℕ, ◌+◌, ◌≤◌, Bool, false, List, [], ◌++◌, length, map, take, drop, slice_get, option_map, flat_map, Option, Some, None, refl, sym, ap, subst, subst₂, ◌∙◌, take-append-drop, arith}
 use Rattle.std.specs.List.{AllByRecursion as Every}
 use Rattle.std.specs.Map.{values_of}
-use Rattle.std.proofs.lemmas.Option.{same_Some, slice_get-map}
+use Rattle.std.proofs.lemmas.Option.{none-some, same_Some, slice_get-map}
 use Rattle.ss_base.specs.declared.layout.Mode.{Mode}
 use Rattle.ss_tree.specs.Names.{NameBytes}
 use Rattle.ss_tree.specs.Tree as tree
@@ -23,10 +23,14 @@ use Rattle.ss_names_meaning.specs.Layouts.{ResolvedLayout}
 use Rattle.ss_names_meaning.specs.Resolved.{Parts, body_with, local_mode, local_modes, parts_with_locals, routine_from, routine_of}
 use Rattle.ss_names_laws.specs.Laws.{HasLayout, IsWellLaid}
 use Rattle.ss_names_laws.specs.ValidTables.{HasRoutines, IsValidSection, IsValidTable}
+use Rattle.ss_names_laws.proofs.Each.{at_place, each_empty, every_first, from_places, in_parts}
+use Rattle.ss_names_laws.proofs.Items.{at_item, each_item}
+use Rattle.ss_names_laws.proofs.Kept.{both_empty}
+use Rattle.ss_names_laws.proofs.Parts.{numbers_length}
+use Rattle.ss_names_laws.proofs.Results.{each_made}
+use Rattle.ss_names_laws.proofs.Steps.{each_at}
 use Rattle.ss_check_laws.specs.BodyLaws.{BodiesResolve}
 use Rattle.ss_check_laws.specs.Links.{IsLinked, Kept}
-use Rattle.ss_check_laws.proofs.EachStep.{each_there, mapped_from, numbers_length, results, zip_at, zip_every}
-use Rattle.ss_check_laws.proofs.EveryItem.{both_empty, every_at, every_empty, every_first, every_parts, every_so}
 use Rattle.ss_check_laws.proofs.TableSections.{every_declared, head_of, routines_quiet}
 
 -- what is known of a program that breaks no rule
@@ -43,6 +47,10 @@ pub record IsUnbroken (p : tree.ProgramTree) (x : ResolvedLayout) : Type 0 where
 pub none_listed : {A : Type 0} (o : Option A) → as_list o ≡ [] → o ≡ None
 none_listed None e = refl
 none_listed (Some x) e = absurd cc
+
+pub mapped_from : {A B : Type 0} (f : A → B) (o : Option A) (b : B) → option_map f o ≡ Some b → (a : A) × (o ≡ Some a) × (f a ≡ b)
+mapped_from f None b e = absurd (none-some b e)
+mapped_from f (Some a) b e = (a, refl, same_Some (f a) b e)
 
 resolved_part : (t : Table) (all : List Moded) (sections : List tree.SectionTree) (n : ℕ) (s : tree.SectionTree) (locals : Moded) (modes : List Mode) (body : Block) → slice_get sections n ≡ Some s → slice_get all n ≡ Some locals →
     local_modes locals ≡ Some modes → body_with t all locals s ≡ Some body → parts_with_locals t all sections n ≡ Some (record { line = s.line; modes = modes; body = body })
@@ -68,7 +76,7 @@ module _ (p : tree.ProgramTree) (x : ResolvedLayout) (k : IsUnbroken p x) where
   after_preamble = both_empty (flat_map (in_preamble t) p.preamble) (in_program p.sections ++ flat_map (in_section t p.sections) p.sections) k.kept
 
   pub preamble_kept : Every (λ s. in_preamble t s ≡ []) p.preamble
-  preamble_kept = every_empty (in_preamble t) p.preamble after_preamble.0
+  preamble_kept = each_empty (in_preamble t) p.preamble after_preamble.0
 
   in_sections : (in_program p.sections ≡ []) × (flat_map (in_section t p.sections) p.sections ≡ [])
   in_sections = both_empty (in_program p.sections) (flat_map (in_section t p.sections) p.sections) after_preamble.1
@@ -81,10 +89,10 @@ module _ (p : tree.ProgramTree) (x : ResolvedLayout) (k : IsUnbroken p x) where
 
   section_kept : (n : ℕ) (s : tree.SectionTree) → slice_get p.sections n ≡ Some s → Keeps s (uses.uses s)
   section_kept n s e =
-      let here = every_at (λ z. in_section t p.sections z ≡ []) p.sections n s (every_empty (in_section t p.sections) p.sections in_sections.1) e in
+      let here = at_place (λ z. in_section t p.sections z ≡ []) p.sections n s (each_empty (in_section t p.sections) p.sections in_sections.1) e in
       let sc = scope_of t p.sections s in
-      every_so (λ u. breaks sc (is_main s.kind) u ≡ []) (λ u. use_breaks sc (is_main s.kind) u ≡ None) (uses.uses s)
-      (λ u f. none_listed (use_breaks sc (is_main s.kind) u) f) (every_empty (breaks sc (is_main s.kind)) (uses.uses s) here)
+      each_item (λ u. use_breaks sc (is_main s.kind) u ≡ None) (uses.uses s)
+      (λ u a. none_listed (use_breaks sc (is_main s.kind) u) (at_item (λ v. breaks sc (is_main s.kind) v ≡ []) (uses.uses s) u (each_empty (breaks sc (is_main s.kind)) (uses.uses s) here) a))
 
   -- the head of a section, and its statements
   pub uses_kept : (n : ℕ) (s : tree.SectionTree) → slice_get p.sections n ≡ Some s → Keeps s (uses.in_kind s.line s.kind) × Keeps s (uses.in_body s.body)
@@ -92,11 +100,11 @@ module _ (p : tree.ProgramTree) (x : ResolvedLayout) (k : IsUnbroken p x) where
       let holds = λ (u : Use). use_breaks (scope_of t p.sections s) (is_main s.kind) u ≡ None in
       let head = uses.in_kind s.line s.kind in
       let definitions = flat_map uses.in_definition s.definitions in
-      let parts = every_parts holds (head ++ definitions) (uses.in_body s.body) (section_kept n s e) in
-      ((every_parts holds head definitions parts.0).0, parts.1)
+      let parts = in_parts holds (head ++ definitions) (uses.in_body s.body) (section_kept n s e) in
+      ((in_parts holds head definitions parts.0).0, parts.1)
 
   pub section_valid : (n : ℕ) (s : tree.SectionTree) → slice_get p.sections n ≡ Some s → IsValidSection t s.kind (locals_of t s)
-  section_valid n s e = every_at (λ (z : tree.SectionTree). IsValidSection t z.kind (locals_of t z)) p.sections n s k.sections e
+  section_valid n s e = at_place (λ (z : tree.SectionTree). IsValidSection t z.kind (locals_of t z)) p.sections n s k.sections e
 
   -- ---- routines, by a function that resolves each section
 
@@ -109,7 +117,7 @@ module _ (p : tree.ProgramTree) (x : ResolvedLayout) (k : IsUnbroken p x) where
     locals : Moded
     parts : Parts
     there : slice_get all known.section ≡ Some locals
-    made : routine_from section known ≡ Some (routine_of known.given known.yielding parts)
+    resolved : section known.section ≡ Some parts
     modes : local_modes locals ≡ Some parts.modes
     enough : known.given + known.yielding ≤ length parts.modes
 
@@ -121,18 +129,22 @@ module _ (p : tree.ProgramTree) (x : ResolvedLayout) (k : IsUnbroken p x) where
       let modes : local_modes r.0 ≡ Some parts.0.modes = subst (λ l. local_modes l ≡ Some parts.0.modes) s.2 parts.2 in
       let count = numbers_length (local_mode r.0) (length r.0) parts.0.modes modes in
       let enough = r.2 in
-      record {
-        locals = r.0;
-        parts = parts.0;
-        there = r.1;
-        made = ap (λ (o : Option Parts). o >>= λ found. Some (routine_of known.given known.yielding found)) parts.1;
-        modes = modes;
-        enough = omega arith;
-      }
+      record { locals = r.0; parts = parts.0; there = r.1; resolved = parts.1; modes = modes; enough = omega arith }
 
-  pub routines_there : (section : ℕ → Option Parts) → HasModes section → (rs : List Routine) × (each (routine_from section) (values_of t.routines) ≡ Some rs)
-  routines_there section m =
-      each_there (routine_from section) (values_of t.routines) (λ i known e. let r = has_routine section m i known e in (routine_of known.given known.yielding r.parts, r.made))
+  -- the routine with this section
+  abbrev made : RoutineSection → Parts → Routine
+  made known parts = routine_of known.given known.yielding parts
+
+  is_made : (section : ℕ → Option Parts) (known : RoutineSection) (parts : Parts) → section known.section ≡ Some parts → routine_from section known ≡ Some (made known parts)
+  is_made section known parts e = ap (λ (o : Option Parts). o >>= λ found. Some (made known found)) e
+
+  routines_made : (section : ℕ → Option Parts) (m : HasModes section) (Q : Routine → Type 0) →
+      ((i : ℕ) (known : RoutineSection) (e : slice_get (values_of t.routines) i ≡ Some known) → Q (made known (has_routine section m i known e).parts)) →
+      (rs : List Routine) × (each (routine_from section) (values_of t.routines) ≡ Some rs) × Every Q rs
+  routines_made section m Q h =
+      let found = each_made (routine_from section) Q (values_of t.routines) (from_places (λ known. (r : Routine) × (routine_from section known ≡ Some r) × Q r) (values_of t.routines) (λ i known e.
+      let r = has_routine section m i known e in (made known r.parts, is_made section known r.parts r.resolved, h i known e))) in
+      (found.0, found.1, found.3)
 
   -- a program with the layout and these routines
   pub record IsBuilt (section : ℕ → Option Parts) (q : Program) : Type 0 where
@@ -152,13 +164,12 @@ module _ (p : tree.ProgramTree) (x : ResolvedLayout) (k : IsUnbroken p x) where
     hides = v.hides;
     routines = λ i known e.
         let r = has_routine section m i known e in
-        let routine = routine_of known.given known.yielding r.parts in
-        let at = zip_at (λ a y. routine_from section a ≡ Some y) (values_of t.routines) q.routines i known (results (routine_from section) (values_of t.routines) q.routines b.routines) e in
+        let at = each_at (routine_from section) (values_of t.routines) q.routines i known b.routines e in
         record {
-          routine = routine;
+          routine = made known r.parts;
           locals = r.locals;
           modes = r.parts.modes;
-          there = at.1 ∙ sym at.2 ∙ r.made;
+          there = at.1 ∙ sym at.2 ∙ is_made section known r.parts r.resolved;
           section = r.there;
           moded = r.modes;
           given = refl;
@@ -215,8 +226,11 @@ module _ (p : tree.ProgramTree) (x : ResolvedLayout) (k : IsUnbroken p x) where
   pub laid_with : (routines : List Routine) (events : List Event) (locals : List Mode) (main : Block) → HasLayout x (program_with routines events locals main)
   laid_with routines events locals main = record { layout = refl; disciplines = refl; globals = refl; counts = refl; statistics = refl }
 
-  outline_built : IsBuilt sketch (program_with (routines_there sketch sketch_modes).0 [] [] Done)
-  outline_built = record { layout = laid_with (routines_there sketch sketch_modes).0 [] [] Done; routines = (routines_there sketch sketch_modes).1 }
+  outline : (rs : List Routine) × (each (routine_from sketch) (values_of t.routines) ≡ Some rs) × Every (λ r. Unit {0}) rs
+  outline = routines_made sketch sketch_modes (λ r. Unit {0}) (λ i known e. tt)
+
+  outline_built : IsBuilt sketch (program_with outline.0 [] [] Done)
+  outline_built = record { layout = laid_with outline.0 [] [] Done; routines = outline.1 }
 
   -- ---- sections
 
@@ -225,7 +239,7 @@ module _ (p : tree.ProgramTree) (x : ResolvedLayout) (k : IsUnbroken p x) where
 
   pub section_modes : HasModes section
   section_modes n s e =
-      let part = part_there sketch sketch_modes (program_with (routines_there sketch sketch_modes).0 [] [] Done) outline_built n s e in
+      let part = part_there sketch sketch_modes (program_with outline.0 [] [] Done) outline_built n s e in
       (part.parts, part.resolved, part.modes)
 
   -- a program with the layout and the routines that these sections are
@@ -250,17 +264,13 @@ module _ (p : tree.ProgramTree) (x : ResolvedLayout) (k : IsUnbroken p x) where
   routine_head n s (tree.event name given saving) e f = tt
 
   of_routines : Every IsOfRoutine t.routines
-  of_routines =
-      every_first IsOfRoutine [] (given_by routine_by (declarations p)) tt (every_declared IsOfRoutine routine_by routines_quiet p (λ n s e. routine_head n s s.kind e refl))
+  of_routines = every_first IsOfRoutine (given_by routine_by (declarations p)) (every_declared IsOfRoutine routine_by routines_quiet p (λ n s e. routine_head n s s.kind e refl))
 
-  pub routines_good : (q : Program) → IsWhole q → Every (GoodRoutine q) q.routines
-  routines_good q b =
-      zip_every (λ a y. routine_from section a ≡ Some y) (GoodRoutine q) (values_of t.routines) q.routines (results (routine_from section) (values_of t.routines) q.routines b.routines)
-      (λ i known r e f.
+  -- they are well typed in each such program
+  pub routines_there : (rs : List Routine) × (each (routine_from section) (values_of t.routines) ≡ Some rs) × Every (λ r. (q : Program) → IsWhole q → GoodRoutine q r) rs
+  routines_there = routines_made section section_modes (λ r. (q : Program) → IsWhole q → GoodRoutine q r) (λ i known e q b.
+      let parts = (has_routine section section_modes i known e).parts in
       let entry = entry_of_value t.routines i known e in
-      let s = every_at IsOfRoutine t.routines i (entry.0, known) of_routines entry.1 in
-      let parts = section_modes known.section s.0 s.1 in
-      let made : routine_from section known ≡ Some (routine_of known.given known.yielding parts.0) = ap (λ (o : Option Parts). o >>= λ found. Some (routine_of known.given known.yielding found)) parts.1 in
-      subst (GoodRoutine q) (same_Some (routine_of known.given known.yielding parts.0) r (sym made ∙ f))
-      (subst₂ (λ (locals : List Mode) (in_main : Bool). GoodBlock (record { program = q; locals = locals; is_main = in_main }) parts.0.body) (sym (all_locals known.given known.yielding parts.0.modes)) s.2
-      (body_good q b known.section s.0 parts.0 s.1 parts.1)))
+      let s = at_place IsOfRoutine t.routines i (entry.0, known) of_routines entry.1 in
+      subst₂ (λ (locals : List Mode) (in_main : Bool). GoodBlock (record { program = q; locals = locals; is_main = in_main }) parts.body) (sym (all_locals known.given known.yielding parts.modes)) s.2
+      (body_good q b known.section s.0 parts s.1 (has_routine section section_modes i known e).resolved))

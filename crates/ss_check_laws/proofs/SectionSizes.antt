@@ -27,9 +27,9 @@ use Rattle.ss_program.specs.Nodes.{option_nodes, block_nodes, routine_nodes, eve
 use Rattle.ss_names_meaning.specs.Answers.{where_holds}
 use Rattle.ss_names_meaning.specs.Layouts.{laid_out, tie_keys}
 use Rattle.ss_names_meaning.specs.Resolved.{Parts, event_from, has_main_kind, is_known, is_main_kind, local_modes, parts_with_locals, resolved_with_locals, routine_from, saved}
+use Rattle.ss_names_laws.proofs.Items.{at_item, each_item}
 use Rattle.ss_check_laws.specs.SizeLaws.{ProgramsStaySmall}
 use Rattle.ss_check_laws.proofs.Within.{Within, at_most, followed, held, looked, there_within, each_small}
-use Rattle.ss_check_laws.proofs.EveryItem.{every_so}
 use Rattle.ss_check_laws.proofs.StatementSizes.{row_small}
 use Rattle.ss_check_laws.proofs.TableSections.{Fits, IsAny, events_quiet, head_of, of_sections, routines_quiet}
 
@@ -186,7 +186,7 @@ module _ {V : Type 0} (h : V → ℕ) (key : ℕ → Option NameBytes) (one : (i
           omega (arith, sum_by-cons (λ i. named h es (key i)) n ns)
       by (Some name) e next =
           let here = ap (named h es) e in
-          let apart = every_so (λ m. nat_eq n m ≡ false) (λ m. key m ≡ Some name → ⊥) ns (λ m f g. both_ways (nat_eq n m) f (eq-eqb n m (one n m name e g))) (IsDistinct-head nat_eq n ns d) in
+          let apart = each_item (λ m. key m ≡ Some name → ⊥) ns (λ m a f. both_ways (nat_eq n m) (at_item (λ i. nat_eq n i ≡ false) ns m (IsDistinct-head nat_eq n ns d) a) (eq-eqb n m (one n m name e f))) in
           let rest = next (remove_entry (same_name name) es) in
           omega (arith, sum_by-cons (λ i. named h es (key i)) n ns, same_sum name es ns apart, sum_by-remove_entry h (same_name name) es, known_nodes (value_for es name))
 

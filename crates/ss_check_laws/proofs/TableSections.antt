@@ -1,5 +1,5 @@
 -- The routines and EVENT sections that a program declares are its sections, and its classes are those of its preamble.
-use Rattle.std.proofs.Common.{◌≡◌, ℕ, ◌+◌, List, [], ◌∷◌, ◌++◌, length, map, refl, ap, ◌∙◌, append-nil, slice_get, flat_map, Some, None, sym, subst, arith}
+use Rattle.std.proofs.Common.{◌≡◌, ℕ, ◌+◌, List, [], ◌∷◌, ◌++◌, length, map, refl, ap, ◌∙◌, append-nil, slice_get, flat_map, Some, None, sym, subst}
 use Rattle.std.specs.List.{AllByRecursion as Every}
 use Rattle.std.proofs.lemmas.List.Concat.{flat_map-append}
 use Rattle.ss_base.specs.declared.line.Line.{Line}
@@ -14,7 +14,8 @@ use Rattle.ss_names_declarations.specs.declared.declaration.Declared.{Declared}
 use Rattle.ss_names_declarations.specs.declared.declaration.Declared.TheVariants as d
 use Rattle.ss_names_declarations.specs.declared.declaration.Declaration.{Declaration}
 use Rattle.ss_names.specs.Entries.{class_by, classes, event_by, given_by, routine_by}
-use Rattle.ss_check_laws.proofs.EveryItem.{every_append, every_first, every_flat, every_from, every_mapped, every_numbered}
+use Rattle.ss_names_laws.proofs.Each.{every_first, every_image, every_numbered, every_piece, joined}
+use Rattle.ss_names_laws.proofs.Items.{Among}
 
 -- ---- the preamble
 
@@ -28,7 +29,7 @@ Fits P _ = Unit {0}
 
 -- each class of a statement is such
 abbrev pub ClassesFit : (NameBytes → ClassKind → Type 0) → tree.PreambleTree → Type 0
-ClassesFit P (tree.event_notices line names) = Every (λ name. P name Notice) names
+ClassesFit P (tree.event_notices line names) = (name : NameBytes) → Among names name → P name Notice
 ClassesFit P (tree.every line kind class clauses) = P class kind
 ClassesFit P _ = Unit {0}
 
@@ -36,37 +37,34 @@ module _ (P : NameBytes → ClassKind → Type 0) where
   abbrev pub IsFit : Declaration → Type 0
   IsFit x = Fits P x.what
 
-  mapped : {X : Type 0} (f : X → Declaration) → ((x : X) → IsFit (f x)) → (xs : List X) → Every IsFit (map f xs)
-  mapped f h xs = every_mapped IsFit f xs (every_from (λ x. IsFit (f x)) xs h)
-
   clause : (line : Line) (class : NameBytes) (c : tree.ClauseTree) → Every IsFit (said.in_clause line class c)
-  clause line class (tree.has names) = mapped (said.attribute line class) (λ n. tt) names
-  clause line class (tree.owns names) = mapped (said.owned_set line (Some class)) (λ n. tt) names
-  clause line class (tree.belongs_to names) = mapped (said.member_set line class) (λ n. tt) names
+  clause line class (tree.has names) = every_image IsFit (said.attribute line class) names (λ n a. tt)
+  clause line class (tree.owns names) = every_image IsFit (said.owned_set line (Some class)) names (λ n a. tt)
+  clause line class (tree.belongs_to names) = every_image IsFit (said.member_set line class) names (λ n a. tt)
 
   order : (line : Line) (number : ℕ) (o : tree.OrderTree) → Every IsFit (said.in_order line number o)
   order line number tree.fifo = tt
   order line number tree.lifo = tt
-  order line number (tree.ranked keys) = mapped (said.rank_key line number) (λ k. tt) keys
+  order line number (tree.ranked keys) = every_image IsFit (said.rank_key line number) keys (λ k a. tt)
 
   statement : (number : ℕ) (s : tree.PreambleTree) → ClassesFit P s → Every IsFit (said.in_statement number s)
   statement number (tree.permanent_entities line) h = tt
   statement number (tree.temporary_entities line) h = tt
-  statement number (tree.event_notices line names) h = every_mapped IsFit (said.notice line) names h
-  statement number (tree.every line kind class clauses) h = (h, every_flat IsFit (said.in_clause line class) clauses (clause line class))
+  statement number (tree.event_notices line names) h = every_image IsFit (said.notice line) names h
+  statement number (tree.every line kind class clauses) h = (h, every_piece IsFit (said.in_clause line class) clauses (λ c a. clause line class c))
   statement number (tree.normally line mode) h = (tt, tt)
-  statement number (tree.system_owns line sets) h = mapped (said.owned_set line None) (λ n. tt) sets
-  statement number (tree.define_variables line names mode) h = mapped (said.variable line mode) (λ n. tt) names
+  statement number (tree.system_owns line sets) h = every_image IsFit (said.owned_set line None) sets (λ n a. tt)
+  statement number (tree.define_variables line names mode) h = every_image IsFit (said.variable line mode) names (λ n a. tt)
   statement number (tree.define_sets line names o) h =
-      every_append IsFit (map (said.ordered_set line (said.rule_of o) number) names) (said.in_order line number o)
-      (mapped (said.ordered_set line (said.rule_of o) number) (λ n. tt) names) (order line number o)
-  statement number (tree.priority_order line classes) h = (tt, mapped (said.priority line) (λ n. tt) classes)
-  statement number (tree.break_ties line class keys) h = (tt, mapped (said.tie_key line class) (λ k. tt) keys)
+      joined IsFit (map (said.ordered_set line (said.rule_of o) number) names) (said.in_order line number o)
+      (every_image IsFit (said.ordered_set line (said.rule_of o) number) names (λ n a. tt)) (order line number o)
+  statement number (tree.priority_order line classes) h = (tt, every_image IsFit (said.priority line) classes (λ n a. tt))
+  statement number (tree.break_ties line class keys) h = (tt, every_image IsFit (said.tie_key line class) keys (λ k a. tt))
   statement number (tree.statistics line weighting found subject) h =
-      every_append IsFit (map (said.statistic line subject) found) (said.at_line line (d.Subject subject weighting) ∷ []) (mapped (said.statistic line subject) (λ k. tt) found) (tt, tt)
+      joined IsFit (map (said.statistic line subject) found) (said.at_line line (d.Subject subject weighting) ∷ []) (every_image IsFit (said.statistic line subject) found (λ k a. tt)) (tt, tt)
 
   pub preamble_fits : (ss : List tree.PreambleTree) → ((i : ℕ) (s : tree.PreambleTree) → slice_get ss i ≡ Some s → ClassesFit P s) → Every IsFit (flat_map_from said.in_statement 0 ss)
-  preamble_fits ss h = every_numbered IsFit said.in_statement 0 ss (λ i s e. statement (0 + i) s (h i s e))
+  preamble_fits ss h = every_numbered said.in_statement IsFit ss (λ i s e. statement i s (h i s e))
 
 -- ---- sections
 
@@ -80,7 +78,7 @@ abbrev pub IsAny : NameBytes → ClassKind → Type 0
 IsAny name kind = Unit {0}
 
 any_fits : (s : tree.PreambleTree) → ClassesFit IsAny s
-any_fits (tree.event_notices line names) = every_from (λ (n : NameBytes). Unit {0}) names (λ n. tt)
+any_fits (tree.event_notices line names) = λ n a. tt
 any_fits (tree.every line kind class clauses) = tt
 any_fits _ = tt
 
@@ -139,7 +137,7 @@ pub every_declared : {B : Type 0} (P : B → Type 0) (f : Declared → List B) �
     ((n : ℕ) (s : tree.SectionTree) → slice_get p.sections n ≡ Some s → Every P (f (head_of n s.kind))) → Every P (given_by f (declarations p))
 every_declared P f quiet p h =
     subst (Every P) (sym (of_sections f quiet p))
-    (every_numbered P (λ n s. f (head_of n s.kind)) 0 p.sections (λ i s e. h (0 + i) s (let same : 0 + i ≡ i = omega arith in ap (slice_get p.sections) same ∙ e)))
+    (every_numbered (λ n (s : tree.SectionTree). f (head_of n s.kind)) P p.sections h)
 
 pub routines_quiet : (x : Declared) → Fits IsAny x → routine_by x ≡ []
 routines_quiet (d.Routine name section given yielding) h = absurd h
@@ -160,7 +158,7 @@ module _ (P : NameBytes → ClassKind → Type 0) where
 
   classes_fit : (ds : List Declaration) → Every (IsFit P) ds → Every Holds (given_by class_by ds)
   classes_fit [] h = tt
-  classes_fit (x ∷ ds) h = every_append Holds (class_by x.what) (given_by class_by ds) (class_fits x.what h.0) (classes_fit ds h.1)
+  classes_fit (x ∷ ds) h = joined Holds (class_by x.what) (given_by class_by ds) (class_fits x.what h.0) (classes_fit ds h.1)
 
   no_class : (n : ℕ) (k : tree.SectionKindTree) → Every Holds (class_by (head_of n k))
   no_class n tree.main = tt
@@ -172,7 +170,7 @@ module _ (P : NameBytes → ClassKind → Type 0) where
       let before = flat_map_from said.in_statement 0 p.preamble in
       let after = flat_map_from said.in_section 0 p.sections in
       let given = sections_given class_by (λ name n. refl) (λ name n mode. refl) 0 p.sections in
-      let sections = every_numbered Holds (λ n s. class_by (head_of n s.kind)) 0 p.sections (λ i s e. no_class (0 + i) s.kind) in
-      every_first Holds [] (given_by class_by (declarations p)) tt
+      let sections = every_numbered (λ n (s : tree.SectionTree). class_by (head_of n s.kind)) Holds p.sections (λ i s e. no_class i s.kind) in
+      every_first Holds (given_by class_by (declarations p))
       (subst (Every Holds) (sym (flat_map-append (λ (x : Declaration). class_by x.what) before after))
-      (every_append Holds (given_by class_by before) (given_by class_by after) (classes_fit before (preamble_fits P p.preamble h)) (subst (Every Holds) (sym given) sections)))
+      (joined Holds (given_by class_by before) (given_by class_by after) (classes_fit before (preamble_fits P p.preamble h)) (subst (Every Holds) (sym given) sections)))
