@@ -1,1 +1,1 @@
-mod Sections
+mod SectionBreaks

@@ -11,7 +11,7 @@ use Rattle.ss_names_uses.specs.declared.used.Use.{Use}
 use Rattle.ss_names_scopes.specs.Locals.{Moded, locals, locals_of, uses_seen}
 use Rattle.ss_check_rules.specs.Order.{order_of}
 use Rattle.ss_check_rules.specs.Refusal.{breaches}
-use Rattle.ss_check_rules.proofs.Sections.{locals_by_uses}
+use Rattle.ss_check_rules.proofs.SectionBreaks.{locals_by_uses}
 use Rattle.ss_check_rules.proofs.program.judge.Goals as goal
 
 -- the uses and the local variables of all sections

@@ -5,7 +5,7 @@ use Rattle.ss_names_declarations.specs.Earliest.{earlier}
 use Rattle.ss_check_rules.specs.Order.{order_of}
 use Rattle.ss_check_rules.specs.Refusal.{is_main_section}
 use Rattle.ss_check_rules.specs.declared.error.CheckError.TheVariants as e
-use Rattle.ss_check_rules.proofs.Sections.{any_viewed}
+use Rattle.ss_check_rules.proofs.SectionBreaks.{any_viewed}
 use Rattle.ss_check_rules.proofs.program.program_breaks.Goals as goal
 
 pub returns-then-has_main : goal.returns-then-has_main

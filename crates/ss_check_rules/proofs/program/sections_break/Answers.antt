@@ -8,7 +8,7 @@ use Rattle.ss_names_scopes.proofs.Finding.{viewed_after}
 use Rattle.ss_check_rules.specs.Order.{order_of}
 use Rattle.ss_check_rules.specs.Refusal.{breaks, in_section}
 use Rattle.ss_check_rules.specs.declared.error.CheckError.{CheckError}
-use Rattle.ss_check_rules.proofs.Sections.{section_more}
+use Rattle.ss_check_rules.proofs.SectionBreaks.{section_more}
 use Rattle.ss_check_rules.proofs.program.sections_break.Goals as goal
 
 pub loop-number-preserved : goal.loop-number-preserved
