@@ -16,8 +16,8 @@ pub stepped : (step : Table → Declared → Table) {old seen new : Table} {what
 stepped step s w e = e ∙ (λ i. step (s i) (sym w i))
 
 -- one entry more, after some
-pub one_further : {T E : Type 0} (step : T → E → T) {from before after : T} {e : E} → before ≡ from → after ≡ step before e → after ≡ step from e
-one_further step {e = e} b a = a ∙ ap (λ t. step t e) b
+pub one_further : {T E : Type 0} (step : T → E → T) {from before after : T} (e : E) → before ≡ from → after ≡ step before e → after ≡ step from e
+one_further step e b a = a ∙ ap (λ t. step t e) b
 
 pub none_of_not_some : {X : Type 0} (o : Option X) → is_some o ≡ false → o ≡ None
 none_of_not_some None h = refl

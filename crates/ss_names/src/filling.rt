@@ -2,6 +2,7 @@
 
 ghost use Rattle.std.specs.Prelude.{◌≡◌, ◌<◌, ◌++◌, ◌∷◌, [], Some, None, is_some, if◌then◌else◌, length, map, option_map, slice_get, OnOk, IfOk};
 ghost use Rattle.std.specs.List.{fold};
+ghost use Rattle.ss_base.specs.declared.layout.Owner.TheVariants as owners;
 ghost use Rattle.ss_tree.specs.Names.{NameBytes};
 ghost use Rattle.ss_names_declarations.specs.Firsts.{entry_if, place_among, place_in, value_for, with_first};
 ghost use Rattle.ss_names.specs.declared.meaning.Meaning.TheVariants as m;
@@ -280,13 +281,23 @@ fn add_attribute(names: &mut Names, attribute: Name, class: &Name) -> Result<(),
     }
 }
 
+// A class as an owner.
+fn class_owner(class: Option<usize>) -> Option<Owner>
+    ensures { result ≡ option_map owners.Class class }
+{
+    match class {
+        Some(class) => Some(Owner::Class(class)),
+        None => None,
+    }
+}
+
 // THE SYSTEM, or the number of the class that owns a set.
 fn owner_named(names: &Names, class: &Option<Name>) -> Option<Owner>
     ensures { result ≡ owner_named names.now.classes class.now }
 {
     match class {
         None => Some(Owner::System),
-        Some(class) => names.classes.place(class).map(Owner::Class),
+        Some(class) => class_owner(class_number(names, class)),
     }
 }
 
@@ -591,13 +602,27 @@ fn count_meaning(
     }
 }
 
+// The kind of a class.
+fn class_kind(names: &Names, class: &Name) -> Option<ClassKind>
+    ensures { result ≡ value_for names.now.classes class.now }
+{
+    names.classes.get(class).copied()
+}
+
+// The number of a global variable.
+fn variable_number(names: &Names, variable: &Spelling) -> Option<usize>
+    ensures { result ≡ place_in names.now.variables variable.now }
+{
+    names.variables.place(variable)
+}
+
 // What the name of a class means.
 fn class_named(names: &Names, name: &Name) -> Option<Meaning>
     ensures { result ≡ class_named names.now name.now }
 {
-    let class = names.classes.place(name);
-    let kind = names.classes.get(name).copied();
-    let variable = names.variables.place(&Spelling::of_name(name));
+    let class = class_number(names, name);
+    let kind = class_kind(names, name);
+    let variable = variable_number(names, &Spelling::of_name(name));
     class_meaning(class, kind, variable)
 }
 
@@ -605,9 +630,9 @@ fn class_named(names: &Names, name: &Name) -> Option<Meaning>
 fn count_named(names: &Names, name: &Name) -> Option<Meaning>
     ensures { result ≡ count_named names.now name.now }
 {
-    let class = names.classes.place(name);
-    let kind = names.classes.get(name).copied();
-    let variable = names.variables.place(&Spelling::derived(b'N', name));
+    let class = class_number(names, name);
+    let kind = class_kind(names, name);
+    let variable = variable_number(names, &Spelling::derived(b'N', name));
     count_meaning(class, kind, variable)
 }
 

@@ -6,7 +6,6 @@ use Rattle.ss_base.specs.declared.layout.Mode.TheVariants.{Integer}
 use Rattle.ss_tree.specs.Names.{NameBytes}
 use Rattle.ss_names_declarations.specs.Firsts.{with_first}
 use Rattle.ss_names.specs.Entries.{class_variables}
-use Rattle.ss_names.proofs.Steps.{one_further}
 use Rattle.ss_names.proofs.filling.add_class_variables.Goals as goal
 
 pub returns-in-Permanent : goal.returns-in-Permanent
@@ -14,7 +13,7 @@ returns-in-Permanent c =
     let vs = c.args.variables.now in
     let class = c.in_ok-insert_spelled.ensures.ok ∙ ap (λ (name : NameBytes). with_first vs (name, Integer)) c.of_name.ensures in
     on_ok_weaker c.insert_spelled-in-Permanent.result
-    (λ e. one_further with_first class (e ∙ ap (λ (name : NameBytes). with_first c.insert_spelled.new.entries (name, Integer)) c.derived.ensures)
+    (λ e. e ∙ (λ i. with_first (class i) (c.derived.ensures i, Integer))
     ∙ sym (ap (λ (k : ClassKind). fold with_first vs (class_variables k c.args.class.now)) c.in-Permanent.is))
     c.insert_spelled-in-Permanent.ensures.ok
 

@@ -14,27 +14,27 @@ in_line line t w = add_meanings t line w
 
 pub returns-in-Class : goal.returns-in-Class
 returns-in-Class c =
-    on_ok_weaker c.enter_class.result (λ e. stepped (in_line c.args.line) refl c.in-Class.is e) c.enter_class.ensures
+    on_ok_weaker c.enter_class.result (λ e. stepped (in_line c.args.line) {old = c.args.names.now} refl c.in-Class.is e) c.enter_class.ensures
 
 pub returns-in-Attribute : goal.returns-in-Attribute
 returns-in-Attribute c =
     on_ok_weaker c.enter_if.result
-    (λ e. stepped (in_line c.args.line) refl c.in-Attribute.is
+    (λ e. stepped (in_line c.args.line) {old = c.args.names.now} refl c.in-Attribute.is
     (e ∙ (λ i. fold (enter c.args.line) c.args.names.now (entry_if (c.of_name.ensures i) (c.attribute_meaning-meaning.ensures i)))))
     c.enter_if.ensures
 
 pub returns-in-Owner : goal.returns-in-Owner
 returns-in-Owner c =
-    on_ok_weaker c.enter_set.result (λ e. stepped (in_line c.args.line) refl c.in-Owner.is e) c.enter_set.ensures
+    on_ok_weaker c.enter_set.result (λ e. stepped (in_line c.args.line) {old = c.args.names.now} refl c.in-Owner.is e) c.enter_set.ensures
 
 pub returns-in-Member : goal.returns-in-Member
 returns-in-Member c =
-    on_ok_weaker c.enter_set-in-Member.result (λ e. stepped (in_line c.args.line) refl c.in-Member.is e) c.enter_set-in-Member.ensures
+    on_ok_weaker c.enter_set-in-Member.result (λ e. stepped (in_line c.args.line) {old = c.args.names.now} refl c.in-Member.is e) c.enter_set-in-Member.ensures
 
 pub returns-in-Variable : goal.returns-in-Variable
 returns-in-Variable c =
     on_ok_weaker c.enter_if-in-Variable.result
-    (λ e. stepped (in_line c.args.line) refl c.in-Variable.is
+    (λ e. stepped (in_line c.args.line) {old = c.args.names.now} refl c.in-Variable.is
     (e ∙ (λ i. fold (enter c.args.line) c.args.names.now (entry_if (c.of_name-in-Variable.ensures i)
     ((c.variable_meaning-meaning.ensures ∙ ap (variable_meaning c.args.names.now c.in-Variable.variable) c.value_mode.ensures) i)))))
     c.enter_if-in-Variable.ensures
@@ -42,13 +42,13 @@ returns-in-Variable c =
 pub returns-in-Statistic : goal.returns-in-Statistic
 returns-in-Statistic c =
     on_ok_weaker c.enter_if-in-Statistic.result
-    (λ e. stepped (in_line c.args.line) refl c.in-Statistic.is
+    (λ e. stepped (in_line c.args.line) {old = c.args.names.now} refl c.in-Statistic.is
     (e ∙ (λ i. fold (enter c.args.line) c.args.names.now (entry_if (c.of_name-in-Statistic.ensures i) (c.statistic_meaning-meaning.ensures i)))))
     c.enter_if-in-Statistic.ensures
 
 pub returns-in-Routine : goal.returns-in-Routine
 returns-in-Routine c =
     on_ok_weaker c.enter_if-in-Routine.result
-    (λ e. stepped (in_line c.args.line) refl c.in-Routine.is
+    (λ e. stepped (in_line c.args.line) {old = c.args.names.now} refl c.in-Routine.is
     (e ∙ (λ i. fold (enter c.args.line) c.args.names.now (entry_if (c.of_name-in-Routine.ensures i) (c.routine_meaning-meaning.ensures i)))))
     c.enter_if-in-Routine.ensures

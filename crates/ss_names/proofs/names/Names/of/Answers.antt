@@ -1,0 +1,7 @@
+use Rattle.ss_names.proofs.names.Names.of.Goals as goal
+
+pub fill-requires : goal.fill-requires
+fill-requires c = c.empty-names.ensures
+
+pub returns : goal.returns
+returns c = c.in_ok-fill.ensures
