@@ -31,11 +31,7 @@ fn class_number(need: ClassNeed, meaning: Option<Meaning>) -> Option<usize>
 {
     match meaning {
         Some(Meaning::Class { class, kind, .. }) => {
-            if suits(kind, need) {
-                Some(class)
-            } else {
-                None
-            }
+            if suits(kind, need) { Some(class) } else { None }
         }
         _ => None,
     }
@@ -87,8 +83,9 @@ impl Resolver<'_> {
         ensures { Gives (λ x. x) result (counted (scope_in self.now) name.now) }
     {
         let names = self.scope.names;
-        count_of(names.meanings.meaning(&Spelling::derived(b'N', name)))
-            .ok_or(ResolveError::Unresolved)
+        count_of(names.meanings.meaning(&Spelling::derived(b'N', name))).ok_or(
+            ResolveError::Unresolved,
+        )
     }
 
     /// The classes of a CREATE EVERY.

@@ -232,9 +232,7 @@ impl Resolver<'_> {
             Expression::Text(text) => Ok(Resolved::Constant {
                 value: Value::Text(*text),
             }),
-            Expression::Named(named) => {
-                self.resolve_named(named.designator, &named.subscripts)
-            }
+            Expression::Named(named) => { self.resolve_named(named.designator, &named.subscripts) }
             Expression::Call {
                 function,
                 arguments,
@@ -249,10 +247,7 @@ impl Resolver<'_> {
             Expression::Signed { sign, term } => {
                 let term = self.resolve_expression(term)?;
                 let term = Box::new(self.alloc, term)?;
-                Ok(Resolved::Signed {
-                    sign: *sign,
-                    term,
-                })
+                Ok(Resolved::Signed { sign: *sign, term })
             }
             Expression::Sum { first, further } => {
                 let first = self.resolve_expression(first)?;

@@ -246,9 +246,12 @@ module _ (p : tree.ProgramTree) (x : ResolvedLayout) (k : IsUnbroken p x) where
     saves : (b : Bool) → (o : Option ℕ) × (saved t name b ≡ Some o) × ((q : Program) → IsWhole p x k q → IfSome o (λ v. (slice_get q.globals v ≡ Some Integer) × IsPlain q (Global v)))
     saves false = (None, refl, λ q b. tt)
     saves true =
-        let plain = (k.valid.meanings name (m.Class class n.laid.kind n.named.variable) n.named.meant).1 in
-        (Some n.named.variable, ap (λ (o : Option Meaning). o >>= λ meaning. class_variable meaning) n.named.meant, λ q b.
-        (ap (λ l. slice_get l n.named.variable) b.layout.globals ∙ plain.0, subst (λ l. Every (λ (count : CountedClass). count.variable ≢ n.named.variable) l) (sym b.layout.counts) plain.1))
+        let plain = (k.valid.meanings name (m.Class class n.laid.kind n.named.variable) n.named.meant).1 in (
+          Some n.named.variable,
+          ap (λ (o : Option Meaning). o >>= λ meaning. class_variable meaning) n.named.meant,
+          λ q b.
+              (ap (λ l. slice_get l n.named.variable) b.layout.globals ∙ plain.0, subst (λ l. Every (λ (count : CountedClass). count.variable ≢ n.named.variable) l) (sym b.layout.counts) plain.1),
+        )
 
     pub event_made : (e : Event) × (event_from t (section p x k) class ≡ Some e) × (e.class ≡ class) × ((q : Program) → IsWhole p x k q → GoodEvent q e)
     event_made =
@@ -261,20 +264,24 @@ module _ (p : tree.ProgramTree) (x : ResolvedLayout) (k : IsUnbroken p x) where
         let cut : take n.known.given parts.0.modes ≡ take n.known.given n.laid.fields = (λ j. take (n.section.4 j) parts.0.modes) ∙ given_are.1 ∙ (λ j. take (sym n.section.4 j) n.laid.fields) in
         let short = given_are.0 in
         let same_count = n.section.4 in
-        let count : length (take n.known.given parts.0.modes) ≡ n.known.given = length-take-le n.known.given parts.0.modes (omega arith) in
-        (event_of_class class keys.0 n.known.given variable.0 parts.0, event_is t (section p x k) class name n.known keys.0 variable.0 parts.0 n.named.there n.event most keys.1 variable.1 parts.1, refl, λ q b.
-        let laid : slice_get q.layout.classes class ≡ Some n.laid = ap (λ (l : PlainLayout). slice_get l.classes class) b.layout.layout ∙ n.there in
-        let ties = (k.typed q b.layout).ties class name n.named.there in
-        record {
-          modes = n.laid.fields;
-          fields = ap (option_map (λ (c : PlainClass). c.fields)) laid;
-          notice = ap (option_map (λ (c : PlainClass). c.kind)) laid ∙ ap Some n.notice;
-          ties = subst (GoodKeys q class) (same_Some ties.0 keys.0 (sym ties.1 ∙ keys.1)) ties.2;
-          given = cut ∙ ap (λ i. take i n.laid.fields) (sym count);
-          saved = variable.2 q b;
-          body = subst₂ (λ (locals : List Mode) (in_main : Bool). GoodBlock (record { program = q; locals = locals; is_main = in_main }) parts.0.body) (sym (take-append-drop n.known.given parts.0.modes)) (ap is_main n.section.3)
-              (body_good p x k q b at s parts.0 n.section.2 parts.1);
-        })
+        let count : length (take n.known.given parts.0.modes) ≡ n.known.given = length-take-le n.known.given parts.0.modes (omega arith) in (
+          event_of_class class keys.0 n.known.given variable.0 parts.0,
+          event_is t (section p x k) class name n.known keys.0 variable.0 parts.0 n.named.there n.event most keys.1 variable.1 parts.1,
+          refl,
+          λ q b.
+              let laid : slice_get q.layout.classes class ≡ Some n.laid = ap (λ (l : PlainLayout). slice_get l.classes class) b.layout.layout ∙ n.there in
+              let ties = (k.typed q b.layout).ties class name n.named.there in
+              record {
+                modes = n.laid.fields;
+                fields = ap (option_map (λ (c : PlainClass). c.fields)) laid;
+                notice = ap (option_map (λ (c : PlainClass). c.kind)) laid ∙ ap Some n.notice;
+                ties = subst (GoodKeys q class) (same_Some ties.0 keys.0 (sym ties.1 ∙ keys.1)) ties.2;
+                given = cut ∙ ap (λ i. take i n.laid.fields) (sym count);
+                saved = variable.2 q b;
+                body = subst₂ (λ (locals : List Mode) (in_main : Bool). GoodBlock (record { program = q; locals = locals; is_main = in_main }) parts.0.body) (sym (take-append-drop n.known.given parts.0.modes)) (ap is_main n.section.3)
+                    (body_good p x k q b at s parts.0 n.section.2 parts.1);
+              },
+        )
 
   pub event_there : (i class : ℕ) → slice_get t.ranks i ≡ Some class →
       (e : Event) × (event_from t (section p x k) class ≡ Some e) × (e.class ≡ class) × ((q : Program) → IsWhole p x k q → GoodEvent q e)

@@ -131,17 +131,20 @@ module _ (p : tree.ProgramTree) (x : ResolvedLayout) (k : IsUnbroken p x) where
       let q = program_with p x k routines.0 events.0 parts.0.modes parts.0.body in
       let b : IsWhole p x k q = record { layout = laid_with p x k routines.0 events.0 parts.0.modes parts.0.body; routines = routines.1 } in
       let body = subst (λ in_main. GoodBlock (record { program = q; locals = parts.0.modes; is_main = in_main }) parts.0.body) main.4 (body_good p x k q b main.0 main.1 parts.0 main.2 parts.1) in
-      let laid = k.typed q b.layout in
-      (q, assembled t (map (locals_of t) p.sections) p.sections x routines.0 events.0 main.0 parts.0 k.valid.laid all_known routines.1 events.1 main.3 parts.1, record {
-        sets = (laid_classes p x k).1;
-        disciplines = laid.disciplines;
-        counts = laid.counts;
-        statistics = laid.statistics;
-        routines = in_whole GoodRoutine q b routines.0 routines.2;
-        events = in_whole GoodEvent q b events.0 events.2;
-        served = served q b events.1;
-        main = body;
-      })
+      let laid = k.typed q b.layout in (
+        q,
+        assembled t (map (locals_of t) p.sections) p.sections x routines.0 events.0 main.0 parts.0 k.valid.laid all_known routines.1 events.1 main.3 parts.1,
+        record {
+          sets = (laid_classes p x k).1;
+          disciplines = laid.disciplines;
+          counts = laid.counts;
+          statistics = laid.statistics;
+          routines = in_whole GoodRoutine q b routines.0 routines.2;
+          events = in_whole GoodEvent q b events.0 events.2;
+          served = served q b events.1;
+          main = body;
+        },
+      )
 
 pub programs_resolve : BodiesResolve → TablesAreThere → TablesAreValid → LayoutsAreWellTyped → SectionsAreValid → RoutinesAreThere → ProgramsResolve
 programs_resolve bodies there valid typed sections routines p declared used =

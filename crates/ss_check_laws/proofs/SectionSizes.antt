@@ -130,6 +130,7 @@ module _ (p : ProgramTree) where
     where
       n : ℕ
       n = position_or_len has_main_kind p.sections
+
       by : (b : Bool) → nat_lt n (length p.sections) ≡ b → option_nodes weight_at (cond b (Some n) None) ≤ sum_by main_part p.sections
       by false e = omega arith
       by true e =

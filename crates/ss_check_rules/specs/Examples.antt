@@ -47,10 +47,10 @@ with_sections sections =
     record {
       preamble = preamble;
       sections =
-        sections
-        ++ a_section 41 (event (codes "BELL") [] false) []
-        ∷ record { line = line 43; kind = routine (codes "T") (codes "A" ∷ []) []; definitions = record { line = line 44; names = codes "A" ∷ []; mode = said.Alpha } ∷ []; body = [] }
-        ∷ [];
+          sections
+          ++ a_section 41 (event (codes "BELL") [] false) []
+          ∷ record { line = line 43; kind = routine (codes "T") (codes "A" ∷ []) []; definitions = record { line = line 44; names = codes "A" ∷ []; mode = said.Alpha } ∷ []; body = [] }
+          ∷ [];
     }
 
 -- MAIN (in line 15) with these statements, and a routine R that is given nothing

@@ -72,5 +72,8 @@ pub fn count_breaks(
 ) -> Option<CheckError>
     ensures { result ≡ unless (suits_count names.now found wanted.now) (e.Arguments line) }
 {
-    unless(suits_count(names, found, wanted), CheckError::Arguments(line))
+    unless(
+        suits_count(names, found, wanted),
+        CheckError::Arguments(line),
+    )
 }

@@ -9,7 +9,9 @@ ghost use Rattle.ss_check_rules.specs.Refusal.{class_breaks, meant_breaks, place
 ghost use Rattle.ss_names_scopes.specs.Scopes.{meaning};
 
 use crate::error::{CheckError, unless};
-use crate::kinds::{if_mean, is_mean, meaning_in_role, suits, suits_class, suits_subscripts, takes_values};
+use crate::kinds::{
+    if_mean, is_mean, meaning_in_role, suits, suits_class, suits_subscripts, takes_values,
+};
 use ss_base::{Line, Mode, Name};
 use ss_names::{Attribute, Meaning, Names, RoutineSection};
 use ss_names_scopes::{Scope, mode_of};

@@ -4,12 +4,12 @@ ghost use Rattle.std.specs.Prelude.{◌≡◌, ◌<◌, ◌^◌, length, map, sl
 ghost use Rattle.ss_code_listing.specs.Listing.{AreLines};
 ghost use Rattle.ss_code.specs.Running.{IsCompiled};
 
-use ss_code_pieces::lines::Lines;
 use ss_base::{Discipline, Layout, Line, Mode, Value};
 use ss_code_instructions::NoticeClass;
 use ss_code_instructions::entry::Entry;
 use ss_code_instructions::instruction::Instruction;
 use ss_code_listing::listing::listing;
+use ss_code_pieces::lines::Lines;
 use ss_program::sections::Statistic;
 use ss_world::TieShape;
 use std::alloc::{AllocError, Global};

@@ -13,15 +13,15 @@ ghost use Rattle.ss_code.specs.Sections.{Deepened, AllDeepened, PutsSection, Put
 
 use crate::code::{Code, Sections, Text};
 use crate::error::CodeError;
-use ss_code_generator::generator::Generator;
-use ss_code_pieces::lines::Lines;
-use ss_code_pieces::piece::{Piece, as_index};
 use crate::sayings::sayings;
 use crate::sifting::sift_walks;
 use ss_base::Mode;
+use ss_code_generator::generator::Generator;
 use ss_code_instructions::entry::Entry;
 use ss_code_instructions::laws::{laws_of_code, laws_of_meaning};
 use ss_code_instructions::limit::instruction_limit;
+use ss_code_pieces::lines::Lines;
+use ss_code_pieces::piece::{Piece, as_index};
 use ss_program::checked::Checked;
 use ss_program::sections::{Event, Program, Routine};
 use ss_program::statement::Statement;

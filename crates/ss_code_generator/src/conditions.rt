@@ -11,14 +11,14 @@ ghost use Rattle.ss_code_instructions.specs.Forms.{comparing_numbers, comparing}
 ghost use Rattle.ss_code_pieces.specs.Lined.{nothing};
 ghost use Rattle.ss_code_generator.specs.Emitted.{Emits, EmitsAround};
 
-use ss_code_pieces::backward::Backward;
-use ss_code_pieces::facts::expression_mode;
 use crate::generator::{Generator, Site};
-use ss_code_pieces::leaves::owner_may_fault;
-use ss_code_pieces::piece::{Piece, as_index};
 use ss_base::Mode;
 use ss_code_instructions::address::Address;
 use ss_code_instructions::instruction::Instruction;
+use ss_code_pieces::backward::Backward;
+use ss_code_pieces::facts::expression_mode;
+use ss_code_pieces::leaves::owner_may_fault;
+use ss_code_pieces::piece::{Piece, as_index};
 use ss_program::condition::{Condition, Conjunction, Relation, Test};
 use ss_program::expression::{Expression, SetOwner};
 use ss_program::head::{Guard, GuardKind, Phrase, PhraseKind};

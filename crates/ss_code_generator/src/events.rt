@@ -11,12 +11,12 @@ ghost use Rattle.ss_code_generator.specs.Notices.{named_at, any_watched, simulat
 ghost use Rattle.ss_code_generator.specs.Spots.{IsSpot};
 ghost use Rattle.ss_code_generator.specs.Emitted.{Emits, Typed};
 
-use ss_code_pieces::facts::is_attribute_watched;
 use crate::generator::{Generator, Site};
-use ss_code_pieces::piece::{Piece, as_index};
 use crate::targets::{Spot, set_of};
 use ss_code_instructions::address::Address;
 use ss_code_instructions::instruction::Instruction;
+use ss_code_pieces::facts::is_attribute_watched;
+use ss_code_pieces::piece::{Piece, as_index};
 use ss_program::expression::Expression;
 use ss_program::statement::{Place, Restart, When};
 use std::alloc::AllocError;

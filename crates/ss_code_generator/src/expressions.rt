@@ -14,13 +14,13 @@ ghost use Rattle.ss_code_instructions.specs.Forms.{calculating, asking_set, aski
 ghost use Rattle.ss_code_generator.specs.Calculations.{Operates};
 ghost use Rattle.ss_code_generator.specs.Emitted.{Grows, Emits, EmitsTo, Typed, IsLeaf, Reads, Bears};
 
-use ss_code_pieces::facts::{attribute_mode, variable_mode};
 use crate::generator::{Generator, Site};
-use ss_code_pieces::leaves::{Leaf, leaf_of};
-use ss_code_pieces::piece::{Piece, as_index};
 use ss_base::Mode;
 use ss_code_instructions::address::Address;
 use ss_code_instructions::instruction::Instruction;
+use ss_code_pieces::facts::{attribute_mode, variable_mode};
+use ss_code_pieces::leaves::{Leaf, leaf_of};
+use ss_code_pieces::piece::{Piece, as_index};
 use ss_program::expression::{
     Expression, Fold, MemberQuery, Operation, Operator, SetOwner, SetQuery, Sign,
 };
@@ -354,12 +354,7 @@ impl Generator<'_> {
     }
 
     /// An expression goes into the next cell.
-    pub fn push(
-        &mut self,
-        code: &mut Piece,
-        site: Site,
-        e: &Expression,
-    ) -> Result<(), AllocError>
+    pub fn push(&mut self, code: &mut Piece, site: Site, e: &Expression) -> Result<(), AllocError>
         ensures code { OnOk result (Emits self.old self.new code.old code.new site (Typed (view_expression e.now)) (λ t. expression_code t (next t) (view_expression e.now))) }
         ensures room { OnOk result (site.height < self.new.deepest) }
         ensures small { OnOk result (site.height < 2 ^ 32) }

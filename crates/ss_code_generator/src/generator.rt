@@ -7,9 +7,9 @@ ghost use Rattle.ss_code_instructions.specs.Translation.{Site as At};
 ghost use Rattle.ss_code_instructions.specs.Carried.{VariableAt, InFrame};
 ghost use Rattle.ss_code_generator.specs.Emitted.{Final, Around, Grows, AtOperand};
 
-use ss_code_pieces::piece::as_index;
 use ss_base::{Line, Mode, Value};
 use ss_code_instructions::address::Address;
+use ss_code_pieces::piece::as_index;
 use ss_program::expression::Variable;
 use ss_program::sections::Program;
 use std::alloc::{AllocError, Global};

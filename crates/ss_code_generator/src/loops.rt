@@ -11,10 +11,10 @@ ghost use Rattle.ss_code_generator.specs.Looped.{loop_width, is_after, begin_of,
 
 use crate::expressions::Operand;
 use crate::generator::{Generator, Site};
-use ss_code_pieces::piece::{Piece, as_index};
 use crate::targets::VariableSpot;
 use ss_code_instructions::address::Address;
 use ss_code_instructions::instruction::Instruction;
+use ss_code_pieces::piece::{Piece, as_index};
 use ss_program::expression::{Expression, SetOwner, Variable};
 use ss_program::head::{Guard, Head, Phrase, Start};
 use std::alloc::AllocError;

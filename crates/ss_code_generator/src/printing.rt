@@ -9,13 +9,13 @@ ghost use Rattle.ss_code_generator.specs.Items.{kind_of, item_width, GoodItem};
 ghost use Rattle.ss_code_generator.specs.Printed.{PrintsLines};
 ghost use Rattle.ss_code_generator.specs.Emitted.{Makes, Emits};
 
-use ss_code_pieces::facts::expression_mode;
 use crate::generator::{Generator, Site};
-use ss_code_pieces::lines::Lines;
-use ss_code_pieces::piece::{Piece, as_index};
 use ss_base::Mode;
 use ss_code_instructions::instruction::Instruction;
 use ss_code_instructions::item::ItemKind;
+use ss_code_pieces::facts::expression_mode;
+use ss_code_pieces::lines::Lines;
+use ss_code_pieces::piece::{Piece, as_index};
 use ss_program::statement::Item;
 use std::alloc::AllocError;
 

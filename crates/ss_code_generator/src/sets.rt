@@ -13,12 +13,12 @@ ghost use Rattle.ss_code_generator.specs.Filings.{filing};
 ghost use Rattle.ss_code_generator.specs.Emitted.{Emits, IsNumber, ReadsBy};
 
 use crate::expressions::Operand;
-use ss_code_pieces::facts::{Ordering, is_count_watched, ordering_of};
 use crate::generator::{Generator, Site};
-use ss_code_pieces::leaves::owner_may_fault;
-use ss_code_pieces::piece::{Piece, as_index};
 use ss_code_instructions::address::Address;
 use ss_code_instructions::instruction::Instruction;
+use ss_code_pieces::facts::{Ordering, is_count_watched, ordering_of};
+use ss_code_pieces::leaves::owner_may_fault;
+use ss_code_pieces::piece::{Piece, as_index};
 use ss_program::expression::{Expression, SetOwner};
 use ss_program::statement::{End, Place, Position};
 use std::alloc::AllocError;

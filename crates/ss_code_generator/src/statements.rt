@@ -13,11 +13,11 @@ ghost use Rattle.ss_code_generator.specs.Spots.{GoodPlace};
 ghost use Rattle.ss_code_generator.specs.Printed.{statement_site, line_or_none, PrintsBy, EmitsStatement, EmitsBlock};
 
 use crate::generator::{Generator, Site};
-use ss_code_pieces::lines::Lines;
 use crate::loops::cells_of;
-use ss_code_pieces::piece::{Piece, as_index};
 use ss_base::Line;
 use ss_code_instructions::instruction::Instruction;
+use ss_code_pieces::lines::Lines;
+use ss_code_pieces::piece::{Piece, as_index};
 use ss_program::condition::Condition;
 use ss_program::expression::Expression;
 use ss_program::statement::{Place, Statement};

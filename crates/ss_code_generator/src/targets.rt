@@ -17,13 +17,15 @@ ghost use Rattle.ss_code_generator.specs.Emitted.{Final, Around, Grows, Stands, 
 ghost use Rattle.ss_code_generator.specs.Spots.{HasRoom, HoldsMode, IsWatched, IsVariable, IsAttribute, IsSpot, IsPlaceOf, spot_cells, spot_code, landing as lands_at, GoodPlace, Gives, Takes, Changed, IsHeldBy};
 
 use crate::expressions::move_of;
-use ss_code_pieces::facts::{attribute_mode, is_attribute_watched, is_variable_watched, variable_mode};
 use crate::generator::{Generator, Site};
-use ss_code_pieces::leaves::must_look;
-use ss_code_pieces::piece::{Piece, as_index};
 use ss_base::Mode;
 use ss_code_instructions::address::Address;
 use ss_code_instructions::instruction::Instruction;
+use ss_code_pieces::facts::{
+    attribute_mode, is_attribute_watched, is_variable_watched, variable_mode,
+};
+use ss_code_pieces::leaves::must_look;
+use ss_code_pieces::piece::{Piece, as_index};
 use ss_program::expression::{Expression, Sign, Variable};
 use ss_program::statement::{CountedClass, Place, Target};
 use std::alloc::AllocError;
@@ -295,12 +297,7 @@ impl Generator<'_> {
     }
 
     /// So many cells that stayed are forgotten.
-    pub fn forget(
-        &self,
-        code: &mut Piece,
-        site: Site,
-        cells: usize,
-    ) -> Result<(), AllocError>
+    pub fn forget(&self, code: &mut Piece, site: Site, cells: usize) -> Result<(), AllocError>
         ensures { OnOk result (Emits self.now self.now code.old code.new site (λ s. Unit {0}) (λ u. forget u cells)) }
     {
         if cells == 0 {
@@ -311,12 +308,7 @@ impl Generator<'_> {
     }
 
     /// A value that lies in a cell goes to a place.
-    pub fn give(
-        &mut self,
-        code: &mut Piece,
-        site: Site,
-        place: &Place,
-    ) -> Result<(), AllocError>
+    pub fn give(&mut self, code: &mut Piece, site: Site, place: &Place) -> Result<(), AllocError>
         ensures { OnOk result (Emits self.old self.new code.old code.new site (GoodPlace (view_place place.now)) (λ t. give_code t (view_place place.now))) }
     {
         let from = self.cell(site)?;

@@ -104,7 +104,10 @@ fn begins_with_look(class: usize, variable: Variable, e: &Expression) -> bool
         Expression::TimeOf { notice: inner } => begins_with_look(class, variable, inner),
         Expression::FigureOf { entity: inner, .. } => begins_with_look(class, variable, inner),
         Expression::Signed { term: inner, .. } => begins_with_look(class, variable, inner),
-        Expression::Unary { argument: inner, .. } => begins_with_look(class, variable, inner),
+        Expression::Unary {
+            argument: inner,
+            ..
+        } => begins_with_look(class, variable, inner),
         Expression::Calculate { first, further } => {
             if further.is_empty() {
                 begins_with_look(class, variable, first)

@@ -38,11 +38,7 @@ fn pictures_of(alloc: Global, lines: &[Vec<u8>]) -> Result<Vec<Picture>, AllocEr
 
 impl Lines {
     /// The lines of these pictures, with these items. The error comes where memory was refused.
-    pub fn of(
-        alloc: Global,
-        items: Vec<ItemKind>,
-        lines: &[Vec<u8>],
-    ) -> Result<Lines, AllocError>
+    pub fn of(alloc: Global, items: Vec<ItemKind>, lines: &[Vec<u8>]) -> Result<Lines, AllocError>
         ensures { IfOk result (λ made. made ≡ record { pictures = map (λ line. line.items) lines.now; items = items.items }) }
     {
         let pictures = pictures_of(alloc, lines)?;

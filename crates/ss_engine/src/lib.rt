@@ -14,10 +14,6 @@ pub mod text_laws;
 pub use compiling::compile;
 pub use outcome::{Outcome, outcome_line, outcome_status};
 pub use refusal::Refusal;
-pub use ss_check::CheckError;
-pub use ss_lex::LexError;
-pub use ss_parse::ParseError;
-pub use ss_tables::TableError;
 pub use run::run_model;
 pub use session::Session;
 pub use simulating::simulate;
@@ -25,5 +21,9 @@ pub use ss_base::{
     Alpha, Counted, FaultKind, Faulty, FaultyRead, FaultyWrite, Line, MemoryRead, MemoryWrite,
     Plan, WriteFailure,
 };
+pub use ss_check::CheckError;
 pub use ss_code::model::Model;
+pub use ss_lex::LexError;
 pub use ss_machine::Stop;
+pub use ss_parse::ParseError;
+pub use ss_tables::TableError;

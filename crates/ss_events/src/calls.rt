@@ -1,8 +1,8 @@
 ghost use Rattle.std.specs.Prelude.{◌≡◌, IfOk, OnOk, OnErr, All, IsTrue, ◌↔◌};
 
-use ss_events_entries::entry::Key;
 use crate::pending::Pending;
 use ss_base::{FaultKind, Refused};
+use ss_events_entries::entry::Key;
 use ss_world::Tie;
 use std::alloc::{AllocError, Global};
 

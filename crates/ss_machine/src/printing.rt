@@ -16,9 +16,9 @@ ghost use Rattle.ss_machine.specs.Writing.{IsUnsent, DidWrite};
 
 use crate::showing::{Buffers, show};
 use ss_base::{FaultKind, FaultyWrite};
-use ss_code_pieces::lines::Lines;
 use ss_code_instructions::address::Address;
 use ss_code_instructions::instruction::Instruction;
+use ss_code_pieces::lines::Lines;
 use ss_machine_instructions::flow::{Ending, Here};
 use ss_machine_instructions::state::State;
 use ss_picture::{FieldValue, Picture, Sink};

@@ -119,7 +119,11 @@ impl State {
         requires { Can here self.now (comparing_numbers relation left.now right.now skip) }
         ensures { Does here self.now self.now result (comparing_numbers relation left.now right.now skip) }
     {
-        let holds = are_numbers_related(relation, self.number(here, left), self.number(here, right));
+        let holds = are_numbers_related(
+            relation,
+            self.number(here, left),
+            self.number(here, right),
+        );
         here.on_if(holds, skip)
     }
 

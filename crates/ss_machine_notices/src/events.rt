@@ -20,8 +20,6 @@ ghost use Rattle.ss_machine_instructions.specs.Worldly.{ChangesIf, on_where, ref
 ghost use Rattle.ss_machine_notices.specs.Giving.{SettledIn, SettledInWithMemory, MadeIn, IsSet, IsRead, Suiting, GivesOne, Gives, number_or, unpended, refiled};
 ghost use Rattle.ss_machine_notices.specs.Beginning.{IsReadTo, ReceivedIf, LetsGo, IsUnbegun, Receives, ComesNext};
 
-use ss_machine_instructions::flow::{Ending, Here};
-use ss_machine_instructions::state::State;
 use ss_base::{Alpha, FaultKind, Line, Mode, Refused};
 use ss_code_instructions::address::Address;
 use ss_code_instructions::entry::Entry;
@@ -29,6 +27,8 @@ use ss_code_instructions::instruction::Instruction;
 use ss_machine_events::coming::next_event;
 use ss_machine_events::scheduling;
 use ss_machine_frames::rows::Rows;
+use ss_machine_instructions::flow::{Ending, Here};
+use ss_machine_instructions::state::State;
 use ss_machine_world::scene::Scene;
 use std::alloc::Global;
 
@@ -455,12 +455,7 @@ pub fn time_in(state: &mut State, here: Here, units: &Address, to: &Address) -> 
 
 /// MakeNotice.
 #[inline(always)]
-pub fn make_notice(
-    state: &mut State,
-    here: Here,
-    values: Values,
-    to: &Address,
-) -> Option<Here>
+pub fn make_notice(state: &mut State, here: Here, values: Values, to: &Address) -> Option<Here>
     requires { Can here state.old (Instruction.MakeNotice values.class values.cell values.count to.now values.noted) }
     ensures { Does here state.old state.new result (Instruction.MakeNotice values.class values.cell values.count to.now values.noted) }
 {
@@ -472,7 +467,13 @@ pub fn make_notice(
         from,
         noted: values.noted,
     };
-    match new_notice(&mut state.scene, &state.rows, what, values.count as usize, time) {
+    match new_notice(
+        &mut state.scene,
+        &state.rows,
+        what,
+        values.count as usize,
+        time,
+    ) {
         Err(refused) => state.refused(refused),
         Ok(notice) => {
             state.rows.set_number_at(from, time);
@@ -495,24 +496,13 @@ pub fn file_notice(
 {
     let notice = state.number(here, notice);
     let time = state.number(here, time);
-    let answer = scheduling::schedule(
-        &mut state.scene,
-        state.alloc,
-        class as usize,
-        notice,
-        time,
-    );
+    let answer = scheduling::schedule(&mut state.scene, state.alloc, class as usize, notice, time);
     settled(state, here, answer)
 }
 
 /// Reschedule.
 #[inline(always)]
-pub fn reschedule(
-    state: &mut State,
-    here: Here,
-    values: Values,
-    notice: &Address,
-) -> Option<Here>
+pub fn reschedule(state: &mut State, here: Here, values: Values, notice: &Address) -> Option<Here>
     requires { Can here state.old (Instruction.Reschedule values.class notice.now values.cell values.count values.noted) }
     ensures { Does here state.old state.new result (Instruction.Reschedule values.class notice.now values.cell values.count values.noted) }
 {

@@ -832,17 +832,21 @@ fn subject_of(meaning: Option<Meaning>) -> Option<Subject>
     ensures { result ≡ subject_of meaning }
 {
     match meaning {
-        Some(Meaning::Variable {
-            variable: Variable::Global { number },
-            ..
-        }) => Some(Subject::OfVariable { number }),
+        Some(
+            Meaning::Variable {
+                variable: Variable::Global { number },
+                ..
+            },
+        ) => Some(Subject::OfVariable { number }),
         Some(Meaning::Attribute { class, field, .. }) => {
             Some(Subject::OfAttribute { class, field })
         }
-        Some(Meaning::OfSet {
-            query: SetQuery::MemberCount,
-            set,
-        }) => Some(Subject::OfCount { set }),
+        Some(
+            Meaning::OfSet {
+                query: SetQuery::MemberCount,
+                set,
+            },
+        ) => Some(Subject::OfCount { set }),
         _ => None,
     }
 }

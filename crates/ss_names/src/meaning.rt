@@ -8,7 +8,10 @@ use ss_program::statement::CountedClass;
 #[derive(Clone, Copy, Debug, PartialEq, Eq)]
 pub enum Meaning {
     /// A local variable, or a global one of a DEFINE.
-    Variable { variable: Variable, mode: Mode },
+    Variable {
+        variable: Variable,
+        mode: Mode,
+    },
     /// A class, and the global variable of its name.
     Class {
         class: usize,
@@ -16,24 +19,36 @@ pub enum Meaning {
         variable: usize,
     },
     /// N. of a permanent class.
-    Count { count: CountedClass },
+    Count {
+        count: CountedClass,
+    },
     /// An attribute of a class.
     Attribute {
         class: usize,
         field: usize,
         mode: Mode,
     },
-    Set { set: usize },
+    Set {
+        set: usize,
+    },
     /// F., L. or N. of a set, which its owner has.
-    OfSet { query: SetQuery, set: usize },
+    OfSet {
+        query: SetQuery,
+        set: usize,
+    },
     /// P., S. or M. of a set, which its members have.
-    OfMember { query: MemberQuery, set: usize },
+    OfMember {
+        query: MemberQuery,
+        set: usize,
+    },
     /// A statistic; a MEAN has no fold.
     Statistic {
         fold: Option<Fold>,
         statistic: usize,
     },
-    Routine { routine: usize },
+    Routine {
+        routine: usize,
+    },
     /// TIME.V
     Clock,
     /// TIME.A

@@ -107,11 +107,7 @@ impl Names {
     ///
     /// # Errors
     /// `AllocError` where memory is refused.
-    pub fn of(
-        alloc: Global,
-        seed: Seed,
-        declarations: &[Declaration],
-    ) -> Result<Names, AllocError>
+    pub fn of(alloc: Global, seed: Seed, declarations: &[Declaration]) -> Result<Names, AllocError>
         ensures { IfOk result (λ n. n ≡ declared declarations.now) }
     {
         let mut names = empty(alloc, seed);

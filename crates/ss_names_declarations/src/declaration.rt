@@ -16,15 +16,32 @@ pub enum SetRule {
 #[derive(Clone, Copy)]
 pub enum Declared {
     /// NORMALLY.
-    Normally { mode: Mode },
-    Class { class: Name, kind: ClassKind },
-    Attribute { attribute: Name, class: Name },
+    Normally {
+        mode: Mode,
+    },
+    Class {
+        class: Name,
+        kind: ClassKind,
+    },
+    Attribute {
+        attribute: Name,
+        class: Name,
+    },
     /// The class that owns a set; None where THE SYSTEM owns it.
-    Owner { set: Name, class: Option<Name> },
+    Owner {
+        set: Name,
+        class: Option<Name>,
+    },
     /// The class whose entities may belong to a set.
-    Member { set: Name, class: Name },
+    Member {
+        set: Name,
+        class: Name,
+    },
     /// DEFINE as a variable.
-    Variable { variable: Name, mode: Mode },
+    Variable {
+        variable: Name,
+        mode: Mode,
+    },
     /// DEFINE as a set, by the statement of this number.
     Order {
         set: Name,
@@ -39,9 +56,13 @@ pub enum Declared {
     },
     PriorityOrder,
     /// A class in the priority order.
-    Priority { class: Name },
+    Priority {
+        class: Name,
+    },
     /// BREAK, of a class.
-    Ties { class: Name },
+    Ties {
+        class: Name,
+    },
     /// A key for the ties of a class.
     TieKey {
         class: Name,
@@ -49,7 +70,10 @@ pub enum Declared {
         high: bool,
     },
     /// The subject of a TALLY or an ACCUMULATE.
-    Subject { subject: Name, weighting: Weighting },
+    Subject {
+        subject: Name,
+        weighting: Weighting,
+    },
     /// A statistic of a subject.
     Statistic {
         statistic: Name,
@@ -72,7 +96,10 @@ pub enum Declared {
         saving: bool,
     },
     /// What a section is given or yields.
-    Parameter { parameter: Name, section: usize },
+    Parameter {
+        parameter: Name,
+        section: usize,
+    },
     /// DEFINE at the head of a section.
     Local {
         variable: Name,

@@ -87,8 +87,9 @@ module _ (p : ProgramTree) (kept : refusal_of_declarations p ≡ None) where
       let variable = variable_there ds line name (count_name name) Permanent a (inr (inl refl)) in
       let kind : value_for (classes ds) name ≡ Some Permanent = c.4 ∙ ap Some (sym (kind_once line name Permanent a c)) in
       let count : CountedClass = record { class = c.0; variable = variable.0 } in
-      let named : count_named (numbered ds) name ≡ Some (m.Count count) = λ i. count_meaning (c.3 i) (kind i) (variable.1 i) in
-      (count,
-      meant p kept (at_line line (d.Class name Permanent)) (count_name name) (m.Count count) refl a
-      (in_right (entry_if name (class_named (numbered ds) name)) (entry_if (count_name name) (count_named (numbered ds) name)) (count_name name, m.Count count)
-      (entry_here (count_name name) (count_named (numbered ds) name) (m.Count count) named)))
+      let named : count_named (numbered ds) name ≡ Some (m.Count count) = λ i. count_meaning (c.3 i) (kind i) (variable.1 i) in (
+        count,
+        meant p kept (at_line line (d.Class name Permanent)) (count_name name) (m.Count count) refl a
+            (in_right (entry_if name (class_named (numbered ds) name)) (entry_if (count_name name) (count_named (numbered ds) name)) (count_name name, m.Count count)
+            (entry_here (count_name name) (count_named (numbered ds) name) (m.Count count) named)),
+      )

@@ -94,11 +94,12 @@ none_before (Some first) rest h = h
 first_here : (before after : List (NameBytes × Meaning)) (name : NameBytes) (meaning : Meaning) (o : Option Meaning) →
     value_for before name ≡ o → is_another o meaning ≡ false → Fits before ((name, meaning) ∷ after) name meaning
 first_here before after name meaning None is h =
-    let rest : List (NameBytes × Meaning) = (name, meaning) ∷ after in
-    (meaning,
-    value_append before rest name ∙ ap (λ (o : Option Meaning). option_or o (value_for rest name)) is
-    ∙ ap (λ (b : Bool). cond b (Some meaning) (value_for after name)) ((bytes_decides name name).1 refl),
-    inl (is, refl))
+    let rest : List (NameBytes × Meaning) = (name, meaning) ∷ after in (
+      meaning,
+      value_append before rest name ∙ ap (λ (o : Option Meaning). option_or o (value_for rest name)) is
+          ∙ ap (λ (b : Bool). cond b (Some meaning) (value_for after name)) ((bytes_decides name name).1 refl),
+      inl (is, refl),
+    )
 first_here before after name meaning (Some known) is h =
     let rest : List (NameBytes × Meaning) = (name, meaning) ∷ after in
     (known, value_append before rest name ∙ ap (λ (o : Option Meaning). option_or o (value_for rest name)) is, inr (not-false (same_of_set known meaning) h))
@@ -113,13 +114,14 @@ first_fits before (x ∷ es) e h (inl same) =
 first_fits before (x ∷ es) e h (inr later) =
     let clash = is_another (value_for before x.name) x.meaning in
     let parts = both_empty (line_if clash x.line) (clashes_after (before ++ pair_of x ∷ []) es) h in
-    let found = first_fits (before ++ pair_of x ∷ []) es e parts.1 later in
-    (found.0,
-    ap (λ (ms : List (NameBytes × Meaning)). value_for ms e.name) (sym (append_assoc before (pair_of x ∷ []) (map pair_of es))) ∙ found.1,
-    ⊎_elim
-    (λ (r : (value_for (before ++ pair_of x ∷ []) e.name ≡ None) × (found.0 ≡ e.meaning)).
-    inl (none_before (value_for before e.name) (value_for (pair_of x ∷ []) e.name) (sym (value_append before (pair_of x ∷ []) e.name) ∙ r.0), r.1))
-    inr found.2)
+    let found = first_fits (before ++ pair_of x ∷ []) es e parts.1 later in (
+      found.0,
+      ap (λ (ms : List (NameBytes × Meaning)). value_for ms e.name) (sym (append_assoc before (pair_of x ∷ []) (map pair_of es))) ∙ found.1,
+      ⊎_elim
+          (λ (r : (value_for (before ++ pair_of x ∷ []) e.name ≡ None) × (found.0 ≡ e.meaning)).
+          inl (none_before (value_for before e.name) (value_for (pair_of x ∷ []) e.name) (sym (value_append before (pair_of x ∷ []) e.name) ∙ r.0), r.1))
+          inr found.2,
+    )
 
 -- a meaning that isn't of a set is no other's
 apart : (first meaning : Meaning) → same_of_set meaning meaning ≡ false → same_of_set first meaning ≡ false
@@ -256,10 +258,11 @@ module _ (p : ProgramTree) (kept : refusal_of_declarations p ≡ None) where
   first_meant x name meaning a b =
       let ds = declarations p in
       let t = numbered ds in
-      let found = first_fits [] (flat_map (entered_by t) ds) (entered_at x.line (name, meaning)) no_clash (is_entered t ds x name meaning a b) in
-      (found.0,
-      value_in_firsts (given_by (declares t) ds) name ∙ ap (λ (ms : List (NameBytes × Meaning)). value_for ms name) (sym (pairs_of_all t ds)) ∙ found.1,
-      ⊎_elim (λ (r : (value_for {V = Meaning} [] name ≡ None) × (found.0 ≡ meaning)). inl r.1) inr found.2)
+      let found = first_fits [] (flat_map (entered_by t) ds) (entered_at x.line (name, meaning)) no_clash (is_entered t ds x name meaning a b) in (
+        found.0,
+        value_in_firsts (given_by (declares t) ds) name ∙ ap (λ (ms : List (NameBytes × Meaning)). value_for ms name) (sym (pairs_of_all t ds)) ∙ found.1,
+        ⊎_elim (λ (r : (value_for {V = Meaning} [] name ≡ None) × (found.0 ≡ meaning)). inl r.1) inr found.2,
+      )
 
   -- a name that is declared as something that isn't of a set means that
   pub meant : (x : Declaration) (name : NameBytes) (meaning : Meaning) → same_of_set meaning meaning ≡ false → Among (declarations p) x → Among (declares (numbered (declarations p)) x.what) (name, meaning) → value_for (table p).meanings name ≡ Some meaning

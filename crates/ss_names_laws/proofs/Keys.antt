@@ -51,9 +51,11 @@ IsKeyOf t class name = (a : Attribute) × (value_for t.attributes name ≡ Some 
 
 key_there : (t : Table) (class : ℕ) (high : Bool) (name : NameBytes) → IsKeyOf t class name → (key : RankKey) × (key_of t class high name ≡ Some key) × Unit {0}
 key_there t class high name h =
-    let key : RankKey = record { field = h.0.field; high = high } in
-    (key,
-    goes (value_for t.attributes name) (λ (a : Attribute). where_holds (a.class == class) (record { field = a.field; high = high })) h.0 key h.1 (ap (λ (b : Bool). where_holds b key) h.2), tt)
+    let key : RankKey = record { field = h.0.field; high = high } in (
+      key,
+      goes (value_for t.attributes name) (λ (a : Attribute). where_holds (a.class == class) (record { field = a.field; high = high })) h.0 key h.1 (ap (λ (b : Bool). where_holds b key) h.2),
+      tt,
+    )
 
 own_key : (o : Option Attribute) (class : ℕ) → is_foreign (class_of o) (Some class) ≡ false → (a : Attribute) × (o ≡ Some a) × (nat_eq a.class class ≡ true)
 own_key None class h = absurd cc

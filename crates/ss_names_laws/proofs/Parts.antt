@@ -43,9 +43,17 @@ module _ (t : Table) where
       let sets = got (each set_laid t.sets) (λ ss. layout_of classes.0 ss) laid.0 classes.2 in
       let made : PlainLayout = record { classes = classes.0; sets = sets.0 } in
       let same = (cond_some (is_layout made) made laid.0 sets.2).1 in
-      let whole : ResolvedLayout = record { layout = laid.0; disciplines = orders.0; globals = values_of t.variables; counts = counts t; statistics = kept.0 } in
-      (classes.0, sets.0, orders.0, kept.0, classes.1, sets.1, orders.1, kept.1,
-      ap (λ (l : PlainLayout). record whole { layout = l }) same ∙ same_Some whole x kept.2)
+      let whole : ResolvedLayout = record { layout = laid.0; disciplines = orders.0; globals = values_of t.variables; counts = counts t; statistics = kept.0 } in (
+        classes.0,
+        sets.0,
+        orders.0,
+        kept.0,
+        classes.1,
+        sets.1,
+        orders.1,
+        kept.1,
+        ap (λ (l : PlainLayout). record whole { layout = l }) same ∙ same_Some whole x kept.2,
+      )
 
   -- a class of the layout
   pub class_parts : (n : ℕ) (c : PlainClass) → class_laid t n ≡ Some c → (slice_get (values_of t.classes) n ≡ Some c.kind) × (each (field_mode t) (get_or t.fields n []) ≡ Some c.fields)

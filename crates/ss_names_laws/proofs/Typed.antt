@@ -107,9 +107,11 @@ module _ (p : ProgramTree) (cs : List PlainClass) (ss : List SetLayout) (orders 
   key_good class high name key e =
       let found = got (value_for (table p).attributes name) (λ (a : Attribute). where_holds (a.class == class) (record { field = a.field; high = high })) key e in
       let made : RankKey = record { field = found.0.field; high = high } in
-      let own = held (found.0.class == class) made key found.2 in
-      (found.0.mode, subst (λ (c : ℕ). typed.field_mode r c key.field ≡ Some found.0.mode) (eqb-true found.0.class class own.0)
-      (subst (λ (k : RankKey). typed.field_mode r found.0.class k.field ≡ Some found.0.mode) own.1 (field_at name found.0 found.1)))
+      let own = held (found.0.class == class) made key found.2 in (
+        found.0.mode,
+        subst (λ (c : ℕ). typed.field_mode r c key.field ≡ Some found.0.mode) (eqb-true found.0.class class own.0)
+            (subst (λ (k : RankKey). typed.field_mode r found.0.class k.field ≡ Some found.0.mode) own.1 (field_at name found.0 found.1)),
+      )
 
   ties_good : (class : ℕ) (name : NameBytes) (keys : List RankKey) → tie_keys (table p) class name ≡ Some keys → typed.GoodKeys r class keys
   ties_good class name keys e =

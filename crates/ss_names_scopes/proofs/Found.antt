@@ -14,4 +14,3 @@ module _ {A : Type 0} (xs : List A) (i : ℕ) (o : Option (Bor A)) (there : is_s
   not_found e =
       let t = sym (ap is_some e) ∙ there in
       slice_get_past xs i (ltb-false i (length xs) (sym t))
-

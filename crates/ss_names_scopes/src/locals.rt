@@ -219,11 +219,7 @@ impl Locals {
 ///
 /// # Errors
 /// `AllocError` where memory is refused.
-pub fn all_locals(
-    alloc: Global,
-    names: &Names,
-    all: &[Vec<Use>],
-) -> Result<Vec<Locals>, AllocError>
+pub fn all_locals(alloc: Global, names: &Names, all: &[Vec<Use>]) -> Result<Vec<Locals>, AllocError>
     ensures { IfOk result (λ found. found.items ≡ map (locals names.now) (map uses_seen all.now)) }
 {
     let mut found = Vec::new(alloc);

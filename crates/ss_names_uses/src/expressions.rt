@@ -146,7 +146,14 @@ pub(crate) fn add_expression(
         Expression::Text(_) => add_text(into, line, number),
         Expression::Named(named) => {
             let subscripts = named.subscripts.len();
-            add_place(into, line, Role::Value, number, named.designator, subscripts)?;
+            add_place(
+                into,
+                line,
+                Role::Value,
+                number,
+                named.designator,
+                subscripts,
+            )?;
             add_numbers(into, line, &named.subscripts)
         }
         Expression::Call {

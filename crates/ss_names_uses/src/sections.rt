@@ -58,12 +58,7 @@ fn add_kind(into: &mut Vec<Use>, line: Line, kind: &SectionKind) -> Result<(), A
 }
 
 // Adds the uses of names that a local DEFINE gives a mode.
-fn add_locals(
-    into: &mut Vec<Use>,
-    line: Line,
-    mode: Mode,
-    names: &[Name],
-) -> Result<(), AllocError>
+fn add_locals(into: &mut Vec<Use>, line: Line, mode: Mode, names: &[Name]) -> Result<(), AllocError>
     ensures { IfOk result (λ _. into.new.items ≡ into.old.items ++ map (local line mode) names.now) }
 {
     for name in names {
@@ -73,10 +68,7 @@ fn add_locals(
 }
 
 // Adds the uses of the names that local DEFINEs give modes.
-fn add_definitions(
-    into: &mut Vec<Use>,
-    definitions: &[LocalDefinition],
-) -> Result<(), AllocError>
+fn add_definitions(into: &mut Vec<Use>, definitions: &[LocalDefinition]) -> Result<(), AllocError>
     ensures { IfOk result (λ _. into.new.items ≡ into.old.items ++ flat_map in_definition (map view_definition definitions.now)) }
 {
     for definition in definitions {

@@ -59,9 +59,14 @@ pub enum CountNeed {
 /// What is used.
 #[derive(Clone, Copy)]
 pub enum Used {
-    Parameter { name: Name },
+    Parameter {
+        name: Name,
+    },
     /// A local variable, by a DEFINE.
-    Local { name: Name, mode: Mode },
+    Local {
+        name: Name,
+        mode: Mode,
+    },
     /// A named place with so many subscripts, and whether it has to be a number.
     Place {
         role: Role,
@@ -75,15 +80,25 @@ pub enum Used {
         class: Name,
         called: bool,
     },
-    Routine { routine: Name },
+    Routine {
+        routine: Name,
+    },
     /// START SIMULATION.
     Start,
     /// Two modes that have to be the same.
-    Same { found: ModeOf, wanted: ModeOf },
+    Same {
+        found: ModeOf,
+        wanted: ModeOf,
+    },
     /// So many arguments.
-    Count { found: usize, wanted: CountNeed },
+    Count {
+        found: usize,
+        wanted: CountNeed,
+    },
     /// A place in a field with decimals, which has to be a MEAN.
-    Mean { place: Designator },
+    Mean {
+        place: Designator,
+    },
     /// Fields of a PRINT that don't fit its items.
     Unfit,
 }

@@ -18,7 +18,7 @@ use ss_parse_expressions::steps::beside;
 use ss_parse_expressions::tables::WordTable;
 use ss_parse_expressions::tokens::{begins_word, expect_symbol, expect_word, skip_word, syntax};
 use ss_tree::expression::{Expression, Named};
-use ss_tree::statement::{Position, End, When};
+use ss_tree::statement::{End, Position, When};
 use std::alloc::Global;
 
 /// FIRST and LAST.

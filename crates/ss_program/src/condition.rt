@@ -1,8 +1,7 @@
 //! Conditions.
 
-pub use ss_base::Relation;
-
 use crate::expression::{Expression, SetOwner};
+pub use ss_base::Relation;
 
 /// A test, which holds or does not.
 #[derive(Drop)]

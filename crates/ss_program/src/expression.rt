@@ -1,7 +1,7 @@
 //! Expressions, and the questions in them.
 
-pub use ss_base::{Operator, Sign, UnaryOperator};
 use ss_base::Value;
+pub use ss_base::{Operator, Sign, UnaryOperator};
 
 /// A variable: a global one by its number among all of them, or a local one by its number in its
 /// routine.

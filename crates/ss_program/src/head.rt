@@ -1,9 +1,8 @@
 //! What loops go over, and what ends them.
 
-pub use ss_base::GuardKind;
-pub use ss_base::PhraseKind;
 use crate::condition::Condition;
 use crate::expression::{Expression, SetOwner, Variable};
+pub use ss_base::{GuardKind, PhraseKind};
 
 /// A condition of a loop that begins with WHILE or UNTIL.
 #[derive(Drop)]

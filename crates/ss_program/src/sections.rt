@@ -1,7 +1,7 @@
 //! Programs and their parts.
 
-pub use ss_base::Weighting;
 use crate::statement::{CountedClass, Statement};
+pub use ss_base::Weighting;
 use ss_base::{Discipline, Layout, Line, Mode, RankKeys};
 
 /// What a statistic is of.

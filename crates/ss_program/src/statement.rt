@@ -1,9 +1,9 @@
 //! Statements.
 
-pub use ss_base::End;
 use crate::condition::Condition;
 use crate::expression::{Expression, SetOwner, Sign, Variable};
 use crate::head::{Guard, Head, Phrase};
+pub use ss_base::End;
 use ss_base::{Line, Mode};
 
 /// A permanent class, and the number of the global variable N. of the class, which says how many

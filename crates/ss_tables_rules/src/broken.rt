@@ -23,20 +23,35 @@ use std::hash::{DefaultHasher, Hash};
 fn name_of(what: &Declared) -> Option<Name> {
     match what {
         Declared::Class { class: name, .. }
-        | Declared::Attribute { attribute: name, .. }
+        | Declared::Attribute {
+            attribute: name,
+            ..
+        }
         | Declared::Owner { set: name, .. }
         | Declared::Member { set: name, .. }
         | Declared::Variable { variable: name, .. }
         | Declared::Order { set: name, .. }
-        | Declared::RankKey { attribute: name, .. }
+        | Declared::RankKey {
+            attribute: name,
+            ..
+        }
         | Declared::Priority { class: name }
         | Declared::Ties { class: name }
-        | Declared::TieKey { attribute: name, .. }
+        | Declared::TieKey {
+            attribute: name,
+            ..
+        }
         | Declared::Subject { subject: name, .. }
-        | Declared::Statistic { statistic: name, .. }
+        | Declared::Statistic {
+            statistic: name,
+            ..
+        }
         | Declared::Routine { routine: name, .. }
         | Declared::Event { class: name, .. }
-        | Declared::Parameter { parameter: name, .. }
+        | Declared::Parameter {
+            parameter: name,
+            ..
+        }
         | Declared::Local { variable: name, .. } => Some(*name),
         Declared::Normally { .. } | Declared::PriorityOrder | Declared::Main => None,
     }

@@ -144,7 +144,10 @@ fn has_member(set: Option<Set>) -> bool
 fn owner_breaks(names: &Names, line: Line, set: &Name) -> Option<TableError>
     ensures { result ≡ option_or (unless (has_member (set_named names.now set.now)) (e.NoMember line)) (unless (not (is_too_many (place_among names.now.set_names set.now))) (e.TooMany line)) }
 {
-    let lacking = unless(has_member(set_named(names, set)), TableError::NoMember(line));
+    let lacking = unless(
+        has_member(set_named(names, set)),
+        TableError::NoMember(line),
+    );
     lacking.or(too_many(line, names.set_names.place(set)))
 }
 

@@ -1,8 +1,7 @@
 //! Conditions.
 
-pub use ss_base::Relation;
-
 use crate::expression::{Expression, Named};
+pub use ss_base::Relation;
 
 /// A test. A negated one has the word NOT.
 #[derive(Drop)]

@@ -1,10 +1,9 @@
 //! The heads of loops.
 
-pub use ss_base::GuardKind;
-pub use ss_base::PhraseKind;
 use crate::condition::Condition;
 use crate::expression::{Expression, Named};
 use ss_base::Name;
+pub use ss_base::{GuardKind, PhraseKind};
 
 /// A phrase of a FOR.
 #[derive(Drop)]

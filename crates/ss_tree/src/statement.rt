@@ -1,9 +1,9 @@
 //! Statements.
 
-pub use ss_base::End;
 use crate::condition::Condition;
 use crate::expression::{Expression, Named};
 use crate::head::{Head, LoopHead};
+pub use ss_base::End;
 use ss_base::{Line, Name, PictureLine};
 
 /// Where a member is filed.

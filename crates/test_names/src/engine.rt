@@ -2,8 +2,8 @@
 
 use ss_engine::{
     CheckError, Counted, FaultKind, Faulty, FaultyRead, FaultyWrite, Line, MemoryRead, MemoryWrite,
-    Model, Outcome, Plan, Refusal, Session, Stop, WriteFailure, compile, outcome_line, outcome_status,
-    simulate,
+    Model, Outcome, Plan, Refusal, Session, Stop, WriteFailure, compile, outcome_line,
+    outcome_status, simulate,
 };
 use std::alloc::{AllocError, Global};
 use std::test::Fail;

@@ -13,7 +13,8 @@ use super::counter::WorkCounter;
 use super::directory::SlotDirectory;
 use super::hints::{HINTS, Hint, MANY, hinted, remember};
 use super::slots::{
-    FOLLOWING, HeapNode, NO_SLOT, Slot, advance, alone, clear, close_up, exchange, is_last_before, keep, line_up, reach, release, slot_of, some_free,
+    FOLLOWING, HeapNode, NO_SLOT, Slot, advance, alone, clear, close_up, exchange, is_last_before,
+    keep, line_up, reach, release, slot_of, some_free,
 };
 use super::{Entry, Mark, mark_of, plain_entry};
 use std::alloc::{AllocError, Global};

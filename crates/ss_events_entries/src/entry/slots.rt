@@ -47,7 +47,12 @@ pub(super) fn alone(notice: i64, mark: Mark, at: usize) -> Slot
 
 // The slot of the entry of a notice.
 #[inline(always)]
-pub(super) fn slot_of(directory: &SlotDirectory, slots: &[Slot], count: usize, notice: i64) -> Option<usize>
+pub(super) fn slot_of(
+    directory: &SlotDirectory,
+    slots: &[Slot],
+    count: usize,
+    notice: i64,
+) -> Option<usize>
     requires { AreLed directory.now count slots.now }
     ensures { MatchOption result ((s : ℕ) → s < length slots.now → IsTaken count (slot_at slots.now s) → (slot_at slots.now s).notice ≢ notice) (λ s. (s < length slots.now) × IsTaken count (slot_at slots.now s) × ((slot_at slots.now s).notice ≡ notice)) }
 {
