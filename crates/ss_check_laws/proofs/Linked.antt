@@ -144,15 +144,11 @@ module _ (s : Scope) (g : Place) (k : IsLinked s g) where
     subject_here (value_for s.table.meanings name) w.statistic.subject w.meant (k.table.meanings name),
   )
 
-  statistic_named : (n : ℕ) → IsStatisticAt s.table k.laid n → (name : NameBytes) × (place_in s.table.histories name ≡ Some n)
-  statistic_named n i = ?
-
-  statistic_here : (n : ℕ) → IsStatisticAt s.table k.laid n → IsStatisticHere n
+  statistic_here : (n : ℕ) → IsStatisticAt s.table n → IsStatisticHere n
   statistic_here n i =
-      let named = statistic_named n i in
-      let w = k.table.watched named.0 n named.1 in
-      let here = watched_here named.0 w in
-      subst IsStatisticHere (same_Some w.number n (sym w.there ∙ named.1)) (w.statistic, here.0, w.known, here.1)
+      let w = k.table.watched i.0 n i.1 in
+      let here = watched_here i.0 w in
+      subst IsStatisticHere (same_Some w.number n (sym w.there ∙ i.1)) (w.statistic, here.0, w.known, here.1)
 
   -- ---- meanings
 

@@ -15,7 +15,7 @@ use Rattle.ss_names.specs.declared.meaning.Meaning.TheVariants as m
 use Rattle.ss_names.specs.Entries.{count_name}
 use Rattle.ss_names.specs.Modes.{value_mode}
 use Rattle.ss_names.specs.Table.{Table, attribute_meaning, class_meaning, class_named, count_meaning, count_named, declares, fold_of, meanings, numbered, set_meanings, variable_meaning}
-use Rattle.ss_names_laws.proofs.Firsts.{entry_from, mapped, place_below, place_in_below, value_declared}
+use Rattle.ss_names_laws.proofs.Firsts.{entry_from, mapped, place_below, value_declared}
 use Rattle.ss_names_laws.proofs.Items.{Among, at_item, in_one_of}
 
 -- what a table has of a name that is declared as this
@@ -29,7 +29,7 @@ IsKnown t name (m.Attribute class field mode) = value_for t.attributes name ≡ 
 IsKnown t name (m.Set set) = set < length t.set_names
 IsKnown t name (m.OfSet query set) = set < length t.set_names
 IsKnown t name (m.OfMember query set) = set < length t.set_names
-IsKnown t name (m.Statistic fold k) = k < length t.histories
+IsKnown t name (m.Statistic fold k) = (subject : NameBytes) × (place_in t.histories subject ≡ Some k)
 IsKnown t name (m.Routine k) = place_in t.routines name ≡ Some k
 IsKnown t name m.Clock = ⊥
 IsKnown t name m.NoticeTime = ⊥
@@ -81,7 +81,7 @@ entry_known t (d.Variable n mode) name meaning a =
 entry_known t (d.Statistic n kind subject) name meaning a =
     let e = entry_from n name (option_map (m.Statistic (fold_of kind)) (place_in t.histories subject)) meaning a in
     let found = mapped (m.Statistic (fold_of kind)) (place_in t.histories subject) meaning e.1 in
-    subst (IsKnown t name) found.2 (place_in_below t.histories subject found.0 found.1)
+    subst (IsKnown t name) found.2 (subject, found.1)
 entry_known t (d.Routine n section given yielding) name meaning a =
     let e = entry_from n name (option_map m.Routine (place_in t.routines n)) meaning a in
     let found = mapped m.Routine (place_in t.routines n) meaning e.1 in

@@ -5,7 +5,7 @@ mod Known
 mod Classes
 mod Variables
 mod Attributes
-mod Steps
+pub mod Steps
 mod Parts
 mod Meanings
 mod Each

@@ -28,7 +28,7 @@ use Rattle.ss_tables_rules.specs.Broken.{refusal_of_declarations}
 use Rattle.ss_names_meaning.specs.Answers.{◌>>=◌, each, upto}
 use Rattle.ss_names_meaning.specs.Layouts.{ResolvedLayout, class_laid, count_by, counts, field_mode, laid_out, set_laid, statistic_kept, statistics}
 use Rattle.ss_names_laws.specs.Laws.{TablesAreValid}
-use Rattle.ss_names_laws.specs.ValidTables.{IsClassAt, IsMeant, IsNamedClass, IsPlainAt, IsSetAt, IsStatisticAt, IsValidTable, IsWatched}
+use Rattle.ss_names_laws.specs.ValidTables.{IsClassAt, IsMeant, IsNamedClass, IsPlainAt, IsSetAt, IsValidTable, IsWatched}
 use Rattle.ss_names_laws.proofs.Attributes.{attribute_there}
 use Rattle.ss_names_laws.proofs.Classes.{class_meant, class_said, class_there, count_meant}
 use Rattle.ss_names_laws.proofs.Items.{contains, in_image, in_pieces}
@@ -72,7 +72,7 @@ module _ (p : ProgramTree) (kept : refusal_of_declarations p ≡ None) (cs : Lis
       let laid = each_at set_laid (sets ds) ss set known.0 are_sets known.1 in
       record { known = known.0; laid = laid.0; there = known.1; is_laid = laid.2; laid_there = laid.1 }
 
-  statistic_at : (k : ℕ) → k < length (table p).histories → IsStatisticAt (table p) x k
+  statistic_at : (k : ℕ) → k < length (table p).histories → (s : Statistic) × (slice_get x.statistics k ≡ Some s) × (slice_get (table p).subjects k ≡ Some (Some s.subject))
   statistic_at k lt =
       let s = numbers_at (statistic_kept (table p)) (length (table p).histories) stats k are_statistics lt in
       (s.0, s.1, subject_kept (table p) k s.0 s.2)
@@ -95,7 +95,7 @@ module _ (p : ProgramTree) (kept : refusal_of_declarations p ≡ None) (cs : Lis
   fits name (m.Set set) h known = set_at set known
   fits name (m.OfSet query set) h known = set_at set known
   fits name (m.OfMember query set) h known = set_at set known
-  fits name (m.Statistic fold k) h known = statistic_at k known
+  fits name (m.Statistic fold k) h known = known
   fits name (m.Routine k) h known = let r = value_by_place (routines (declarations p)) name k known in (r.0, value_at (routines (declarations p)) k name r.0 r.2)
   fits name m.Clock h known = known
   fits name m.NoticeTime h known = known

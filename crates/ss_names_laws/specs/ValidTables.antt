@@ -44,9 +44,9 @@ IsClassAt x class kind = (c : PlainClass) × (slice_get x.layout.classes class �
 abbrev pub IsPlainAt : ResolvedLayout → ℕ → Mode → Type 0
 IsPlainAt x k mode = (slice_get x.globals k ≡ Some mode) × Every (λ (c : CountedClass). c.variable ≢ k) x.counts
 
--- a statistic, with its subject
-abbrev pub IsStatisticAt : Table → ResolvedLayout → ℕ → Type 0
-IsStatisticAt t x k = (s : Statistic) × (slice_get x.statistics k ≡ Some s) × (slice_get t.subjects k ≡ Some (Some s.subject))
+-- a statistic, by the name of its subject
+abbrev pub IsStatisticAt : Table → ℕ → Type 0
+IsStatisticAt t k = (name : NameBytes) × (place_in t.histories name ≡ Some k)
 
 -- what a name means in the whole program is there, and of its mode and kind
 abbrev pub IsMeant : Table → ResolvedLayout → Meaning → Type 0
@@ -58,7 +58,7 @@ IsMeant t x (m.Attribute class field mode) = (c : PlainClass) × (slice_get x.la
 IsMeant t x (m.Set set) = IsSetAt t x set
 IsMeant t x (m.OfSet query set) = IsSetAt t x set
 IsMeant t x (m.OfMember query set) = IsSetAt t x set
-IsMeant t x (m.Statistic fold k) = IsStatisticAt t x k
+IsMeant t x (m.Statistic fold k) = IsStatisticAt t k
 IsMeant t x (m.Routine k) = (known : RoutineSection) × (slice_get (values_of t.routines) k ≡ Some known)
 IsMeant t x m.Clock = ⊥
 IsMeant t x m.NoticeTime = ⊥
