@@ -6,7 +6,7 @@ ghost use Rattle.ss_check_rules.specs.Counts.{argument_count, has_attributes, is
 ghost use Rattle.ss_check_rules.specs.Refusal.{unless};
 
 use crate::error::{CheckError, unless};
-use ss_base::{Line, Name};
+use ss_base::Line;
 use ss_names::{Names, RoutineSection};
 use ss_names_uses::CountNeed;
 use ss_tree::expression::Function;
