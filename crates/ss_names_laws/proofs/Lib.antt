@@ -1,20 +1,20 @@
-mod Items
+pub mod Items
 mod Firsts
-mod Kept
+pub mod Kept
 mod Known
 mod Classes
 mod Variables
 mod Attributes
 pub mod Steps
-mod Parts
+pub mod Parts
 mod Meanings
-mod Each
+pub mod Each
 mod Names
 mod Unbroken
 mod Sources
 mod Limits
 mod Owners
-mod Results
+pub mod Results
 mod Layouts
 mod Keys
 mod Statistics
