@@ -1,4 +1,4 @@
--- The laws of what stands in statements.
+-- The laws of what a statement holds.
 pub use Rattle.ss_check_laws.proofs.Expressions.{expressions_resolve}
 pub use Rattle.ss_check_laws.proofs.Targets.{targets_resolve, sets_resolve, restarts_resolve}
 pub use Rattle.ss_check_laws.proofs.Items.{items_resolve}

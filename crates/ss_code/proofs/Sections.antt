@@ -11,7 +11,7 @@ use Rattle.ss_code_instructions.specs.Carried.{RunningLines}
 use Rattle.ss_code_instructions.specs.Translation.{Site, place, first_site, block_code, block_prints, section_code, routine_code, event_code, routines_code, events_code, routines_prints, events_prints, routine_entry, event_entry, routine_entries, event_entries}
 use Rattle.ss_code_generator.specs.declared.generator.Generator.{Generator}
 use Rattle.ss_code_pieces.specs.Lined.{Lined, nothing}
-use Rattle.ss_code_generator.specs.Emitted.{Final, Around, Stands, HasPrints, Adds}
+use Rattle.ss_code_generator.specs.Emitted.{Final, Around, IsLocated, HasPrints, Adds}
 use Rattle.ss_code_generator.specs.Printed.{Prints, statement_site, PrintsBy}
 use Rattle.ss_code.specs.Running.{Begins, AllBegin}
 use Rattle.ss_code.specs.Sections.{scope_in, PutsSection, PutsRoutines, PutsEvents}
@@ -27,14 +27,14 @@ section_adds g0 g1 g2 c0 c1 own p0 p1 s b made same program locals is ls f aroun
     let g = made.code.grows in
     let t : Site = first_site s in
     let flat : 0 ≤ f.depth = omega arith in
-    let stands : Stands f g2 (statement_site 0) t = record {
+    let located : IsLocated f g2 (statement_site 0) t = record {
       program = program ∙ sym (ap view_program (g.program ∙ same)) ∙ around.program;
       locals = locals ∙ sym g.locals;
       line = refl;
       high = refl;
       deep = flat;
     } in
-    adds_piece f c0 c1 own (section_code s (length p0) b) is ls (made.code.adds f t tt around stands (prints, good))
+    adds_piece f c0 c1 own (section_code s (length p0) b) is ls (made.code.adds f t tt around located (prints, good))
 
 -- ## One section more
 

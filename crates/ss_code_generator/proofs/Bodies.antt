@@ -19,7 +19,7 @@ use Rattle.ss_code_instructions.specs.Translation.{Site, height, place, at_line,
 use Rattle.ss_code_generator.specs.declared.generator.Generator.{Generator}
 use Rattle.ss_code_generator.specs.declared.generator.Site.{Site as Here}
 use Rattle.ss_code_pieces.specs.Lined.{Lined, nothing}
-use Rattle.ss_code_generator.specs.Emitted.{Final, Around, Grows, Stands, Shown, Adds, Emits, EmitsAround, EmitsAroundBoth, HasPrints}
+use Rattle.ss_code_generator.specs.Emitted.{Final, Around, Grows, IsLocated, Shown, Adds, Emits, EmitsAround, EmitsAroundBoth, HasPrints}
 use Rattle.ss_code_generator.specs.Items.{GoodItem}
 use Rattle.ss_code_generator.specs.Looped.{loop_width}
 use Rattle.ss_code_generator.specs.Printed.{Prints, line_or_none, statement_site, PrintsBy, PrintsLines, EmitsStatement, EmitsBlock}
@@ -122,7 +122,7 @@ none_printed a ls e = ([], sym (append-nil a), sym e)
 -- ## One statement
 
 -- a site of a statement, at the line of that
-pub lined : (f : Final) (g : Generator) (h : ℕ) (l : Line) (t : Site) → Stands f g (statement_site h) t → Stands f g (record { line = l; height = h }) (at_line t l)
+pub lined : (f : Final) (g : Generator) (h : ℕ) (l : Line) (t : Site) → IsLocated f g (statement_site h) t → IsLocated f g (record { line = l; height = h }) (at_line t l)
 lined f g h l t s = record { program = s.program; locals = s.locals; line = refl; high = s.high; deep = s.deep }
 
 -- a statement without PRINTs
@@ -136,10 +136,10 @@ said old new a b h l prints s form seen Fits c m is e line fits none same = subs
     base = record {
       code = record {
         grows = m.grows;
-        adds = λ f t u around stands good.
+        adds = λ f t u around located good.
             adds_same f a b (c (at_line t l)) (statement_code t (length prints) seen) (ap (λ k. c (at_line t k)) (line ∙ ap line_or_none w) ∙ same (length prints) t)
-            (m.adds f (at_line t l) tt around (lined f new h l t stands) (fits t.scope good.1));
-        more = λ f t u around stands good. tt;
+            (m.adds f (at_line t l) tt around (lined f new h l t located) (fits t.scope good.1));
+        more = λ f t u around located good. tt;
       };
       prints = none_printed prints (statement_prints seen) none;
     }
@@ -148,8 +148,8 @@ said old new a b h l prints s form seen Fits c m is e line fits none same = subs
 pub put_said : (g : Generator) (a b : Lined) (here : Here) (x : i.Instruction) (y : Running) → b.instructions ≡ a.instructions ++ y ∷ [] → b.lines ≡ a.lines ++ here.line ∷ [] → ((f : Final) (t : Site) → Carries (code_of f.program) f.constants (place t x) y) → ((f : Final) (t : Site) → Shown f.prints t.cells x) → Emits g g a b here (λ s. Unit {0}) (λ t. place t x ∷ [])
 put_said g a b here x y is ls carries shown = record {
   grows = grows_same g;
-  adds = λ f t u around stands good. adds_one f a b here.line (place t x) y is ls stands.line (record { carries = carries f t; deep = stands.deep; shown = shown f t });
-  more = λ f t u around stands good. tt;
+  adds = λ f t u around located good. adds_one f a b here.line (place t x) y is ls located.line (record { carries = carries f t; deep = located.deep; shown = shown f t });
+  more = λ f t u around located good. tt;
 }
 
 -- the same code for something that is the same
@@ -161,9 +161,9 @@ emits_same x y old new a b here G c e m = subst (λ z. Emits old new a b here (G
 -- the code of a statement around a body
 module _ (g0 g1 : Generator) (h : ℕ) (inner : Lined) (p0 p1 : List RunningLines) (a : Block) (m : EmitsBlock g0 g1 inner h p0 p1 a) where
   -- what was made for it
-  pub block_adds : (f : Final) (g2 : Generator) (p2 : List RunningLines) (ls : List Lines) (t : Site) → Grows g1 g2 → Prints p1 p2 ls → Around f g2 → Stands f g2 (statement_site h) t → HasPrints f p2 → GoodBlock t.scope a → Adds f nothing inner (block_code t (length p0) a)
-  block_adds f g2 p2 ls t grows more around stands has good =
-      m.code.adds f t tt (around_old f g1 g2 grows around) (stands_old f g1 g2 (statement_site h) t grows stands) (has_prints_old f p1 p2 ls more has, good)
+  pub block_adds : (f : Final) (g2 : Generator) (p2 : List RunningLines) (ls : List Lines) (t : Site) → Grows g1 g2 → Prints p1 p2 ls → Around f g2 → IsLocated f g2 (statement_site h) t → HasPrints f p2 → GoodBlock t.scope a → Adds f nothing inner (block_code t (length p0) a)
+  block_adds f g2 p2 ls t grows more around located has good =
+      m.code.adds f t tt (around_old f g1 g2 grows around) (stands_old f g1 g2 (statement_site h) t grows located) (has_prints_old f p1 p2 ls more has, good)
 
   none_more : Prints p1 p1 []
   none_more = ([], sym (append-nil p1), refl)
@@ -173,13 +173,13 @@ module _ (g0 g1 : Generator) (h : ℕ) (inner : Lined) (p0 p1 : List RunningLine
   loop_said g2 x y l l' gs line n = record {
     code = record {
       grows = grows_then g0 g1 g2 m.code.grows n.grows;
-      adds = λ f t u around stands good.
+      adds = λ f t u around located good.
           let good' : Good t.scope (p.Loop l' gs a) = good.1 in
           let b : List Placed = block_code t (length p0) a in
-          let made : Adds f nothing inner b = block_adds f g2 p1 [] t n.grows none_more around stands good.0 good'.1 in
+          let made : Adds f nothing inner b = block_adds f g2 p1 [] t n.grows none_more around located good.0 good'.1 in
           adds_same f x y (loop_code (at_line t l) gs b) (loop_code (at_line t l') gs b) (ap (λ k. loop_code (at_line t k) gs b) line)
-          (n.adds f (at_line t l) b around (lined f g2 h l t stands) (made, good'.0));
-      more = λ f t u around stands good. tt;
+          (n.adds f (at_line t l) b around (lined f g2 h l t located) (made, good'.0));
+      more = λ f t u around located good. tt;
     };
     prints = m.prints;
   }
@@ -196,18 +196,18 @@ pub for_said : (g0 g1 g2 g3 g4 : Generator) (x y inner turn : Lined) (h : ℕ) (
 for_said g0 g1 g2 g3 g4 x y inner turn h above_here p0 p1 l l' head ps a cells line wide up_line up reach room m n o = record {
   code = record {
     grows = grows_then g0 g1 g4 reach (grows_then g1 g2 g4 m.code.grows (grows_then g2 g3 g4 n.grows o.grows));
-    adds = λ f t u around stands good.
+    adds = λ f t u around located good.
         let good' : Good t.scope (p.For l' head ps a) = good.1 in
         let u : Site = in_loop (at_line t l) head in
         let v : Site = in_loop t head in
         let b : List Placed = block_code v (length p0) a in
         let cells_same : loop_cells (at_line t l) head ≡ loop_cells t head = loop_line t l head in
-        let made = λ (around2 : Around f g2) (high : Stands f g2 above_here u).
-        m.code.adds f v tt around2 (record { program = high.program; locals = high.locals; line = stands.line; high = sym (ap length cells_same) ∙ high.high; deep = subst (λ (ms : List Mode). length ms ≤ f.depth) cells_same high.deep }) (good.0, good'.2) in
+        let made = λ (around2 : Around f g2) (high : IsLocated f g2 above_here u).
+        m.code.adds f v tt around2 (record { program = high.program; locals = high.locals; line = located.line; high = sym (ap length cells_same) ∙ high.high; deep = subst (λ (ms : List Mode). length ms ≤ f.depth) cells_same high.deep }) (good.0, good'.2) in
         let loops : Adds f x y (for_code (at_line t l) head (phrases_code u ps b)) =
-        for_looped f g1 g2 g3 g4 x y inner turn (record { line = l; height = h }) above_here head ps cells (at_line t l) b wide up_line up room m.code.grows made n o around (lined f g4 h l t stands) good'.0 good'.1 in
+        for_looped f g1 g2 g3 g4 x y inner turn (record { line = l; height = h }) above_here head ps cells (at_line t l) b wide up_line up room m.code.grows made n o around (lined f g4 h l t located) good'.0 good'.1 in
         adds_same f x y (for_code (at_line t l) head (phrases_code u ps b)) (for_code (at_line t l') head (phrases_code (in_loop (at_line t l') head) ps b)) (ap (λ k. for_code (at_line t k) head (phrases_code (in_loop (at_line t k) head) ps b)) line) loops;
-    more = λ f t u around stands good. tt;
+    more = λ f t u around located good. tt;
   };
   prints = m.prints;
 }
@@ -218,10 +218,10 @@ module _ (g0 g1 g2 : Generator) (h : ℕ) (first second : Lined) (p0 p1 p2 : Lis
   both_prints = prints_then p0 p1 p2 (block_prints a) (block_prints b) m.prints n.prints
 
   -- what was made for both
-  pub both_add : (f : Final) (g3 : Generator) (t : Site) → Grows g2 g3 → Around f g3 → Stands f g3 (statement_site h) t → HasPrints f p2 → GoodBlock t.scope a → GoodBlock t.scope b → Adds f nothing first (block_code t (length p0) a) × Adds f nothing second (block_code t (length p0 + length (block_prints a)) b)
-  both_add f g3 t grows around stands has good also =
+  pub both_add : (f : Final) (g3 : Generator) (t : Site) → Grows g2 g3 → Around f g3 → IsLocated f g3 (statement_site h) t → HasPrints f p2 → GoodBlock t.scope a → GoodBlock t.scope b → Adds f nothing first (block_code t (length p0) a) × Adds f nothing second (block_code t (length p0 + length (block_prints a)) b)
+  both_add f g3 t grows around located has good also =
       let mine = around_old f g2 g3 grows around in
-      let there = stands_old f g2 g3 (statement_site h) t grows stands in
+      let there = stands_old f g2 g3 (statement_site h) t grows located in
       let long : length p1 ≡ length p0 + length (block_prints a) = prints_long p0 p1 (block_prints a) m.prints in (
         m.code.adds f t tt (around_old f g1 g2 n.code.grows mine) (stands_old f g1 g2 (statement_site h) t n.code.grows there) (has_prints_old f p1 p2 (block_prints b) n.prints has, good),
         adds_same f nothing second (block_code t (length p1) b) (block_code t (length p0 + length (block_prints a)) b) (ap (λ k. block_code t k b) long) (n.code.adds f t tt mine there (has, also)),
@@ -232,14 +232,14 @@ module _ (g0 g1 g2 : Generator) (h : ℕ) (first second : Lined) (p0 p1 p2 : Lis
   if_said g3 x y l l' c line o = record {
     code = record {
       grows = grows_then g0 g1 g3 m.code.grows (grows_then g1 g2 g3 n.code.grows o.grows);
-      adds = λ f t u around stands good.
+      adds = λ f t u around located good.
           let good' : Good t.scope (p.If l' c a b) = good.1 in
-          let made = both_add f g3 t o.grows around stands good.0 good'.1 good'.2 in
+          let made = both_add f g3 t o.grows around located good.0 good'.1 good'.2 in
           let one : List Placed = block_code t (length p0) a in
           let two : List Placed = block_code t (length p0 + length (block_prints a)) b in
           adds_same f x y (if_code (at_line t l) c one two) (if_code (at_line t l') c one two) (ap (λ k. if_code (at_line t k) c one two) line)
-          (o.adds f (at_line t l) (record { first = one; second = two }) around (lined f g3 h l t stands) (made.0, made.1, good'.0));
-      more = λ f t u around stands good. tt;
+          (o.adds f (at_line t l) (record { first = one; second = two }) around (lined f g3 h l t located) (made.0, made.1, good'.0));
+      more = λ f t u around located good. tt;
     };
     prints = both_prints;
   }
@@ -249,14 +249,14 @@ module _ (g0 g1 g2 : Generator) (h : ℕ) (first second : Lined) (p0 p1 p2 : Lis
   find_said g3 x y l l' head ps line o = record {
     code = record {
       grows = grows_then g0 g1 g3 m.code.grows (grows_then g1 g2 g3 n.code.grows o.grows);
-      adds = λ f t u around stands good.
+      adds = λ f t u around located good.
           let good' : Good t.scope (p.Find l' head ps a b) = good.1 in
-          let made = both_add f g3 t o.grows around stands good.0 good'.2 good'.3 in
+          let made = both_add f g3 t o.grows around located good.0 good'.2 good'.3 in
           let one : List Placed = block_code t (length p0) a in
           let two : List Placed = block_code t (length p0 + length (block_prints a)) b in
           adds_same f x y (find_code (at_line t l) head ps one two) (find_code (at_line t l') head ps one two) (ap (λ k. find_code (at_line t k) head ps one two) line)
-          (o.adds f (at_line t l) (record { first = one; second = two }) around (lined f g3 h l t stands) (made.0, made.1, (good'.0, good'.1)));
-      more = λ f t u around stands good. tt;
+          (o.adds f (at_line t l) (record { first = one; second = two }) around (lined f g3 h l t located) (made.0, made.1, (good'.0, good'.1)));
+      more = λ f t u around located good. tt;
     };
     prints = both_prints;
   }
@@ -274,11 +274,11 @@ pub print_said : (g0 g1 : Generator) (x y : Lined) (h : ℕ) (p0 p1 : List Runni
 print_said g0 g1 x y h p0 p1 l l' items pictures line m = record {
   code = record {
     grows = m.code.grows;
-    adds = λ f t u around stands good.
+    adds = λ f t u around located good.
         let good' : Good t.scope (p.Print l' items pictures) = good.1 in
         let code = λ (k : Line). items_code (at_line t k) items ++ place (after_items (at_line t k) items) (i.Print (length p0) (height t)) ∷ [] in
-        adds_same f x y (code l) (code l') (ap code line) (m.code.adds f (at_line t l) tt around (lined f g1 h l t stands) (good.0, good_items t.scope _ items good'));
-    more = λ f t u around stands good. tt;
+        adds_same f x y (code l) (code l') (ap code line) (m.code.adds f (at_line t l) tt around (lined f g1 h l t located) (good.0, good_items t.scope _ items good'));
+    more = λ f t u around located good. tt;
   };
   prints = m.prints;
 }
@@ -307,16 +307,16 @@ pub body_more : (g0 g1 g2 : Generator) (x y : Lined) (h : ℕ) (p0 p1 p2 : List 
 body_more g0 g1 g2 x y h p0 p1 p2 xs s m n = record {
   code = record {
     grows = grows_then g0 g1 g2 m.code.grows n.code.grows;
-    adds = λ f t u around stands good.
+    adds = λ f t u around located good.
         let parts = every_good_more t.scope xs s good.1 in
         let long : length p1 ≡ length p0 + length (block_prints (block_of xs)) = prints_long p0 p1 (block_prints (block_of xs)) m.prints in
         let last : Adds f x y (statement_code t (length p0 + length (block_prints (block_of xs))) s) =
-        adds_same f x y (statement_code t (length p1) s) (statement_code t (length p0 + length (block_prints (block_of xs))) s) (ap (λ k. statement_code t k s) long) (n.code.adds f t tt around stands (good.0, parts.1)) in
+        adds_same f x y (statement_code t (length p1) s) (statement_code t (length p0 + length (block_prints (block_of xs))) s) (ap (λ k. statement_code t k s) long) (n.code.adds f t tt around located (good.0, parts.1)) in
         let before : Adds f nothing x (block_code t (length p0) (block_of xs)) =
-        m.code.adds f t tt (around_old f g1 g2 n.code.grows around) (stands_old f g1 g2 (statement_site h) t n.code.grows stands) (has_prints_old f p1 p2 (statement_prints s) n.prints good.0, parts.0) in
+        m.code.adds f t tt (around_old f g1 g2 n.code.grows around) (stands_old f g1 g2 (statement_site h) t n.code.grows located) (has_prints_old f p1 p2 (statement_prints s) n.prints good.0, parts.0) in
         adds_same f nothing y (block_code t (length p0) (block_of xs) ++ statement_code t (length p0 + length (block_prints (block_of xs))) s) (block_code t (length p0) (block_of (xs ++ s ∷ []))) (sym (every_code_more t (length p0) xs s))
         (adds_then f nothing x y (block_code t (length p0) (block_of xs)) (statement_code t (length p0 + length (block_prints (block_of xs))) s) before last);
-    more = λ f t u around stands good. tt;
+    more = λ f t u around located good. tt;
   };
   prints = subst (Prints p0 p2) (sym (every_print_more xs s)) (prints_then p0 p1 p2 (block_prints (block_of xs)) (statement_prints s) m.prints n.prints);
 }
@@ -325,8 +325,8 @@ pub body_none : (g : Generator) (x : Lined) (h : ℕ) (prints : List RunningLine
 body_none g x h prints e = record {
   code = record {
     grows = grows_same g;
-    adds = λ f t u around stands good. subst (λ (y : Lined). Adds f nothing y []) (sym e) (adds_none f nothing);
-    more = λ f t u around stands good. tt;
+    adds = λ f t u around located good. subst (λ (y : Lined). Adds f nothing y []) (sym e) (adds_none f nothing);
+    more = λ f t u around located good. tt;
   };
   prints = ([], sym (append-nil prints), refl);
 }
@@ -336,10 +336,10 @@ pub section_said : (g0 g1 : Generator) (x y : Lined) (p0 p1 : List RunningLines)
 section_said g0 g1 x y p0 p1 b m is ls = record {
   code = record {
     grows = m.code.grows;
-    adds = λ f t u around stands good.
-        adds_then f nothing x y (block_code t (length p0) b) (place t i.Leave ∷ []) (m.code.adds f t u around stands good)
-        (adds_one f x y no_line (place t i.Leave) r.Leave is ls stands.line (record { carries = refl; deep = stands.deep; shown = tt }));
-    more = λ f t u around stands good. tt;
+    adds = λ f t u around located good.
+        adds_then f nothing x y (block_code t (length p0) b) (place t i.Leave ∷ []) (m.code.adds f t u around located good)
+        (adds_one f x y no_line (place t i.Leave) r.Leave is ls located.line (record { carries = refl; deep = located.deep; shown = tt }));
+    more = λ f t u around located good. tt;
   };
   prints = m.prints;
 }
@@ -362,32 +362,32 @@ if_some t c a (x ∷ b) h = refl
 pub one_sided : (g0 g1 : Generator) (x y : Lined) (here : Here) (side other test : Lined) (c : Condition) (past : ℕ) → length other.instructions ≡ 0 → past ≡ length side.instructions → Emits g0 g1 nothing test here (λ s. GoodCondition s c) (λ t. condition_code t past c) → y.instructions ≡ x.instructions ++ (test.instructions ++ side.instructions) → y.lines ≡ x.lines ++ (test.lines ++ side.lines) → EmitsAroundBoth g0 g1 x y here side other (λ s. GoodCondition s c) (λ t b. if_code t c b.first b.second)
 one_sided g0 g1 x y here side other test c past none past_is m is ls = record {
   grows = m.grows;
-  adds = λ f t b around stands fits.
+  adds = λ f t b around located fits.
       let empty : b.second ≡ [] = none_there f other b.second fits.1 none in
       let long : past ≡ length b.first = past_is ∙ piece_long f side b.first fits.0 in
-      let cond : Adds f nothing test (condition_code t (length b.first) c) = adds_same f nothing test (condition_code t past c) (condition_code t (length b.first) c) (ap (λ k. condition_code t k c) long) (m.adds f t tt around stands fits.2) in
+      let cond : Adds f nothing test (condition_code t (length b.first) c) = adds_same f nothing test (condition_code t past c) (condition_code t (length b.first) c) (ap (λ k. condition_code t k c) long) (m.adds f t tt around located fits.2) in
       adds_same f x y (condition_code t (length b.first) c ++ b.first) (if_code t c b.first b.second) (sym (if_none t c b.first b.second empty))
       (sides_add f x y test side (condition_code t (length b.first) c) b.first is ls cond fits.0);
-  more = λ f t b around stands fits. tt;
+  more = λ f t b around located fits. tt;
 }
 
 pub two_sided : (g0 g1 : Generator) (x y1 y2 y3 : Lined) (here : Here) (side other test : Lined) (c : Condition) (past skip : ℕ) → (length other.instructions ≡ 0 → ⊥) → past ≡ length side.instructions + 1 → Emits g0 g1 nothing test here (λ s. GoodCondition s c) (λ t. condition_code t past c) → y1.instructions ≡ x.instructions ++ (test.instructions ++ side.instructions) → y1.lines ≡ x.lines ++ (test.lines ++ side.lines) → skip ≡ length other.instructions → y2.instructions ≡ y1.instructions ++ r.Jump skip ∷ [] → y2.lines ≡ y1.lines ++ here.line ∷ [] → y3.instructions ≡ y2.instructions ++ other.instructions → y3.lines ≡ y2.lines ++ other.lines → EmitsAroundBoth g0 g1 x y3 here side other (λ s. GoodCondition s c) (λ t b. if_code t c b.first b.second)
 two_sided g0 g1 x y1 y2 y3 here side other test c past skip some past_is m is1 ls1 skip_is is2 ls2 is3 ls3 = record {
   grows = m.grows;
-  adds = λ f t b around stands fits.
+  adds = λ f t b around located fits.
       let one : length side.instructions ≡ length b.first = piece_long f side b.first fits.0 in
       let two : length other.instructions ≡ length b.second = piece_long f other b.second fits.1 in
       let there : 0 < length b.second = positive (length other.instructions) (length b.second) some two in
       let long : past ≡ length b.first + 1 = omega (arith, past_is, one) in
-      let cond : Adds f nothing test (condition_code t (length b.first + 1) c) = adds_same f nothing test (condition_code t past c) (condition_code t (length b.first + 1) c) (ap (λ k. condition_code t k c) long) (m.adds f t tt around stands fits.2) in
+      let cond : Adds f nothing test (condition_code t (length b.first + 1) c) = adds_same f nothing test (condition_code t past c) (condition_code t (length b.first + 1) c) (ap (λ k. condition_code t k c) long) (m.adds f t tt around located fits.2) in
       let over : Placed = place t (i.Jump (length b.second)) in
-      let jump : Adds f y1 y2 (over ∷ []) = adds_one f y1 y2 here.line over (r.Jump skip) is2 ls2 stands.line (record { carries = ap i.Jump (sym (skip_is ∙ two)); deep = stands.deep; shown = tt }) in
+      let jump : Adds f y1 y2 (over ∷ []) = adds_one f y1 y2 here.line over (r.Jump skip) is2 ls2 located.line (record { carries = ap i.Jump (sym (skip_is ∙ two)); deep = located.deep; shown = tt }) in
       let front : Adds f x y1 (condition_code t (length b.first + 1) c ++ b.first) = sides_add f x y1 test side (condition_code t (length b.first + 1) c) b.first is1 ls1 cond fits.0 in
       let all : Adds f x y3 ((condition_code t (length b.first + 1) c ++ b.first) ++ (over ∷ b.second)) =
       adds_then f x y1 y3 (condition_code t (length b.first + 1) c ++ b.first) (over ∷ b.second) front (adds_then f y1 y2 y3 (over ∷ []) b.second jump (adds_piece f y2 y3 other b.second is3 ls3 fits.1)) in
       adds_same f x y3 ((condition_code t (length b.first + 1) c ++ b.first) ++ (over ∷ b.second)) (if_code t c b.first b.second)
       (append_assoc (condition_code t (length b.first + 1) c) b.first (over ∷ b.second) ∙ sym (if_some t c b.first b.second there)) all;
-  more = λ f t b around stands fits. tt;
+  more = λ f t b around located fits. tt;
 }
   where
     positive : (n m : ℕ) → (n ≡ 0 → ⊥) → n ≡ m → 0 < m

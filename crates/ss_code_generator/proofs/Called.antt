@@ -67,24 +67,24 @@ GoodPlaces ps s = Every (λ (p : Place). GoodPlace p s) ps
 pub gives_more : (g0 g1 g2 : Generator) (x y z : Lined) (here lower : Here) (ps : List Place) (k count : ℕ) (p : Place) → slice_get ps k ≡ Some p → count ≡ length ps → k < count → lower.line ≡ here.line → (here.height + (count - 1 - k) < 2 ^ 64 → lower.height ≡ here.height + (count - 1 - k)) → ((f : Final) → Around f g1 → here.height + count ≤ f.depth) → Emits g0 g1 x y here (GoodPlaces ps) (λ t. gives_front t k ps) → Emits g1 g2 y z lower (GoodPlace p) (λ t. give_code t p) → Emits g0 g2 x z here (GoodPlaces ps) (λ t. gives_front t (k + 1) ps)
 gives_more g0 g1 g2 x y z here lower ps k count p is all below line up room m n = record {
   grows = grows_then g0 g1 g2 m.grows n.grows;
-  adds = λ f t u around stands good.
+  adds = λ f t u around located good.
       let mine = around_old f g1 g2 n.grows around in
       let v : Site = with_results t (drop (suc k) ps) in
       let tall : height v ≡ height t + (count - 1 - k) = omega (arith, results_high t (drop (suc k) ps), length-drop (suc k) ps, all, below) in
-      let deep : height v ≤ f.depth = omega (arith, tall, stands.high, room f mine, below) in
-      let there = stands_above f g2 here lower t v (count - 1 - k) around.small stands line up refl refl tall deep in
+      let deep : height v ≤ f.depth = omega (arith, tall, located.high, room f mine, below) in
+      let there = stands_above f g2 here lower t v (count - 1 - k) around.small located line up refl refl tall deep in
       let next : suc k ≡ k + 1 = omega arith in
       let last : List Placed = give_code v p in
       adds_same f x z (gives_front t k ps ++ last) (gives_front t (k + 1) ps) (sym (front_more t ps k p is) ∙ ap (λ n. gives_front t n ps) next)
-      (adds_then f x y z (gives_front t k ps) last (m.adds f t tt mine (stands_old f g1 g2 here t n.grows stands) good) (n.adds f v tt around there (every_at (λ (p : Place). GoodPlace p t.scope) ps k p is good)));
-  more = λ f t u around stands good. tt;
+      (adds_then f x y z (gives_front t k ps) last (m.adds f t tt mine (stands_old f g1 g2 here t n.grows located) good) (n.adds f v tt around there (every_at (λ (p : Place). GoodPlace p t.scope) ps k p is good)));
+  more = λ f t u around located good. tt;
 }
 
 pub gives_all : (g0 g1 : Generator) (x y : Lined) (here : Here) (ps : List Place) (n : ℕ) → n ≡ length ps → Emits g0 g1 x y here (GoodPlaces ps) (λ t. gives_front t n ps) → Emits g0 g1 x y here (GoodPlaces ps) (λ t. gives_code t ps)
 gives_all g0 g1 x y here ps n e m = record {
   grows = m.grows;
-  adds = λ f t u around stands good. adds_same f x y (gives_front t n ps) (gives_code t ps) (ap (λ k. gives_front t k ps) e ∙ front_all t ps) (m.adds f t tt around stands good);
-  more = λ f t u around stands good. tt;
+  adds = λ f t u around located good. adds_same f x y (gives_front t n ps) (gives_code t ps) (ap (λ k. gives_front t k ps) e ∙ front_all t ps) (m.adds f t tt around located good);
+  more = λ f t u around located good. tt;
 }
 
 -- ## CALL
@@ -104,21 +104,21 @@ all_taken s (p ∷ ps) (m ∷ ms) h = ((m, h.0), all_taken s ps ms h.1)
 pub called : (g0 g1 g2 : Generator) (x y z w : Lined) (here : Here) (l : Line) (routine cell : ℕ) (es : List Expression) (ps : List Place) → Emits g0 g1 x y here (λ s. Every (λ (e : Expression). Typed e s) es) (λ t. values_code t es) → here.height + length es ≤ g1.deepest → cell ≡ length g1.locals.items + here.height → z.instructions ≡ y.instructions ++ r.Call routine cell ∷ [] → z.lines ≡ y.lines ++ here.line ∷ [] → Emits g1 g2 z w here (GoodPlaces ps) (λ t. gives_code t ps) → Emits g0 g2 x w here (λ s. Good s (p.Call l routine es ps)) (λ t. values_code t es ++ place (after_values t es) (i.Call routine (height t)) ∷ gives_code t ps)
 called g0 g1 g2 x y z w here l routine cell es ps m room at is ls n = record {
   grows = grows_then g0 g1 g2 m.grows n.grows;
-  adds = λ f t u around stands good.
+  adds = λ f t u around located good.
       let mine = around_old f g1 g2 n.grows around in
-      let there = stands_old f g1 g2 here t n.grows stands in
+      let there = stands_old f g1 g2 here t n.grows located in
       let good' : Good t.scope (p.Call l routine es ps) = good in
       let v : Site = after_values t es in
       let long : height v ≡ length es + height t = values_high t.scope es t.cells in
-      let deep : height v ≤ f.depth = omega (arith, long, stands.high, room, mine.depth) in
+      let deep : height v ≤ f.depth = omega (arith, long, located.high, room, mine.depth) in
       let locals : length t.scope.locals ≡ length g1.locals.items = ap length there.locals in
-      let cell_at : cell ≡ length t.scope.locals + height t = omega (arith, at, locals, stands.high) in
+      let cell_at : cell ≡ length t.scope.locals + height t = omega (arith, at, locals, located.high) in
       let calls : Placed = place v (i.Call routine (height t)) in
       adds_then f x y w (values_code t es) (calls ∷ gives_code t ps) (m.adds f t tt mine there (all_typed t.scope es good'.0.given good'.2))
       (adds_then f y z w (calls ∷ []) (gives_code t ps)
-      (adds_one f y z here.line calls (r.Call routine cell) is ls stands.line (record { carries = (height t, cell_at, refl); deep = deep; shown = tt }))
-      (n.adds f t tt around stands (all_taken t.scope ps good'.0.yielding good'.3)));
-  more = λ f t u around stands good. tt;
+      (adds_one f y z here.line calls (r.Call routine cell) is ls located.line (record { carries = (height t, cell_at, refl); deep = deep; shown = tt }))
+      (n.adds f t tt around located (all_taken t.scope ps good'.0.yielding good'.3)));
+  more = λ f t u around located good. tt;
 }
 
 -- ## One operand
@@ -127,12 +127,12 @@ called g0 g1 g2 x y z w here l routine cell es ps m room at is ls n = record {
 pub of_one : (g0 g1 : Generator) (x y z : Lined) (here : Here) (e : Expression) (o : Read) (Fits : Scope → Type 0) (make : Operand → i.Instruction) (run : Running) → Reads g0 g1 x y here e o → z.instructions ≡ y.instructions ++ run ∷ [] → z.lines ≡ y.lines ++ here.line ∷ [] → ((s : Scope) → Fits s → HasMode s e Integer) → ((f : Final) (t : Site) → OperandAt (code_of f.program) f.constants (place (after t e) (make (operand t e))) (operand t e) o.address → Carries (code_of f.program) f.constants (place (after t e) (make (operand t e))) run) → ((f : Final) (t : Site) → Shown f.prints (after t e).cells (make (operand t e))) → Emits g0 g1 x z here Fits (λ t. with_operand t e make)
 of_one g0 g1 x y z here e o Fits make run m is ls fits carries shown = record {
   grows = m.grows;
-  adds = λ f t u around stands good.
+  adds = λ f t u around located good.
       let typed : Typed e t.scope = (Integer, fits t.scope good) in
-      let read = m.more f t tt around stands typed in
+      let read = m.more f t tt around located typed in
       let ins : Placed = place (after t e) (make (operand t e)) in
       let at = operand_here (code_of f.program) f.constants (place t i.Leave) ins (operand t e) o.address refl read.at in
-      adds_then f x y z (operand_code t e) (ins ∷ []) (m.adds f t tt around stands typed)
-      (adds_one f y z here.line ins run is ls stands.line (record { carries = carries f t at; deep = read.deep; shown = shown f t }));
-  more = λ f t u around stands good. tt;
+      adds_then f x y z (operand_code t e) (ins ∷ []) (m.adds f t tt around located typed)
+      (adds_one f y z here.line ins run is ls located.line (record { carries = carries f t at; deep = read.deep; shown = shown f t }));
+  more = λ f t u around located good. tt;
 }

@@ -11,7 +11,7 @@ use Rattle.ss_code_instructions.specs.Translation.{Site, height}
 use Rattle.ss_code_generator.specs.declared.generator.Generator.{Generator}
 use Rattle.ss_code_generator.specs.declared.generator.Site.{Site as Here}
 use Rattle.ss_code_pieces.specs.Lined.{Lined, nothing}
-use Rattle.ss_code_generator.specs.Emitted.{Final, Around, Grows, Stands, Runs, AllRun, line_of, Adds, Makes}
+use Rattle.ss_code_generator.specs.Emitted.{Final, Around, Grows, IsLocated, Runs, AllRun, line_of, Adds, Makes}
 
 -- ## What is around more is around less
 
@@ -42,14 +42,14 @@ grows_then old mid new g h = record {
   depth = omega (arith, g.depth, h.depth);
 }
 
-pub stands_old : (f : Final) (old new : Generator) (here : Here) (t : Site) → Grows old new → Stands f new here t → Stands f old here t
+pub stands_old : (f : Final) (old new : Generator) (here : Here) (t : Site) → Grows old new → IsLocated f new here t → IsLocated f old here t
 stands_old f old new here t g s = record { program = s.program; locals = s.locals ∙ g.locals; line = s.line; high = s.high; deep = s.deep }
 
-pub stands_new : (f : Final) (old new : Generator) (here : Here) (t : Site) → Grows old new → Stands f old here t → Stands f new here t
+pub stands_new : (f : Final) (old new : Generator) (here : Here) (t : Site) → Grows old new → IsLocated f old here t → IsLocated f new here t
 stands_new f old new here t g s = record { program = s.program; locals = s.locals ∙ sym g.locals; line = s.line; high = s.high; deep = s.deep }
 
 -- a site in the same section with so many cells more
-pub stands_above : (f : Final) (g : Generator) (here higher : Here) (t u : Site) (k : ℕ) → f.depth < 2 ^ 32 → Stands f g here t → higher.line ≡ here.line → (here.height + k < 2 ^ 64 → higher.height ≡ here.height + k) → u.scope ≡ t.scope → u.line ≡ t.line → height u ≡ height t + k → height u ≤ f.depth → Stands f g higher u
+pub stands_above : (f : Final) (g : Generator) (here higher : Here) (t u : Site) (k : ℕ) → f.depth < 2 ^ 32 → IsLocated f g here t → higher.line ≡ here.line → (here.height + k < 2 ^ 64 → higher.height ≡ here.height + k) → u.scope ≡ t.scope → u.line ≡ t.line → height u ≡ height t + k → height u ≤ f.depth → IsLocated f g higher u
 stands_above f g here higher t u k small s line above scope same high deep =
     let fits : here.height + k < 2 ^ 64 = omega (arith, small, s.high, high, deep) in
     record {
@@ -124,8 +124,8 @@ makes_earlier older old new p q here Fit c More g m = record { grows = grows_the
 pub makes_later : {I : Type 0} (old new newer : Generator) (p q : Lined) (here : Here) (Fit : Final → Site → I → Type 0) (c : Site → I → List Placed) (More : Final → Site → I → Type 0) → Grows new newer → Makes old new p q here Fit c More → Makes old newer p q here Fit c More
 makes_later old new newer p q here Fit c More g m = record {
   grows = grows_then old new newer m.grows g;
-  adds = λ f t i around stands fits. m.adds f t i (around_old f new newer g around) (stands_old f new newer here t g stands) fits;
-  more = λ f t i around stands fits. m.more f t i (around_old f new newer g around) (stands_old f new newer here t g stands) fits;
+  adds = λ f t i around located fits. m.adds f t i (around_old f new newer g around) (stands_old f new newer here t g located) fits;
+  more = λ f t i around located fits. m.more f t i (around_old f new newer g around) (stands_old f new newer here t g located) fits;
 }
 
 -- ## Calls that may be out of memory

@@ -21,18 +21,18 @@ use Rattle.ss_code_generator.specs.declared.generator.Site.{Site as Here}
 use Rattle.ss_code_pieces.specs.Lined.{Lined}
 use Rattle.ss_code_pieces.specs.Preamble.{filing_of}
 use Rattle.ss_code_generator.specs.Filings.{filing}
-use Rattle.ss_code_generator.specs.Emitted.{Final, Around, Stands, Shown, Emits, AtOperand, AtBearer, IsNumber, Reads, ReadsBy, Bears}
+use Rattle.ss_code_generator.specs.Emitted.{Final, Around, IsLocated, Shown, Emits, AtOperand, AtBearer, IsNumber, Reads, ReadsBy, Bears}
 use Rattle.ss_code_generator.proofs.Emitting.{around_old, grows_then, stands_old, adds_then, adds_one, adds_same}
 use Rattle.ss_code_generator.proofs.Forms as forms
 use Rattle.ss_code_generator.proofs.Operands.{read_stands, stays_at, looked_reads}
 use Rattle.ss_code_generator.proofs.Testing.{owner_number}
 
 -- the same where the codes are one at each site at which the generator may be
-pub emits_where : (old new : Generator) (p q : Lined) (here : Here) (Good Other : Scope → Type 0) (c d : Site → List Placed) → ((k : Scope) → Other k → Good k) → ((f : Final) (t : Site) → Around f new → Stands f new here t → c t ≡ d t) → Emits old new p q here Good c → Emits old new p q here Other d
+pub emits_where : (old new : Generator) (p q : Lined) (here : Here) (Good Other : Scope → Type 0) (c d : Site → List Placed) → ((k : Scope) → Other k → Good k) → ((f : Final) (t : Site) → Around f new → IsLocated f new here t → c t ≡ d t) → Emits old new p q here Good c → Emits old new p q here Other d
 emits_where old new p q here Good Other c d good same m = record {
   grows = m.grows;
-  adds = λ f t u around stands other. adds_same f p q (c t) (d t) (same f t around stands) (m.adds f t u around stands (good t.scope other));
-  more = λ f t u around stands other. tt;
+  adds = λ f t u around located other. adds_same f p q (c t) (d t) (same f t around located) (m.adds f t u around located (good t.scope other));
+  more = λ f t u around located other. tt;
 }
 
 -- whether a statistic watches a set, as the generator knows it
@@ -42,7 +42,7 @@ counts_noted f g set noted around e h = ap (λ (p : Program). watch (code_of p).
 -- a member that is looked at
 pub member_looked : (old new : Generator) (p q v : Lined) (here : Here) (set : ℕ) (e : Expression) (o : Read) → Reads old new p q here e o → v.instructions ≡ q.instructions ++ r.LookMember set o.address ∷ [] → v.lines ≡ q.lines ++ here.line ∷ [] → ReadsBy old new p v here (IsNumber e) e o (λ t. member_code t true set e)
 member_looked old new p q v here set e o m is ls =
-    looked_reads old new p q v here e o (IsNumber e) (λ x. i.LookMember set (stay x)) (r.LookMember set o.address) m is ls (λ f t around stands good read.
+    looked_reads old new p q v here e o (IsNumber e) (λ x. i.LookMember set (stay x)) (r.LookMember set o.address) m is ls (λ f t around located good read.
     ((Integer, good), record { carries = (stay (operand t e), stays_at f t (operand t e) o.address read.at, refl); deep = read.deep; shown = tt }))
     (λ s h. (Integer, h))
 
@@ -50,21 +50,21 @@ member_looked old new p q v here set e o m is ls =
 pub member_works : (old mid new : Generator) (p q v s : Lined) (here higher : Here) (set : ℕ) (e : Expression) (o : SetOwner) (member owner : Read) (make : Operand → Bearer → Instruction) (y : Running) → ReadsBy old mid p q here (IsNumber e) e member (λ t. member_code t (may_fault (expression_of o)) set e) → higher.line ≡ here.line → (here.height + member.cells < 2 ^ 64 → higher.height ≡ here.height + member.cells) → Bears mid new q v higher (expression_of o) owner → s.instructions ≡ v.instructions ++ y ∷ [] → s.lines ≡ v.lines ++ here.line ∷ [] → ((f : Final) (t : Site) → Around f new → AtOperand f (after_bearer (after t e) (expression_of o)) (operand t e) member.address → AtBearer f (after_bearer (after t e) (expression_of o)) (bearer (after t e) (expression_of o)) owner.address → Carries (code_of f.program) f.constants (place (after_bearer (after t e) (expression_of o)) (make (operand t e) (bearer (after t e) (expression_of o)))) y × Shown f.prints (after_bearer (after t e) (expression_of o)).cells (make (operand t e) (bearer (after t e) (expression_of o)))) → Emits old new p s here (λ k. IsNumber e k × OwnerFits k set o) (λ t. member_code t (may_fault (expression_of o)) set e ++ with_owner (after t e) o (make (operand t e)))
 member_works old mid new p q v s here higher set e o member owner make y m line above n is ls suits = record {
   grows = grows_then old mid new m.grows n.grows;
-  adds = λ f t u around stands good.
+  adds = λ f t u around located good.
       let b = expression_of o in
       let t1 : Site = after t e in
       let t2 : Site = after_bearer t1 b in
       let mine = around_old f mid new n.grows around in
-      let there = stands_old f mid new here t n.grows stands in
+      let there = stands_old f mid new here t n.grows located in
       let read = m.more f t tt mine there good.0 in
-      let on_top = read_stands f new here higher t e member around stands read line above in
+      let on_top = read_stands f new here higher t e member around located read line above in
       let number = owner_number t.scope set o good.1 in
       let borne = n.more f t1 tt around on_top number in
       let c = suits f t around read.at borne.at in
       adds_then f p q s (member_code t (may_fault b) set e) (bearer_code t1 b ++ place t2 (make (operand t e) (bearer t1 b)) ∷ []) (m.adds f t tt mine there good.0)
       (adds_then f q v s (bearer_code t1 b) (place t2 (make (operand t e) (bearer t1 b)) ∷ []) (n.adds f t1 tt around on_top number)
-      (adds_one f v s here.line (place t2 (make (operand t e) (bearer t1 b))) y is ls stands.line (record { carries = c.0; deep = borne.deep; shown = c.1 })));
-  more = λ f t u around stands good. tt;
+      (adds_one f v s here.line (place t2 (make (operand t e) (bearer t1 b))) y is ls located.line (record { carries = c.0; deep = borne.deep; shown = c.1 })));
+  more = λ f t u around located good. tt;
 }
 
 pub member_filed : (old mid new : Generator) (p q v s : Lined) (here higher : Here) (set : ℕ) (e : Expression) (o : SetOwner) (member owner : Read) (ordering : Ordering) (noted : Bool) → ReadsBy old mid p q here (IsNumber e) e member (λ t. member_code t (may_fault (expression_of o)) set e) → higher.line ≡ here.line → (here.height + member.cells < 2 ^ 64 → higher.height ≡ here.height + member.cells) → Bears mid new q v higher (expression_of o) owner → noted ≡ watch new.program.now.statistics.items (OfCount set) → s.instructions ≡ v.instructions ++ filing ordering set member.address owner.address noted ∷ [] → s.lines ≡ v.lines ++ here.line ∷ [] → Emits old new p s here (λ k. IsNumber e k × OwnerFits k set o) (λ t. member_code t (may_fault (expression_of o)) set e ++ with_owner (after t e) o (i.File (filing_of ordering) set (operand t e)))
@@ -83,18 +83,18 @@ member_removed old mid new p q v s here higher set e o member owner noted m line
 -- where a member is filed, by what the statement says
 pub filed_by_discipline : (old new : Generator) (p q : Lined) (here : Here) (set : ℕ) (e : Expression) (o : SetOwner) (ordering : Ordering) → filing_of ordering ≡ filing_by (slice_get old.program.now.disciplines.items set) → Emits old new p q here (λ k. IsNumber e k × OwnerFits k set o) (λ t. member_code t (may_fault (expression_of o)) set e ++ with_owner (after t e) o (i.File (filing_of ordering) set (operand t e))) → Emits old new p q here (λ k. Good k (File here.line set e ByDiscipline o)) (λ t. file_code t set e ByDiscipline o)
 filed_by_discipline old new p q here set e o ordering by m =
-    emits_where old new p q here (λ k. IsNumber e k × OwnerFits k set o) (λ k. Good k (File here.line set e ByDiscipline o)) (λ t. member_code t (may_fault (expression_of o)) set e ++ with_owner (after t e) o (i.File (filing_of ordering) set (operand t e))) (λ t. file_code t set e ByDiscipline o) (λ k h. (h.0, h.2)) (λ f t around stands.
+    emits_where old new p q here (λ k. IsNumber e k × OwnerFits k set o) (λ k. Good k (File here.line set e ByDiscipline o)) (λ t. member_code t (may_fault (expression_of o)) set e ++ with_owner (after t e) o (i.File (filing_of ordering) set (operand t e))) (λ t. file_code t set e ByDiscipline o) (λ k h. (h.0, h.2)) (λ f t around located.
     let same : filing_of ordering ≡ filing_by (slice_get t.scope.program.disciplines set) =
-    by ∙ ap (λ (p : Program). filing_by (slice_get p.disciplines set)) (sym (stands.program ∙ sym around.program ∙ ap view_program m.grows.program)) in
+    by ∙ ap (λ (p : Program). filing_by (slice_get p.disciplines set)) (sym (located.program ∙ sym around.program ∙ ap view_program m.grows.program)) in
     ap (λ (k : Filing). member_code t (may_fault (expression_of o)) set e ++ with_owner (after t e) o (i.File k set (operand t e))) same) m
 
 pub filed_first : (old new : Generator) (p q : Lined) (here : Here) (set : ℕ) (e : Expression) (o : SetOwner) → Emits old new p q here (λ k. IsNumber e k × OwnerFits k set o) (λ t. member_code t (may_fault (expression_of o)) set e ++ with_owner (after t e) o (i.File (filing_of orderings.First) set (operand t e))) → Emits old new p q here (λ k. Good k (File here.line set e AsFirst o)) (λ t. file_code t set e AsFirst o)
 filed_first old new p q here set e o m =
-    emits_where old new p q here (λ k. IsNumber e k × OwnerFits k set o) (λ k. Good k (File here.line set e AsFirst o)) (λ t. member_code t (may_fault (expression_of o)) set e ++ with_owner (after t e) o (i.File (filing_of orderings.First) set (operand t e))) (λ t. file_code t set e AsFirst o) (λ k h. (h.0, h.2)) (λ f t around stands. refl) m
+    emits_where old new p q here (λ k. IsNumber e k × OwnerFits k set o) (λ k. Good k (File here.line set e AsFirst o)) (λ t. member_code t (may_fault (expression_of o)) set e ++ with_owner (after t e) o (i.File (filing_of orderings.First) set (operand t e))) (λ t. file_code t set e AsFirst o) (λ k h. (h.0, h.2)) (λ f t around located. refl) m
 
 pub filed_last : (old new : Generator) (p q : Lined) (here : Here) (set : ℕ) (e : Expression) (o : SetOwner) → Emits old new p q here (λ k. IsNumber e k × OwnerFits k set o) (λ t. member_code t (may_fault (expression_of o)) set e ++ with_owner (after t e) o (i.File (filing_of orderings.Last) set (operand t e))) → Emits old new p q here (λ k. Good k (File here.line set e AsLast o)) (λ t. file_code t set e AsLast o)
 filed_last old new p q here set e o m =
-    emits_where old new p q here (λ k. IsNumber e k × OwnerFits k set o) (λ k. Good k (File here.line set e AsLast o)) (λ t. member_code t (may_fault (expression_of o)) set e ++ with_owner (after t e) o (i.File (filing_of orderings.Last) set (operand t e))) (λ t. file_code t set e AsLast o) (λ k h. (h.0, h.2)) (λ f t around stands. refl) m
+    emits_where old new p q here (λ k. IsNumber e k × OwnerFits k set o) (λ k. Good k (File here.line set e AsLast o)) (λ t. member_code t (may_fault (expression_of o)) set e ++ with_owner (after t e) o (i.File (filing_of orderings.Last) set (operand t e))) (λ t. file_code t set e AsLast o) (λ k h. (h.0, h.2)) (λ f t around located. refl) m
 
 -- directly before another member, or directly after it
 abbrev next_to : (after : Bool) → Operand → Filing
@@ -109,15 +109,15 @@ member_beside old one two new p q v w s here higher highest set e beside o membe
     let late = grows_then one two new n.grows n2.grows in
     record {
       grows = grows_then old one new m.grows late;
-      adds = λ f t u around stands good.
+      adds = λ f t u around located good.
           let c = expression_of o in
           let t1 : Site = after t e in
           let t2 : Site = after t1 beside in
           let t3 : Site = after_bearer t2 c in
           let around2 = around_old f two new n2.grows around in
           let around1 = around_old f one new late around in
-          let read = m.more f t tt around1 (stands_old f one new here t late stands) good.0 in
-          let on_top = read_stands f new here higher t e member around stands read line above in
+          let read = m.more f t tt around1 (stands_old f one new here t late located) good.0 in
+          let on_top = read_stands f new here higher t e member around located read line above in
           let on_top1 = stands_old f two new higher t1 n2.grows on_top in
           let read2 = n.more f t1 tt around2 on_top1 good.1 in
           let on_top2 = read_stands f new higher highest t1 beside neighbour around on_top read2 line2 above2 in
@@ -128,9 +128,9 @@ member_beside old one two new p q v w s here higher highest set e beside o membe
           let carries : Carries (code_of f.program) f.constants (place t3 ins) y =
           (counts_noted f new set noted around watched, (operand t1 beside, read2.at, (operand t e, read.at, (bearer t2 c, borne.at, refl)))) in
           adds_same f p s (member_code t true set e ++ (member_code t1 true set beside ++ (bearer_code t2 c ++ place t3 ins ∷ []))) (file_code t set e (if b then AfterMember beside else BeforeMember beside) o) (beside_is t set e beside o b)
-          (adds_then f p q s (member_code t true set e) (member_code t1 true set beside ++ (bearer_code t2 c ++ place t3 ins ∷ [])) (m.adds f t tt around1 (stands_old f one new here t late stands) good.0)
+          (adds_then f p q s (member_code t true set e) (member_code t1 true set beside ++ (bearer_code t2 c ++ place t3 ins ∷ [])) (m.adds f t tt around1 (stands_old f one new here t late located) good.0)
           (adds_then f q v s (member_code t1 true set beside) (bearer_code t2 c ++ place t3 ins ∷ []) (n.adds f t1 tt around2 on_top1 good.1)
           (adds_then f v w s (bearer_code t2 c) (place t3 ins ∷ []) (n2.adds f t2 tt around on_top2 number)
-          (adds_one f w s here.line (place t3 ins) y is ls stands.line (record { carries = carries; deep = borne.deep; shown = tt })))));
-      more = λ f t u around stands good. tt;
+          (adds_one f w s here.line (place t3 ins) y is ls located.line (record { carries = carries; deep = borne.deep; shown = tt })))));
+      more = λ f t u around located good. tt;
     }

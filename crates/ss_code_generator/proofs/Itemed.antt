@@ -17,7 +17,7 @@ use Rattle.ss_code_generator.specs.declared.generator.Generator.{Generator}
 use Rattle.ss_code_generator.specs.declared.generator.Site.{Site as Here}
 use Rattle.ss_code_pieces.specs.Lined.{Lined}
 use Rattle.ss_code_pieces.specs.Preamble.{scope_of}
-use Rattle.ss_code_generator.specs.Emitted.{Final, Grows, Stands, Makes, Emits, Typed}
+use Rattle.ss_code_generator.specs.Emitted.{Final, Grows, IsLocated, Makes, Emits, Typed}
 use Rattle.ss_code_generator.specs.Items.{value_kind, kind_of, item_width, GoodItem}
 use Rattle.ss_code_generator.specs.Printed.{PrintsLines}
 use Rattle.ss_code_generator.proofs.Emitting.{around_old, grows_same, grows_then, stands_old, stands_above, adds_none, adds_then, adds_one, adds_same}
@@ -34,17 +34,17 @@ later_made old mid new p q here Good c g m = record { grows = grows_then old mid
 pub mean_of_looked : (old mid new : Generator) (p q v : Lined) (here : Here) (k : ℕ) (e : Expression) (cell : Address) → Emits old mid p q here (Typed e) (λ t. expression_code t (next t) e) → Grows mid new → InFrame (length new.locals.items + here.height) cell → here.height < new.deepest → v.instructions ≡ q.instructions ++ r.LookMean k cell ∷ [] → v.lines ≡ q.lines ++ here.line ∷ [] → Emits old new p v here (GoodItem (AMeanOf k e)) (λ t. item_code t (AMeanOf k e))
 mean_of_looked old mid new p q v here k e cell m g at room is ls = record {
   grows = grows_then old mid new m.grows g;
-  adds = λ f t u around stands good.
+  adds = λ f t u around located good.
       let mine = around_old f mid new g around in
-      let there = stands_old f mid new here t g stands in
+      let there = stands_old f mid new here t g located in
       let typed : Typed e t.scope = (modes.Integer, good) in
       let w : Site = above t modes.Integer in
       let high : height w ≡ height t + 1 = omega arith in
-      let deep : height w ≤ f.depth = omega (arith, high, stands.high, room, around.depth) in
+      let deep : height w ≤ f.depth = omega (arith, high, located.high, room, around.depth) in
       adds_then f p q v (expression_code t (next t) e) (place w (i.LookMean k (Some (Stays (height t)))) ∷ []) (m.adds f t tt mine there typed)
-      (adds_one f q v here.line (place w (i.LookMean k (Some (Stays (height t))))) (r.LookMean k cell) is ls stands.line
-      (record { carries = (Some (Stays (height t)), cell_at_site f new here t cell stands at, refl); deep = deep; shown = tt }));
-  more = λ f t u around stands good. tt;
+      (adds_one f q v here.line (place w (i.LookMean k (Some (Stays (height t))))) (r.LookMean k cell) is ls located.line
+      (record { carries = (Some (Stays (height t)), cell_at_site f new here t cell located at, refl); deep = deep; shown = tt }));
+  more = λ f t u around located good. tt;
 }
 
 -- ## Several items
@@ -52,7 +52,7 @@ mean_of_looked old mid new p q v here k e cell m g at room is ls = record {
 -- code of items, and where it goes on
 abbrev pub MakesItems : (old new : Generator) → (before after : Lined) → (here next : Here) → List Item → Type 0
 MakesItems old new before after here next xs =
-    Makes old new before after here (λ f t (u : Unit {0}). Every (λ x. GoodItem x t.scope) xs) (λ t u. items_code t xs) (λ f t u. Stands f new next (after_items t xs))
+    Makes old new before after here (λ f t (u : Unit {0}). Every (λ x. GoodItem x t.scope) xs) (λ t u. items_code t xs) (λ f t u. IsLocated f new next (after_items t xs))
 
 -- the same without where
 abbrev pub MakesAll : (old new : Generator) → (before after : Lined) → Here → List Item → Type 0
@@ -62,8 +62,8 @@ MakesAll old new before after here xs =
 pub no_items : (g : Generator) (p : Lined) (here : Here) → MakesItems g g p p here here []
 no_items g p here = record {
   grows = grows_same g;
-  adds = λ f t u around stands good. adds_none f p;
-  more = λ f t u around stands good. stands;
+  adds = λ f t u around located good. adds_none f p;
+  more = λ f t u around located good. located;
 }
 
 items_code_more : (t : Site) (xs : List Item) (x : Item) → items_code t (xs ++ x ∷ []) ≡ items_code t xs ++ item_code (after_items t xs) x
@@ -88,17 +88,17 @@ items_split s (y ∷ xs) x h = let k = items_split s xs x h.1 in ((h.0, k.0), k.
 pub items_more : (old mid new : Generator) (p q v : Lined) (here one two : Here) (xs : List Item) (x : Item) (n : ℕ) → MakesItems old mid p q here one xs → Emits mid new q v one (GoodItem x) (λ t. item_code t x) → n ≡ item_width x → one.height + n ≤ new.deepest → two.line ≡ one.line → (one.height + n < 2 ^ 64 → two.height ≡ one.height + n) → MakesItems old new p v here two (xs ++ x ∷ [])
 items_more old mid new p q v here one two xs x n m k wide room line up = record {
   grows = grows_then old mid new m.grows k.grows;
-  adds = λ f t u around stands good.
+  adds = λ f t u around located good.
       let mine = around_old f mid new k.grows around in
-      let there = stands_old f mid new here t k.grows stands in
+      let there = stands_old f mid new here t k.grows located in
       let both = items_split t.scope xs x good in
       let on = m.more f t tt mine there both.0 in
       adds_same f p v (items_code t xs ++ item_code (after_items t xs) x) (items_code t (xs ++ x ∷ [])) (sym (items_code_more t xs x))
       (adds_then f p q v (items_code t xs) (item_code (after_items t xs) x) (m.adds f t tt mine there both.0)
       (k.adds f (after_items t xs) tt around (stands_on f (after_items t xs) on) both.1));
-  more = λ f t u around stands good.
+  more = λ f t u around located good.
       let mine = around_old f mid new k.grows around in
-      let there = stands_old f mid new here t k.grows stands in
+      let there = stands_old f mid new here t k.grows located in
       let both = items_split t.scope xs x good in
       let on = m.more f t tt mine there both.0 in
       let w : Site = after_items t xs in
@@ -108,7 +108,7 @@ items_more old mid new p q v here one two xs x n m k wide room line up = record 
       stands_above f new one two w z n around.small (stands_on f w on) line up refl refl high deep;
 }
   where
-    stands_on : (f : Final) (w : Site) → Stands f mid one w → Stands f new one w
+    stands_on : (f : Final) (w : Site) → IsLocated f mid one w → IsLocated f new one w
     stands_on f w h = record { program = h.program; locals = h.locals ∙ sym k.grows.locals; line = h.line; high = h.high; deep = h.deep }
 
 -- ## What a PRINT shows
@@ -162,22 +162,22 @@ printed old mid new p q v here old_prints new_prints xs pictures made n cell g m
     record {
       code = record {
         grows = grows_then old mid new g m.grows;
-        adds = λ f t u around stands fits.
+        adds = λ f t u around located fits.
             let grown = grows_then old mid new g m.grows in
             let before = around_old f old new grown around in
-            let there_old = stands_old f old new here t grown stands in
-            let on = m.more f t tt around stands fits.1 in
+            let there_old = stands_old f old new here t grown located in
+            let on = m.more f t tt around located fits.1 in
             let w : Site = after_items t xs in
             let ins : Instruction = i.Print (length old_prints) (height t) in
-            let there : cell ≡ length t.scope.locals + height t = is_cell ∙ sym (ap (λ (ms : List Mode). length ms + height t) stands.locals ∙ ap (λ j. length new.locals.items + j) stands.high) in
+            let there : cell ≡ length t.scope.locals + height t = is_cell ∙ sym (ap (λ (ms : List Mode). length ms + height t) located.locals ∙ ap (λ j. length new.locals.items + j) located.high) in
             let found : f.prints ≡ old_prints ++ (made ∷ fits.0.0) = fits.0.1 ∙ ap (λ (l : List RunningLines). l ++ fits.0.0) prints ∙ append_assoc old_prints (made ∷ []) fits.0.0 in
             let at : slice_get f.prints (length old_prints) ≡ Some made = ap (λ (l : List RunningLines). slice_get l (length old_prints)) found ∙ at_front old_prints made fits.0.0 in
             let kinds : map (kind_of t.scope) xs ≡ made.items = kinds_by t.scope s.program s.locals xs (program_at f old here t before there_old) there_old.locals ∙ sym (ap (λ (l : RunningLines). l.items) is_made) in
             let cells : w.cells ≡ onto (item_modes made.items) t.cells = cells_onto t.scope xs t.cells ∙ ap (λ (ks : List ItemKind). onto (item_modes ks) t.cells) kinds in
-            adds_then f p q v (items_code t xs) (place w ins ∷ []) (m.adds f t tt around stands fits.1)
-            (adds_one f q v here.line (place w ins) (r.Print n cell) is ls stands.line
+            adds_then f p q v (items_code t xs) (place w ins ∷ []) (m.adds f t tt around located fits.1)
+            (adds_one f q v here.line (place w ins) (r.Print n cell) is ls located.line
             (record { carries = (height t, there, ap (λ (j : ℕ). i.Print j (height t)) (sym is_n)); deep = on; shown = (made, at, (t.cells, cells)) }));
-        more = λ f t u around stands fits. tt;
+        more = λ f t u around located fits. tt;
       };
       prints = (made ∷ [], prints, ap (λ (l : i.Lines). l ∷ []) said);
     }
@@ -187,5 +187,5 @@ pub items_done : (old mid new : Generator) (p q : Lined) (here next : Here) (xs 
 items_done old mid new p q here next xs g m = record {
   grows = grows_then old mid new g m.grows;
   adds = m.adds;
-  more = λ f t u around stands good. (m.more f t u around stands good).deep;
+  more = λ f t u around located good. (m.more f t u around located good).deep;
 }

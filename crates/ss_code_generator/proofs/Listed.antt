@@ -23,11 +23,11 @@ module _ {A : Type 0} (P : A → Scope → Type 0) (own : Site → A → List Pl
   pub listed_more : (old mid new : Generator) (p q r : Lined) (here : Here) (xs : List A) (x : A) → Emits old mid p q here (λ s. Every (λ y. P y s) xs) (λ t. all t xs) → Emits mid new q r here (P x) (λ t. own t x) → Emits old new p r here (λ s. Every (λ y. P y s) (xs ++ x ∷ [])) (λ t. all t (xs ++ x ∷ []))
   listed_more old mid new p q r here xs x m n = record {
     grows = grows_then old mid new m.grows n.grows;
-    adds = λ f t u around stands good.
+    adds = λ f t u around located good.
         let both = split t.scope xs x good in
         adds_same f p r (all t xs ++ own t x) (all t (xs ++ x ∷ [])) (sym (joined t xs x))
-        (adds_then f p q r (all t xs) (own t x) (m.adds f t tt (around_old f mid new n.grows around) (stands_old f mid new here t n.grows stands) both.0) (n.adds f t tt around stands both.1));
-    more = λ f t u around stands good. tt;
+        (adds_then f p q r (all t xs) (own t x) (m.adds f t tt (around_old f mid new n.grows around) (stands_old f mid new here t n.grows located) both.0) (n.adds f t tt around located both.1));
+    more = λ f t u around located good. tt;
   }
 
 -- such lists: the code of the first, and that of the rest
@@ -52,11 +52,11 @@ restarts_more t xs x =
 pub creates_step : (g : Generator) (p q v : Lined) (here : Here) (xs : List CountedClass) (x : CountedClass) → Emits g g p q here (λ s. Unit {0}) (λ t. creates_code t xs) → v.instructions ≡ q.instructions ++ CreatesAll x.class x.variable ∷ [] → v.lines ≡ q.lines ++ here.line ∷ [] → Emits g g p v here (λ s. Unit {0}) (λ t. creates_code t (xs ++ x ∷ []))
 creates_step g p q v here xs x m is ls = record {
   grows = m.grows;
-  adds = λ f t u around stands good.
+  adds = λ f t u around located good.
       adds_same f p v (creates_code t xs ++ place t (CreateAll x) ∷ []) (creates_code t (xs ++ x ∷ [])) (sym (creates_more t xs x))
-      (adds_then f p q v (creates_code t xs) (place t (CreateAll x) ∷ []) (m.adds f t tt around stands tt)
-      (adds_one f q v here.line (place t (CreateAll x)) (CreatesAll x.class x.variable) is ls stands.line (record { carries = refl; deep = stands.deep; shown = tt })));
-  more = λ f t u around stands good. tt;
+      (adds_then f p q v (creates_code t xs) (place t (CreateAll x) ∷ []) (m.adds f t tt around located tt)
+      (adds_one f q v here.line (place t (CreateAll x)) (CreatesAll x.class x.variable) is ls located.line (record { carries = refl; deep = located.deep; shown = tt })));
+  more = λ f t u around located good. tt;
 }
 
 -- ## The next item of a loop

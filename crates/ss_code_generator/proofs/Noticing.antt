@@ -27,7 +27,7 @@ use Rattle.ss_code_generator.specs.declared.targets.Spot.{Spot}
 use Rattle.ss_code_generator.specs.declared.targets.Spot.TheVariants as spots
 use Rattle.ss_code_pieces.specs.Lined.{Lined}
 use Rattle.ss_code_instructions.specs.Forms.{storing}
-use Rattle.ss_code_generator.specs.Emitted.{Final, Around, Grows, Stands, Runs, Adds, Emits, AtTarget, AtOperand, Typed, AreNumbers, IsRead, Reads, Bears}
+use Rattle.ss_code_generator.specs.Emitted.{Final, Around, Grows, IsLocated, Runs, Adds, Emits, AtTarget, AtOperand, Typed, AreNumbers, IsRead, Reads, Bears}
 use Rattle.ss_code_generator.specs.Spots.{IsSpot, HasRoom, HoldsMode, Given, Gives, Taking, Takes, spot_cells, landing}
 use Rattle.ss_code_generator.specs.Notices.{any_watched, named_at, named_code, Names}
 use Rattle.ss_code_generator.proofs.Emitting.{around_old, grows_same, grows_then, stands_old, stands_above, adds_then, adds_one, adds_same}
@@ -42,13 +42,13 @@ use Rattle.ss_code_generator.proofs.Letting.{MakesSpot, Lands, spot_stands, hold
 pub cell_works : (old mid new : Generator) (p q v : Lined) (here : Here) (e : Expression) (o : Read) (to : Address) (Good : Scope → Type 0) (make : Site → Operand → Instruction) (y : Running) → Grows old mid → InFrame (length mid.locals.items + here.height) to → Reads mid new p q here e o → v.instructions ≡ q.instructions ++ y ∷ [] → v.lines ≡ q.lines ++ here.line ∷ [] → ((k : Scope) → Good k → Typed e k) → ((f : Final) (t : Site) → AtTarget f t (next t) to → IsRead f t e o → Runs f (place (after t e) (make t (operand t e))) y) → Emits old new p v here Good (λ t. with_operand t e (make t))
 cell_works old mid new p q v here e o to Good make y g cell m is ls typed runs = record {
   grows = grows_then old mid new g m.grows;
-  adds = λ f t u around stands good.
-      let there = stands_old f mid new here t m.grows stands in
+  adds = λ f t u around located good.
+      let there = stands_old f mid new here t m.grows located in
       let at : AtTarget f t (next t) to = cell_at_site f mid here t to there cell in
-      let read = m.more f t tt around stands (typed t.scope good) in
-      adds_then f p q v (operand_code t e) (place (after t e) (make t (operand t e)) ∷ []) (m.adds f t tt around stands (typed t.scope good))
-      (adds_one f q v here.line (place (after t e) (make t (operand t e))) y is ls stands.line (runs f t at read));
-  more = λ f t u around stands good. tt;
+      let read = m.more f t tt around located (typed t.scope good) in
+      adds_then f p q v (operand_code t e) (place (after t e) (make t (operand t e)) ∷ []) (m.adds f t tt around located (typed t.scope good))
+      (adds_one f q v here.line (place (after t e) (make t (operand t e))) y is ls located.line (runs f t at read));
+  more = λ f t u around located good. tt;
 }
 
 -- a time, so
@@ -65,23 +65,23 @@ in_timed old mid new p q v here e o to g cell m is ls =
 -- ## What a notice is given, and its time
 
 -- where the values lie
-pub values_stand : (f : Final) (mid new : Generator) (here higher : Here) (t : Site) (es : List Expression) → Grows mid new → here.height + length es ≤ mid.deepest → higher.line ≡ here.line → (here.height + length es < 2 ^ 64 → higher.height ≡ here.height + length es) → Around f new → Stands f new here t → Stands f new higher (after_values t es)
-values_stand f mid new here higher t es g room line up around stands =
+pub values_stand : (f : Final) (mid new : Generator) (here higher : Here) (t : Site) (es : List Expression) → Grows mid new → here.height + length es ≤ mid.deepest → higher.line ≡ here.line → (here.height + length es < 2 ^ 64 → higher.height ≡ here.height + length es) → Around f new → IsLocated f new here t → IsLocated f new higher (after_values t es)
+values_stand f mid new here higher t es g room line up around located =
     let mine = around_old f mid new g around in
     let long : height (after_values t es) ≡ length es + height t = values_high t.scope es t.cells in
     let high : height (after_values t es) ≡ height t + length es = omega (arith, long) in
-    let deep : height (after_values t es) ≤ f.depth = omega (arith, high, stands.high, room, mine.depth) in
-    stands_above f new here higher t (after_values t es) (length es) around.small stands line up refl refl high deep
+    let deep : height (after_values t es) ≤ f.depth = omega (arith, high, located.high, room, mine.depth) in
+    stands_above f new here higher t (after_values t es) (length es) around.small located line up refl refl high deep
 
 pub values_timed : (old mid new : Generator) (p q v : Lined) (here higher : Here) (es : List Expression) (w : When) → Emits old mid p q here (λ s. Every (λ e. Typed e s) es) (λ t. values_code t es) → here.height + length es ≤ mid.deepest → higher.line ≡ here.line → (here.height + length es < 2 ^ 64 → higher.height ≡ here.height + length es) → Emits mid new q v higher (λ s. GoodWhen s w) (λ t. when_code t w) → Emits old new p v here (λ s. Every (λ e. Typed e s) es × GoodWhen s w) (λ t. values_code t es ++ when_code (after_values t es) w)
 values_timed old mid new p q v here higher es w m room line up n = record {
   grows = grows_then old mid new m.grows n.grows;
-  adds = λ f t u around stands good.
+  adds = λ f t u around located good.
       let mine = around_old f mid new n.grows around in
-      let there = stands_old f mid new here t n.grows stands in
-      let on = values_stand f mid new here higher t es n.grows room line up around stands in
+      let there = stands_old f mid new here t n.grows located in
+      let on = values_stand f mid new here higher t es n.grows room line up around located in
       adds_then f p q v (values_code t es) (when_code (after_values t es) w) (m.adds f t tt mine there good.0) (n.adds f (after_values t es) tt around on good.1);
-  more = λ f t u around stands good. tt;
+  more = λ f t u around located good. tt;
 }
 
 -- the frame has room for one cell more than the values take
@@ -114,59 +114,59 @@ unwatched_below ss class (suc k) h field low = by (any_watched ss class k) refl 
     by true e h rest = absurd (true≢false h)
     by false e h rest = at (field == k) refl h (rest e field)
 
-pub notes_given : (f : Final) (g : Generator) (here : Here) (t : Site) (noted : Bool) (class given : ℕ) → Around f g → Stands f g here t → noted ≡ any_watched g.program.now.statistics.items class given → noted ≡ false → (field : ℕ) → field < given → watch f.program.statistics (OfAttribute class field) ≡ false
-notes_given f g here t noted class given around stands is off field low =
+pub notes_given : (f : Final) (g : Generator) (here : Here) (t : Site) (noted : Bool) (class given : ℕ) → Around f g → IsLocated f g here t → noted ≡ any_watched g.program.now.statistics.items class given → noted ≡ false → (field : ℕ) → field < given → watch f.program.statistics (OfAttribute class field) ≡ false
+notes_given f g here t noted class given around located is off field low =
     sym (ap (λ (p : Program). watch p.statistics (OfAttribute class field)) around.program) ∙ unwatched_below g.program.now.statistics.items class given (sym is ∙ off) field low
 
 -- ## A new notice goes to its place
 
-named_in_variable : (g : Generator) (p q : Lined) (here : Here) (from : Address) (s : VariableSpot) → Takes g p q here from (λ f t x. IsSpot f t x (spots.Variable s)) → (f : Final) (t u : Site) (x : Place) → IsSpot f t x (spots.Variable s) → t.scope ≡ u.scope → AtTarget f u (landing u x) from → HasRoom f (landing u x) → HoldsMode u.scope x Integer → Around f g → Stands f g here u → Adds f p q (named_code t u x)
-named_in_variable g p q here from s m f t u (ToVariable x) v same at room holds around stands =
+named_in_variable : (g : Generator) (p q : Lined) (here : Here) (from : Address) (s : VariableSpot) → Takes g p q here from (λ f t x. IsSpot f t x (spots.Variable s)) → (f : Final) (t u : Site) (x : Place) → IsSpot f t x (spots.Variable s) → t.scope ≡ u.scope → AtTarget f u (landing u x) from → HasRoom f (landing u x) → HoldsMode u.scope x Integer → Around f g → IsLocated f g here u → Adds f p q (named_code t u x)
+named_in_variable g p q here from s m f t u (ToVariable x) v same at room holds around located =
     let it : Taking = record { resolved = t; place = ToVariable x; mode = Integer } in
-    m.adds f u it around stands (v, same, at, room, holds)
-named_in_variable g p q here from s m f t u (ToAttribute class field e) v same at room holds around stands = absurd v
-named_in_variable g p q here from s m f t u (ToCount c) v same at room holds around stands = absurd v
+    m.adds f u it around located (v, same, at, room, holds)
+named_in_variable g p q here from s m f t u (ToAttribute class field e) v same at room holds around located = absurd v
+named_in_variable g p q here from s m f t u (ToCount c) v same at room holds around located = absurd v
 
 pub variable_named : (g : Generator) (p q : Lined) (here : Here) (from : Address) (s : VariableSpot) → Takes g p q here from (λ f t x. IsSpot f t x (spots.Variable s)) → Names g p q here from (λ f t x. IsSpot f t x (spots.Variable s))
 variable_named g p q here from s m = record {
   grows = grows_same g;
-  adds = λ f u x around stands fits. named_in_variable g p q here from s m f x.resolved u x.place fits.0 fits.1 fits.2 fits.3 fits.4 around stands;
-  more = λ f u x around stands fits. tt;
+  adds = λ f u x around located fits. named_in_variable g p q here from s m f x.resolved u x.place fits.0 fits.1 fits.2 fits.3 fits.4 around located;
+  more = λ f u x around located fits. tt;
 }
 
-named_in_attribute : (g : Generator) (p q : Lined) (here : Here) (from : Address) (s : AttributeSpot) → q.instructions ≡ p.instructions ++ storing s.mode s.class s.field s.entity from s.is_watched ∷ [] → q.lines ≡ p.lines ++ here.line ∷ [] → (f : Final) (t u : Site) (x : Place) → IsSpot f t x (spots.Attribute s) → t.scope ≡ u.scope → AtTarget f u (landing u x) from → HasRoom f (landing u x) → HoldsMode u.scope x Integer → Around f g → Stands f g here u → Adds f p q (named_code t u x)
-named_in_attribute g p q here from s is ls f t u (ToVariable x) v same at room holds around stands = absurd v
-named_in_attribute g p q here from s is ls f t u (ToAttribute class field e) v same at room holds around stands =
+named_in_attribute : (g : Generator) (p q : Lined) (here : Here) (from : Address) (s : AttributeSpot) → q.instructions ≡ p.instructions ++ storing s.mode s.class s.field s.entity from s.is_watched ∷ [] → q.lines ≡ p.lines ++ here.line ∷ [] → (f : Final) (t u : Site) (x : Place) → IsSpot f t x (spots.Attribute s) → t.scope ≡ u.scope → AtTarget f u (landing u x) from → HasRoom f (landing u x) → HoldsMode u.scope x Integer → Around f g → IsLocated f g here u → Adds f p q (named_code t u x)
+named_in_attribute g p q here from s is ls f t u (ToVariable x) v same at room holds around located = absurd v
+named_in_attribute g p q here from s is ls f t u (ToAttribute class field e) v same at room holds around located =
     let w : Site = above u Integer in
     let entity : AtOperand f w (stay (operand t e)) s.entity = stays_at f w (operand t e) s.entity (operand_at f t w (operand t e) s.entity (sym same) v.entity.at) in
     let low : height u < f.depth = room in
     let deep : height w ≤ f.depth = omega (arith, low) in
-    stored f p q here.line from s is ls g around t w class field e (stay (operand t e)) (Stays (height u)) Integer v same entity at holds stands.line stands.program deep
-named_in_attribute g p q here from s is ls f t u (ToCount c) v same at room holds around stands = absurd v
+    stored f p q here.line from s is ls g around t w class field e (stay (operand t e)) (Stays (height u)) Integer v same entity at holds located.line located.program deep
+named_in_attribute g p q here from s is ls f t u (ToCount c) v same at room holds around located = absurd v
 
 pub attribute_named : (g : Generator) (p q : Lined) (here : Here) (from : Address) (s : AttributeSpot) → q.instructions ≡ p.instructions ++ storing s.mode s.class s.field s.entity from s.is_watched ∷ [] → q.lines ≡ p.lines ++ here.line ∷ [] → Names g p q here from (λ f t x. IsSpot f t x (spots.Attribute s))
 attribute_named g p q here from s is ls = record {
   grows = grows_same g;
-  adds = λ f u x around stands fits. named_in_attribute g p q here from s is ls f x.resolved u x.place fits.0 fits.1 fits.2 fits.3 fits.4 around stands;
-  more = λ f u x around stands fits. tt;
+  adds = λ f u x around located fits. named_in_attribute g p q here from s is ls f x.resolved u x.place fits.0 fits.1 fits.2 fits.3 fits.4 around located;
+  more = λ f u x around located fits. tt;
 }
 
-named_in_count : (g : Generator) (p q : Lined) (here higher : Here) (from : Address) (class : ℕ) (s : VariableSpot) → higher.line ≡ here.line → (here.height + 1 < 2 ^ 64 → higher.height ≡ here.height + 1) → Gives g p q higher from (λ f t x. IsSpot f t x (spots.Count class s)) → (f : Final) (t u : Site) (x : Place) → IsSpot f t x (spots.Count class s) → t.scope ≡ u.scope → AtTarget f u (landing u x) from → HasRoom f (landing u x) → HoldsMode u.scope x Integer → Around f g → Stands f g here u → Adds f p q (named_code t u x)
-named_in_count g p q here higher from class s line up m f t u (ToVariable x) v same at room holds around stands = absurd v
-named_in_count g p q here higher from class s line up m f t u (ToAttribute k field e) v same at room holds around stands = absurd v
-named_in_count g p q here higher from class s line up m f t u (ToCount c) v same at room holds around stands =
+named_in_count : (g : Generator) (p q : Lined) (here higher : Here) (from : Address) (class : ℕ) (s : VariableSpot) → higher.line ≡ here.line → (here.height + 1 < 2 ^ 64 → higher.height ≡ here.height + 1) → Gives g p q higher from (λ f t x. IsSpot f t x (spots.Count class s)) → (f : Final) (t u : Site) (x : Place) → IsSpot f t x (spots.Count class s) → t.scope ≡ u.scope → AtTarget f u (landing u x) from → HasRoom f (landing u x) → HoldsMode u.scope x Integer → Around f g → IsLocated f g here u → Adds f p q (named_code t u x)
+named_in_count g p q here higher from class s line up m f t u (ToVariable x) v same at room holds around located = absurd v
+named_in_count g p q here higher from class s line up m f t u (ToAttribute k field e) v same at room holds around located = absurd v
+named_in_count g p q here higher from class s line up m f t u (ToCount c) v same at room holds around located =
     let w : Site = above u Integer in
     let low : height u < f.depth = room in
     let high : height w ≡ height u + 1 = omega arith in
-    let on = stands_above f g here higher u w 1 around.small stands line up refl refl high (omega (arith, high, low)) in
+    let on = stands_above f g here higher u w 1 around.small located line up refl refl high (omega (arith, high, low)) in
     let it : Given = record { resolved = t; place = ToCount c; from = Stays (height u); mode = Integer } in
     m.adds f w it around on (v, same, at, holds, on_top (height u) Integer u.cells refl)
 
 pub count_named : (g : Generator) (p q : Lined) (here higher : Here) (from : Address) (class : ℕ) (s : VariableSpot) → higher.line ≡ here.line → (here.height + 1 < 2 ^ 64 → higher.height ≡ here.height + 1) → Gives g p q higher from (λ f t x. IsSpot f t x (spots.Count class s)) → Names g p q here from (λ f t x. IsSpot f t x (spots.Count class s))
 count_named g p q here higher from class s line up m = record {
   grows = grows_same g;
-  adds = λ f u x around stands fits. named_in_count g p q here higher from class s line up m f x.resolved u x.place fits.0 fits.1 fits.2 fits.3 fits.4 around stands;
-  more = λ f u x around stands fits. tt;
+  adds = λ f u x around located fits. named_in_count g p q here higher from class s line up m f x.resolved u x.place fits.0 fits.1 fits.2 fits.3 fits.4 around located;
+  more = λ f u x around located fits. tt;
 }
 
 -- ## SCHEDULE A
@@ -229,18 +229,18 @@ notice_files f t u (ToCount c) (spots.Count k s) to time class h v at room there
 pub schedule_new_made : (old g1 g2 g3 new : Generator) (p q v w z y end : Lined) (here one higher : Here) (class : ℕ) (x : Place) (given : List Expression) (when : When) (s : Spot) (time to : Address) (cell : ℕ) (noted : Bool) → MakesSpot old g1 p q here (λ t. place_code t x) x s → one.line ≡ here.line → (here.height + spot_cells s < 2 ^ 64 → one.height ≡ here.height + spot_cells s) → Emits g1 g2 q v one (λ k. Every (λ e. Typed e k) given × GoodWhen k when) (λ t. values_code t given ++ when_code (after_values t given) when) → (g2.deepest < 2 ^ 64 → one.height + length given < g2.deepest) → Grows g2 g3 → InFrame (length g3.locals.items + one.height) time → higher.line ≡ one.line → (one.height + 1 < 2 ^ 64 → higher.height ≡ one.height + 1) → Grows g3 new → Lands new higher s to → w.instructions ≡ v.instructions ++ r.MakeNotice class cell (length given) to noted ∷ [] → w.lines ≡ v.lines ++ here.line ∷ [] → cell ≡ length new.locals.items + one.height → noted ≡ any_watched new.program.now.statistics.items class (length given) → Names new w z higher to (λ f t k. IsSpot f t k s) → y.instructions ≡ z.instructions ++ r.FileNotice class (named_at s to) time ∷ [] → y.lines ≡ z.lines ++ here.line ∷ [] → Emits new new y end one (λ k. Unit {0}) (λ u. forget u (spot_cells s)) → Emits old new p end here (λ k. Good k (ScheduleNew here.line class x given when)) (λ t. schedule_new_code t class x given when)
 schedule_new_made old g1 g2 g3 new p q v w z y end here one higher class x given when s time to cell noted l line up n room gc timed line_2 up_2 gr land made made_line is_cell is_noted names filed filed_line k = record {
   grows = grows_then old g1 new l.grows (grows_then g1 g2 new n.grows (grows_then g2 g3 new gc gr));
-  adds = λ f t u around stands good.
+  adds = λ f t u around located good.
       let later = grows_then g2 g3 new gc gr in
       let around_2 = around_old f g2 new later around in
       let around_1 = around_old f g1 g2 n.grows around_2 in
-      let stands_1 = stands_old f g1 g2 here t n.grows (stands_old f g2 new here t later stands) in
+      let stands_1 = stands_old f g1 g2 here t n.grows (stands_old f g2 new here t later located) in
       let fits : (m : Mode) × TakesMode t.scope x m = (Integer, good.1) in
       let spot = l.more f t tt around_1 stands_1 fits in
       let t1 : Site = after_place t x in
       let t2 : Site = after_values t1 given in
       let t3 : Site = above t2 Integer in
       let top : Site = above t1 Integer in
-      let on = spot_stands f new here one t x s around stands spot line up in
+      let on = spot_stands f new here one t x s around located spot line up in
       let on_2 = stands_old f g2 new one t1 later on in
       let values = n.adds f t1 tt around_2 on_2 (given_typed t.scope class given good.0, good.2) in
       let within : g2.deepest < 2 ^ 64 = omega (arith, around_2.depth, around.small) in
@@ -253,7 +253,7 @@ schedule_new_made old g1 g2 g3 new p q v w z y end here one higher class x given
       let cell_there : cell ≡ length t3.scope.locals + height t1 = is_cell ∙ sym (ap (λ (ms : List Mode). length ms + height t1) on.locals ∙ ap (λ j. length new.locals.items + j) on.high) in
       let notes = notes_given f new one t1 noted class (length given) around on is_noted in
       let make : Target → Placed = λ (j : Target). place t3 (i.MakeNotice class (height t1) (length given) j) in
-      let named = names.adds f top (record { resolved = t; place = x; mode = Integer }) around on_top_of (spot, refl, at.0, at.1, holds_mode f new here t x Integer around stands good.1) in
+      let named = names.adds f top (record { resolved = t; place = x; mode = Integer }) around on_top_of (spot, refl, at.0, at.1, holds_mode f new here t x Integer around located good.1) in
       let time_there : InFrame (length top.scope.locals + height t1) time = cell_at_site f g3 one t1 time (stands_old f g3 new one t1 gr on) timed in
       let files = notice_files f t top x s to time class (height t1) spot at.0 at.1 time_there on_top_of.deep in
       let last : Placed = place (notice_site top x) (i.FileNotice class (notice_from top x) (Taken (height t1))) in
@@ -264,12 +264,12 @@ schedule_new_made old g1 g2 g3 new p q v w z y end here one higher class x given
       (adds_then f p q end (place_code t x) ((values_code t1 given ++ when_code t2 when) ++ rest) (l.adds f t tt around_1 stands_1 fits)
       (adds_then f q v end (values_code t1 given ++ when_code t2 when) rest values
       (adds_then f v w end (make (landing top x) ∷ []) (named_code t top x ++ (last ∷ forget t1 (spot_cells s)))
-      (adds_one f v w here.line (make (landing top x)) (r.MakeNotice class cell (length given) to noted) made made_line stands.line (record { carries = (notes, (height t1, cell_there, (landing top x, at.0, refl))); deep = deep; shown = tt }))
+      (adds_one f v w here.line (make (landing top x)) (r.MakeNotice class cell (length given) to noted) made made_line located.line (record { carries = (notes, (height t1, cell_there, (landing top x, at.0, refl))); deep = deep; shown = tt }))
       (adds_then f w z end (named_code t top x) (last ∷ forget t1 (spot_cells s)) named
       (adds_then f z y end (last ∷ []) (forget t1 (spot_cells s))
-      (adds_one f z y here.line last (r.FileNotice class (named_at s to) time) filed filed_line (notice_line top x ∙ stands.line) files)
+      (adds_one f z y here.line last (r.FileNotice class (named_at s to) time) filed filed_line (notice_line top x ∙ located.line) files)
       (k.adds f t1 tt around on tt))))));
-  more = λ f t u around stands good. tt;
+  more = λ f t u around located good. tt;
 }
 
 -- ## SCHEDULE THE, and CANCEL
@@ -277,15 +277,15 @@ schedule_new_made old g1 g2 g3 new p q v w z y end here one higher class x given
 pub schedule_made : (old g1 new : Generator) (p q v w z : Lined) (here one : Here) (class : ℕ) (e : Expression) (o : Read) (given : List Expression) (when : When) (cell : ℕ) (noted : Bool) → Reads old g1 p q here e o → v.instructions ≡ q.instructions ++ r.LookEntity class o.address ∷ [] → v.lines ≡ q.lines ++ here.line ∷ [] → one.line ≡ here.line → (here.height + o.cells < 2 ^ 64 → one.height ≡ here.height + o.cells) → Emits g1 new v w one (λ k. Every (λ e. Typed e k) given × GoodWhen k when) (λ t. values_code t given ++ when_code (after_values t given) when) → (new.deepest < 2 ^ 64 → one.height + length given < new.deepest) → cell ≡ length new.locals.items + one.height → noted ≡ any_watched new.program.now.statistics.items class (length given) → z.instructions ≡ w.instructions ++ r.Reschedule class o.address cell (length given) noted ∷ [] → z.lines ≡ w.lines ++ here.line ∷ [] → Emits old new p z here (λ k. Good k (Schedule here.line class e given when)) (λ t. schedule_code t class e given when)
 schedule_made old g1 new p q v w z here one class e o given when cell noted m look look_line line up n room is_cell is_noted made made_line = record {
   grows = grows_then old g1 new m.grows n.grows;
-  adds = λ f t u around stands good.
+  adds = λ f t u around located good.
       let mine = around_old f g1 new n.grows around in
-      let there = stands_old f g1 new here t n.grows stands in
+      let there = stands_old f g1 new here t n.grows located in
       let typed : Typed e t.scope = (Integer, good.1) in
       let read = m.more f t tt mine there typed in
       let t1 : Site = after t e in
       let t2 : Site = after_values t1 given in
       let t3 : Site = above t2 Integer in
-      let on = read_stands f new here one t e o around stands read line up in
+      let on = read_stands f new here one t e o around located read line up in
       let within : new.deepest < 2 ^ 64 = omega (arith, around.depth, around.small) in
       let low : height t1 + length given < f.depth = omega (arith, on.high, room within, around.depth) in
       let long : height t2 ≡ length given + height t1 = values_high t1.scope given t1.cells in
@@ -299,21 +299,21 @@ schedule_made old g1 new p q v w z here one class e o given when cell noted m lo
       adds_same f p z (entity_code t true class e ++ ((values_code t1 given ++ when_code t2 when) ++ (last ∷ []))) (schedule_code t class e given when) code
       (adds_then f p v z (entity_code t true class e) ((values_code t1 given ++ when_code t2 when) ++ (last ∷ []))
       (adds_then f p q v (operand_code t e) (looks ∷ []) (m.adds f t tt mine there typed)
-      (adds_one f q v here.line looks (r.LookEntity class o.address) look look_line stands.line (record { carries = (stay (operand t e), stays_at f t (operand t e) o.address read.at, refl); deep = read.deep; shown = tt })))
+      (adds_one f q v here.line looks (r.LookEntity class o.address) look look_line located.line (record { carries = (stay (operand t e), stays_at f t (operand t e) o.address read.at, refl); deep = read.deep; shown = tt })))
       (adds_then f v w z (values_code t1 given ++ when_code t2 when) (last ∷ []) (n.adds f t1 tt around on (given_typed t.scope class given good.0, good.2))
-      (adds_one f w z here.line last (r.Reschedule class o.address cell (length given) noted) made made_line stands.line (record { carries = (notes, (operand t e, read.at, (height t1, cell_there, refl))); deep = deep; shown = tt }))));
-  more = λ f t u around stands good. tt;
+      (adds_one f w z here.line last (r.Reschedule class o.address cell (length given) noted) made made_line located.line (record { carries = (notes, (operand t e, read.at, (height t1, cell_there, refl))); deep = deep; shown = tt }))));
+  more = λ f t u around located good. tt;
 }
 
 pub cancelled : (old new : Generator) (p q v : Lined) (here : Here) (class : ℕ) (e : Expression) (o : Read) → Reads old new p q here e o → v.instructions ≡ q.instructions ++ r.Cancel class o.address ∷ [] → v.lines ≡ q.lines ++ here.line ∷ [] → Emits old new p v here (λ k. Good k (Cancel here.line class e)) (λ t. with_operand t e (i.Cancel class))
 cancelled old new p q v here class e o m is ls = record {
   grows = m.grows;
-  adds = λ f t u around stands good.
+  adds = λ f t u around located good.
       let typed : Typed e t.scope = (Integer, good.1) in
-      let read = m.more f t tt around stands typed in
-      adds_then f p q v (operand_code t e) (place (after t e) (i.Cancel class (operand t e)) ∷ []) (m.adds f t tt around stands typed)
-      (adds_one f q v here.line (place (after t e) (i.Cancel class (operand t e))) (r.Cancel class o.address) is ls stands.line (record { carries = (operand t e, read.at, refl); deep = read.deep; shown = tt }));
-  more = λ f t u around stands good. tt;
+      let read = m.more f t tt around located typed in
+      adds_then f p q v (operand_code t e) (place (after t e) (i.Cancel class (operand t e)) ∷ []) (m.adds f t tt around located typed)
+      (adds_one f q v here.line (place (after t e) (i.Cancel class (operand t e))) (r.Cancel class o.address) is ls located.line (record { carries = (operand t e, read.at, refl); deep = read.deep; shown = tt }));
+  more = λ f t u around located good. tt;
 }
 
 -- ## RESET
@@ -325,14 +325,14 @@ restart_numbers s k (Some e) h = h.1
 pub restarted : (old new : Generator) (p q v : Lined) (here : Here) (x : Restart) (o : Read) → Bears old new p q here x.of o → v.instructions ≡ q.instructions ++ r.Reset x.statistic o.address ∷ [] → v.lines ≡ q.lines ++ here.line ∷ [] → Emits old new p v here (λ s. GoodRestart s x.statistic x.of) (λ t. restarts_code t (x ∷ []))
 restarted old new p q v here x o m is ls = record {
   grows = m.grows;
-  adds = λ f t u around stands good.
+  adds = λ f t u around located good.
       let numbers = restart_numbers t.scope x.statistic x.of good in
-      let read = m.more f t tt around stands numbers in
+      let read = m.more f t tt around located numbers in
       let u : Site = after_bearer t x.of in
       let ins : Instruction = i.Reset x.statistic (bearer t x.of) in
       adds_same f p v (bearer_code t x.of ++ place u ins ∷ []) (restarts_code t (x ∷ [])) (sym (append-nil (bearer_code t x.of ++ place u ins ∷ [])))
-      (adds_then f p q v (bearer_code t x.of) (place u ins ∷ []) (m.adds f t tt around stands numbers)
-      (adds_one f q v here.line (place u ins) (r.Reset x.statistic o.address) is ls stands.line
+      (adds_then f p q v (bearer_code t x.of) (place u ins ∷ []) (m.adds f t tt around located numbers)
+      (adds_one f q v here.line (place u ins) (r.Reset x.statistic o.address) is ls located.line
       (record { carries = (bearer t x.of, bearer_at f t u (bearer t x.of) o.address refl read.at, refl); deep = read.deep; shown = tt })));
-  more = λ f t u around stands good. tt;
+  more = λ f t u around located good. tt;
 }

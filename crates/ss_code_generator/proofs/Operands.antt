@@ -13,13 +13,13 @@ use Rattle.ss_code_generator.specs.declared.expressions.Operand.{Operand as Read
 use Rattle.ss_code_generator.specs.declared.generator.Generator.{Generator}
 use Rattle.ss_code_generator.specs.declared.generator.Site.{Site as Here}
 use Rattle.ss_code_pieces.specs.Lined.{Lined}
-use Rattle.ss_code_generator.specs.Emitted.{Final, Around, Grows, Stands, Runs, EmitsTo, AtOperand, AtTarget, Typed, IsRead, Reads, ReadsBy, Bears}
+use Rattle.ss_code_generator.specs.Emitted.{Final, Around, Grows, IsLocated, Runs, EmitsTo, AtOperand, AtTarget, Typed, IsRead, Reads, ReadsBy, Bears}
 use Rattle.ss_code_generator.proofs.Emitting.{around_old, stands_old, stands_above, adds_then, adds_one, adds_same}
 
 -- ## Addresses
 
 -- the next cell, as a target and as an operand
-pub cell_at_site : (f : Final) (g : Generator) (here : Here) (t : Site) (a : Address) → Stands f g here t → InFrame (length g.locals.items + here.height) a → InFrame (length t.scope.locals + height t) a
+pub cell_at_site : (f : Final) (g : Generator) (here : Here) (t : Site) (a : Address) → IsLocated f g here t → InFrame (length g.locals.items + here.height) a → InFrame (length t.scope.locals + height t) a
 cell_at_site f g here t a s h =
     let e : length g.locals.items + here.height ≡ length t.scope.locals + height t =
     sym (ap (λ (l : List Mode). length l + height t) s.locals ∙ ap (λ n. length g.locals.items + n) s.high) in
@@ -51,54 +51,54 @@ cell_high t e h =
 pub cell_reads_at : (old mid new : Generator) (p q : Lined) (here : Here) (e : Expression) (a : Address) → leaf e ≡ None → Grows mid new → InFrame (length mid.locals.items + here.height) a → here.height < mid.deepest → EmitsTo old new p q here a (Typed e) (λ t x. expression_code t x e) → Reads old new p q here e (record { address = a; cells = 1 })
 cell_reads_at old mid new p q here e a none grows cell room m = record {
   grows = m.grows;
-  adds = λ f t u around stands typed.
-      let at : AtTarget f t (next t) a = cell_at_site f mid here t a (stands_old f mid new here t grows stands) cell in
+  adds = λ f t u around located typed.
+      let at : AtTarget f t (next t) a = cell_at_site f mid here t a (stands_old f mid new here t grows located) cell in
       adds_same f p q (expression_code t (next t) e) (operand_code t e) (sym (ap (λ (o : Option Operand). unless_leaf o (expression_code t (next t) e)) none))
-      (m.adds f t (next t) around stands (at, typed));
-  more = λ f t u around stands typed.
+      (m.adds f t (next t) around located (at, typed));
+  more = λ f t u around located typed.
       let mine : Around f mid = around_old f mid new grows around in
-      let at : AtOperand f t (Taken (height t)) a = cell_at_site f mid here t a (stands_old f mid new here t grows stands) cell in
+      let at : AtOperand f t (Taken (height t)) a = cell_at_site f mid here t a (stands_old f mid new here t grows located) cell in
       record {
         at = subst (λ (o : Option Operand). AtOperand f t (or_cell (height t) o) a) (sym none) at;
         high = cell_high t e none;
-        deep = omega (arith, cell_high t e none, stands.high, room, mine.depth);
+        deep = omega (arith, cell_high t e none, located.high, room, mine.depth);
       };
 }
 
 -- ## An operand, and the instruction that reads it
 
--- where an operand stands
-pub read_stands : (f : Final) (g : Generator) (here higher : Here) (t : Site) (e : Expression) (o : Read) → Around f g → Stands f g here t → IsRead f t e o → higher.line ≡ here.line → (here.height + o.cells < 2 ^ 64 → higher.height ≡ here.height + o.cells) → Stands f g higher (after t e)
-read_stands f g here higher t e o around stands r line above = stands_above f g here higher t (after t e) o.cells around.small stands line above refl refl r.high r.deep
+-- where an operand located
+pub read_stands : (f : Final) (g : Generator) (here higher : Here) (t : Site) (e : Expression) (o : Read) → Around f g → IsLocated f g here t → IsRead f t e o → higher.line ≡ here.line → (here.height + o.cells < 2 ^ 64 → higher.height ≡ here.height + o.cells) → IsLocated f g higher (after t e)
+read_stands f g here higher t e o around located r line above = stands_above f g here higher t (after t e) o.cells around.small located line above refl refl r.high r.deep
 
 -- ## Looks, and owners
 
 -- an operand that is looked at
-pub looked_reads : (old new : Generator) (p q r : Lined) (here : Here) (e : Expression) (o : Read) (Good : Scope → Type 0) (make : Operand → Instruction) (y : Running) → Reads old new p q here e o → r.instructions ≡ q.instructions ++ y ∷ [] → r.lines ≡ q.lines ++ here.line ∷ [] → ((f : Final) (t : Site) → Around f new → Stands f new here t → Good t.scope → IsRead f t e o → Typed e t.scope × Runs f (place (after t e) (make (operand t e))) y) → ((s : Scope) → Good s → Typed e s) → ReadsBy old new p r here Good e o (λ t. with_operand t e make)
+pub looked_reads : (old new : Generator) (p q r : Lined) (here : Here) (e : Expression) (o : Read) (Good : Scope → Type 0) (make : Operand → Instruction) (y : Running) → Reads old new p q here e o → r.instructions ≡ q.instructions ++ y ∷ [] → r.lines ≡ q.lines ++ here.line ∷ [] → ((f : Final) (t : Site) → Around f new → IsLocated f new here t → Good t.scope → IsRead f t e o → Typed e t.scope × Runs f (place (after t e) (make (operand t e))) y) → ((s : Scope) → Good s → Typed e s) → ReadsBy old new p r here Good e o (λ t. with_operand t e make)
 looked_reads old new p q r here e o Good make y m is ls h typed = record {
   grows = m.grows;
-  adds = λ f t u around stands good.
-      let read = m.more f t tt around stands (typed t.scope good) in
-      let w = h f t around stands good read in
-      adds_then f p q r (operand_code t e) (place (after t e) (make (operand t e)) ∷ []) (m.adds f t tt around stands w.0)
-      (adds_one f q r here.line (place (after t e) (make (operand t e))) y is ls stands.line w.1);
-  more = λ f t u around stands good. m.more f t tt around stands (typed t.scope good);
+  adds = λ f t u around located good.
+      let read = m.more f t tt around located (typed t.scope good) in
+      let w = h f t around located good read in
+      adds_then f p q r (operand_code t e) (place (after t e) (make (operand t e)) ∷ []) (m.adds f t tt around located w.0)
+      (adds_one f q r here.line (place (after t e) (make (operand t e))) y is ls located.line w.1);
+  more = λ f t u around located good. m.more f t tt around located (typed t.scope good);
 }
 
 -- an operand that is not
 pub unlooked_reads : (old new : Generator) (p q : Lined) (here : Here) (e : Expression) (o : Read) (Good : Scope → Type 0) → ((s : Scope) → Good s → Typed e s) → Reads old new p q here e o → ReadsBy old new p q here Good e o (λ t. operand_code t e)
 unlooked_reads old new p q here e o Good typed m = record {
   grows = m.grows;
-  adds = λ f t u around stands good. m.adds f t u around stands (typed t.scope good);
-  more = λ f t u around stands good. m.more f t u around stands (typed t.scope good);
+  adds = λ f t u around located good. m.adds f t u around located (typed t.scope good);
+  more = λ f t u around located good. m.more f t u around located (typed t.scope good);
 }
 
 pub entity_bears : (old new : Generator) (p q : Lined) (here : Here) (e : Expression) (o : Read) → Reads old new p q here e o → Bears old new p q here (Some e) o
 entity_bears old new p q here e o m = record {
   grows = m.grows;
-  adds = λ f t u around stands good. m.adds f t u around stands (_, good);
-  more = λ f t u around stands good.
-      let r = m.more f t u around stands (_, good) in
+  adds = λ f t u around located good. m.adds f t u around located (_, good);
+  more = λ f t u around located good.
+      let r = m.more f t u around located (_, good) in
       record { at = r.at; high = r.high; deep = r.deep };
 }
 

@@ -30,11 +30,11 @@ use Rattle.std.proofs.lemmas.List.{take_all}
 pub one_pushed : (old new : Generator) (p q : Lined) (here : Here) (a one : Address) → Grows old new → InFrame (length new.locals.items + here.height) a → ((f : Final) (t : Site) → Around f new → AtOperand f t (Constant (Whole (pos 1))) one) → q.instructions ≡ p.instructions ++ r.Move one a ∷ [] → q.lines ≡ p.lines ++ here.line ∷ [] → Emits old new p q here (λ s. Unit {0}) (λ t. place t (i.Move (Constant (Whole (pos 1))) (next t)) ∷ [])
 one_pushed old new p q here a one grows cell at made ls = record {
   grows = grows;
-  adds = λ f t u around stands typed.
+  adds = λ f t u around located typed.
       let ins : Instruction = i.Move (Constant (Whole (pos 1))) (next t) in
-      adds_one f p q here.line (place t ins) (r.Move one a) made ls stands.line
-      (record { carries = (Constant (Whole (pos 1)), at f t around, (refl, (next t, cell_at_site f new here t a stands cell, refl))); deep = stands.deep; shown = tt });
-  more = λ f t u around stands typed. tt;
+      adds_one f p q here.line (place t ins) (r.Move one a) made ls located.line
+      (record { carries = (Constant (Whole (pos 1)), at f t around, (refl, (next t, cell_at_site f new here t a located cell, refl))); deep = located.deep; shown = tt });
+  more = λ f t u around located typed. tt;
 }
 
 -- one value more, on top of others
@@ -52,18 +52,18 @@ every_split P (y ∷ xs) x h = let k = every_split P xs x h.1 in ((h.0, k.0), k.
 pub values_more : (old mid new : Generator) (p q s : Lined) (here higher : Here) (es : List Expression) (e : Expression) → Emits old mid p q here (λ k. Every (λ x. Typed x k) es) (λ t. values_code t es) → here.height + length es ≤ mid.deepest → higher.line ≡ here.line → (here.height + length es < 2 ^ 64 → higher.height ≡ here.height + length es) → Emits mid new q s higher (Typed e) (λ t. expression_code t (next t) e) → Emits old new p s here (λ k. Every (λ x. Typed x k) (es ++ e ∷ [])) (λ t. values_code t (es ++ e ∷ []))
 values_more old mid new p q s here higher es e m room line above_ n = record {
   grows = grows_then old mid new m.grows n.grows;
-  adds = λ f t u around stands typed.
+  adds = λ f t u around located typed.
       let mine = around_old f mid new n.grows around in
-      let there = stands_old f mid new here t n.grows stands in
+      let there = stands_old f mid new here t n.grows located in
       let each = every_split (λ (x : Expression). Typed x t.scope) es e typed in
       let long : height (after_values t es) ≡ length es + height t = values_high t.scope es t.cells in
       let high : height (after_values t es) ≡ height t + length es = omega (arith, long) in
-      let deep : height (after_values t es) ≤ f.depth = omega (arith, high, stands.high, room, mine.depth) in
-      let on_top = stands_above f new here higher t (after_values t es) (length es) around.small stands line above_ refl refl high deep in
+      let deep : height (after_values t es) ≤ f.depth = omega (arith, high, located.high, room, mine.depth) in
+      let on_top = stands_above f new here higher t (after_values t es) (length es) around.small located line above_ refl refl high deep in
       adds_same f p s (values_code t es ++ expression_code (after_values t es) (next (after_values t es)) e) (values_code t (es ++ e ∷ [])) (sym (values_code_more t es e))
       (adds_then f p q s (values_code t es) (expression_code (after_values t es) (next (after_values t es)) e) (m.adds f t tt mine there each.0)
       (n.adds f (after_values t es) tt around on_top each.1));
-  more = λ f t u around stands typed. tt;
+  more = λ f t u around located typed. tt;
 }
 
 -- the values so far, with the next one
@@ -85,8 +85,8 @@ all_values old new p q here xs i le m = subst (λ (l : List expressions.Expressi
 pub items_taken : (g : Generator) (a b c turn : Lined) (here : Here) (n back : ℕ) (s : VariableSpot) → TakesItem g nothing a here n s → b.instructions ≡ a.instructions ++ turn.instructions → b.lines ≡ a.lines ++ turn.lines → back ≡ length b.instructions → c.instructions ≡ b.instructions ++ r.Next n back ∷ [] → c.lines ≡ b.lines ++ here.line ∷ [] → TakesItems g c here n s turn
 items_taken g a b c turn here n back s m both both_lines long made ls = record {
   grows = grows_same g;
-  adds = λ f u x around stands fits.
-      let one = m.adds f u x around stands fits.0 in
+  adds = λ f u x around located fits.
+      let one = m.adds f u x around located fits.0 in
       let head : List Placed = take_code u x.cell x.variable in
       let two = adds_piece f a b turn x.turn both both_lines fits.1 in
       let whole = adds_then f nothing a b head x.turn one two in
@@ -94,6 +94,6 @@ items_taken g a b c turn here n back s m both both_lines long made ls = record {
       let last : Placed = place u (i.Next x.cell (length head + length x.turn)) in
       adds_then f nothing a c head (x.turn ++ last ∷ []) one
       (adds_then f a b c x.turn (last ∷ []) two
-      (adds_one f b c here.line last (r.Next n back) made ls stands.line (record { carries = (x.cell, fits.0.1, ap (i.Next x.cell) (sym back_is)); deep = stands.deep; shown = tt })));
-  more = λ f u x around stands fits. tt;
+      (adds_one f b c here.line last (r.Next n back) made ls located.line (record { carries = (x.cell, fits.0.1, ap (i.Next x.cell) (sym back_is)); deep = located.deep; shown = tt })));
+  more = λ f u x around located fits. tt;
 }

@@ -31,13 +31,13 @@ end_removed old mid one new p q v w z here higher x s end set o owner to noted l
     let late = grows_then mid one new b.grows g in
     record {
       grows = grows_then old mid new l.grows late;
-      adds = λ f t u around stands good.
+      adds = λ f t u around located good.
           let mine = around_old f mid new late around in
-          let there = stands_old f mid new here t late stands in
+          let there = stands_old f mid new here t late located in
           let fits : GoodPlace x t.scope = (Integer, good.0) in
           let spot = l.more f t tt mine there fits in
           let t1 : Site = after_place t x in
-          let on = spot_stands f new here higher t x s around stands spot line up in
+          let on = spot_stands f new here higher t x s around located spot line up in
           let at = land f t t1 x around on refl spot in
           let lands : Target = landing t1 x in
           let it : Taking = record { resolved = t; place = x; mode = Integer } in
@@ -53,7 +53,7 @@ end_removed old mid one new p q v w z here higher x s end set o owner to noted l
           (adds_then f p q z (place_code t x) ((bearer_code t1 c ++ place t2 ins ∷ []) ++ landed_code t t1 x Integer) (l.adds f t tt mine there fits)
           (adds_then f q w z (bearer_code t1 c ++ place t2 ins ∷ []) (landed_code t t1 x Integer)
           (adds_then f q v w (bearer_code t1 c) (place t2 ins ∷ []) (b.adds f t1 tt around1 on1 number)
-          (adds_one f v w here.line (place t2 ins) (removing end set owner.address to noted) is ls stands.line (record { carries = carries; deep = borne.deep; shown = tt })))
-          (n.adds f t1 it around on (spot, refl, at.0, at.1, holds_mode f new here t x Integer around stands good.0))));
-      more = λ f t u around stands good. tt;
+          (adds_one f v w here.line (place t2 ins) (removing end set owner.address to noted) is ls located.line (record { carries = carries; deep = borne.deep; shown = tt })))
+          (n.adds f t1 it around on (spot, refl, at.0, at.1, holds_mode f new here t x Integer around located good.0))));
+      more = λ f t u around located good. tt;
     }

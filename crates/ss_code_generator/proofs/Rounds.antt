@@ -24,7 +24,7 @@ use Rattle.ss_code_generator.specs.declared.generator.Site.{Site as Here}
 use Rattle.ss_code_generator.specs.declared.loops.Walk.{Walk}
 use Rattle.ss_code_generator.specs.declared.targets.VariableSpot.{VariableSpot}
 use Rattle.ss_code_pieces.specs.Lined.{Lined, nothing}
-use Rattle.ss_code_generator.specs.Emitted.{Final, Around, Grows, Stands, Adds, Runs, Emits, EmitsAround, EmitsAroundBoth, AtBearer, Bears, Typed, IsNumber, AreNumbers}
+use Rattle.ss_code_generator.specs.Emitted.{Final, Around, Grows, IsLocated, Adds, Runs, Emits, EmitsAround, EmitsAroundBoth, AtBearer, Bears, Typed, IsNumber, AreNumbers}
 use Rattle.ss_code_generator.specs.Spots.{IsVariable}
 use Rattle.ss_code_generator.specs.Looped.{loop_width, is_after, begin_of, TakesItem, TakesItems, TakesMembers, KeepsOwner, StartsWalk, Walking}
 use Rattle.ss_code_generator.proofs.Emitting.{around_old, grows_same, grows_then, stands_old, stands_new, stands_above, adds_none, adds_then, adds_one, adds_piece, adds_same, piece_long}
@@ -37,19 +37,19 @@ pub record Puts (p q : Lined) (l : Here) (y : Running) : Type 0 where
   pub instructions : q.instructions ≡ p.instructions ++ y ∷ []
   pub lines : q.lines ≡ p.lines ++ l.line ∷ []
 
-pub record Joins (p q behind : Lined) : Type 0 where
-  pub instructions : q.instructions ≡ p.instructions ++ behind.instructions
-  pub lines : q.lines ≡ p.lines ++ behind.lines
+pub record Joins (p q following : Lined) : Type 0 where
+  pub instructions : q.instructions ≡ p.instructions ++ following.instructions
+  pub lines : q.lines ≡ p.lines ++ following.lines
 
-put_one : (f : Final) (g : Generator) (here : Here) (t : Site) (p q : Lined) (x : i.Instruction) (y : Running) → Stands f g here t → Puts p q here y → Runs f (place t x) y → Adds f p q (place t x ∷ [])
-put_one f g here t p q x y stands put runs = adds_one f p q here.line (place t x) y put.instructions put.lines stands.line runs
+put_one : (f : Final) (g : Generator) (here : Here) (t : Site) (p q : Lined) (x : i.Instruction) (y : Running) → IsLocated f g here t → Puts p q here y → Runs f (place t x) y → Adds f p q (place t x ∷ [])
+put_one f g here t p q x y located put runs = adds_one f p q here.line (place t x) y put.instructions put.lines located.line runs
 
-join_one : (f : Final) (p q behind : Lined) (c : List Placed) → Joins p q behind → Adds f nothing behind c → Adds f p q c
-join_one f p q behind c j h = adds_piece f p q behind c j.instructions j.lines h
+join_one : (f : Final) (p q following : Lined) (c : List Placed) → Joins p q following → Adds f nothing following c → Adds f p q c
+join_one f p q following c j h = adds_piece f p q following c j.instructions j.lines h
 
--- a site that stands where the generator is, and one some cells above it
-higher : (f : Final) (g : Generator) (here above_here : Here) (t u : Site) (k : ℕ) → Around f g → Stands f g here t → above_here.line ≡ here.line → (here.height + k < 2 ^ 64 → above_here.height ≡ here.height + k) → u.scope ≡ t.scope → u.line ≡ t.line → height u ≡ height t + k → height u ≤ f.depth → Stands f g above_here u
-higher f g here above_here t u k around stands line up scope same high deep = stands_above f g here above_here t u k around.small stands line up scope same high deep
+-- a site that located where the generator is, and one some cells above it
+higher : (f : Final) (g : Generator) (here above_here : Here) (t u : Site) (k : ℕ) → Around f g → IsLocated f g here t → above_here.line ≡ here.line → (here.height + k < 2 ^ 64 → above_here.height ≡ here.height + k) → u.scope ≡ t.scope → u.line ≡ t.line → height u ≡ height t + k → height u ≤ f.depth → IsLocated f g above_here u
+higher f g here above_here t u k around located line up scope same high deep = stands_above f g here above_here t u k around.small located line up scope same high deep
 
 -- ## Addresses: they go by the section alone
 
@@ -72,14 +72,14 @@ module _ (g0 g1 g2 : Generator) (here : Here) (body : Lined) (gs : List Guard) w
   pub looped : (p q empty again t0 t1 t2 t3 turn whole : Lined) (back : ℕ) → empty ≡ nothing → t0 ≡ nothing → EmitsAround g0 g1 nothing again here empty GoodGuards (λ t b. guards_code t (length b + 1) gs ++ b) → Puts t0 t1 here r.Turn → Joins t1 t2 body → Joins t2 t3 again → back ≡ length t3.instructions → Puts t3 turn here (r.Repeat back) → EmitsAround g1 g2 nothing whole here turn GoodGuards (λ t b. guards_code t (length b + 0) gs ++ b) → Joins p q whole → EmitsAround g0 g2 p q here body GoodGuards (λ t b. loop_code t gs b)
   looped p q empty again t0 t1 t2 t3 turn whole back empty_is t0_is m first second third back_is last n all = record {
     grows = grows_then g0 g1 g2 m.grows n.grows;
-    adds = λ f t b around stands fits.
+    adds = λ f t b around located fits.
         let mine = around_old f g1 g2 n.grows around in
-        let there = stands_old f g1 g2 here t n.grows stands in
+        let there = stands_old f g1 g2 here t n.grows located in
         let G : List Placed = guards_code t 1 gs in
         let none : Adds f nothing empty [] = subst (λ (e : Lined). Adds f nothing e []) (sym empty_is) (adds_none f nothing) in
         let guards : Adds f nothing again G = adds_same f nothing again (G ++ []) G (append-nil G) (m.adds f t [] mine there (none, fits.1)) in
         let tick : Placed = place t i.Turn in
-        let begun : Adds f t0 t1 (tick ∷ []) = put_one f g2 here t t0 t1 i.Turn r.Turn stands first (record { carries = refl; deep = stands.deep; shown = tt }) in
+        let begun : Adds f t0 t1 (tick ∷ []) = put_one f g2 here t t0 t1 i.Turn r.Turn located first (record { carries = refl; deep = located.deep; shown = tt }) in
         let inner : Adds f t0 t3 (tick ∷ (b ++ G)) =
         adds_then f t0 t1 t3 (tick ∷ []) (b ++ G) begun (adds_then f t1 t2 t3 b G (join_one f t1 t2 body b second fits.0) (join_one f t2 t3 again G third guards)) in
         let from_none : Adds f nothing t3 (tick ∷ (b ++ G)) = subst (λ (e : Lined). Adds f e t3 (tick ∷ (b ++ G))) t0_is inner in
@@ -88,14 +88,14 @@ module _ (g0 g1 g2 : Generator) (here : Here) (body : Lined) (gs : List Guard) w
         let end : Placed = place t (i.Repeat (length b + length G + 1)) in
         let T : List Placed = tick ∷ (b ++ (G ++ end ∷ [])) in
         let ended : Adds f t3 turn (end ∷ []) =
-        put_one f g2 here t t3 turn (i.Repeat (length b + length G + 1)) (r.Repeat back) stands last (record { carries = ap i.Repeat (sym back_long); deep = stands.deep; shown = tt }) in
+        put_one f g2 here t t3 turn (i.Repeat (length b + length G + 1)) (r.Repeat back) located last (record { carries = ap i.Repeat (sym back_long); deep = located.deep; shown = tt }) in
         let turned : Adds f nothing turn T =
         adds_same f nothing turn ((tick ∷ (b ++ G)) ++ end ∷ []) T (ap (λ (l : List Placed). tick ∷ l) (append_assoc b G (end ∷ [])))
         (adds_then f nothing t3 turn (tick ∷ (b ++ G)) (end ∷ []) from_none ended) in
         let skip : length T + 0 ≡ length b + length G + 2 = omega (arith, length-append b (G ++ end ∷ []), length-append G (end ∷ [])) in
         join_one f p q whole (loop_code t gs b) all
-        (adds_same f nothing whole (guards_code t (length T + 0) gs ++ T) (loop_code t gs b) (ap (λ k. guards_code t k gs ++ T) skip) (n.adds f t T around stands (turned, fits.1)));
-    more = λ f t b around stands fits. tt;
+        (adds_same f nothing whole (guards_code t (length T + 0) gs ++ T) (loop_code t gs b) (ap (λ k. guards_code t k gs ++ T) skip) (n.adds f t T around located (turned, fits.1)));
+    more = λ f t b around located fits. tt;
   }
 
 -- ## Members
@@ -103,11 +103,11 @@ module _ (g0 g1 g2 : Generator) (here : Here) (body : Lined) (gs : List Guard) w
 pub members_taken : (g : Generator) (a b c turn : Lined) (here : Here) (w : Walk) (back : ℕ) → TakesItem g nothing a here w.cell w.variable → Joins a b turn → back ≡ length b.instructions → Puts b c here (r.NextMember w.set w.owner w.cell back w.reverse false) → TakesMembers g c here w turn
 members_taken g a b c turn here w back m both back_is last = record {
   grows = grows_same g;
-  adds = λ f u x around stands fits.
+  adds = λ f u x around located fits.
       let is : IsVariable u x.variable w.variable = fits.0.0 in
       let set : w.set ≡ x.set = fits.0.1 in
       let owner : AtBearer f u x.owner w.owner = fits.0.2 in
-      let one = m.adds f u (record { variable = x.variable; cell = x.cell; turn = x.turn }) around stands (is, fits.0.3) in
+      let one = m.adds f u (record { variable = x.variable; cell = x.cell; turn = x.turn }) around located (is, fits.0.3) in
       let head : List Placed = take_code u x.cell x.variable in
       let two = join_one f a b turn x.turn both fits.1 in
       let whole = adds_then f nothing a b head x.turn one two in
@@ -117,8 +117,8 @@ members_taken g a b c turn here w back m both back_is last = record {
       ap (λ s. i.NextMember w.reverse s x.owner x.cell (length head + length x.turn)) (sym set) ∙ ap (i.NextMember w.reverse w.set x.owner x.cell) (sym back_long) in
       adds_then f nothing a c head (x.turn ++ place u again ∷ []) one
       (adds_then f a b c x.turn (place u again ∷ []) two
-      (put_one f g here u b c again (r.NextMember w.set w.owner w.cell back w.reverse false) stands last (record { carries = (x.owner, bearer_here (code_of f.program) f.constants (place u i.Leave) (place u again) x.owner w.owner refl owner, (x.cell, fits.0.3, is_that)); deep = stands.deep; shown = tt })));
-  more = λ f u x around stands fits. tt;
+      (put_one f g here u b c again (r.NextMember w.set w.owner w.cell back w.reverse false) located last (record { carries = (x.owner, bearer_here (code_of f.program) f.constants (place u i.Leave) (place u again) x.owner w.owner refl owner, (x.cell, fits.0.3, is_that)); deep = located.deep; shown = tt })));
+  more = λ f u x around located fits. tt;
 }
 
 -- ## The head of a loop over numbers
@@ -127,33 +127,33 @@ members_taken g a b c turn here w back m both back_is last = record {
 pub emits_where : (g0 g1 : Generator) (p q : Lined) (here : Here) (Good Less : Scope → Type 0) (c : Site → List Placed) → ((s : Scope) → Less s → Good s) → Emits g0 g1 p q here Good c → Emits g0 g1 p q here Less c
 emits_where g0 g1 p q here Good Less c h m = record {
   grows = m.grows;
-  adds = λ f t u around stands less. m.adds f t u around stands (h t.scope less);
-  more = λ f t u around stands less. tt;
+  adds = λ f t u around located less. m.adds f t u around located (h t.scope less);
+  more = λ f t u around located less. tt;
 }
 
 -- the first number, the limit and the step
 pub ranged : (g0 g1 g2 g3 : Generator) (p q s v : Lined) (here second third : Here) (a b : Expression) (c : Option Expression) (Also : Scope → Type 0) → Emits g0 g1 p q here (Typed a) (λ t. expression_code t (next t) a) → Emits g1 g2 q s second (Typed b) (λ t. expression_code t (next t) b) → Emits g2 g3 s v third Also (λ t. step_code t c) → second.line ≡ here.line → third.line ≡ here.line → (here.height + 1 < 2 ^ 64 → second.height ≡ here.height + 1) → (here.height + 2 < 2 ^ 64 → third.height ≡ here.height + 2) → here.height < g1.deepest → second.height < g2.deepest → ((s : Scope) → AreNumbers c s → Also s) → Emits g0 g3 p v here (λ s. IsNumber a s × IsNumber b s × AreNumbers c s) (λ t. range_code t a b c)
 ranged g0 g1 g2 g3 p q s v here second third a b c Also m n o line1 line2 high1 high2 room1 room2 also = record {
   grows = grows_then g0 g1 g3 m.grows (grows_then g1 g2 g3 n.grows o.grows);
-  adds = λ f t u around stands good.
+  adds = λ f t u around located good.
       let around2 = around_old f g2 g3 o.grows around in
       let around1 = around_old f g1 g2 n.grows around2 in
-      let stands2 = stands_old f g2 g3 here t o.grows stands in
+      let stands2 = stands_old f g2 g3 here t o.grows located in
       let stands1 = stands_old f g1 g2 here t n.grows stands2 in
       let t1 : Site = above t Integer in
       let t2 : Site = above t1 Integer in
       let tall1 : height t1 ≡ height t + 1 = omega arith in
       let tall2 : height t2 ≡ height t + 2 = omega arith in
       let fits : here.height + 1 < 2 ^ 64 = omega (arith, room1, around1.depth, around.small) in
-      let deep1 : height t1 ≤ f.depth = omega (arith, tall1, stands.high, room1, around1.depth) in
-      let deep2 : height t2 ≤ f.depth = omega (arith, tall2, stands.high, high1 fits, room2, around2.depth) in
+      let deep1 : height t1 ≤ f.depth = omega (arith, tall1, located.high, room1, around1.depth) in
+      let deep2 : height t2 ≤ f.depth = omega (arith, tall2, located.high, high1 fits, room2, around2.depth) in
       let first : Typed a t.scope = (Integer, good.0) in
       let limit : Typed b t.scope = (Integer, good.1) in
       adds_then f p q v (expression_code t (next t) a) (expression_code t1 (next t1) b ++ step_code t2 c) (m.adds f t tt around1 stands1 first)
       (adds_then f q s v (expression_code t1 (next t1) b) (step_code t2 c)
       (n.adds f t1 tt around2 (higher f g2 here second t t1 1 around2 stands2 line1 high1 refl refl tall1 deep1) limit)
-      (o.adds f t2 tt around (higher f g3 here third t t2 2 around stands line2 high2 refl refl tall2 deep2) (also t.scope good.2)));
-  more = λ f t u around stands good. tt;
+      (o.adds f t2 tt around (higher f g3 here third t t2 2 around located line2 high2 refl refl tall2 deep2) (also t.scope good.2)));
+  more = λ f t u around located good. tt;
 }
 
 -- a range leaves three cells
@@ -169,67 +169,67 @@ range_room g1 g2 g3 here second third grows1 grows2 high1 high2 room1 room2 room
 three_up : (t : Site) → height (number_loop t) - height t ≡ 3
 three_up t = omega arith
 
-module _ (g : Generator) (here above_here : Here) (cell skip : ℕ) (spot : VariableSpot) (turn items : Lined) (x : Variable) (line : above_here.line ≡ here.line) (up : here.height + 3 < 2 ^ 64 → above_here.height ≡ here.height + 3) (at : cell ≡ length g.locals.items + here.height) (is : (f : Final) (h : Here) (t : Site) → Around f g → Stands f g h t → IsVariable t x spot) (m : TakesItems g items above_here cell spot turn) where
+module _ (g : Generator) (here above_here : Here) (cell skip : ℕ) (spot : VariableSpot) (turn items : Lined) (x : Variable) (line : above_here.line ≡ here.line) (up : here.height + 3 < 2 ^ 64 → above_here.height ≡ here.height + 3) (at : cell ≡ length g.locals.items + here.height) (is : (f : Final) (h : Here) (t : Site) → Around f g → IsLocated f g h t → IsVariable t x spot) (m : TakesItems g items above_here cell spot turn) where
   -- what is so in the loop
   pub record InLoop (f : Final) (t : Site) (b : List Placed) : Type 0 where
-    pub stands : Stands f g above_here (number_loop t)
+    pub located : IsLocated f g above_here (number_loop t)
     pub cell_at : cell ≡ length t.scope.locals + height t
     pub made : Adds f nothing items (turns_code (number_loop t) (height t) x b (i.Next (height t)))
 
-  pub in_number_loop : (f : Final) (t : Site) (b : List Placed) → Around f g → Stands f g here t → here.height + 3 ≤ f.depth → Adds f nothing turn b → InLoop f t b
-  in_number_loop f t b around stands room done =
+  pub in_number_loop : (f : Final) (t : Site) (b : List Placed) → Around f g → IsLocated f g here t → here.height + 3 ≤ f.depth → Adds f nothing turn b → InLoop f t b
+  in_number_loop f t b around located room done =
       let u : Site = number_loop t in
       let tall : height u ≡ height t + 3 = omega arith in
-      let deep : height u ≤ f.depth = omega (arith, tall, stands.high, room) in
-      let higher_up = higher f g here above_here t u 3 around stands line up refl refl tall deep in
-      let locals : length t.scope.locals ≡ length g.locals.items = ap length stands.locals in
-      let cell_is : cell ≡ length t.scope.locals + height t = omega (arith, at, locals, stands.high) in
+      let deep : height u ≤ f.depth = omega (arith, tall, located.high, room) in
+      let higher_up = higher f g here above_here t u 3 around located line up refl refl tall deep in
+      let locals : length t.scope.locals ≡ length g.locals.items = ap length located.locals in
+      let cell_is : cell ≡ length t.scope.locals + height t = omega (arith, at, locals, located.high) in
       record {
-        stands = higher_up;
+        located = higher_up;
         cell_at = cell_is;
         made = m.adds f u (record { variable = x; cell = height t; turn = b }) around higher_up ((is f above_here u around higher_up, cell_is), done);
       }
 
-pub numbers_looped : (g0 g : Generator) (p q q1 q2 q3 : Lined) (here above_here : Here) (cell skip : ℕ) (spot : VariableSpot) (turn items : Lined) (x : Variable) (a b : Expression) (c : Option Expression) → above_here.line ≡ here.line → (here.height + 3 < 2 ^ 64 → above_here.height ≡ here.height + 3) → cell ≡ length g.locals.items + here.height → ((f : Final) (h : Here) (t : Site) → Around f g → Stands f g h t → IsVariable t x spot) → TakesItems g items above_here cell spot turn → Emits g0 g p q here (λ s. IsNumber a s × IsNumber b s × AreNumbers c s) (λ t. range_code t a b c) → ((f : Final) → Around f g → here.height + 3 ≤ f.depth) → skip ≡ length items.instructions → Puts q q1 here (r.Begin cell skip) → Joins q1 q2 items → Emits g g q2 q3 above_here (λ s. Unit {0}) (λ u. forget u 3) → EmitsAround g0 g p q3 here turn (λ s. GoodHead s (Numbers x a b c)) (λ t b'. for_code t (Numbers x a b c) b')
+pub numbers_looped : (g0 g : Generator) (p q q1 q2 q3 : Lined) (here above_here : Here) (cell skip : ℕ) (spot : VariableSpot) (turn items : Lined) (x : Variable) (a b : Expression) (c : Option Expression) → above_here.line ≡ here.line → (here.height + 3 < 2 ^ 64 → above_here.height ≡ here.height + 3) → cell ≡ length g.locals.items + here.height → ((f : Final) (h : Here) (t : Site) → Around f g → IsLocated f g h t → IsVariable t x spot) → TakesItems g items above_here cell spot turn → Emits g0 g p q here (λ s. IsNumber a s × IsNumber b s × AreNumbers c s) (λ t. range_code t a b c) → ((f : Final) → Around f g → here.height + 3 ≤ f.depth) → skip ≡ length items.instructions → Puts q q1 here (r.Begin cell skip) → Joins q1 q2 items → Emits g g q2 q3 above_here (λ s. Unit {0}) (λ u. forget u 3) → EmitsAround g0 g p q3 here turn (λ s. GoodHead s (Numbers x a b c)) (λ t b'. for_code t (Numbers x a b c) b')
 numbers_looped g0 g p q q1 q2 q3 here above_here cell skip spot turn items x a b c line up at is m range room skip_is put join forgets = record {
   grows = range.grows;
-  adds = λ f t body around stands fits.
+  adds = λ f t body around located fits.
       let u : Site = number_loop t in
-      let l = in_number_loop g here above_here cell skip spot turn items x line up at is m f t body around stands (room f around) fits.0 in
+      let l = in_number_loop g here above_here cell skip spot turn items x line up at is m f t body around located (room f around) fits.0 in
       let turns : List Placed = turns_code u (height t) x body (i.Next (height t)) in
       let long : skip ≡ length turns = skip_is ∙ piece_long f items turns l.made in
       let begins : i.Instruction = i.Begin (height t) (length turns) in
       let begun : Adds f q q1 (place u begins ∷ []) =
-      put_one f g above_here u q q1 begins (r.Begin cell skip) l.stands (record { instructions = put.instructions; lines = put.lines ∙ ap (λ k. q.lines ++ k ∷ []) (sym line) })
-      (record { carries = (height t, l.cell_at, ap (i.Begin (height t)) (sym long)); deep = l.stands.deep; shown = tt }) in
-      let gone : Adds f q2 q3 (forget_to t u) = adds_same f q2 q3 (forget u 3) (forget_to t u) (ap (forget u) (sym (three_up t))) (forgets.adds f u tt around l.stands tt) in
+      put_one f g above_here u q q1 begins (r.Begin cell skip) l.located (record { instructions = put.instructions; lines = put.lines ∙ ap (λ k. q.lines ++ k ∷ []) (sym line) })
+      (record { carries = (height t, l.cell_at, ap (i.Begin (height t)) (sym long)); deep = l.located.deep; shown = tt }) in
+      let gone : Adds f q2 q3 (forget_to t u) = adds_same f q2 q3 (forget u 3) (forget_to t u) (ap (forget u) (sym (three_up t))) (forgets.adds f u tt around l.located tt) in
       let good : IsNumber a t.scope × IsNumber b t.scope × AreNumbers c t.scope = (fits.1.1, fits.1.2, are_numbers c t.scope fits.1.3) in
-      adds_then f p q q3 (range_code t a b c) (place u begins ∷ (turns ++ forget_to t u)) (range.adds f t tt around stands good)
+      adds_then f p q q3 (range_code t a b c) (place u begins ∷ (turns ++ forget_to t u)) (range.adds f t tt around located good)
       (adds_then f q q1 q3 (place u begins ∷ []) (turns ++ forget_to t u) begun
       (adds_then f q1 q2 q3 turns (forget_to t u) (join_one f q1 q2 items turns join l.made) gone));
-  more = λ f t body around stands fits. tt;
+  more = λ f t body around located fits. tt;
 }
   where
     are_numbers : (c : Option Expression) (s : Scope) → IfSome c (λ e. HasMode s e Integer) → AreNumbers c s
     are_numbers None s h = tt
     are_numbers (Some e) s h = h
 
-pub class_looped : (g0 g : Generator) (p q q1 q2 : Lined) (here above_here : Here) (cell skip : ℕ) (spot : VariableSpot) (turn items : Lined) (x : Variable) (class : ℕ) → above_here.line ≡ here.line → (here.height + 3 < 2 ^ 64 → above_here.height ≡ here.height + 3) → cell ≡ length g.locals.items + here.height → ((f : Final) (h : Here) (t : Site) → Around f g → Stands f g h t → IsVariable t x spot) → TakesItems g items above_here cell spot turn → Grows g0 g → above_here.height ≤ g.deepest → skip ≡ length items.instructions → Puts p q here (r.BeginClass class cell skip) → Joins q q1 items → Emits g g q1 q2 above_here (λ s. Unit {0}) (λ u. forget u 3) → EmitsAround g0 g p q2 here turn (λ s. GoodHead s (Each x class)) (λ t b. for_code t (Each x class) b)
+pub class_looped : (g0 g : Generator) (p q q1 q2 : Lined) (here above_here : Here) (cell skip : ℕ) (spot : VariableSpot) (turn items : Lined) (x : Variable) (class : ℕ) → above_here.line ≡ here.line → (here.height + 3 < 2 ^ 64 → above_here.height ≡ here.height + 3) → cell ≡ length g.locals.items + here.height → ((f : Final) (h : Here) (t : Site) → Around f g → IsLocated f g h t → IsVariable t x spot) → TakesItems g items above_here cell spot turn → Grows g0 g → above_here.height ≤ g.deepest → skip ≡ length items.instructions → Puts p q here (r.BeginClass class cell skip) → Joins q q1 items → Emits g g q1 q2 above_here (λ s. Unit {0}) (λ u. forget u 3) → EmitsAround g0 g p q2 here turn (λ s. GoodHead s (Each x class)) (λ t b. for_code t (Each x class) b)
 class_looped g0 g p q q1 q2 here above_here cell skip spot turn items x class line up at is m grows room skip_is put join forgets = record {
   grows = grows;
-  adds = λ f t body around stands fits.
+  adds = λ f t body around located fits.
       let u : Site = number_loop t in
-      let fit : here.height + 3 < 2 ^ 64 = omega (arith, stands.high, stands.deep, around.small) in
+      let fit : here.height + 3 < 2 ^ 64 = omega (arith, located.high, located.deep, around.small) in
       let tall : here.height + 3 ≤ f.depth = omega (arith, up fit, room, around.depth) in
-      let l = in_number_loop g here above_here cell skip spot turn items x line up at is m f t body around stands tall fits.0 in
+      let l = in_number_loop g here above_here cell skip spot turn items x line up at is m f t body around located tall fits.0 in
       let turns : List Placed = turns_code u (height t) x body (i.Next (height t)) in
       let long : skip ≡ length turns = skip_is ∙ piece_long f items turns l.made in
       let begins : i.Instruction = i.BeginClass class (height t) (length turns) in
       let begun : Adds f p q (place t begins ∷ []) =
-      put_one f g here t p q begins (r.BeginClass class cell skip) stands put (record { carries = (height t, l.cell_at, ap (i.BeginClass class (height t)) (sym long)); deep = stands.deep; shown = tt }) in
-      let gone : Adds f q1 q2 (forget_to t u) = adds_same f q1 q2 (forget u 3) (forget_to t u) (ap (forget u) (sym (three_up t))) (forgets.adds f u tt around l.stands tt) in
+      put_one f g here t p q begins (r.BeginClass class cell skip) located put (record { carries = (height t, l.cell_at, ap (i.BeginClass class (height t)) (sym long)); deep = located.deep; shown = tt }) in
+      let gone : Adds f q1 q2 (forget_to t u) = adds_same f q1 q2 (forget u 3) (forget_to t u) (ap (forget u) (sym (three_up t))) (forgets.adds f u tt around l.located tt) in
       adds_then f p q q2 (place t begins ∷ []) (turns ++ forget_to t u) begun (adds_then f q q1 q2 turns (forget_to t u) (join_one f q q1 items turns join l.made) gone);
-  more = λ f t body around stands fits. tt;
+  more = λ f t body around located fits. tt;
 }
 
 -- ## FOR over members
@@ -243,67 +243,67 @@ owner_numbers (Entity e) s set h = h.1
 pub system_kept : (g0 g1 : Generator) (p q : Lined) (here : Here) (o : Read) → Bears g0 g1 p q here None o → KeepsOwner g0 g1 p q here TheSystem o
 system_kept g0 g1 p q here o m = record {
   grows = m.grows;
-  adds = λ f t u around stands good. m.adds f t u around stands good;
-  more = λ f t u around stands good. let k = m.more f t u around stands good in (k.at, k.high, k.deep);
+  adds = λ f t u around located good. m.adds f t u around located good;
+  more = λ f t u around located good. let k = m.more f t u around located good in (k.at, k.high, k.deep);
 }
 
 pub entity_kept : (g0 g1 g2 : Generator) (p q : Lined) (here : Here) (e : Expression) (a : Address) → Emits g0 g1 p q here (Typed e) (λ t. expression_code t (next t) e) → here.height < g1.deepest → Grows g1 g2 → InFrame (length g2.locals.items + here.height) a → KeepsOwner g0 g2 p q here (Entity e) (record { address = a; cells = 1 })
 entity_kept g0 g1 g2 p q here e a m room grows cell = record {
   grows = grows_then g0 g1 g2 m.grows grows;
-  adds = λ f t u around stands good. m.adds f t u (around_old f g1 g2 grows around) (stands_old f g1 g2 here t grows stands) (Integer, good);
-  more = λ f t u around stands good.
+  adds = λ f t u around located good. m.adds f t u (around_old f g1 g2 grows around) (stands_old f g1 g2 here t grows located) (Integer, good);
+  more = λ f t u around located good.
       let mine = around_old f g1 g2 grows around in
       let tall : height (owner_cell t (Entity e)) ≡ height t + 1 = omega arith in
-      let deep : height (owner_cell t (Entity e)) ≤ f.depth = omega (arith, tall, stands.high, room, mine.depth) in
-      (cell_at_site f g2 here t a stands cell, tall, deep);
+      let deep : height (owner_cell t (Entity e)) ≤ f.depth = omega (arith, tall, located.high, room, mine.depth) in
+      (cell_at_site f g2 here t a located cell, tall, deep);
 }
 
 -- no member goes into a cell
 pub starts_at_end : (g : Generator) (p : Lined) (here : Here) (w : Walk) → StartsWalk g g p p here w AtEnd
-starts_at_end g p here w = record { grows = grows_same g; adds = λ f u x around stands fits. adds_none f p; more = λ f u x around stands fits. tt }
+starts_at_end g p here w = record { grows = grows_same g; adds = λ f u x around located fits. adds_none f p; more = λ f u x around located fits. tt }
 
 -- the owner is looked at, and a member goes into the next cell
 pub starts_at : (g0 g : Generator) (p q s : Lined) (here : Here) (w : Walk) (e : Expression) → Puts p q here (r.LookOwner w.set w.owner) → Emits g0 g q s here (Typed e) (λ t. expression_code t (next t) e) → StartsWalk g0 g p s here w (From e)
 starts_at g0 g p q s here w e put m = record {
   grows = m.grows;
-  adds = λ f u x around stands fits.
+  adds = λ f u x around located fits.
       let owner : AtBearer f u x.owner w.owner = fits.0.2 in
       let look : i.Instruction = i.LookOwner x.set x.owner in
       let member : Typed e u.scope = (Integer, fits.1) in
       adds_then f p q s (place u look ∷ []) (expression_code u (next u) e)
-      (put_one f g here u p q look (r.LookOwner w.set w.owner) stands put
-      (record { carries = (x.owner, bearer_here (code_of f.program) f.constants (place u i.Leave) (place u look) x.owner w.owner refl owner, ap (λ k. i.LookOwner k x.owner) (sym fits.0.1)); deep = stands.deep; shown = tt }))
-      (m.adds f u tt around stands member);
-  more = λ f u x around stands fits. tt;
+      (put_one f g here u p q look (r.LookOwner w.set w.owner) located put
+      (record { carries = (x.owner, bearer_here (code_of f.program) f.constants (place u i.Leave) (place u look) x.owner w.owner refl owner, ap (λ k. i.LookOwner k x.owner) (sym fits.0.1)); deep = located.deep; shown = tt }))
+      (m.adds f u tt around located member);
+  more = λ f u x around located fits. tt;
 }
 
 -- to begin from a member or after it takes the same code before
 pub starts_after : (g0 g : Generator) (p s : Lined) (here : Here) (w : Walk) (e : Expression) → StartsWalk g0 g p s here w (From e) → StartsWalk g0 g p s here w (After e)
-starts_after g0 g p s here w e m = record { grows = m.grows; adds = λ f u x around stands fits. m.adds f u x around stands fits; more = λ f u x around stands fits. tt }
+starts_after g0 g p s here w e m = record { grows = m.grows; adds = λ f u x around located fits. m.adds f u x around located fits; more = λ f u x around located fits. tt }
 
 -- the instruction that begins a walk
-begins : (f : Final) (g : Generator) (here : Here) (u : Site) (w : Walk) (x : Variable) (set : ℕ) (owner : Bearer) (start : Start) (skip n : ℕ) (reverse : Bool) (p q : Lined) → Stands f g here u → height u + 1 ≤ f.depth → w.set ≡ set → AtBearer f u owner w.owner → w.cell ≡ length u.scope.locals + height u → w.reverse ≡ reverse → skip ≡ n → Puts p q here (begin_of w (is_after start) skip) → Adds f p q (begin_code u reverse set owner start n ∷ [])
-begins f g here u w x set owner AtEnd skip n reverse p q stands deep is at cell turned long put =
+begins : (f : Final) (g : Generator) (here : Here) (u : Site) (w : Walk) (x : Variable) (set : ℕ) (owner : Bearer) (start : Start) (skip n : ℕ) (reverse : Bool) (p q : Lined) → IsLocated f g here u → height u + 1 ≤ f.depth → w.set ≡ set → AtBearer f u owner w.owner → w.cell ≡ length u.scope.locals + height u → w.reverse ≡ reverse → skip ≡ n → Puts p q here (begin_of w (is_after start) skip) → Adds f p q (begin_code u reverse set owner start n ∷ [])
+begins f g here u w x set owner AtEnd skip n reverse p q located deep is at cell turned long put =
     let ins : i.Instruction = i.BeginSet reverse set owner (height u) n in
     let same : ins ≡ i.BeginSet w.reverse w.set owner (height u) skip =
     ap (λ (b : Bool). i.BeginSet b set owner (height u) n) (sym turned) ∙ ap (λ k. i.BeginSet w.reverse k owner (height u) n) (sym is) ∙ ap (i.BeginSet w.reverse w.set owner (height u)) (sym long) in
-    put_one f g here u p q ins (r.BeginSet w.set w.owner w.cell skip w.reverse) stands put
-    (record { carries = (owner, bearer_here (code_of f.program) f.constants (place u i.Leave) (place u ins) owner w.owner refl at, (height u, cell, same)); deep = stands.deep; shown = tt })
-begins f g here u w x set owner (From e) skip n reverse p q stands deep is at cell turned long put =
+    put_one f g here u p q ins (r.BeginSet w.set w.owner w.cell skip w.reverse) located put
+    (record { carries = (owner, bearer_here (code_of f.program) f.constants (place u i.Leave) (place u ins) owner w.owner refl at, (height u, cell, same)); deep = located.deep; shown = tt })
+begins f g here u w x set owner (From e) skip n reverse p q located deep is at cell turned long put =
     let ins : i.Instruction = i.BeginAt reverse false set owner (height u) n in
     let up : Site = above u Integer in
     let tall : length up.cells ≤ f.depth = omega (arith, deep) in
     let same : ins ≡ i.BeginAt w.reverse false w.set owner (height u) skip =
     ap (λ (b : Bool). i.BeginAt b false set owner (height u) n) (sym turned) ∙ ap (λ k. i.BeginAt w.reverse false k owner (height u) n) (sym is) ∙ ap (i.BeginAt w.reverse false w.set owner (height u)) (sym long) in
-    adds_one f p q here.line (place up ins) (r.BeginAt w.set w.owner w.cell skip w.reverse false) put.instructions put.lines stands.line
+    adds_one f p q here.line (place up ins) (r.BeginAt w.set w.owner w.cell skip w.reverse false) put.instructions put.lines located.line
     (record { carries = (owner, bearer_here (code_of f.program) f.constants (place u i.Leave) (place up ins) owner w.owner refl at, (height u, cell, same)); deep = tall; shown = tt })
-begins f g here u w x set owner (After e) skip n reverse p q stands deep is at cell turned long put =
+begins f g here u w x set owner (After e) skip n reverse p q located deep is at cell turned long put =
     let ins : i.Instruction = i.BeginAt reverse true set owner (height u) n in
     let up : Site = above u Integer in
     let tall : length up.cells ≤ f.depth = omega (arith, deep) in
     let same : ins ≡ i.BeginAt w.reverse true w.set owner (height u) skip =
     ap (λ (b : Bool). i.BeginAt b true set owner (height u) n) (sym turned) ∙ ap (λ k. i.BeginAt w.reverse true k owner (height u) n) (sym is) ∙ ap (i.BeginAt w.reverse true w.set owner (height u)) (sym long) in
-    adds_one f p q here.line (place up ins) (r.BeginAt w.set w.owner w.cell skip w.reverse true) put.instructions put.lines stands.line
+    adds_one f p q here.line (place up ins) (r.BeginAt w.set w.owner w.cell skip w.reverse true) put.instructions put.lines located.line
     (record { carries = (owner, bearer_here (code_of f.program) f.constants (place u i.Leave) (place up ins) owner w.owner refl at, (height u, cell, same)); deep = tall; shown = tt })
 
 -- how a walk is put together
@@ -312,7 +312,7 @@ pub record Walks (g0 g1 g2 g3 : Generator) (p q q1 q2 q3 q4 : Lined) (here below
   pub below_line : below_here.line ≡ here.line
   pub below_height : here.height + kept.cells < 2 ^ 64 → below_here.height ≡ here.height + kept.cells
   pub cell : w.cell ≡ length g1.locals.items + below_here.height
-  pub variable : (f : Final) (h : Here) (t : Site) → Around f g1 → Stands f g1 h t → IsVariable t x w.variable
+  pub variable : (f : Final) (h : Here) (t : Site) → Around f g1 → IsLocated f g1 h t → IsVariable t x w.variable
   pub of_set : w.set ≡ set
   pub of_owner : w.owner ≡ kept.address
   pub turned : w.reverse ≡ reverse
@@ -333,10 +333,10 @@ pub record Walks (g0 g1 g2 g3 : Generator) (p q q1 q2 q3 q4 : Lined) (here below
 pub members_walked : (g0 g1 g2 g3 : Generator) (p q q1 q2 q3 q4 : Lined) (here below_here above_here : Here) (w : Walk) (kept : Read) (turn members : Lined) (x : Variable) (set : ℕ) (o : SetOwner) (start : Start) (reverse : Bool) → Walks g0 g1 g2 g3 p q q1 q2 q3 q4 here below_here above_here w kept turn members x set o start reverse → EmitsAround g0 g3 p q4 here turn (λ s. GoodHead s (Members x set o start reverse)) (λ t b. for_code t (Members x set o start reverse) b)
 members_walked g0 g1 g2 g3 p q q1 q2 q3 q4 here below_here above_here w kept turn members x set o start reverse k = record {
   grows = grows_then g0 g1 g3 k.keeps.grows (grows_then g1 g2 g3 k.starts.grows k.reaches);
-  adds = λ f t b around stands fits.
+  adds = λ f t b around located fits.
       let around2 = around_old f g2 g3 k.reaches around in
       let around1 = around_old f g1 g2 k.starts.grows around2 in
-      let stands2 = stands_old f g2 g3 here t k.reaches stands in
+      let stands2 = stands_old f g2 g3 here t k.reaches located in
       let stands1 = stands_old f g1 g2 here t k.starts.grows stands2 in
       let good : GoodHead t.scope (Members x set o start reverse) = fits.1 in
       let numbers : AreNumbers (expression_of o) t.scope = owner_numbers o t.scope set good.1 in
@@ -344,14 +344,14 @@ members_walked g0 g1 g2 g3 p q q1 q2 q3 q4 here below_here above_here w kept tur
       let u : Site = owner_cell t o in
       let v : Site = walk_loop t o in
       let bearer : Bearer = owner_kept t o in
-      let low1 : Stands f g1 below_here u = higher f g1 here below_here t u kept.cells around1 stands1 k.below_line k.below_height refl refl keep.1 keep.2 in
-      let low2 : Stands f g2 below_here u = stands_new f g1 g2 below_here u k.starts.grows low1 in
-      let low3 : Stands f g3 below_here u = stands_new f g2 g3 below_here u k.reaches low2 in
+      let low1 : IsLocated f g1 below_here u = higher f g1 here below_here t u kept.cells around1 stands1 k.below_line k.below_height refl refl keep.1 keep.2 in
+      let low2 : IsLocated f g2 below_here u = stands_new f g1 g2 below_here u k.starts.grows low1 in
+      let low3 : IsLocated f g3 below_here u = stands_new f g2 g3 below_here u k.reaches low2 in
       let fit : below_here.height + 2 < 2 ^ 64 = omega (arith, low1.high, low1.deep, around.small) in
       let tall : height v ≡ height u + 2 = omega arith in
       let deep : height v ≤ f.depth = omega (arith, tall, low1.high, k.above_height fit, k.room, around.depth) in
-      let high3 : Stands f g3 above_here v = higher f g3 below_here above_here u v 2 around low3 k.above_line k.above_height refl refl tall deep in
-      let high1 : Stands f g1 above_here v = stands_old f g1 g3 above_here v (grows_then g1 g2 g3 k.starts.grows k.reaches) high3 in
+      let high3 : IsLocated f g3 above_here v = higher f g3 below_here above_here u v 2 around low3 k.above_line k.above_height refl refl tall deep in
+      let high1 : IsLocated f g1 above_here v = stands_old f g1 g3 above_here v (grows_then g1 g2 g3 k.starts.grows k.reaches) high3 in
       let owner : AtBearer f t bearer w.owner = subst (AtBearer f t bearer) (sym k.of_owner) keep.0 in
       let owner_u : AtBearer f u bearer w.owner = bearer_here (code_of f.program) f.constants (place t i.Leave) (place u i.Leave) bearer w.owner refl owner in
       let owner_v : AtBearer f v bearer w.owner = bearer_here (code_of f.program) f.constants (place t i.Leave) (place v i.Leave) bearer w.owner refl owner in
@@ -375,7 +375,7 @@ members_walked g0 g1 g2 g3 p q q1 q2 q3 q4 here below_here above_here w kept tur
       (adds_then f q q1 q4 (start_code u set bearer start) (begin_code u reverse set bearer start (length turns) ∷ (turns ++ forget_to t v)) begun
       (adds_then f q1 q2 q4 (begin_code u reverse set bearer start (length turns) ∷ []) (turns ++ forget_to t v) begin
       (adds_then f q2 q3 q4 turns (forget_to t v) (join_one f q2 q3 members turns k.joins taken) gone)));
-  more = λ f t b around stands fits. tt;
+  more = λ f t b around located fits. tt;
 }
 
 -- ## In a loop
@@ -394,46 +394,46 @@ few_kept (Members x set TheSystem start reverse) = omega arith
 few_kept (Members x set (Entity e) start reverse) = omega arith
 
 -- the cells that it keeps are there
-pub loop_stands : (f : Final) (g0 g1 : Generator) (here above_here : Here) (t : Site) (head : Head) (cells : ℕ) → cells ≡ loop_width head → above_here.line ≡ here.line → (here.height + cells < 2 ^ 64 → above_here.height ≡ here.height + cells) → above_here.height ≤ g0.deepest → Around f g0 → Around f g1 → Stands f g1 here t → Stands f g1 above_here (in_loop t head)
-loop_stands f g0 g1 here above_here t head cells wide line up room around0 around stands =
+pub loop_stands : (f : Final) (g0 g1 : Generator) (here above_here : Here) (t : Site) (head : Head) (cells : ℕ) → cells ≡ loop_width head → above_here.line ≡ here.line → (here.height + cells < 2 ^ 64 → above_here.height ≡ here.height + cells) → above_here.height ≤ g0.deepest → Around f g0 → Around f g1 → IsLocated f g1 here t → IsLocated f g1 above_here (in_loop t head)
+loop_stands f g0 g1 here above_here t head cells wide line up room around0 around located =
     let u : Site = in_loop t head in
     let tall : height u ≡ height t + cells = loop_high t head ∙ ap (λ k. height t + k) (sym wide) in
-    let fits : here.height + cells < 2 ^ 64 = omega (arith, stands.high, stands.deep, around.small, wide, few_kept head) in
-    let deep : height u ≤ f.depth = omega (arith, tall, stands.high, up fits, room, around0.depth) in
-    higher f g1 here above_here t u cells around stands line up refl refl tall deep
+    let fits : here.height + cells < 2 ^ 64 = omega (arith, located.high, located.deep, around.small, wide, few_kept head) in
+    let deep : height u ≤ f.depth = omega (arith, tall, located.high, up fits, room, around0.depth) in
+    higher f g1 here above_here t u cells around located line up refl refl tall deep
 
 -- a loop with phrases around what is done for each case
-pub for_looped : (f : Final) (g1 g2 g3 g4 : Generator) (p q inner turn : Lined) (here above_here : Here) (head : Head) (ps : List Phrase) (cells : ℕ) (t : Site) (body : List Placed) → cells ≡ loop_width head → above_here.line ≡ here.line → (here.height + cells < 2 ^ 64 → above_here.height ≡ here.height + cells) → above_here.height ≤ g1.deepest → Grows g1 g2 → (Around f g2 → Stands f g2 above_here (in_loop t head) → Adds f nothing inner body) → EmitsAround g2 g3 nothing turn above_here inner (λ s. Every (GoodPhrase s) ps) (λ t b. phrases_code t ps b) → EmitsAround g3 g4 p q here turn (λ s. GoodHead s head) (λ t b. for_code t head b) → Around f g4 → Stands f g4 here t → GoodHead t.scope head → Every (GoodPhrase t.scope) ps → Adds f p q (for_code t head (phrases_code (in_loop t head) ps body))
-for_looped f g1 g2 g3 g4 p q inner turn here above_here head ps cells t body wide line up room grows1 m n o around stands good each =
+pub for_looped : (f : Final) (g1 g2 g3 g4 : Generator) (p q inner turn : Lined) (here above_here : Here) (head : Head) (ps : List Phrase) (cells : ℕ) (t : Site) (body : List Placed) → cells ≡ loop_width head → above_here.line ≡ here.line → (here.height + cells < 2 ^ 64 → above_here.height ≡ here.height + cells) → above_here.height ≤ g1.deepest → Grows g1 g2 → (Around f g2 → IsLocated f g2 above_here (in_loop t head) → Adds f nothing inner body) → EmitsAround g2 g3 nothing turn above_here inner (λ s. Every (GoodPhrase s) ps) (λ t b. phrases_code t ps b) → EmitsAround g3 g4 p q here turn (λ s. GoodHead s head) (λ t b. for_code t head b) → Around f g4 → IsLocated f g4 here t → GoodHead t.scope head → Every (GoodPhrase t.scope) ps → Adds f p q (for_code t head (phrases_code (in_loop t head) ps body))
+for_looped f g1 g2 g3 g4 p q inner turn here above_here head ps cells t body wide line up room grows1 m n o around located good each =
     let around3 = around_old f g3 g4 o.grows around in
     let around2 = around_old f g2 g3 n.grows around3 in
     let around1 = around_old f g1 g2 grows1 around2 in
-    let stands3 = stands_old f g3 g4 here t o.grows stands in
+    let stands3 = stands_old f g3 g4 here t o.grows located in
     let u : Site = in_loop t head in
-    let high3 : Stands f g3 above_here u = loop_stands f g1 g3 here above_here t head cells wide line up room around1 around3 stands3 in
-    let high2 : Stands f g2 above_here u = stands_old f g2 g3 above_here u n.grows high3 in
+    let high3 : IsLocated f g3 above_here u = loop_stands f g1 g3 here above_here t head cells wide line up room around1 around3 stands3 in
+    let high2 : IsLocated f g2 above_here u = stands_old f g2 g3 above_here u n.grows high3 in
     let made : Adds f nothing inner body = m around2 high2 in
     let phrased : Adds f nothing turn (phrases_code u ps body) = n.adds f u body around3 high3 (made, each) in
-    o.adds f t (phrases_code u ps body) around stands (phrased, good)
+    o.adds f t (phrases_code u ps body) around located (phrased, good)
 
 -- ## FIND
 
 pub found_or_not : (g0 g1 g2 g3 : Generator) (p q q1 q2 q3 q4 : Lined) (here above_here : Here) (head : Head) (ps : List Phrase) (cells skip past_skip : ℕ) (found none case turn past : Lined) → cells ≡ loop_width head → above_here.line ≡ here.line → (here.height + cells < 2 ^ 64 → above_here.height ≡ here.height + cells) → Grows g0 g1 → above_here.height ≤ g1.deepest → skip ≡ length none.instructions + 3 → Emits g1 g1 nothing case above_here (λ s. Unit {0}) (λ t. place t (i.Jump skip) ∷ []) → EmitsAround g1 g2 nothing turn above_here case (λ s. Every (GoodPhrase s) ps) (λ t b. phrases_code t ps b) → EmitsAround g2 g3 p q here turn (λ s. GoodHead s head) (λ t b. for_code t head b) → Joins q q1 none → past_skip ≡ length found.instructions + 1 → Emits g3 g3 nothing past here (λ s. Unit {0}) (λ t. place t (i.Jump past_skip) ∷ []) → Joins q1 q2 past → Emits g3 g3 q2 q3 above_here (λ s. Unit {0}) (λ u. forget u cells) → Joins q3 q4 found → EmitsAroundBoth g0 g3 p q4 here found none (λ s. GoodHead s head × Every (GoodPhrase s) ps) (λ t b. find_code t head ps b.first b.second)
 found_or_not g0 g1 g2 g3 p q q1 q2 q3 q4 here above_here head ps cells skip past_skip found none case turn past wide line up reaches room skip_is m n o first past_is d second forgets third = record {
   grows = grows_then g0 g1 g3 reaches (grows_then g1 g2 g3 n.grows o.grows);
-  adds = λ f t b around stands fits.
+  adds = λ f t b around located fits.
       let u : Site = in_loop t head in
       let grown : Grows g1 g3 = grows_then g1 g2 g3 n.grows o.grows in
       let long : skip ≡ length b.second + 3 = skip_is ∙ ap (λ k. k + 3) (piece_long f none b.second fits.1) in
       let past_long : past_skip ≡ length b.first + 1 = past_is ∙ ap (λ k. k + 1) (piece_long f found b.first fits.0) in
-      let jump = λ (around1 : Around f g1) (high1 : Stands f g1 above_here u).
+      let jump = λ (around1 : Around f g1) (high1 : IsLocated f g1 above_here u).
       adds_same f nothing case (place u (i.Jump skip) ∷ []) (place u (i.Jump (length b.second + 3)) ∷ []) (ap (λ k. place u (i.Jump k) ∷ []) long) (m.adds f u tt around1 high1 tt) in
       let good : GoodHead t.scope head × Every (GoodPhrase t.scope) ps = fits.2 in
       let loops : Adds f p q (for_code t head (phrases_code u ps (place u (i.Jump (length b.second + 3)) ∷ []))) =
-      for_looped f g1 g1 g2 g3 p q case turn here above_here head ps cells t (place u (i.Jump (length b.second + 3)) ∷ []) wide line up room (grows_same g1) jump n o around stands good.0 good.1 in
-      let high3 : Stands f g3 above_here u = loop_stands f g1 g3 here above_here t head cells wide line up room (around_old f g1 g3 grown around) around stands in
+      for_looped f g1 g1 g2 g3 p q case turn here above_here head ps cells t (place u (i.Jump (length b.second + 3)) ∷ []) wide line up room (grows_same g1) jump n o around located good.0 good.1 in
+      let high3 : IsLocated f g3 above_here u = loop_stands f g1 g3 here above_here t head cells wide line up room (around_old f g1 g3 grown around) around located in
       let passed : Adds f nothing past (place t (i.Jump (length b.first + 1)) ∷ []) =
-      adds_same f nothing past (place t (i.Jump past_skip) ∷ []) (place t (i.Jump (length b.first + 1)) ∷ []) (ap (λ k. place t (i.Jump k) ∷ []) past_long) (d.adds f t tt around stands tt) in
+      adds_same f nothing past (place t (i.Jump past_skip) ∷ []) (place t (i.Jump (length b.first + 1)) ∷ []) (ap (λ k. place t (i.Jump k) ∷ []) past_long) (d.adds f t tt around located tt) in
       let count : cells ≡ height u - height t = omega (arith, loop_high t head, wide) in
       let gone : Adds f q2 q3 (forget_to t u) = adds_same f q2 q3 (forget u cells) (forget_to t u) (ap (forget u) count) (forgets.adds f u tt around high3 tt) in
       let rest : List Placed = forget_to t u ++ b.first in
@@ -441,5 +441,5 @@ found_or_not g0 g1 g2 g3 p q q1 q2 q3 q4 here above_here head ps cells skip past
       (adds_then f q q1 q4 b.second (place t (i.Jump (length b.first + 1)) ∷ rest) (join_one f q q1 none b.second first fits.1)
       (adds_then f q1 q2 q4 (place t (i.Jump (length b.first + 1)) ∷ []) rest (join_one f q1 q2 past (place t (i.Jump (length b.first + 1)) ∷ []) second passed)
       (adds_then f q2 q3 q4 (forget_to t u) b.first gone (join_one f q3 q4 found b.first third fits.0))));
-  more = λ f t b around stands fits. tt;
+  more = λ f t b around located fits. tt;
 }

@@ -25,7 +25,7 @@ use Rattle.ss_code_generator.specs.declared.targets.Spot.{Spot}
 use Rattle.ss_code_generator.specs.declared.targets.Spot.TheVariants as spots
 use Rattle.ss_code_pieces.specs.Lined.{Lined}
 use Rattle.ss_code_instructions.specs.Forms.{moving, storing}
-use Rattle.ss_code_generator.specs.Emitted.{Final, Around, Stands, Adds, Makes, AtOperand, AtTarget, IsNumber, Reads}
+use Rattle.ss_code_generator.specs.Emitted.{Final, Around, IsLocated, Adds, Makes, AtOperand, AtTarget, IsNumber, Reads}
 use Rattle.ss_code_generator.specs.Spots.{IsWatched, IsAttribute, IsSpot, IsPlaceOf, GoodPlace, HasRoom, HoldsMode, Given, Gives, Takes, landing, assigned_code, landed_code}
 use Rattle.ss_code_generator.proofs.Emitting.{grows_same, stands_above, adds_none, adds_then, adds_one, adds_same}
 use Rattle.ss_code_generator.proofs.Operands.{operand_at, stays_at}
@@ -35,8 +35,8 @@ use Rattle.ss_code_generator.proofs.Assigned.{assignment_kept, kept_at, move_run
 
 -- ## What is found
 
-pub program_at : (f : Final) (g : Generator) (here : Here) (t : Site) → Around f g → Stands f g here t → t.scope.program ≡ view_program g.program.now
-program_at f g here t around stands = stands.program ∙ sym around.program
+pub program_at : (f : Final) (g : Generator) (here : Here) (t : Site) → Around f g → IsLocated f g here t → t.scope.program ≡ view_program g.program.now
+program_at f g here t around located = located.program ∙ sym around.program
 
 -- an attribute, whose entity was evaluated
 abbrev pub MakesAttribute : (old new : Generator) → (before after : Lined) → Here → (Site → List Placed) → (class field : ℕ) → Expression → AttributeSpot → Type 0
@@ -46,15 +46,15 @@ MakesAttribute old new before after here c class field e s =
 pub attribute_found : (old new : Generator) (p q : Lined) (here : Here) (class field : ℕ) (e : Expression) (s : AttributeSpot) → Reads old new p q here e (record { address = s.entity; cells = s.cells }) → s.class ≡ class → s.field ≡ field → s.mode ≡ or_integer (field_mode (view_program new.program.now) class field) → s.is_watched ≡ watch new.program.now.statistics.items (OfAttribute class field) → MakesAttribute old new p q here (λ t. operand_code t e) class field e s
 attribute_found old new p q here class field e s m is_class is_field mode noted = record {
   grows = m.grows;
-  adds = λ f t u around stands good. m.adds f t tt around stands (Integer, good);
-  more = λ f t u around stands good.
-      let program = program_at f new here t around stands in
+  adds = λ f t u around located good. m.adds f t tt around located (Integer, good);
+  more = λ f t u around located good.
+      let program = program_at f new here t around located in
       record {
         class = is_class;
         field = is_field;
         mode = mode ∙ ap (λ (p : Program). or_integer (field_mode p class field)) (sym program);
         noted = noted ∙ ap (λ (p : Program). watch p.statistics (OfAttribute class field)) (sym program);
-        entity = m.more f t tt around stands (Integer, good);
+        entity = m.more f t tt around located (Integer, good);
       };
 }
 
@@ -62,37 +62,37 @@ attribute_found old new p q here class field e s m is_class is_field mode noted 
 pub attribute_looked : (old new : Generator) (p q v : Lined) (here : Here) (class field : ℕ) (e : Expression) (s : AttributeSpot) (b : Bool) → MakesAttribute old new p q here (λ t. operand_code t e) class field e s → v.instructions ≡ q.instructions ++ (if b then r.LookEntity s.class s.entity ∷ [] else []) → v.lines ≡ q.lines ++ (if b then here.line ∷ [] else []) → MakesAttribute old new p v here (λ t. entity_code t b class e) class field e s
 attribute_looked old new p q v here class field e s true m is ls = record {
   grows = m.grows;
-  adds = λ f t u around stands good.
-      let is_there = m.more f t tt around stands good in
+  adds = λ f t u around located good.
+      let is_there = m.more f t tt around located good in
       let ins : Instruction = i.LookEntity class (stay (operand t e)) in
       let same : ins ≡ i.LookEntity s.class (stay (operand t e)) = ap (λ k. i.LookEntity k (stay (operand t e))) (sym is_there.class) in
-      adds_then f p q v (operand_code t e) (place (after t e) ins ∷ []) (m.adds f t tt around stands good)
-      (adds_one f q v here.line (place (after t e) ins) (r.LookEntity s.class s.entity) is ls stands.line
+      adds_then f p q v (operand_code t e) (place (after t e) ins ∷ []) (m.adds f t tt around located good)
+      (adds_one f q v here.line (place (after t e) ins) (r.LookEntity s.class s.entity) is ls located.line
       (record { carries = (stay (operand t e), stays_at f t (operand t e) s.entity is_there.entity.at, same); deep = is_there.entity.deep; shown = tt }));
-  more = λ f t u around stands good. m.more f t tt around stands good;
+  more = λ f t u around located good. m.more f t tt around located good;
 }
 attribute_looked old new p q v here class field e s false m is ls = record {
   grows = m.grows;
-  adds = λ f t u around stands good.
-      let h = m.adds f t tt around stands good in
+  adds = λ f t u around located good.
+      let h = m.adds f t tt around located good in
       record { more = h.more; instructions = is ∙ append-nil q.instructions ∙ h.instructions; lines = ls ∙ append-nil q.lines ∙ h.lines; run = h.run };
-  more = λ f t u around stands good. m.more f t tt around stands good;
+  more = λ f t u around located good. m.more f t tt around located good;
 }
 
 -- ## Places that are found
 
-pub count_spotted : (g : Generator) (p : Lined) (here : Here) (c : CountedClass) (s : Spot) → ((f : Final) (here : Here) (t : Site) → Around f g → Stands f g here t → IsSpot f t (ToCount c) s) → Makes g g p p here (λ f t (u : Unit {0}). GoodPlace (ToCount c) t.scope) (λ t u. []) (λ f t u. IsSpot f t (ToCount c) s)
+pub count_spotted : (g : Generator) (p : Lined) (here : Here) (c : CountedClass) (s : Spot) → ((f : Final) (here : Here) (t : Site) → Around f g → IsLocated f g here t → IsSpot f t (ToCount c) s) → Makes g g p p here (λ f t (u : Unit {0}). GoodPlace (ToCount c) t.scope) (λ t u. []) (λ f t u. IsSpot f t (ToCount c) s)
 count_spotted g p here c s h = record {
   grows = grows_same g;
-  adds = λ f t u around stands good. adds_none f p;
-  more = λ f t u around stands good. h f here t around stands;
+  adds = λ f t u around located good. adds_none f p;
+  more = λ f t u around located good. h f here t around located;
 }
 
 pub attribute_spotted : (old new : Generator) (p q : Lined) (here : Here) (c : Site → List Placed) (class field : ℕ) (e : Expression) (s : AttributeSpot) → MakesAttribute old new p q here c class field e s → Makes old new p q here (λ f t (u : Unit {0}). GoodPlace (ToAttribute class field e) t.scope) (λ t u. c t) (λ f t u. IsSpot f t (ToAttribute class field e) (spots.Attribute s))
 attribute_spotted old new p q here c class field e s m = record {
   grows = m.grows;
-  adds = λ f t u around stands good. m.adds f t tt around stands good.1.1;
-  more = λ f t u around stands good. m.more f t tt around stands good.1.1;
+  adds = λ f t u around located good. m.adds f t tt around located good.1.1;
+  more = λ f t u around located good. m.more f t tt around located good.1.1;
 }
 
 -- ## What an operand is given to
@@ -101,23 +101,23 @@ module _ (g : Generator) (p q : Lined) (here : Here) (from : Address) where
   pub gives_for : (IsIt Other : Final → Site → Place → Type 0) → ((f : Final) (t : Site) (x : Place) → Other f t x → IsIt f t x) → Gives g p q here from IsIt → Gives g p q here from Other
   gives_for IsIt Other so m = record {
     grows = m.grows;
-    adds = λ f u x around stands fits. m.adds f u x around stands (so f x.resolved x.place fits.0, fits.1, fits.2, fits.3, fits.4);
-    more = λ f u x around stands fits. tt;
+    adds = λ f u x around located fits. m.adds f u x around located (so f x.resolved x.place fits.0, fits.1, fits.2, fits.3, fits.4);
+    more = λ f u x around located fits. tt;
   }
 
   -- and another one
-  moved_at_place : (s : VariableSpot) → s.watched ≡ None → q.instructions ≡ p.instructions ++ moving s.mode from s.address ∷ [] → q.lines ≡ p.lines ++ here.line ∷ [] → (f : Final) (t u : Site) (y : Operand) (x : Place) (m : Mode) → IsPlaceOf t x s → t.scope ≡ u.scope → AtOperand f u y from → HoldsMode u.scope x m → mode_here (code_of f.program) f.constants (place u Leave) y ≡ Some m → Stands f g here u → Adds f p q (assigned_code t u x y)
-  moved_at_place s watched is ls f t u y (ToVariable x) m v same at holds mode stands =
+  moved_at_place : (s : VariableSpot) → s.watched ≡ None → q.instructions ≡ p.instructions ++ moving s.mode from s.address ∷ [] → q.lines ≡ p.lines ++ here.line ∷ [] → (f : Final) (t u : Site) (y : Operand) (x : Place) (m : Mode) → IsPlaceOf t x s → t.scope ≡ u.scope → AtOperand f u y from → HoldsMode u.scope x m → mode_here (code_of f.program) f.constants (place u Leave) y ≡ Some m → IsLocated f g here u → Adds f p q (assigned_code t u x y)
+  moved_at_place s watched is ls f t u y (ToVariable x) m v same at holds mode located =
       let same_mode : m ≡ s.mode = sym (v.mode ∙ ap (λ (k : Scope). or_integer (mode_at k x)) same ∙ ap or_integer holds) in
-      adds_one f p q here.line (place u (assignment u x y)) (moving s.mode from s.address) is ls stands.line (move_runs f t u x y s from v watched same at (mode ∙ ap Some same_mode) stands.deep)
-  moved_at_place s watched is ls f t u y (ToAttribute class field e) m v same at holds mode stands = absurd v
-  moved_at_place s watched is ls f t u y (ToCount c) m v same at holds mode stands = absurd v
+      adds_one f p q here.line (place u (assignment u x y)) (moving s.mode from s.address) is ls located.line (move_runs f t u x y s from v watched same at (mode ∙ ap Some same_mode) located.deep)
+  moved_at_place s watched is ls f t u y (ToAttribute class field e) m v same at holds mode located = absurd v
+  moved_at_place s watched is ls f t u y (ToCount c) m v same at holds mode located = absurd v
 
   pub moved_given : (s : VariableSpot) → s.watched ≡ None → q.instructions ≡ p.instructions ++ moving s.mode from s.address ∷ [] → q.lines ≡ p.lines ++ here.line ∷ [] → Gives g p q here from (λ f t x. IsPlaceOf t x s)
   moved_given s watched is ls = record {
     grows = grows_same g;
-    adds = λ f u x around stands fits. moved_at_place s watched is ls f x.resolved u x.from x.place x.mode fits.0 fits.1 fits.2 fits.3 fits.4 stands;
-    more = λ f u x around stands fits. tt;
+    adds = λ f u x around located fits. moved_at_place s watched is ls f x.resolved u x.from x.place x.mode fits.0 fits.1 fits.2 fits.3 fits.4 located;
+    more = λ f u x around located fits. tt;
   }
 
 -- what goes to an attribute that was found
@@ -133,36 +133,36 @@ stored f p q l from s is ls g around t u class field e z y m v same entity at ho
     (store_runs f t u class field e s v same mine z y from m there plain entity at deep)
 
 module _ (g : Generator) (p q : Lined) (here : Here) (from : Address) where
-  stored_at_place : (s : AttributeSpot) → q.instructions ≡ p.instructions ++ storing s.mode s.class s.field s.entity from s.is_watched ∷ [] → q.lines ≡ p.lines ++ here.line ∷ [] → (f : Final) (t u : Site) (y : Operand) (x : Place) (m : Mode) → IsSpot f t x (spots.Attribute s) → t.scope ≡ u.scope → AtOperand f u y from → HoldsMode u.scope x m → Around f g → Stands f g here u → Adds f p q (assigned_code t u x y)
-  stored_at_place s is ls f t u y (ToVariable x) m v same at holds around stands = absurd v
-  stored_at_place s is ls f t u y (ToAttribute class field e) m v same at holds around stands =
-      stored f p q here.line from s is ls g around t u class field e (operand t e) y m v same (operand_at f t u (operand t e) s.entity (sym same) v.entity.at) at holds stands.line stands.program stands.deep
-  stored_at_place s is ls f t u y (ToCount c) m v same at holds around stands = absurd v
+  stored_at_place : (s : AttributeSpot) → q.instructions ≡ p.instructions ++ storing s.mode s.class s.field s.entity from s.is_watched ∷ [] → q.lines ≡ p.lines ++ here.line ∷ [] → (f : Final) (t u : Site) (y : Operand) (x : Place) (m : Mode) → IsSpot f t x (spots.Attribute s) → t.scope ≡ u.scope → AtOperand f u y from → HoldsMode u.scope x m → Around f g → IsLocated f g here u → Adds f p q (assigned_code t u x y)
+  stored_at_place s is ls f t u y (ToVariable x) m v same at holds around located = absurd v
+  stored_at_place s is ls f t u y (ToAttribute class field e) m v same at holds around located =
+      stored f p q here.line from s is ls g around t u class field e (operand t e) y m v same (operand_at f t u (operand t e) s.entity (sym same) v.entity.at) at holds located.line located.program located.deep
+  stored_at_place s is ls f t u y (ToCount c) m v same at holds around located = absurd v
 
   pub attribute_given : (s : AttributeSpot) → q.instructions ≡ p.instructions ++ storing s.mode s.class s.field s.entity from s.is_watched ∷ [] → q.lines ≡ p.lines ++ here.line ∷ [] → Gives g p q here from (λ f t x. IsSpot f t x (spots.Attribute s))
   attribute_given s is ls = record {
     grows = grows_same g;
-    adds = λ f u x around stands fits. stored_at_place s is ls f x.resolved u x.from x.place x.mode fits.0 fits.1 fits.2 fits.3 around stands;
-    more = λ f u x around stands fits. tt;
+    adds = λ f u x around located fits. stored_at_place s is ls f x.resolved u x.from x.place x.mode fits.0 fits.1 fits.2 fits.3 around located;
+    more = λ f u x around located fits. tt;
   }
 
 -- N. of a class: it is looked whether there are entities yet
 module _ (g : Generator) (p q v : Lined) (here : Here) (from : Address) (class : ℕ) (s : VariableSpot) (is : q.instructions ≡ p.instructions ++ r.LookCount class ∷ []) (ls : q.lines ≡ p.lines ++ here.line ∷ []) (m : Gives g q v here from (λ f t x. IsPlaceOf t x s)) where
-  counted_at_place : (f : Final) (t u : Site) (y : Operand) (x : Place) (k : Mode) → IsSpot f t x (spots.Count class s) → t.scope ≡ u.scope → AtOperand f u y from → HoldsMode u.scope x k → mode_here (code_of f.program) f.constants (place u Leave) y ≡ Some k → Around f g → Stands f g here u → Adds f p v (assigned_code t u x y)
-  counted_at_place f t u y (ToVariable x) k h same at holds mode around stands = absurd h
-  counted_at_place f t u y (ToAttribute c field e) k h same at holds mode around stands = absurd h
-  counted_at_place f t u y (ToCount c) k h same at holds mode around stands =
+  counted_at_place : (f : Final) (t u : Site) (y : Operand) (x : Place) (k : Mode) → IsSpot f t x (spots.Count class s) → t.scope ≡ u.scope → AtOperand f u y from → HoldsMode u.scope x k → mode_here (code_of f.program) f.constants (place u Leave) y ≡ Some k → Around f g → IsLocated f g here u → Adds f p v (assigned_code t u x y)
+  counted_at_place f t u y (ToVariable x) k h same at holds mode around located = absurd h
+  counted_at_place f t u y (ToAttribute c field e) k h same at holds mode around located = absurd h
+  counted_at_place f t u y (ToCount c) k h same at holds mode around located =
       let it : Given = record { resolved = t; place = ToVariable (Global c.variable); from = y; mode = k } in
       let look : Instruction = i.LookCount c.class in
       adds_then f p q v (place u look ∷ []) (place u (assignment u (Global c.variable) y) ∷ [])
-      (adds_one f p q here.line (place u look) (r.LookCount class) is ls stands.line (record { carries = ap i.LookCount (sym h.0); deep = stands.deep; shown = tt }))
-      (m.adds f u it around stands (h.1, same, at, holds, mode))
+      (adds_one f p q here.line (place u look) (r.LookCount class) is ls located.line (record { carries = ap i.LookCount (sym h.0); deep = located.deep; shown = tt }))
+      (m.adds f u it around located (h.1, same, at, holds, mode))
 
   pub count_given : Gives g p v here from (λ f t x. IsSpot f t x (spots.Count class s))
   count_given = record {
     grows = grows_same g;
-    adds = λ f u x around stands fits. counted_at_place f x.resolved u x.from x.place x.mode fits.0 fits.1 fits.2 fits.3 fits.4 around stands;
-    more = λ f u x around stands fits. tt;
+    adds = λ f u x around located fits. counted_at_place f x.resolved u x.from x.place x.mode fits.0 fits.1 fits.2 fits.3 fits.4 around located;
+    more = λ f u x around located fits. tt;
   }
 
 -- ## What a value is given to that lies where it comes at first
@@ -175,47 +175,47 @@ ComesToCell (spots.Count class s) = Unit {0}
 
 module _ (g : Generator) (p q : Lined) (here higher : Here) (from : Address) (s : Spot) (line : higher.line ≡ here.line) (up : here.height + 1 < 2 ^ 64 → higher.height ≡ here.height + 1) (m : Gives g p q higher from (λ f t x. IsSpot f t x s)) where
   -- one cell higher
-  stands_higher : (f : Final) (u : Site) (k : Mode) → Around f g → Stands f g here u → height u < f.depth → Stands f g higher (above u k)
-  stands_higher f u k around stands low =
+  stands_higher : (f : Final) (u : Site) (k : Mode) → Around f g → IsLocated f g here u → height u < f.depth → IsLocated f g higher (above u k)
+  stands_higher f u k around located low =
       let high : height (above u k) ≡ height u + 1 = omega arith in
-      stands_above f g here higher u (above u k) 1 around.small stands line up refl refl high (omega (arith, high, low))
+      stands_above f g here higher u (above u k) 1 around.small located line up refl refl high (omega (arith, high, low))
 
-  given_higher : (f : Final) (t u : Site) (x : Place) (k : Mode) → IsSpot f t x s → t.scope ≡ u.scope → AtTarget f u (next u) from → height u < f.depth → HoldsMode u.scope x k → Around f g → Stands f g here u → Adds f p q (assigned_code t (above u k) x (Taken (height u)))
-  given_higher f t u x k v same at low holds around stands =
+  given_higher : (f : Final) (t u : Site) (x : Place) (k : Mode) → IsSpot f t x s → t.scope ≡ u.scope → AtTarget f u (next u) from → height u < f.depth → HoldsMode u.scope x k → Around f g → IsLocated f g here u → Adds f p q (assigned_code t (above u k) x (Taken (height u)))
+  given_higher f t u x k v same at low holds around located =
       let it : Given = record { resolved = t; place = x; from = Taken (height u); mode = k } in
-      m.adds f (above u k) it around (stands_higher f u k around stands low) (v, same, at, holds, on_top (height u) k u.cells refl)
+      m.adds f (above u k) it around (stands_higher f u k around located low) (v, same, at, holds, on_top (height u) k u.cells refl)
 
-taken_at_place : (g : Generator) (p q : Lined) (here higher : Here) (from : Address) (s : Spot) → higher.line ≡ here.line → (here.height + 1 < 2 ^ 64 → higher.height ≡ here.height + 1) → Gives g p q higher from (λ f t x. IsSpot f t x s) → ComesToCell s → (f : Final) (t u : Site) (x : Place) (k : Mode) → IsSpot f t x s → t.scope ≡ u.scope → AtTarget f u (landing u x) from → HasRoom f (landing u x) → HoldsMode u.scope x k → Around f g → Stands f g here u → Adds f p q (landed_code t u x k)
-taken_at_place g p q here higher from (spots.Variable s) line up m cell f t u (ToVariable x) k v same at room holds around stands =
+taken_at_place : (g : Generator) (p q : Lined) (here higher : Here) (from : Address) (s : Spot) → higher.line ≡ here.line → (here.height + 1 < 2 ^ 64 → higher.height ≡ here.height + 1) → Gives g p q higher from (λ f t x. IsSpot f t x s) → ComesToCell s → (f : Final) (t u : Site) (x : Place) (k : Mode) → IsSpot f t x s → t.scope ≡ u.scope → AtTarget f u (landing u x) from → HasRoom f (landing u x) → HoldsMode u.scope x k → Around f g → IsLocated f g here u → Adds f p q (landed_code t u x k)
+taken_at_place g p q here higher from (spots.Variable s) line up m cell f t u (ToVariable x) k v same at room holds around located =
     let w : (is_kept t x ≡ true) × (x ≡ Global cell.0) = subst (IsWatched (is_kept t x) x) cell.1 v.watched in
     let kept : is_kept u x ≡ true = kept_at t u x true same w.0 in
     let lands : landing u (ToVariable x) ≡ next u = lands_kept t u x s cell.0 v cell.1 same in
     let low : height u < f.depth = subst (HasRoom f) lands room in
     let there : AtTarget f u (next u) from = subst (λ (y : Target). AtTarget f u y from) lands at in
-    let integer : mode_at u.scope x ≡ Some Integer = kept_integer f.program around.typed u.scope stands.program x kept in
-    let h = given_higher g p q here higher from (spots.Variable s) line up m f t u (ToVariable x) Integer v same there low integer around stands in
+    let integer : mode_at u.scope x ≡ Some Integer = kept_integer f.program around.typed u.scope located.program x kept in
+    let h = given_higher g p q here higher from (spots.Variable s) line up m f t u (ToVariable x) Integer v same there low integer around located in
     let z : Site = above u Integer in
     let code : place z (assignment z x (Taken (height u))) ∷ [] ≡ landed_code t u (ToVariable x) k =
     ap (λ (a : Instruction). place z a ∷ []) (assignment_kept z x (Taken (height u)) kept) ∙ sym (ap (λ (b : Bool). if b then place z (i.Keep (Taken (height u)) x) ∷ [] else []) kept) in
     adds_same f p q (place z (assignment z x (Taken (height u))) ∷ []) (landed_code t u (ToVariable x) k) code h
-taken_at_place g p q here higher from (spots.Variable s) line up m cell f t u (ToAttribute class field e) k v same at room holds around stands = absurd v
-taken_at_place g p q here higher from (spots.Variable s) line up m cell f t u (ToCount c) k v same at room holds around stands = absurd v
-taken_at_place g p q here higher from (spots.Attribute s) line up m cell f t u (ToVariable x) k v same at room holds around stands = absurd v
-taken_at_place g p q here higher from (spots.Attribute s) line up m cell f t u (ToAttribute class field e) k v same at room holds around stands =
-    given_higher g p q here higher from (spots.Attribute s) line up m f t u (ToAttribute class field e) k v same at room holds around stands
-taken_at_place g p q here higher from (spots.Attribute s) line up m cell f t u (ToCount c) k v same at room holds around stands = absurd v
-taken_at_place g p q here higher from (spots.Count class s) line up m cell f t u (ToVariable x) k v same at room holds around stands = absurd v
-taken_at_place g p q here higher from (spots.Count class s) line up m cell f t u (ToAttribute c field e) k v same at room holds around stands = absurd v
-taken_at_place g p q here higher from (spots.Count class s) line up m cell f t u (ToCount c) k v same at room holds around stands =
-    given_higher g p q here higher from (spots.Count class s) line up m f t u (ToCount c) k v same at room holds around stands
+taken_at_place g p q here higher from (spots.Variable s) line up m cell f t u (ToAttribute class field e) k v same at room holds around located = absurd v
+taken_at_place g p q here higher from (spots.Variable s) line up m cell f t u (ToCount c) k v same at room holds around located = absurd v
+taken_at_place g p q here higher from (spots.Attribute s) line up m cell f t u (ToVariable x) k v same at room holds around located = absurd v
+taken_at_place g p q here higher from (spots.Attribute s) line up m cell f t u (ToAttribute class field e) k v same at room holds around located =
+    given_higher g p q here higher from (spots.Attribute s) line up m f t u (ToAttribute class field e) k v same at room holds around located
+taken_at_place g p q here higher from (spots.Attribute s) line up m cell f t u (ToCount c) k v same at room holds around located = absurd v
+taken_at_place g p q here higher from (spots.Count class s) line up m cell f t u (ToVariable x) k v same at room holds around located = absurd v
+taken_at_place g p q here higher from (spots.Count class s) line up m cell f t u (ToAttribute c field e) k v same at room holds around located = absurd v
+taken_at_place g p q here higher from (spots.Count class s) line up m cell f t u (ToCount c) k v same at room holds around located =
+    given_higher g p q here higher from (spots.Count class s) line up m f t u (ToCount c) k v same at room holds around located
 
 pub taken : (g : Generator) (p q : Lined) (here higher : Here) (from : Address) (s : Spot) → higher.line ≡ here.line → (here.height + 1 < 2 ^ 64 → higher.height ≡ here.height + 1) → Gives g p q higher from (λ f t x. IsSpot f t x s) → ComesToCell s → Takes g p q here from (λ f t x. IsSpot f t x s)
 taken g p q here higher from s line up m cell = record {
   grows = grows_same g;
-  adds = λ f u x around stands fits. taken_at_place g p q here higher from s line up m cell f x.resolved u x.place x.mode fits.0 fits.1 fits.2 fits.3 fits.4 around stands;
-  more = λ f u x around stands fits. tt;
+  adds = λ f u x around located fits. taken_at_place g p q here higher from s line up m cell f x.resolved u x.place x.mode fits.0 fits.1 fits.2 fits.3 fits.4 around located;
+  more = λ f u x around located fits. tt;
 }
 
-pub count_spotted_ok : {E : Type 0} (g : Generator) (p : Lined) (here : Here) (c : CountedClass) (found : Result Spot E) → IfOk found (λ s. (f : Final) (here : Here) (t : Site) → Around f g → Stands f g here t → IsSpot f t (ToCount c) s) → IfOk found (λ s. Makes g g p p here (λ f t (u : Unit {0}). GoodPlace (ToCount c) t.scope) (λ t u. []) (λ f t u. IsSpot f t (ToCount c) s))
+pub count_spotted_ok : {E : Type 0} (g : Generator) (p : Lined) (here : Here) (c : CountedClass) (found : Result Spot E) → IfOk found (λ s. (f : Final) (here : Here) (t : Site) → Around f g → IsLocated f g here t → IsSpot f t (ToCount c) s) → IfOk found (λ s. Makes g g p p here (λ f t (u : Unit {0}). GoodPlace (ToCount c) t.scope) (λ t u. []) (λ f t u. IsSpot f t (ToCount c) s))
 count_spotted_ok g p here c (Ok s) h = count_spotted g p here c s h
 count_spotted_ok g p here c (Err e) h = tt

@@ -16,7 +16,7 @@ use Rattle.ss_code_generator.specs.declared.generator.Generator.{Generator}
 use Rattle.ss_code_generator.specs.declared.generator.Site.{Site as Here}
 use Rattle.ss_code_pieces.specs.Lined.{Lined, nothing}
 use Rattle.ss_code_instructions.specs.Forms.{comparing}
-use Rattle.ss_code_generator.specs.Emitted.{Final, Around, Stands, Emits, EmitsAround, AtBearer, Typed, IsNumber, AreNumbers, Reads, ReadsBy, Bears}
+use Rattle.ss_code_generator.specs.Emitted.{Final, Around, IsLocated, Emits, EmitsAround, AtBearer, Typed, IsNumber, AreNumbers, Reads, ReadsBy, Bears}
 use Rattle.ss_code_generator.proofs.Emitting.{around_old, grows_then, stands_old, adds_then, adds_one, adds_apart, adds_same, piece_long}
 use Rattle.ss_code_generator.proofs.Forms as forms
 use Rattle.ss_code_generator.proofs.Modes.{operand_mode, mode_after}
@@ -35,66 +35,66 @@ bearer_at f t u (Some y) a e h = operand_at f t u y a e h
 -- ## Tests
 
 -- two values are compared
-pub compared : (old mid new : Generator) (p q s v : Lined) (here higher : Here) (skip : ℕ) (relation : Relation) (a b : Expression) (left right : Read) (m : Mode) → Reads old mid p q here a left → higher.line ≡ here.line → (here.height + left.cells < 2 ^ 64 → higher.height ≡ here.height + left.cells) → Reads mid new q s higher b right → ((f : Final) (t : Site) (n : Mode) → Around f new → Stands f new here t → HasMode t.scope a n → n ≡ m) → v.instructions ≡ s.instructions ++ comparing m relation left.address right.address skip ∷ [] → v.lines ≡ s.lines ++ here.line ∷ [] → Emits old new p v here (λ k. GoodTest k (Compare relation a b)) (λ t. test_code t skip (Compare relation a b))
+pub compared : (old mid new : Generator) (p q s v : Lined) (here higher : Here) (skip : ℕ) (relation : Relation) (a b : Expression) (left right : Read) (m : Mode) → Reads old mid p q here a left → higher.line ≡ here.line → (here.height + left.cells < 2 ^ 64 → higher.height ≡ here.height + left.cells) → Reads mid new q s higher b right → ((f : Final) (t : Site) (n : Mode) → Around f new → IsLocated f new here t → HasMode t.scope a n → n ≡ m) → v.instructions ≡ s.instructions ++ comparing m relation left.address right.address skip ∷ [] → v.lines ≡ s.lines ++ here.line ∷ [] → Emits old new p v here (λ k. GoodTest k (Compare relation a b)) (λ t. test_code t skip (Compare relation a b))
 compared old mid new p q s v here higher skip relation a b left right m ra line above rb mode is ls = record {
   grows = grows_then old mid new ra.grows rb.grows;
-  adds = λ f t u around stands good.
+  adds = λ f t u around located good.
       let n : Mode = good.0 in
       let t1 : Site = after t a in
       let t2 : Site = after t1 b in
       let mine = around_old f mid new rb.grows around in
-      let there = stands_old f mid new here t rb.grows stands in
+      let there = stands_old f mid new here t rb.grows located in
       let typed_a : Typed a t.scope = (n, good.1) in
       let typed_b : Typed b t1.scope = (n, good.2) in
       let read_a = ra.more f t tt mine there typed_a in
-      let above_a = read_stands f new here higher t a left around stands read_a line above in
+      let above_a = read_stands f new here higher t a left around located read_a line above in
       let read_b = rb.more f t1 tt around above_a typed_b in
       let ins : Instruction = i.Unless relation (operand t a) (operand t1 b) skip in
-      let same : n ≡ m = mode f t n around stands good.1 in
-      let mode_a = mode_after f t1 b (operand t a) n ins ins (operand_mode f t a n ins stands.program good.1) ∙ ap Some same in
-      let mode_b = operand_mode f t1 b n ins stands.program good.2 ∙ ap Some same in
+      let same : n ≡ m = mode f t n around located good.1 in
+      let mode_a = mode_after f t1 b (operand t a) n ins ins (operand_mode f t a n ins located.program good.1) ∙ ap Some same in
+      let mode_b = operand_mode f t1 b n ins located.program good.2 ∙ ap Some same in
       let c = forms.compares (code_of f.program) f.constants (place t2 ins) m relation left.address right.address skip (operand t a, read_a.at, (operand t1 b, read_b.at, (mode_a, mode_b, refl))) in
       adds_then f p q v (operand_code t a) (operand_code t1 b ++ place t2 ins ∷ []) (ra.adds f t tt mine there typed_a)
       (adds_then f q s v (operand_code t1 b) (place t2 ins ∷ []) (rb.adds f t1 tt around above_a typed_b)
-      (adds_one f s v here.line (place t2 ins) (comparing m relation left.address right.address skip) is ls stands.line (record { carries = c; deep = read_b.deep; shown = tt })));
-  more = λ f t u around stands good. tt;
+      (adds_one f s v here.line (place t2 ins) (comparing m relation left.address right.address skip) is ls located.line (record { carries = c; deep = read_b.deep; shown = tt })));
+  more = λ f t u around located good. tt;
 }
 
 -- whether a set has no member
 pub emptiness_tested : (old new : Generator) (p q v : Lined) (here : Here) (skip : ℕ) (negated : Bool) (set : ℕ) (o : SetOwner) (owner : Read) → Bears old new p q here (expression_of o) owner → v.instructions ≡ q.instructions ++ r.UnlessEmpty set owner.address skip negated ∷ [] → v.lines ≡ q.lines ++ here.line ∷ [] → Emits old new p v here (λ k. GoodTest k (Empty negated set o)) (λ t. test_code t skip (Empty negated set o))
 emptiness_tested old new p q v here skip negated set o owner m is ls = record {
   grows = m.grows;
-  adds = λ f t u around stands good.
+  adds = λ f t u around located good.
       let e : Option Expression = expression_of o in
       let number = owner_number t.scope set o good in
-      let read = m.more f t tt around stands number in
+      let read = m.more f t tt around located number in
       let ins : Instruction = i.UnlessEmpty negated set (bearer t e) skip in
       let at = bearer_at f t (after_bearer t e) (bearer t e) owner.address refl read.at in
-      adds_then f p q v (bearer_code t e) (place (after_bearer t e) ins ∷ []) (m.adds f t tt around stands number)
-      (adds_one f q v here.line (place (after_bearer t e) ins) (r.UnlessEmpty set owner.address skip negated) is ls stands.line (record { carries = (bearer t e, at, refl); deep = read.deep; shown = tt }));
-  more = λ f t u around stands good. tt;
+      adds_then f p q v (bearer_code t e) (place (after_bearer t e) ins ∷ []) (m.adds f t tt around located number)
+      (adds_one f q v here.line (place (after_bearer t e) ins) (r.UnlessEmpty set owner.address skip negated) is ls located.line (record { carries = (bearer t e, at, refl); deep = read.deep; shown = tt }));
+  more = λ f t u around located good. tt;
 }
 
 -- whether an entity is in a set
 pub membership_tested : (old mid new : Generator) (p q s v : Lined) (here higher : Here) (skip : ℕ) (negated : Bool) (set : ℕ) (e : Expression) (o : SetOwner) (member owner : Read) → ReadsBy old mid p q here (IsNumber e) e member (λ t. member_code t (may_fault (expression_of o)) set e) → higher.line ≡ here.line → (here.height + member.cells < 2 ^ 64 → higher.height ≡ here.height + member.cells) → Bears mid new q s higher (expression_of o) owner → v.instructions ≡ s.instructions ++ r.UnlessMember set member.address owner.address skip negated ∷ [] → v.lines ≡ s.lines ++ here.line ∷ [] → Emits old new p v here (λ k. GoodTest k (Member negated set e o)) (λ t. test_code t skip (Member negated set e o))
 membership_tested old mid new p q s v here higher skip negated set e o member owner m line above n is ls = record {
   grows = grows_then old mid new m.grows n.grows;
-  adds = λ f t u around stands good.
+  adds = λ f t u around located good.
       let y : Option Expression = expression_of o in
       let t1 : Site = after t e in
       let t2 : Site = after_bearer t1 y in
       let mine = around_old f mid new n.grows around in
-      let there = stands_old f mid new here t n.grows stands in
+      let there = stands_old f mid new here t n.grows located in
       let number = owner_number t.scope set o good.1 in
       let read = m.more f t tt mine there good.0 in
-      let above_e = read_stands f new here higher t e member around stands read line above in
+      let above_e = read_stands f new here higher t e member around located read line above in
       let borne = n.more f t1 tt around above_e number in
       let ins : Instruction = i.UnlessMember negated set (operand t e) (bearer t1 y) skip in
       adds_then f p q v (member_code t (may_fault y) set e) (bearer_code t1 y ++ place t2 ins ∷ []) (m.adds f t tt mine there good.0)
       (adds_then f q s v (bearer_code t1 y) (place t2 ins ∷ []) (n.adds f t1 tt around above_e number)
-      (adds_one f s v here.line (place t2 ins) (r.UnlessMember set member.address owner.address skip negated) is ls stands.line
+      (adds_one f s v here.line (place t2 ins) (r.UnlessMember set member.address owner.address skip negated) is ls located.line
       (record { carries = (operand t e, read.at, (bearer t1 y, bearer_at f t1 t2 (bearer t1 y) owner.address refl borne.at, refl)); deep = borne.deep; shown = tt })));
-  more = λ f t u around stands good. tt;
+  more = λ f t u around located good. tt;
 }
 
 -- ## Pieces that are made from the end
@@ -103,48 +103,48 @@ membership_tested old mid new p q s v here higher skip negated set e o member ow
 pub before_made : (old mid new : Generator) (front back whole : Lined) (here : Here) (Front Back : Scope → Type 0) (c : ℕ → Site → List Placed) (d : Site → List Placed) (past : ℕ) → Emits old mid nothing back here Back d → Emits mid new nothing front here Front (c past) → whole.instructions ≡ front.instructions ++ back.instructions → whole.lines ≡ front.lines ++ back.lines → (more : ℕ) → past ≡ length back.instructions + more → Emits old new nothing whole here (λ k. Front k × Back k) (λ t. c (length (d t) + more) t ++ d t)
 before_made old mid new front back whole here Front Back c d past m n is ls more same = record {
   grows = grows_then old mid new m.grows n.grows;
-  adds = λ f t u around stands good.
-      let h = m.adds f t tt (around_old f mid new n.grows around) (stands_old f mid new here t n.grows stands) good.1 in
-      let k = n.adds f t tt around stands good.0 in
+  adds = λ f t u around located good.
+      let h = m.adds f t tt (around_old f mid new n.grows around) (stands_old f mid new here t n.grows located) good.1 in
+      let k = n.adds f t tt around located good.0 in
       let long : past ≡ length (d t) + more = same ∙ ap (λ j. j + more) (piece_long f back (d t) h) in
       adds_apart f front back whole (c (length (d t) + more) t) (d t) is ls (adds_same f nothing front (c past t) (c (length (d t) + more) t) (ap (λ j. c j t) long) k) h;
-  more = λ f t u around stands good. tt;
+  more = λ f t u around located good. tt;
 }
 
 -- the same before a piece around which code is made
 pub before_around : (old mid new : Generator) (front back whole inner : Lined) (here : Here) (Front Back : Scope → Type 0) (c : ℕ → Site → List Placed) (d : Site → List Placed → List Placed) (past : ℕ) → EmitsAround old mid nothing back here inner Back d → Emits mid new nothing front here Front (c past) → whole.instructions ≡ front.instructions ++ back.instructions → whole.lines ≡ front.lines ++ back.lines → (more : ℕ) → past ≡ length back.instructions + more → EmitsAround old new nothing whole here inner (λ k. Front k × Back k) (λ t b. c (length (d t b) + more) t ++ d t b)
 before_around old mid new front back whole inner here Front Back c d past m n is ls more same = record {
   grows = grows_then old mid new m.grows n.grows;
-  adds = λ f t b around stands fits.
-      let h = m.adds f t b (around_old f mid new n.grows around) (stands_old f mid new here t n.grows stands) (fits.0, fits.1.1) in
-      let k = n.adds f t tt around stands fits.1.0 in
+  adds = λ f t b around located fits.
+      let h = m.adds f t b (around_old f mid new n.grows around) (stands_old f mid new here t n.grows located) (fits.0, fits.1.1) in
+      let k = n.adds f t tt around located fits.1.0 in
       let long : past ≡ length (d t b) + more = same ∙ ap (λ j. j + more) (piece_long f back (d t b) h) in
       adds_apart f front back whole (c (length (d t b) + more) t) (d t b) is ls (adds_same f nothing front (c past t) (c (length (d t b) + more) t) (ap (λ j. c j t) long) k) h;
-  more = λ f t b around stands fits. tt;
+  more = λ f t b around located fits. tt;
 }
 
 -- one piece after another, of two that were made apart
 pub then_made : (old mid new : Generator) (front back whole : Lined) (here : Here) (Front Back : Scope → Type 0) (c d : Site → List Placed) → Emits old mid nothing front here Front c → Emits mid new nothing back here Back d → whole.instructions ≡ front.instructions ++ back.instructions → whole.lines ≡ front.lines ++ back.lines → Emits old new nothing whole here (λ k. Front k × Back k) (λ t. c t ++ d t)
 then_made old mid new front back whole here Front Back c d m n is ls = record {
   grows = grows_then old mid new m.grows n.grows;
-  adds = λ f t u around stands good.
-      adds_apart f front back whole (c t) (d t) is ls (m.adds f t tt (around_old f mid new n.grows around) (stands_old f mid new here t n.grows stands) good.0) (n.adds f t tt around stands good.1);
-  more = λ f t u around stands good. tt;
+  adds = λ f t u around located good.
+      adds_apart f front back whole (c t) (d t) is ls (m.adds f t tt (around_old f mid new n.grows around) (stands_old f mid new here t n.grows located) good.0) (n.adds f t tt around located good.1);
+  more = λ f t u around located good. tt;
 }
 
 -- the same code, where other things are well typed
 pub emits_for : (old new : Generator) (p q : Lined) (here : Here) (Good Other : Scope → Type 0) (c d : Site → List Placed) → ((k : Scope) → Other k → Good k) → ((t : Site) → c t ≡ d t) → Emits old new p q here Good c → Emits old new p q here Other d
 emits_for old new p q here Good Other c d so same m = record {
   grows = m.grows;
-  adds = λ f t u around stands good. adds_same f p q (c t) (d t) (same t) (m.adds f t u around stands (so t.scope good));
-  more = λ f t u around stands good. tt;
+  adds = λ f t u around located good. adds_same f p q (c t) (d t) (same t) (m.adds f t u around located (so t.scope good));
+  more = λ f t u around located good. tt;
 }
 
 pub around_for : (old new : Generator) (p q inner : Lined) (here : Here) (Good Other : Scope → Type 0) (c d : Site → List Placed → List Placed) → ((k : Scope) → Other k → Good k) → ((t : Site) (b : List Placed) → c t b ≡ d t b) → EmitsAround old new p q here inner Good c → EmitsAround old new p q here inner Other d
 around_for old new p q inner here Good Other c d so same m = record {
   grows = m.grows;
-  adds = λ f t b around stands fits. adds_same f p q (c t b) (d t b) (same t b) (m.adds f t b around stands (fits.0, so t.scope fits.1));
-  more = λ f t b around stands fits. tt;
+  adds = λ f t b around located fits. adds_same f p q (c t b) (d t b) (same t b) (m.adds f t b around located (fits.0, so t.scope fits.1));
+  more = λ f t b around located fits. tt;
 }
 
 -- ## Where alternatives are made from the end

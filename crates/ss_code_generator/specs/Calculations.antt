@@ -29,6 +29,6 @@ pub record Left : Type 0 where
   pub to : Target
 
 -- an operation on a number that is there
-abbrev pub Operates : (old new : Generator) → (before behind : Lined) → Here → Read → Address → Operation → Type 0
-Operates old new before behind here left to o =
-    Makes {I = Left} old new before behind here (λ f t x. IsRead f t x.left left × AtTarget f t x.to to × IsNumber (view_expression o.operand) t.scope) (λ t x. operation_code t x.left o x.to) NoMore
+abbrev pub Operates : (old new : Generator) → (before following : Lined) → Here → Read → Address → Operation → Type 0
+Operates old new before following here left to o =
+    Makes {I = Left} old new before following here (λ f t x. IsRead f t x.left left × AtTarget f t x.to to × IsNumber (view_expression o.operand) t.scope) (λ t x. operation_code t x.left o x.to) NoMore

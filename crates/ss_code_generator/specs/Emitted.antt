@@ -50,7 +50,7 @@ pub record Grows (old new : Generator) : Type 0 where
 -- ## Where code is generated
 
 -- the definition's site is where the generator is; the frame has room for the cells there
-pub record Stands (f : Final) (g : Generator) (here : Here) (t : Site) : Type 0 where
+pub record IsLocated (f : Final) (g : Generator) (here : Here) (t : Site) : Type 0 where
   pub program : t.scope.program ≡ f.program
   pub locals : t.scope.locals ≡ g.locals.items
   pub line : t.line ≡ here.line
@@ -102,8 +102,8 @@ pub record Adds (f : Final) (before after : Lined) (c : List Placed) : Type 0 wh
 -- The form of each contract. From here on, at each site and for whatever fits there, the code c was added to a piece, and more is so.
 pub record Makes {I : Type 0} (old new : Generator) (before after : Lined) (here : Here) (Fit : Final → Site → I → Type 0) (c : Site → I → List Placed) (More : Final → Site → I → Type 0) : Type 0 where
   pub grows : Grows old new
-  pub adds : (f : Final) (t : Site) (i : I) → Around f new → Stands f new here t → Fit f t i → Adds f before after (c t i)
-  pub more : (f : Final) (t : Site) (i : I) → Around f new → Stands f new here t → Fit f t i → More f t i
+  pub adds : (f : Final) (t : Site) (i : I) → Around f new → IsLocated f new here t → Fit f t i → Adds f before after (c t i)
+  pub more : (f : Final) (t : Site) (i : I) → Around f new → IsLocated f new here t → Fit f t i → More f t i
 
 -- ## Its cases
 

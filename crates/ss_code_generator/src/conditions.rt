@@ -248,12 +248,12 @@ impl Generator<'_> {
         site: Site,
         more: u32,
         guards: &[Guard],
-        behind: Piece,
+        following: Piece,
     ) -> Result<Piece, AllocError>
-        ensures { IfOk result (λ code. EmitsAround self.old self.new nothing code site behind (λ s. Every (λ g. GoodCondition s g.condition) (map view_guard guards.now)) (λ t b. guards_code t (length b + more) (map view_guard guards.now) ++ b)) }
+        ensures { IfOk result (λ code. EmitsAround self.old self.new nothing code site following (λ s. Every (λ g. GoodCondition s g.condition) (map view_guard guards.now)) (λ t b. guards_code t (length b + more) (map view_guard guards.now) ++ b)) }
     {
         let mut rest = Backward::new(self.alloc);
-        rest.put_before(behind)?;
+        rest.put_before(following)?;
         for i in (0..guards.len()).rev() {
             let past = as_index(rest.len() + more as usize)?;
             let front = self.guard(site, past, &guards[i])?;

@@ -13,7 +13,7 @@ ghost use Rattle.ss_code_instructions.specs.Facts.{is_watched};
 ghost use Rattle.ss_code_instructions.specs.Translation.{Site as At, operand_code, forget, to_place_code, place as placed, let_code, change_code, reads_code, creates_code, give_code, place_code};
 ghost use Rattle.ss_code_instructions.specs.Forms.{calculating, storing, reading};
 ghost use Rattle.ss_code_generator.specs.declared.generator.Site.{Site as Here};
-ghost use Rattle.ss_code_generator.specs.Emitted.{Final, Around, Grows, Stands, AtTarget, Makes, NoMore, Emits, IsNumber};
+ghost use Rattle.ss_code_generator.specs.Emitted.{Final, Around, Grows, IsLocated, AtTarget, Makes, NoMore, Emits, IsNumber};
 ghost use Rattle.ss_code_generator.specs.Spots.{HasRoom, HoldsMode, IsWatched, IsVariable, IsAttribute, IsSpot, IsPlaceOf, spot_cells, spot_code, landing as lands_at, GoodPlace, Gives, Takes, Changed, IsHeldBy};
 
 use crate::expressions::move_of;
@@ -149,7 +149,7 @@ impl Generator<'_> {
 
     /// A variable as what is assigned.
     pub fn variable_spot(&self, variable: Variable) -> Result<VariableSpot, AllocError>
-        ensures { IfOk result (λ s. (f : Final) (here : Here) (t : At) → Around f self.now → Stands f self.now here t → IsVariable t variable s) }
+        ensures { IfOk result (λ s. (f : Final) (here : Here) (t : At) → Around f self.now → IsLocated f self.now here t → IsVariable t variable s) }
     {
         Ok(VariableSpot {
             address: self.variable(variable)?,
@@ -160,7 +160,7 @@ impl Generator<'_> {
 
     // N. of a class as what is assigned.
     fn count_spot(&self, count: CountedClass) -> Result<Spot, AllocError>
-        ensures { IfOk result (λ s. (f : Final) (here : Here) (t : At) → Around f self.now → Stands f self.now here t → IsSpot f t (ToCount count) s) }
+        ensures { IfOk result (λ s. (f : Final) (here : Here) (t : At) → Around f self.now → IsLocated f self.now here t → IsSpot f t (ToCount count) s) }
     {
         let variable = Variable::Global {
             number: count.variable,
@@ -228,7 +228,7 @@ impl Generator<'_> {
     /// Where the value that a place will be assigned lies at first: in the variable itself, unless it is watched, or in the next cell.
     pub fn landing(&mut self, site: Site, spot: Spot) -> Result<Address, AllocError>
         ensures grows { OnOk result (Grows self.old self.new) }
-        ensures at { IfOk result (λ to. (f : Final) (t u : At) (p : Plain) → Around f self.new → Stands f self.new site u → t.scope ≡ u.scope → IsSpot f t p spot → AtTarget f u (lands_at u p) to × HasRoom f (lands_at u p)) }
+        ensures at { IfOk result (λ to. (f : Final) (t u : At) (p : Plain) → Around f self.new → IsLocated f self.new site u → t.scope ≡ u.scope → IsSpot f t p spot → AtTarget f u (lands_at u p) to × HasRoom f (lands_at u p)) }
     {
         match spot {
             Spot::Variable(variable) => match variable.watched {

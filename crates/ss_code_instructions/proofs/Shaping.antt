@@ -88,7 +88,7 @@ module _ (p : Program) (code : Code) (ls : List Mode) (b : Bool) where
   abbrev pub here : Scope
   here = record { program = p; locals = ls; is_main = b }
 
-  -- what an instruction is told of variables
+  -- what an instruction is reported of variables
   abbrev pub view : Scope
   view = record { program = p; locals = ls; is_main = true }
 

@@ -63,11 +63,11 @@ impl Piece {
     }
 
     /// Those of another piece after these.
-    pub fn append(&mut self, behind: Piece) -> Result<(), AllocError>
-        ensures instructions { OnOk result (self.new.instructions ≡ self.old.instructions ++ behind.instructions) }
-        ensures lines { OnOk result (self.new.lines ≡ self.old.lines ++ behind.lines) }
+    pub fn append(&mut self, following: Piece) -> Result<(), AllocError>
+        ensures instructions { OnOk result (self.new.instructions ≡ self.old.instructions ++ following.instructions) }
+        ensures lines { OnOk result (self.new.lines ≡ self.old.lines ++ following.lines) }
     {
-        let (mut instructions, mut lines) = behind.into_parts();
+        let (mut instructions, mut lines) = following.into_parts();
         self.instructions.append(&mut instructions)?;
         self.lines.append(&mut lines)
     }

@@ -144,7 +144,7 @@ module _ (on_the_way : OnTheWay) (fewer_ticks : OneTickFewer) (pauses : Pauses) 
           let l = s.1 (compiled_of p run) of (start code input 0).core refl (starts (compiled_of p run) of input) in
           let x : MachineState = record { core = l.core; report = h.bytes; ticks = 0 } in
           let passed = subst (λ n. steps code made (start code input n) ≡ Underway x) (no_more used) (l.gets [] 0) in
-          means_so input used (record { report = h.bytes; ending = PausedThere; ticks = 0 }) (pauses p code behaves input used made 0 x (right input used) passed (due (compiled_of p run) of l.core l.stands h.bytes)))
+          means_so input used (record { report = h.bytes; ending = PausedThere; ticks = 0 }) (pauses p code behaves input used made 0 x (right input used) passed (due (compiled_of p run) of l.core l.located h.bytes)))
           (reads_find remaining source last (EachLed run first new used made h.bytes) h.says);
     }
 

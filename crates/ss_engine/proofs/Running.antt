@@ -99,10 +99,10 @@ module _ {R W : Type 0} (remaining : R → Option (List ℕ)) (read_faults : R �
       says = λ more input e there. record {
         rest = input;
         ahead = there;
-        says = λ w of c e stands. record {
+        says = λ w of c e located. record {
           core = c;
           input = e;
-          stands = stands;
+          located = located;
           gets = λ report ticks.
               let t : (session_machine s).used + ticks ≡ ticks = omega (arith, b.first.used) in
               ap (λ m. steps w.code m (at_core c report ((session_machine s).used + ticks))) b.first.steps ∙ ap (λ n. Underway (at_core c report n)) t ∙

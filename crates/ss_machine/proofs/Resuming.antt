@@ -8,14 +8,14 @@ use Rattle.ss_machine_instructions.specs.declared.state.State.{State}
 use Rattle.ss_machine_instructions.specs.Doing.{Compiled}
 use Rattle.ss_machine.specs.declared.stop.Stop.{Stop}
 use Rattle.ss_machine.specs.declared.stop.Stop.TheVariants.{Ended, Fault, Paused, Memory, Output, Input, Failed}
-use Rattle.ss_machine.specs.Situations.{Situation, situated, Stands, IsSituated}
+use Rattle.ss_machine.specs.Situations.{Situation, situated, Represents, IsSituated}
 use Rattle.ss_machine.specs.Runs.{Comes, IsFinished, Ran}
 use Rattle.ss_meaning.specs.Meaning as endings
 use Rattle.ss_machine.proofs.Inputs.{reads_so, finds_so}
 
 -- ## Ticks are handed out
 
-pub stands_ticked : (w : Compiled) (c : Core) (here : Here) (s : State) (t : ℕ) → Stands w c (situated here s) → Stands w c (situated here (record s { ticks = t }))
+pub stands_ticked : (w : Compiled) (c : Core) (here : Here) (s : State) (t : ℕ) → Represents w c (situated here s) → Represents w c (situated here (record s { ticks = t }))
 stands_ticked w c here s t h = record {
   reached = h.reached;
   holds = record { place = h.holds.place; held = h.holds.held; scene = h.holds.scene; even = h.holds.even; line = h.holds.line };
@@ -25,7 +25,7 @@ pub situated_ticked : (code : Generated) (here : Here) (s : State) (t : ℕ) →
 situated_ticked code here s t z = (z.0, z.1, (z.2.0, stands_ticked z.0 z.2.0 here s t z.2.1))
 
 -- what is so of a situation is so of one that holds no other states
-module _ {R : Type 0} (remaining : R → Option (List ℕ)) (code : Generated) (old old' new : Situation) (source last : Source R) (before after : Option (List ℕ)) (taken made : ℕ) (from : (w : Compiled) (c : Core) → Stands w c old → Stands w c old') where
+module _ {R : Type 0} (remaining : R → Option (List ℕ)) (code : Generated) (old old' new : Situation) (source last : Source R) (before after : Option (List ℕ)) (taken made : ℕ) (from : (w : Compiled) (c : Core) → Represents w c old → Represents w c old') where
   comes_from : Comes remaining code old' new source last before after taken made → Comes remaining code old new source last before after taken made
   comes_from h = record {
     bytes = h.bytes;

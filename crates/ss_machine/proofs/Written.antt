@@ -36,7 +36,7 @@ use Rattle.ss_machine_instructions.specs.Ways.{stopped}
 use Rattle.ss_machine_instructions.proofs.Calling.{Blocked, blocked, cells_long}
 use Rattle.ss_machine_instructions.proofs.Seeing.{seen_is}
 use Rattle.ss_machine_instructions.proofs.Figuring.{has_subject, refers_to}
-use Rattle.ss_machine_instructions.proofs.Placing.{site, stands, suits, deep_here, goes_with}
+use Rattle.ss_machine_instructions.proofs.Placing.{site, located, suits, deep_here, goes_with}
 use Rattle.ss_machine.specs.Shown.{CanShow, AreShown, TakeAll}
 use Rattle.ss_machine.specs.Writing.{IsUnsent, Sending, SendingOn, WrotePart, StopsWriting, DidWrite}
 
@@ -127,7 +127,7 @@ module _ (w : Compiled) (c : Core) (here : Here) (s : State) (number cell : ℕ)
 
   -- where its values lie
   begins : here.frame + cell ≡ low + length below
-  begins = omega (arith, z.1, prints.high, own_is (site w c here s (r.Print number cell) ready) (stands w c here s (r.Print number cell) ready))
+  begins = omega (arith, z.1, prints.high, own_is (site w c here s (r.Print number cell) ready) (located w c here s (r.Print number cell) ready))
 
   parts : Cut s.rows low block.taken
   parts = cut s.rows low (length modes) c.cells [] block.taken ready.holds.held.cells tt block.is
@@ -157,7 +157,7 @@ module _ (w : Compiled) (c : Core) (here : Here) (s : State) (number cell : ℕ)
     sending = sends_shown items shown;
     holds = subst (λ p. Holds w (core_at (c.place + 1) below c.frames c.store) (record { place = p; frame = here.frame }) s) (ap (λ p. p + 1) (sym ready.holds.place))
         (goes_with w c here s (r.Print number cell) ready (c.place + 1) below
-        (cells_held (site w c here s (r.Print number cell) ready) (stands w c here s (r.Print number cell) ready) (c.place + 1) below parts.below));
+        (cells_held (site w c here s (r.Print number cell) ready) (located w c here s (r.Print number cell) ready) (c.place + 1) below parts.below));
   }
 
   -- and they can be shown
@@ -201,11 +201,11 @@ module _ (w : Compiled) (c : Core) (here : Here) (s : State) (count : Address) (
   suited = subst (Suits w.program w.code c.place ready.placed.locals ready.placed.cells) from.2 (suits w c here s (r.Skip count) ready)
 
   pub count_within : place_at here.frame count < length s.rows.numbers
-  count_within = read_within (site w c here s (r.Skip count) ready) (stands w c here s (r.Skip count) ready) from.0 Integer ready.placed.cells suited.0 count suited.1 from.1 (deep_here w c here s (r.Skip count) ready)
+  count_within = read_within (site w c here s (r.Skip count) ready) (located w c here s (r.Skip count) ready) from.0 Integer ready.placed.cells suited.0 count suited.1 from.1 (deep_here w c here s (r.Skip count) ready)
 
   module _ (n : ℤ) (is : slice_get s.rows.numbers (place_at here.frame count) ≡ Some n) where
-    one : Reads (site w c here s (r.Skip count) ready) (stands w c here s (r.Skip count) ready) from.0 (Whole n) c.cells suited.0
-    one = reads (site w c here s (r.Skip count) ready) (stands w c here s (r.Skip count) ready) from.0 Integer ready.placed.cells suited.0 count c.cells (Whole n) suited.1 from.1 ready.holds.held.cells ready.fits.cells (only_number s.rows (place_at here.frame count) n is)
+    one : Reads (site w c here s (r.Skip count) ready) (located w c here s (r.Skip count) ready) from.0 (Whole n) c.cells suited.0
+    one = reads (site w c here s (r.Skip count) ready) (located w c here s (r.Skip count) ready) from.0 Integer ready.placed.cells suited.0 count c.cells (Whole n) suited.1 from.1 ready.holds.held.cells ready.fits.cells (only_number s.rows (place_at here.frame count) n is)
 
     skips : act w.code ready.placed.line ready.placed.instruction c ≡ did ready.placed.line (empty_lines (Whole n)) (λ bytes. Sends bytes (core_at (c.place + 1) one.below c.frames c.store))
     skips =
@@ -228,7 +228,7 @@ module _ (w : Compiled) (c : Core) (here : Here) (s : State) (count : Address) (
       sending = skip_sends bytes e;
       holds = subst (λ p. Holds w (core_at (c.place + 1) one.below c.frames c.store) (record { place = p; frame = here.frame }) s) (ap (λ p. p + 1) (sym ready.holds.place))
           (goes_with w c here s (r.Skip count) ready (c.place + 1) one.below
-          (cells_held (site w c here s (r.Skip count) ready) (stands w c here s (r.Skip count) ready) (c.place + 1) one.below one.cells));
+          (cells_held (site w c here s (r.Skip count) ready) (located w c here s (r.Skip count) ready) (c.place + 1) one.below one.cells));
     }
 
 -- how many empty lines a number asks for

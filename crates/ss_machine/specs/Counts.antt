@@ -87,7 +87,7 @@ is_step resting.NoMemory = false
 is_step resting.NoOutput = false
 is_step resting.NoInput = false
 
--- why a run stands still, where this is the line of the instruction
+-- why a run located still, where this is the line of the instruction
 abbrev pub stop_for : State → Line → Ending → Stop
 stop_for s l resting.Ended = Ended
 stop_for s l resting.Paused = Paused

@@ -25,7 +25,7 @@ use std::marker::Model;
 /// A machine that runs the code of a program.
 ///
 /// A contract sees a machine as its code, what it works on, the ticks used and the steps made since its start, and why its
-/// last run stands still.
+/// last run located still.
 #[derive(Drop)]
 pub struct Machine {
     code: Code,
@@ -57,7 +57,7 @@ fn again(stop: Stop) -> Stop
     }
 }
 
-// Why a machine stands still after a run that answered so; None where the next run goes on.
+// Why a machine located still after a run that answered so; None where the next run goes on.
 fn kept(stop: Stop) -> Option<Stop>
     ensures { result ≡ kept_after stop }
 {
@@ -194,7 +194,7 @@ impl Machine {
 
     /// The steps made since the start: each instruction that was carried out, the one that ended the
     /// program and the one that came to a fault among them. A pause is no step, nor is an instruction
-    /// that failed for want of memory or at its reader or writer. The count is exact at every stop.
+    /// that ran out of memory or failed at its reader or writer. The count is exact at every stop.
     ///
     /// After u ticks there are at least u, and at most 3u + 4 times as many as there are instructions.
     pub fn steps(&self) -> u128

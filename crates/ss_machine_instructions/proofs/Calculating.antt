@@ -23,7 +23,7 @@ use Rattle.ss_machine_frames.proofs.Reading.{Only, only_number, reads, read_with
 use Rattle.ss_machine_instructions.specs.declared.flow.Here.{Here}
 use Rattle.ss_machine_instructions.specs.declared.state.State.{State}
 use Rattle.ss_machine_instructions.specs.Doing.{Compiled, Ready, Delivers, as_value}
-use Rattle.ss_machine_instructions.proofs.Placing.{site, stands, suits, deep_at, deep_here, gives_mode}
+use Rattle.ss_machine_instructions.proofs.Placing.{site, located, suits, deep_at, deep_here, gives_mode}
 use Rattle.ss_machine_instructions.proofs.Delivering.{delivers, deliver_is, number_right}
 
 module _ (w : Compiled) (c : Core) (here : Here) (s : State) (run : Running) (r : Ready w c here s run) where
@@ -32,15 +32,15 @@ module _ (w : Compiled) (c : Core) (here : Here) (s : State) (run : Running) (r 
 
   -- ## Two numbers into one
 
-  pub calculates_in : (op : Operator) (left right to : Address) → Calculates w.code w.run.constants r.placed op left right to → BothWithin (site w c here s run r) (stands w c here s run r) left right
+  pub calculates_in : (op : Operator) (left right to : Address) → Calculates w.code w.run.constants r.placed op left right to → BothWithin (site w c here s run r) (located w c here s run r) left right
   calculates_in op left right to z =
       let y = subst SuitsHere z.2.2.2 (suits w c here s run r) in
-      both_within (site w c here s run r) (stands w c here s run r) z.0 z.2.0 Integer Integer r.placed.cells y.0 left right y.1 z.1 z.2.1 (deep_here w c here s run r)
+      both_within (site w c here s run r) (located w c here s run r) z.0 z.2.0 Integer Integer r.placed.cells y.0 left right y.1 z.1 z.2.1 (deep_here w c here s run r)
 
   pub calculates : (op : Operator) (left right to : Address) (u v : ℤ) (answer : OkOr ℤ FaultKind) → Calculates w.code w.run.constants r.placed op left right to → slice_get s.rows.numbers (place_at here.frame left) ≡ Some u → slice_get s.rows.numbers (place_at here.frame right) ≡ Some v → computed op u v ≡ answer → Delivers w c r.placed.line (act w.code r.placed.line r.placed.instruction c) here s to (as_value answer)
   calculates op left right to u v answer z at_left at_right e =
       let t = site w c here s run r in
-      let st = stands w c here s run r in
+      let st = located w c here s run r in
       let is = z.2.2.2 in
       let y = subst SuitsHere is (suits w c here s run r) in
       let both = reads_both t st z.0 z.2.0 Integer Integer r.placed.cells y.0 left right c.cells (Whole u) (Whole v) y.1 z.1 z.2.1 r.holds.held.cells r.fits.cells (only_number s.rows (place_at here.frame left) u at_left) (only_number s.rows (place_at here.frame right) v at_right) in
@@ -57,12 +57,12 @@ module _ (w : Compiled) (c : Core) (here : Here) (s : State) (run : Running) (r 
   pub applies_in : (op : UnaryOperator) (of to : Address) → From w.code w.run.constants r.placed of (λ y. To w.code w.run.constants r.placed to (λ t. Is w.code w.run.constants r.placed (i.Unary op y t))) → place_at here.frame of < length s.rows.numbers
   applies_in op of to z =
       let y = subst SuitsHere z.2.2 (suits w c here s run r) in
-      read_within (site w c here s run r) (stands w c here s run r) z.0 Integer r.placed.cells y.0 of y.1 z.1 (deep_here w c here s run r)
+      read_within (site w c here s run r) (located w c here s run r) z.0 Integer r.placed.cells y.0 of y.1 z.1 (deep_here w c here s run r)
 
   pub applies : (op : UnaryOperator) (of to : Address) (u : ℤ) (answer : OkOr ℤ FaultKind) → From w.code w.run.constants r.placed of (λ y. To w.code w.run.constants r.placed to (λ t. Is w.code w.run.constants r.placed (i.Unary op y t))) → slice_get s.rows.numbers (place_at here.frame of) ≡ Some u → computed_alone op u ≡ answer → Delivers w c r.placed.line (act w.code r.placed.line r.placed.instruction c) here s to (as_value answer)
   applies op of to u answer z at e =
       let t = site w c here s run r in
-      let st = stands w c here s run r in
+      let st = located w c here s run r in
       let is = z.2.2 in
       let y = subst SuitsHere is (suits w c here s run r) in
       let one = reads t st z.0 Integer r.placed.cells y.0 of c.cells (Whole u) y.1 z.1 r.holds.held.cells r.fits.cells (only_number s.rows (place_at here.frame of) u at) in
@@ -79,12 +79,12 @@ module _ (w : Compiled) (c : Core) (here : Here) (s : State) (run : Running) (r 
   pub moves_in : (mode : Mode) (from to : Address) → Moves w.code w.run.constants r.placed mode from to → place_at here.frame from < length s.rows.numbers
   moves_in mode from to z =
       let y = subst SuitsHere z.2.1.2 (suits w c here s run r) in
-      read_within (site w c here s run r) (stands w c here s run r) z.0 y.0 r.placed.cells y.1.0 from y.1.1 z.1 (deep_here w c here s run r)
+      read_within (site w c here s run r) (located w c here s run r) z.0 y.0 r.placed.cells y.1.0 from y.1.1 z.1 (deep_here w c here s run r)
 
   pub moves : (mode : Mode) (from to : Address) (v : Value) → Moves w.code w.run.constants r.placed mode from to → mode_of v ≡ mode → Only s.rows (place_at here.frame from) mode v → Delivers w c r.placed.line (act w.code r.placed.line r.placed.instruction c) here s to (Ok v)
   moves mode from to v z right only =
       let t = site w c here s run r in
-      let st = stands w c here s run r in
+      let st = located w c here s run r in
       let is = z.2.1.2 in
       let y = subst SuitsHere is (suits w c here s run r) in
       let same : y.0 ≡ mode = gives_mode w c here s run r z.0 y.0 mode y.1.0 y.1.1 z.2.0 in

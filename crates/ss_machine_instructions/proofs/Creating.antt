@@ -36,7 +36,7 @@ use Rattle.ss_machine_instructions.specs.declared.flow.Here.{Here}
 use Rattle.ss_machine_instructions.specs.declared.state.State.{State}
 use Rattle.ss_machine_instructions.specs.Doing.{Compiled, Ready, Comes, Delivers, IsDelivered}
 use Rattle.ss_machine_instructions.specs.Ways.{on_at, on_unless, faulted_by, refused_by}
-use Rattle.ss_machine_instructions.proofs.Placing.{site, stands, suits, small, deep_at, deep_here, calm}
+use Rattle.ss_machine_instructions.proofs.Placing.{site, located, suits, small, deep_at, deep_here, calm}
 use Rattle.ss_machine_instructions.proofs.Seeing.{makes_not, changes_not, seen_is, layout_is, goes_seeing, changes, refuses}
 use Rattle.ss_machine_instructions.proofs.Figuring.{global_within, global_is}
 
@@ -175,7 +175,7 @@ module _ (w : Compiled) (c : Core) (here : Here) (s : State) (run : Running) (r 
   pub destroys_in : (class : ℕ) (entity : Address) → Destroys class entity → place_at here.frame entity < length s.rows.numbers
   destroys_in class entity z =
       let y = subst SuitsHere z.2 (suits w c here s run r) in
-      read_within (site w c here s run r) (stands w c here s run r) z.0 Integer r.placed.cells y.1.0 entity y.1.1 z.1 (deep_here w c here s run r)
+      read_within (site w c here s run r) (located w c here s run r) z.0 Integer r.placed.cells y.1.0 entity y.1.1 z.1 (deep_here w c here s run r)
 
   pub destroys_within : (class : ℕ) (entity : Address) → Destroys class entity → class < length s.scene.heap.layout.classes
   destroys_within class entity z = let y = subst SuitsHere z.2 (suits w c here s run r) in single_within class y.0
@@ -187,7 +187,7 @@ module _ (w : Compiled) (c : Core) (here : Here) (s : State) (run : Running) (r 
   destroys class entity n e answer new result z at changed same q =
       let is = z.2 in
       let y = subst SuitsHere is (suits w c here s run r) in
-      let one = reads (site w c here s run r) (stands w c here s run r) z.0 Integer r.placed.cells y.1.0 entity c.cells (Whole n) y.1.1 z.1 r.holds.held.cells r.fits.cells (only_number s.rows (place_at here.frame entity) n at) in
+      let one = reads (site w c here s run r) (located w c here s run r) z.0 Integer r.placed.cells y.1.0 entity c.cells (Whole n) y.1.1 z.1 r.holds.held.cells r.fits.cells (only_number s.rows (place_at here.frame entity) n at) in
       changes w c here s run r (without class (Whole n)) one.below e answer new result (ap is_due is)
       (ap (λ x. act w.code r.placed.line x c) is ∙ one.is (λ x below. did r.placed.line (without class x c.store) (λ t. onward below c t)))
       one.cells changed same q

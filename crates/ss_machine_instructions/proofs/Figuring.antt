@@ -56,7 +56,7 @@ use Rattle.ss_machine_instructions.specs.declared.state.State.{State}
 use Rattle.ss_machine_instructions.specs.Doing.{Compiled, Holds, Ready, NoTick, Comes, Delivers, as_value}
 use Rattle.ss_machine_instructions.specs.Noted.{NotedIf, NotedAfter}
 use Rattle.ss_machine_instructions.specs.Ways.{at_place, on_unless, faulted_by}
-use Rattle.ss_machine_instructions.proofs.Placing.{site, stands, suits, deep_at, deep_here, calm}
+use Rattle.ss_machine_instructions.proofs.Placing.{site, located, suits, deep_at, deep_here, calm}
 use Rattle.ss_machine_instructions.proofs.Delivering.{faults, number_right}
 use Rattle.ss_machine_instructions.proofs.Seeing.{did_quiet, field_is, class_within, seen_is, layout_is, statistics_are, code_statistics_are, right_where, asked, looked, answers, changes_where}
 
@@ -169,13 +169,13 @@ module _ (w : Compiled) (c : Core) (here : Here) (s : State) (run : Running) (r 
   pub figures_in : (fold : Fold) (j : ℕ) (entity to : Address) → Of w.code w.run.constants r.placed entity (λ o. To w.code w.run.constants r.placed to (λ t. Is w.code w.run.constants r.placed (i.Figure fold j o t))) → place_at here.frame entity < length s.rows.numbers
   figures_in fold j entity to z =
       let y = subst SuitsHere z.2.2 (suits w c here s run r) in
-      bearer_within (site w c here s run r) (stands w c here s run r) z.0 r.placed.cells y.1.0 entity y.1.1 z.1 (deep_here w c here s run r)
+      bearer_within (site w c here s run r) (located w c here s run r) z.0 r.placed.cells y.1.0 entity y.1.1 z.1 (deep_here w c here s run r)
 
   pub figures : (fold : Fold) (j : ℕ) (entity to : Address) (n : ℤ) (answer : OkOr ℤ FaultKind) → Of w.code w.run.constants r.placed entity (λ o. To w.code w.run.constants r.placed to (λ t. Is w.code w.run.constants r.placed (i.Figure fold j o t))) → slice_get s.rows.numbers (place_at here.frame entity) ≡ Some n → ((o : Option Value) → RefersToSubject s.scene j o n → Looks (figure fold j o) s.scene (seen.as_value answer)) → Delivers w c r.placed.line does here s to (as_value answer)
   figures fold j entity to n answer z e looks =
       let is = z.2.2 in
       let y = subst SuitsHere is (suits w c here s run r) in
-      let b = reads_bearer (site w c here s run r) (stands w c here s run r) z.0 r.placed.cells y.1.0 entity c.cells n y.1.1 z.1 r.holds.held.cells r.fits.cells e in
+      let b = reads_bearer (site w c here s run r) (located w c here s run r) z.0 r.placed.cells y.1.0 entity c.cells n y.1.1 z.1 r.holds.held.cells r.fits.cells e in
       let target = z.2.0 in
       answers w c here s run r (figure fold j b.value) (as_value answer) to target Integer y.1.0 y.1.2.0 b.below
       (ap (λ x. act w.code r.placed.line x c) is ∙ b.is (λ x below. deliver r.placed.line target (figure fold j x c.store) below c))
@@ -187,13 +187,13 @@ module _ (w : Compiled) (c : Core) (here : Here) (s : State) (run : Running) (r 
   pub looks_in_mean : (j : ℕ) (entity : Address) → Of w.code w.run.constants r.placed entity (λ o. Is w.code w.run.constants r.placed (i.LookMean j o)) → place_at here.frame entity < length s.rows.numbers
   looks_in_mean j entity z =
       let y = subst SuitsHere z.2 (suits w c here s run r) in
-      bearer_within (site w c here s run r) (stands w c here s run r) z.0 r.placed.cells y.1.0 entity y.1.1 z.1 (deep_here w c here s run r)
+      bearer_within (site w c here s run r) (located w c here s run r) z.0 r.placed.cells y.1.0 entity y.1.1 z.1 (deep_here w c here s run r)
 
   pub looks_at_mean : (j : ℕ) (entity : Address) (n : ℤ) (answer : OkOr (Unit {0}) FaultKind) (new : State) (result : Option Here) → Of w.code w.run.constants r.placed entity (λ o. Is w.code w.run.constants r.placed (i.LookMean j o)) → slice_get s.rows.numbers (place_at here.frame entity) ≡ Some n → ((o : Option Value) → RefersToSubject s.scene j o n → Looks (without_value (mean j o)) s.scene answer) → new ≡ faulted_by answer s → result ≡ on_unless here answer → Comes (is_due r.placed.instruction) w r.placed.line does s new result
   looks_at_mean j entity n answer new result z e looks same q =
       let is = z.2 in
       let y = subst SuitsHere is (suits w c here s run r) in
-      let b = reads_bearer (site w c here s run r) (stands w c here s run r) z.0 r.placed.cells y.1.0 entity c.cells n y.1.1 z.1 r.holds.held.cells r.fits.cells e in
+      let b = reads_bearer (site w c here s run r) (located w c here s run r) z.0 r.placed.cells y.1.0 entity c.cells n y.1.1 z.1 r.holds.held.cells r.fits.cells e in
       let m = onward b.below c c.store in
       let acts : does ≡ did {A = Unit {0}} r.placed.line (without_value (mean j b.value) c.store) (λ _. m) =
       ap (λ x. act w.code r.placed.line x c) is
@@ -208,12 +208,12 @@ module _ (w : Compiled) (c : Core) (here : Here) (s : State) (run : Running) (r 
   pub global_within : (k : ℕ) → slice_get w.program.globals k ≡ Some Integer → k < length s.rows.numbers
   global_within k mode =
       subst (λ j. j < length s.rows.numbers) (place_fixed here.frame k (global_at k) (refl, refl))
-      (variable_within (site w c here s run r) (stands w c here s run r) (Global k) Integer (global_at k) mode (refl, refl))
+      (variable_within (site w c here s run r) (located w c here s run r) (Global k) Integer (global_at k) mode (refl, refl))
 
   -- and what was read there is what it holds
   pub global_is : (k : ℕ) (z : ℤ) → slice_get w.program.globals k ≡ Some Integer → slice_get s.rows.numbers k ≡ Some z → slice_get c.store.globals k ≡ Some (Whole z)
   global_is k z mode e =
-      let v = lies_at (site w c here s run r) (stands w c here s run r) (Global k) Integer (global_at k) mode (refl, refl) in
+      let v = lies_at (site w c here s run r) (located w c here s run r) (Global k) Integer (global_at k) mode (refl, refl) in
       let i = place_at here.frame (global_at k) in
       let at : slice_get s.rows.numbers i ≡ Some z = ap (slice_get s.rows.numbers) (place_fixed here.frame k (global_at k) (refl, refl)) ∙ e in
       v.there ∙ ap Some (number_is s.rows i v.value z v.mode v.at at)
@@ -239,13 +239,13 @@ module _ (w : Compiled) (c : Core) (here : Here) (s : State) (run : Running) (r 
   pub resets_in : (j : ℕ) (entity : Address) → Of w.code w.run.constants r.placed entity (λ o. Is w.code w.run.constants r.placed (i.Reset j o)) → place_at here.frame entity < length s.rows.numbers
   resets_in j entity z =
       let y = subst SuitsHere z.2 (suits w c here s run r) in
-      bearer_within (site w c here s run r) (stands w c here s run r) z.0 r.placed.cells y.1.0 entity y.1.1 z.1 (deep_here w c here s run r)
+      bearer_within (site w c here s run r) (located w c here s run r) z.0 r.placed.cells y.1.0 entity y.1.1 z.1 (deep_here w c here s run r)
 
   pub resets : (j : ℕ) (entity : Address) (n held : ℤ) (e : Seen) (answer : OkOr (Unit {0}) FaultKind) (new : State) (result : Option Here) → Of w.code w.run.constants r.placed entity (λ o. Is w.code w.run.constants r.placed (i.Reset j o)) → slice_get s.rows.numbers (place_at here.frame entity) ≡ Some n → ((k : ℕ) → variable_of s.scene.statistics j ≡ Some k → slice_get s.rows.numbers k ≡ Some held) → ((o : Option Value) → RefersToSubject s.scene j o n → ChangesWhere (λ t. IsRight (reset j o t) × VariableHolds j held t) (reset j o) s.scene e answer) → new ≡ faulted_by answer (record s { scene = e }) → result ≡ on_unless here answer → Comes (is_due r.placed.instruction) w r.placed.line does s new result
   resets j entity n held e answer new result z at_entity at_held changed same q =
       let is = z.2 in
       let y = subst SuitsHere is (suits w c here s run r) in
-      let b = reads_bearer (site w c here s run r) (stands w c here s run r) z.0 r.placed.cells y.1.0 entity c.cells n y.1.1 z.1 r.holds.held.cells r.fits.cells at_entity in
+      let b = reads_bearer (site w c here s run r) (located w c here s run r) z.0 r.placed.cells y.1.0 entity c.cells n y.1.1 z.1 r.holds.held.cells r.fits.cells at_entity in
       let acts : does ≡ did r.placed.line (reset j b.value c.store) (λ t. onward b.below c t) =
       ap (λ x. act w.code r.placed.line x c) is
       ∙ b.is (λ x below. did r.placed.line (reset j x c.store) (λ t. onward below c t)) in
@@ -259,7 +259,7 @@ module _ (w : Compiled) (c : Core) (here : Here) (s : State) (run : Running) (r 
   pub keeps_in : (k : ℕ) (from : Address) → From w.code w.run.constants r.placed from (λ y. Is w.code w.run.constants r.placed (i.Keep y (Global k))) → place_at here.frame from < length s.rows.numbers
   keeps_in k from z =
       let y = subst SuitsHere z.2 (suits w c here s run r) in
-      read_within (site w c here s run r) (stands w c here s run r) z.0 Integer r.placed.cells y.1.0 from y.1.1 z.1 (deep_here w c here s run r)
+      read_within (site w c here s run r) (located w c here s run r) z.0 Integer r.placed.cells y.1.0 from y.1.1 z.1 (deep_here w c here s run r)
 
   pub kept_within : (k : ℕ) (from : Address) → From w.code w.run.constants r.placed from (λ y. Is w.code w.run.constants r.placed (i.Keep y (Global k))) → k < length s.rows.numbers
   kept_within k from z = let y = subst SuitsHere z.2 (suits w c here s run r) in global_within k y.0
@@ -300,7 +300,7 @@ module _ (w : Compiled) (c : Core) (here : Here) (s : State) (run : Running) (r 
   pub keeps : (k : ℕ) (from : Address) (n : ℤ) (e : Seen) (answer : OkOr (Unit {0}) FaultKind) (new : State) (result : Option Here) → From w.code w.run.constants r.placed from (λ y. Is w.code w.run.constants r.placed (i.Keep y (Global k))) → slice_get s.rows.numbers (place_at here.frame from) ≡ Some n → Changes (noted (OfVariable k) (pos 0) (Whole n)) s.scene e answer → new ≡ faulted_by answer (record s { rows = with_number s.rows k n; scene = e }) → result ≡ on_unless here answer → Comes (is_due r.placed.instruction) w r.placed.line does s new result
   keeps k from n e answer new result z at changed same q =
       let t = site w c here s run r in
-      let st = stands w c here s run r in
+      let st = located w c here s run r in
       let is = z.2 in
       let y = subst SuitsHere is (suits w c here s run r) in
       let one = reads t st z.0 Integer r.placed.cells y.1.0 from c.cells (Whole n) y.1.1 z.1 r.holds.held.cells r.fits.cells (only_number s.rows (place_at here.frame from) n at) in

@@ -32,7 +32,7 @@ use Rattle.ss_machine_instructions.specs.declared.flow.Here.{Here}
 use Rattle.ss_machine_instructions.specs.declared.state.State.{State}
 use Rattle.ss_machine_instructions.specs.Doing.{Compiled, Ready, Comes}
 use Rattle.ss_machine_instructions.specs.Ways.{on_unless, faulted_by}
-use Rattle.ss_machine_instructions.proofs.Placing.{site, stands, suits, deep_here}
+use Rattle.ss_machine_instructions.proofs.Placing.{site, located, suits, deep_here}
 use Rattle.ss_machine_instructions.proofs.Asking.{owner_is, set_within}
 use Rattle.ss_machine_instructions.proofs.Seeing.{heap_is, layout_is, asked, looked}
 
@@ -70,7 +70,7 @@ module _ (w : Compiled) (c : Core) (here : Here) (s : State) (run : Running) (r 
   pub entity_in : (class : ℕ) (entity : Address) → AtEntity class entity → place_at here.frame entity < length s.rows.numbers
   entity_in class entity z =
       let y = subst SuitsHere z.2 (suits w c here s run r) in
-      read_within (site w c here s run r) (stands w c here s run r) z.0 Integer r.placed.cells y.1.0 entity y.1.1 z.1 (deep_here w c here s run r)
+      read_within (site w c here s run r) (located w c here s run r) z.0 Integer r.placed.cells y.1.0 entity y.1.1 z.1 (deep_here w c here s run r)
 
   -- the class is there
   class_there : (class : ℕ) (entity : Address) → AtEntity class entity → (k : ClassLayout) × (slice_get s.scene.heap.layout.classes class ≡ Some k)
@@ -86,7 +86,7 @@ module _ (w : Compiled) (c : Core) (here : Here) (s : State) (run : Running) (r 
   looks_at_entity class at n answer new result z e known same q =
       let is = z.2 in
       let y = subst SuitsHere is (suits w c here s run r) in
-      let one = reads (site w c here s run r) (stands w c here s run r) z.0 Integer r.placed.cells y.1.0 at c.cells (Whole n) y.1.1 z.1 r.holds.held.cells r.fits.cells (only_number s.rows (place_at here.frame at) n e) in
+      let one = reads (site w c here s run r) (located w c here s run r) z.0 Integer r.placed.cells y.1.0 at c.cells (Whole n) y.1.1 z.1 r.holds.held.cells r.fits.cells (only_number s.rows (place_at here.frame at) n e) in
       let m = onward one.below c c.store in
       let there : is_some (slice_get s.scene.heap.layout.classes class) ≡ true = ap is_some (class_there class at z).1 in
       looked w c here s run r answer one.below new result (ap is_due is)
@@ -106,7 +106,7 @@ module _ (w : Compiled) (c : Core) (here : Here) (s : State) (run : Running) (r 
   pub member_in : (set : ℕ) (member : Address) → AtMember set member → place_at here.frame member < length s.rows.numbers
   member_in set member z =
       let y = subst SuitsHere z.2 (suits w c here s run r) in
-      read_within (site w c here s run r) (stands w c here s run r) z.0 Integer r.placed.cells y.1.0 member y.1.1 z.1 (deep_here w c here s run r)
+      read_within (site w c here s run r) (located w c here s run r) z.0 Integer r.placed.cells y.1.0 member y.1.1 z.1 (deep_here w c here s run r)
 
   -- a set of the program is one of the scene
   pub set_in : (set : ℕ) → IsSet w.program set → set < length s.scene.heap.layout.sets
@@ -119,7 +119,7 @@ module _ (w : Compiled) (c : Core) (here : Here) (s : State) (run : Running) (r 
   looks_at_member set at n answer new result z e known same q =
       let is = z.2 in
       let y = subst SuitsHere is (suits w c here s run r) in
-      let one = reads (site w c here s run r) (stands w c here s run r) z.0 Integer r.placed.cells y.1.0 at c.cells (Whole n) y.1.1 z.1 r.holds.held.cells r.fits.cells (only_number s.rows (place_at here.frame at) n e) in
+      let one = reads (site w c here s run r) (located w c here s run r) z.0 Integer r.placed.cells y.1.0 at c.cells (Whole n) y.1.1 z.1 r.holds.held.cells r.fits.cells (only_number s.rows (place_at here.frame at) n e) in
       let m = onward one.below c c.store in
       let there : is_some (slice_get s.scene.heap.layout.sets set) ≡ true = ap (λ (l : Layout). is_some (slice_get l.sets set)) (layout_is w c here s run r) ∙ ap is_some y.0.1 in
       looked w c here s run r answer one.below new result (ap is_due is)
@@ -139,7 +139,7 @@ module _ (w : Compiled) (c : Core) (here : Here) (s : State) (run : Running) (r 
   pub owner_in : (set : ℕ) (owner : Address) → AtOwner set owner → place_at here.frame owner < length s.rows.numbers
   owner_in set owner z =
       let y = subst SuitsHere z.2 (suits w c here s run r) in
-      bearer_within (site w c here s run r) (stands w c here s run r) z.0 r.placed.cells y.1.0 owner y.1.1 z.1 (deep_here w c here s run r)
+      bearer_within (site w c here s run r) (located w c here s run r) z.0 r.placed.cells y.1.0 owner y.1.1 z.1 (deep_here w c here s run r)
 
   pub owner_set_in : (set : ℕ) (owner : Address) → AtOwner set owner → set < length s.scene.heap.layout.sets
   owner_set_in set owner z = let y = subst SuitsHere z.2 (suits w c here s run r) in set_within w c here s run r set z.0 y.0
@@ -148,7 +148,7 @@ module _ (w : Compiled) (c : Core) (here : Here) (s : State) (run : Running) (r 
   looks_at_owner set at n answer new result z e known same q =
       let is = z.2 in
       let y = subst SuitsHere is (suits w c here s run r) in
-      let b = reads_bearer (site w c here s run r) (stands w c here s run r) z.0 r.placed.cells y.1.0 at c.cells n y.1.1 z.1 r.holds.held.cells r.fits.cells e in
+      let b = reads_bearer (site w c here s run r) (located w c here s run r) z.0 r.placed.cells y.1.0 at c.cells n y.1.1 z.1 r.holds.held.cells r.fits.cells e in
       let m = onward b.below c c.store in
       let who = owner_is w.program set z.0 b.value n c.store r.fits.store.sound.scene.layout y.0 b.refers in
       looked w c here s run r answer b.below new result (ap is_due is)

@@ -20,7 +20,7 @@ use Rattle.ss_machine_instructions.specs.declared.state.State.{State}
 use Rattle.ss_machine_instructions.specs.Doing.{Compiled, Holds, Ready, NoTick, Comes}
 use Rattle.ss_machine_instructions.specs.Ways.{on_at, on_unless, faulted, faulted_by}
 use Rattle.ss_machine_instructions.specs.Worldly.{Settled, Settles, IsTold}
-use Rattle.ss_machine_instructions.proofs.Placing.{site, stands, small, calm}
+use Rattle.ss_machine_instructions.proofs.Placing.{site, located, small, calm}
 use Rattle.ss_machine_instructions.proofs.Delivering.{faults}
 
 -- ## Operations that do not go wrong
@@ -59,7 +59,7 @@ module _ (w : Compiled) (c : Core) (here : Here) (s : State) (run : Running) (r 
 
   -- what the running instruction does not note no statistic watches
   pub is_told : (notes : Bool) (subject : Subject) → (notes ≡ false → watch w.code.setting.statistics subject ≡ false) → IsTold notes subject s.scene
-  is_told notes subject told none = ap (λ (ss : List Statistic). watch ss subject) statistics_seen ∙ told none
+  is_told notes subject reported none = ap (λ (ss : List Statistic). watch ss subject) statistics_seen ∙ reported none
 
   -- there is a next place
   pub next_small : here.place + 1 < 2 ^ 64
@@ -69,7 +69,7 @@ module _ (w : Compiled) (c : Core) (here : Here) (s : State) (run : Running) (r 
 
   pub scene_held : (e : Seen) (place : ℕ) (cells : List Value) → CellsAt s.rows (here.frame + length c.store.locals) cells → Held w.run.constants w.run.depth here.frame s.rows s.frames (core_at place cells c.frames (with_seen c.store e))
   scene_held e place cells at =
-      let h = cells_held (site w c here s run r) (stands w c here s run r) place cells at in
+      let h = cells_held (site w c here s run r) (located w c here s run r) place cells at in
       record {
         globals = h.globals;
         fixed = h.fixed;

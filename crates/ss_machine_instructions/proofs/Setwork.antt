@@ -42,7 +42,7 @@ use Rattle.ss_machine_instructions.specs.declared.state.State.{State}
 use Rattle.ss_machine_instructions.specs.Doing.{Compiled, Ready, NoTick, Comes, Delivers, as_value}
 use Rattle.ss_machine_instructions.specs.Ways.{faulted, faulted_by, on_unless}
 use Rattle.ss_machine_instructions.specs.Worldly.{Given, Settles, IsOwner, IsRuled, Files, Removes, Takes, one_of, member_answer}
-use Rattle.ss_machine_instructions.proofs.Placing.{site, stands, suits, small, deep_at, deep_here, calm}
+use Rattle.ss_machine_instructions.proofs.Placing.{site, located, suits, small, deep_at, deep_here, calm}
 use Rattle.ss_machine_instructions.proofs.Delivering.{delivers, deliver_is, number_right}
 use Rattle.ss_machine_instructions.proofs.Asking.{owner_is, set_there}
 use Rattle.ss_machine_instructions.proofs.Programs.{ruled_in}
@@ -120,7 +120,7 @@ module _ (w : Compiled) (c : Core) (here : Here) (s : State) (run : Running) (r 
   bearer_shorter : (x : Bearer) (rest : List Mode) → GivesBearer (scope_of w.program w.code r.placed.locals) x r.placed.cells rest → length rest ≤ w.run.depth
   bearer_shorter None rest g = let le = deep_here w c here s run r in omega (arith, ap length g, le)
   bearer_shorter (Some x) rest g =
-      shorter (site w c here s run r) (stands w c here s run r) x Integer r.placed.cells rest w.run.depth g (deep_here w c here s run r)
+      shorter (site w c here s run r) (located w c here s run r) x Integer r.placed.cells rest w.run.depth g (deep_here w c here s run r)
 
   -- ## F., L. and N. of a set
 
@@ -130,7 +130,7 @@ module _ (w : Compiled) (c : Core) (here : Here) (s : State) (run : Running) (r 
   pub asks_set_in : (query : SetQuery) (set : ℕ) (owner to : Address) → AsksSet query set owner to → (place_at here.frame owner < length s.rows.numbers) × (set < length s.scene.heap.layout.sets)
   asks_set_in query set owner to z =
       let y = subst SuitsHere z.2.2 (suits w c here s run r) in (
-        bearer_within (site w c here s run r) (stands w c here s run r) z.0 r.placed.cells y.1.0 owner y.1.1 z.1 (deep_here w c here s run r),
+        bearer_within (site w c here s run r) (located w c here s run r) z.0 r.placed.cells y.1.0 owner y.1.1 z.1 (deep_here w c here s run r),
         set_seen set z.0 y.0,
       )
 
@@ -138,7 +138,7 @@ module _ (w : Compiled) (c : Core) (here : Here) (s : State) (run : Running) (r 
   asks_set query set owner to number answer z at e =
       let is = z.2.2 in
       let y = subst SuitsHere is (suits w c here s run r) in
-      let b = reads_bearer (site w c here s run r) (stands w c here s run r) z.0 r.placed.cells y.1.0 owner c.cells number y.1.1 z.1 r.holds.held.cells r.fits.cells at in
+      let b = reads_bearer (site w c here s run r) (located w c here s run r) z.0 r.placed.cells y.1.0 owner c.cells number y.1.1 z.1 r.holds.held.cells r.fits.cells at in
       let who = owner_is w.program set z.0 b.value number c.store layout_here y.0 b.refers in
       let target = z.2.0 in
       let l = r.placed.line in
@@ -159,7 +159,7 @@ module _ (w : Compiled) (c : Core) (here : Here) (s : State) (run : Running) (r 
   pub asks_member_in : (query : MemberQuery) (set : ℕ) (member to : Address) → AsksMember query set member to → (place_at here.frame member < length s.rows.numbers) × (set < length s.scene.heap.layout.sets)
   asks_member_in query set member to z =
       let y = subst SuitsHere z.2.2 (suits w c here s run r) in (
-        read_within (site w c here s run r) (stands w c here s run r) z.0 Integer r.placed.cells y.1.0 member y.1.1 z.1 (deep_here w c here s run r),
+        read_within (site w c here s run r) (located w c here s run r) z.0 Integer r.placed.cells y.1.0 member y.1.1 z.1 (deep_here w c here s run r),
         slice_get_within s.scene.heap.layout.sets set y.0.0 (ap (λ l. slice_get l.sets set) (layout_seen w c here s run r) ∙ y.0.1),
       )
 
@@ -167,7 +167,7 @@ module _ (w : Compiled) (c : Core) (here : Here) (s : State) (run : Running) (r 
   asks_member query set member to number answer z at e =
       let is = z.2.2 in
       let y = subst SuitsHere is (suits w c here s run r) in
-      let one = reads (site w c here s run r) (stands w c here s run r) z.0 Integer r.placed.cells y.1.0 member c.cells (Whole number) y.1.1 z.1 r.holds.held.cells r.fits.cells (only_number s.rows (place_at here.frame member) number at) in
+      let one = reads (site w c here s run r) (located w c here s run r) z.0 Integer r.placed.cells y.1.0 member c.cells (Whole number) y.1.1 z.1 r.holds.held.cells r.fits.cells (only_number s.rows (place_at here.frame member) number at) in
       let known : set_at set c.store ≡ Some y.0.0 = ap (λ l. slice_get l.sets set) layout_here ∙ y.0.1 in
       let target = z.2.0 in
       let l = r.placed.line in
@@ -214,19 +214,19 @@ module _ (w : Compiled) (c : Core) (here : Here) (s : State) (run : Running) (r 
   rank_positions over above cells g lie q = record { below = cells; is = λ go. refl; cells_at = lie; modes = q ∙ sym g }
 
   before_shortens : (y : Operand) → Shortens (Before y)
-  before_shortens y over above g le = shorter (site w c here s run r) (stands w c here s run r) y Integer over above w.run.depth g le
+  before_shortens y over above g le = shorter (site w c here s run r) (located w c here s run r) y Integer over above w.run.depth g le
 
   after_shortens : (y : Operand) → Shortens (After y)
-  after_shortens y over above g le = shorter (site w c here s run r) (stands w c here s run r) y Integer over above w.run.depth g le
+  after_shortens y over above g le = shorter (site w c here s run r) (located w c here s run r) y Integer over above w.run.depth g le
 
   before_positions : (y : Operand) (beside : Address) (b : ℤ) → OperandAt w.code w.run.constants r.placed y beside → slice_get s.rows.numbers (place_at here.frame beside) ≡ Some b → Positions (Before y) (JustBefore (Whole b))
   before_positions y beside b at e over above cells g lie q =
-      let x = reads (site w c here s run r) (stands w c here s run r) y Integer over above beside cells (Whole b) g at lie q (only_number s.rows (place_at here.frame beside) b e) in
+      let x = reads (site w c here s run r) (located w c here s run r) y Integer over above beside cells (Whole b) g at lie q (only_number s.rows (place_at here.frame beside) b e) in
       record { below = x.below; is = λ go. x.is (λ v below. go (JustBefore v) below); cells_at = x.cells; modes = x.modes }
 
   after_positions : (y : Operand) (beside : Address) (b : ℤ) → OperandAt w.code w.run.constants r.placed y beside → slice_get s.rows.numbers (place_at here.frame beside) ≡ Some b → Positions (After y) (JustAfter (Whole b))
   after_positions y beside b at e over above cells g lie q =
-      let x = reads (site w c here s run r) (stands w c here s run r) y Integer over above beside cells (Whole b) g at lie q (only_number s.rows (place_at here.frame beside) b e) in
+      let x = reads (site w c here s run r) (located w c here s run r) y Integer over above beside cells (Whole b) g at lie q (only_number s.rows (place_at here.frame beside) b e) in
       record { below = x.below; is = λ go. x.is (λ v below. go (JustAfter v) below); cells_at = x.cells; modes = x.modes }
 
   -- ## Filing
@@ -241,7 +241,7 @@ module _ (w : Compiled) (c : Core) (here : Here) (s : State) (run : Running) (r 
   file_within : (filing : Filing) (set : ℕ) (y : Operand) (o : Bearer) (member owner : Address) → r.placed.instruction ≡ i.File filing set y o → OperandAt w.code w.run.constants r.placed y member → BearerAt w.code w.run.constants r.placed o owner → Shortens filing → FileWithin member owner set
   file_within filing set y o member owner is at_y at_o fewer =
       let t = site w c here s run r in
-      let st = stands w c here s run r in
+      let st = located w c here s run r in
       let z = subst SuitsHere is (suits w c here s run r) in
       let over = bearer_shorter o z.1.0 z.1.1 in
       record {
@@ -252,9 +252,9 @@ module _ (w : Compiled) (c : Core) (here : Here) (s : State) (run : Running) (r 
       }
 
   files_by : (filing : Filing) (at : Position) (set : ℕ) (y : Operand) (o : Bearer) (member owner : Address) (n m : ℤ) (notes : Bool) (e : Seen) (answer : OkOr (Unit {0}) FaultKind) (new : State) (result : Option Here) → r.placed.instruction ≡ i.File filing set y o → OperandAt w.code w.run.constants r.placed y member → BearerAt w.code w.run.constants r.placed o owner → Positions filing at → FilingOk w.program r.compiled.typed r.placed.locals at → (notes ≡ false → watch w.code.setting.statistics (OfCount set) ≡ false) → slice_get s.rows.numbers (place_at here.frame member) ≡ Some n → slice_get s.rows.numbers (place_at here.frame owner) ≡ Some m → Files at set notes s.scene e answer m n → new ≡ faulted_by answer (record s { scene = e }) → result ≡ on_unless here answer → Comes (is_due r.placed.instruction) w r.placed.line (act w.code r.placed.line r.placed.instruction c) s new result
-  files_by filing at set y o member owner n m notes e answer new result is at_y at_o position good told at_member at_owner filed same way =
+  files_by filing at set y o member owner n m notes e answer new result is at_y at_o position good reported at_member at_owner filed same way =
       let t = site w c here s run r in
-      let st = stands w c here s run r in
+      let st = located w c here s run r in
       let l = r.placed.line in
       let z = subst SuitsHere is (suits w c here s run r) in
       let b = reads_bearer t st o r.placed.cells z.1.0 owner c.cells m z.1.1 at_o r.holds.held.cells r.fits.cells at_owner in
@@ -269,7 +269,7 @@ module _ (w : Compiled) (c : Core) (here : Here) (s : State) (run : Running) (r 
       ∙ x.is (λ x below. did l (filed_in at set x b.value c.store) (λ t. onward below c t)) in
       let left : Settles c l (act w.code l r.placed.instruction c) here s op = record { below = x.below; acts = acts; right = right; at = x.cells } in
       settles w c here s run r op e answer new result (ap is_due is) left
-      (filed b.value (is_owner set o b.value m z.0 b.refers) (is_told w c here s run r notes (OfCount set) told)) same way
+      (filed b.value (is_owner set o b.value m z.0 b.refers) (is_told w c here s run r notes (OfCount set) reported)) same way
 
   abbrev pub IsQuiet : (notes : Bool) → (set : ℕ) → Type 0
   IsQuiet notes set = notes ≡ false → watch w.code.setting.statistics (OfCount set) ≡ false
@@ -291,16 +291,16 @@ module _ (w : Compiled) (c : Core) (here : Here) (s : State) (run : Running) (r 
   IsDone e answer new result = (new ≡ faulted_by answer (record s { scene = e })) × (result ≡ on_unless here answer)
 
   pub files_first : (set : ℕ) (member owner : Address) (n m : ℤ) (notes : Bool) (e : Seen) (answer : OkOr (Unit {0}) FaultKind) (new : State) (result : Option Here) → IsQuiet notes set → FilesBy First set member owner → slice_get s.rows.numbers (place_at here.frame member) ≡ Some n → slice_get s.rows.numbers (place_at here.frame owner) ≡ Some m → Files Foremost set notes s.scene e answer m n → IsDone e answer new result → Comes (is_due r.placed.instruction) w r.placed.line (act w.code r.placed.line r.placed.instruction c) s new result
-  files_first set member owner n m notes e answer new result told z at_member at_owner filed done =
-      files_by First Foremost set z.0 z.2.0 member owner n m notes e answer new result z.2.2 z.1 z.2.1 first_positions tt told at_member at_owner filed done.0 done.1
+  files_first set member owner n m notes e answer new result reported z at_member at_owner filed done =
+      files_by First Foremost set z.0 z.2.0 member owner n m notes e answer new result z.2.2 z.1 z.2.1 first_positions tt reported at_member at_owner filed done.0 done.1
 
   pub files_last : (set : ℕ) (member owner : Address) (n m : ℤ) (notes : Bool) (e : Seen) (answer : OkOr (Unit {0}) FaultKind) (new : State) (result : Option Here) → IsQuiet notes set → FilesBy Last set member owner → slice_get s.rows.numbers (place_at here.frame member) ≡ Some n → slice_get s.rows.numbers (place_at here.frame owner) ≡ Some m → Files Hindmost set notes s.scene e answer m n → IsDone e answer new result → Comes (is_due r.placed.instruction) w r.placed.line (act w.code r.placed.line r.placed.instruction c) s new result
-  files_last set member owner n m notes e answer new result told z at_member at_owner filed done =
-      files_by Last Hindmost set z.0 z.2.0 member owner n m notes e answer new result z.2.2 z.1 z.2.1 last_positions tt told at_member at_owner filed done.0 done.1
+  files_last set member owner n m notes e answer new result reported z at_member at_owner filed done =
+      files_by Last Hindmost set z.0 z.2.0 member owner n m notes e answer new result z.2.2 z.1 z.2.1 last_positions tt reported at_member at_owner filed done.0 done.1
 
   pub files_ranked : (set : ℕ) (member owner : Address) (n m : ℤ) (notes : Bool) (e : Seen) (answer : OkOr (Unit {0}) FaultKind) (new : State) (result : Option Here) → IsQuiet notes set → FilesBy Ranked set member owner → slice_get s.rows.numbers (place_at here.frame member) ≡ Some n → slice_get s.rows.numbers (place_at here.frame owner) ≡ Some m → Files ByRule set notes s.scene e answer m n → IsDone e answer new result → Comes (is_due r.placed.instruction) w r.placed.line (act w.code r.placed.line r.placed.instruction c) s new result
-  files_ranked set member owner n m notes e answer new result told z at_member at_owner filed done =
-      files_by Ranked ByRule set z.0 z.2.0 member owner n m notes e answer new result z.2.2 z.1 z.2.1 rank_positions tt told at_member at_owner filed done.0 done.1
+  files_ranked set member owner n m notes e answer new result reported z at_member at_owner filed done =
+      files_by Ranked ByRule set z.0 z.2.0 member owner n m notes e answer new result z.2.2 z.1 z.2.1 rank_positions tt reported at_member at_owner filed done.0 done.1
 
   -- ## Filing beside another member
 
@@ -311,7 +311,7 @@ module _ (w : Compiled) (c : Core) (here : Here) (s : State) (run : Running) (r 
   beside_within : (filing : Filing) (set : ℕ) (k y : Operand) (o : Bearer) (beside : Address) → r.placed.instruction ≡ i.File filing set y o → OperandAt w.code w.run.constants r.placed k beside → ((over above : List Mode) → GivesPosition (scope_of w.program w.code r.placed.locals) filing over above → Gives (scope_of w.program w.code r.placed.locals) k Integer over above) → place_at here.frame beside < length s.rows.numbers
   beside_within filing set k y o beside is at_k gives =
       let z = subst SuitsHere is (suits w c here s run r) in
-      read_within (site w c here s run r) (stands w c here s run r) k Integer z.1.0 z.1.2.0 beside (gives z.1.0 z.1.2.0 z.1.2.1) at_k (bearer_shorter o z.1.0 z.1.1)
+      read_within (site w c here s run r) (located w c here s run r) k Integer z.1.0 z.1.2.0 beside (gives z.1.0 z.1.2.0 z.1.2.1) at_k (bearer_shorter o z.1.0 z.1.1)
 
   pub files_before_in : (set : ℕ) (beside member owner : Address) → FilesBeside Before set beside member owner → (place_at here.frame beside < length s.rows.numbers) × FileWithin member owner set
   files_before_in set beside member owner z = (
@@ -326,12 +326,12 @@ module _ (w : Compiled) (c : Core) (here : Here) (s : State) (run : Running) (r 
   )
 
   pub files_before : (set : ℕ) (beside member owner : Address) (k n m : ℤ) (notes : Bool) (e : Seen) (answer : OkOr (Unit {0}) FaultKind) (new : State) (result : Option Here) → IsQuiet notes set → FilesBeside Before set beside member owner → slice_get s.rows.numbers (place_at here.frame beside) ≡ Some k → slice_get s.rows.numbers (place_at here.frame member) ≡ Some n → slice_get s.rows.numbers (place_at here.frame owner) ≡ Some m → Files (JustBefore (Whole k)) set notes s.scene e answer m n → IsDone e answer new result → Comes (is_due r.placed.instruction) w r.placed.line (act w.code r.placed.line r.placed.instruction c) s new result
-  files_before set beside member owner k n m notes e answer new result told z at_beside at_member at_owner filed done =
-      files_by (Before z.0) (JustBefore (Whole k)) set z.2.0 z.2.2.0 member owner n m notes e answer new result z.2.2.2 z.2.1 z.2.2.1 (before_positions z.0 beside k z.1 at_beside) refl told at_member at_owner filed done.0 done.1
+  files_before set beside member owner k n m notes e answer new result reported z at_beside at_member at_owner filed done =
+      files_by (Before z.0) (JustBefore (Whole k)) set z.2.0 z.2.2.0 member owner n m notes e answer new result z.2.2.2 z.2.1 z.2.2.1 (before_positions z.0 beside k z.1 at_beside) refl reported at_member at_owner filed done.0 done.1
 
   pub files_after : (set : ℕ) (beside member owner : Address) (k n m : ℤ) (notes : Bool) (e : Seen) (answer : OkOr (Unit {0}) FaultKind) (new : State) (result : Option Here) → IsQuiet notes set → FilesBeside After set beside member owner → slice_get s.rows.numbers (place_at here.frame beside) ≡ Some k → slice_get s.rows.numbers (place_at here.frame member) ≡ Some n → slice_get s.rows.numbers (place_at here.frame owner) ≡ Some m → Files (JustAfter (Whole k)) set notes s.scene e answer m n → IsDone e answer new result → Comes (is_due r.placed.instruction) w r.placed.line (act w.code r.placed.line r.placed.instruction c) s new result
-  files_after set beside member owner k n m notes e answer new result told z at_beside at_member at_owner filed done =
-      files_by (After z.0) (JustAfter (Whole k)) set z.2.0 z.2.2.0 member owner n m notes e answer new result z.2.2.2 z.2.1 z.2.2.1 (after_positions z.0 beside k z.1 at_beside) refl told at_member at_owner filed done.0 done.1
+  files_after set beside member owner k n m notes e answer new result reported z at_beside at_member at_owner filed done =
+      files_by (After z.0) (JustAfter (Whole k)) set z.2.0 z.2.2.0 member owner n m notes e answer new result z.2.2.2 z.2.1 z.2.2.1 (after_positions z.0 beside k z.1 at_beside) refl reported at_member at_owner filed done.0 done.1
 
   -- ## Removing
 
@@ -341,7 +341,7 @@ module _ (w : Compiled) (c : Core) (here : Here) (s : State) (run : Running) (r 
   pub removes_in : (set : ℕ) (member owner : Address) → RemovesHere set member owner → FileWithin member owner set
   removes_in set member owner z =
       let t = site w c here s run r in
-      let st = stands w c here s run r in
+      let st = located w c here s run r in
       let y = subst SuitsHere z.2.2 (suits w c here s run r) in
       record {
         member_place = read_within t st z.0 Integer y.1.0 y.1.2.0 member y.1.2.1 z.1 (bearer_shorter z.2.0 y.1.0 y.1.1);
@@ -351,9 +351,9 @@ module _ (w : Compiled) (c : Core) (here : Here) (s : State) (run : Running) (r 
       }
 
   pub removes : (set : ℕ) (member owner : Address) (n m : ℤ) (notes : Bool) (e : Seen) (answer : OkOr (Unit {0}) FaultKind) (new : State) (result : Option Here) → IsQuiet notes set → RemovesHere set member owner → slice_get s.rows.numbers (place_at here.frame member) ≡ Some n → slice_get s.rows.numbers (place_at here.frame owner) ≡ Some m → Removes set notes s.scene e answer m n → IsDone e answer new result → Comes (is_due r.placed.instruction) w r.placed.line (act w.code r.placed.line r.placed.instruction c) s new result
-  removes set member owner n m notes e answer new result told z at_member at_owner removed done =
+  removes set member owner n m notes e answer new result reported z at_member at_owner removed done =
       let t = site w c here s run r in
-      let st = stands w c here s run r in
+      let st = located w c here s run r in
       let l = r.placed.line in
       let is = z.2.2 in
       let y = subst SuitsHere is (suits w c here s run r) in
@@ -367,7 +367,7 @@ module _ (w : Compiled) (c : Core) (here : Here) (s : State) (run : Running) (r 
       ∙ x.is (λ x below. did l (removed_from set x b.value c.store) (λ t. onward below c t)) in
       let left : Settles c l (act w.code l r.placed.instruction c) here s op = record { below = x.below; acts = acts; right = right; at = x.cells } in
       settles w c here s run r op e answer new result (ap is_due is) left
-      (removed b.value (is_owner set z.2.0 b.value m y.0 b.refers) (is_told w c here s run r notes (OfCount set) told)) done.0 done.1
+      (removed b.value (is_owner set z.2.0 b.value m y.0 b.refers) (is_told w c here s run r notes (OfCount set) reported)) done.0 done.1
 
   -- ## The first or the last is removed
 
@@ -377,7 +377,7 @@ module _ (w : Compiled) (c : Core) (here : Here) (s : State) (run : Running) (r 
   pub takes_in : (end : End) (set : ℕ) (owner to : Address) → TakesHere end set owner to → (place_at here.frame owner < length s.rows.numbers) × (set < length s.scene.heap.layout.sets)
   takes_in end set owner to z =
       let y = subst SuitsHere z.2.2 (suits w c here s run r) in (
-        bearer_within (site w c here s run r) (stands w c here s run r) z.0 r.placed.cells y.1.0 owner y.1.1 z.1 (deep_here w c here s run r),
+        bearer_within (site w c here s run r) (located w c here s run r) z.0 r.placed.cells y.1.0 owner y.1.1 z.1 (deep_here w c here s run r),
         set_seen set z.0 y.0,
       )
 
@@ -397,7 +397,7 @@ module _ (w : Compiled) (c : Core) (here : Here) (s : State) (run : Running) (r 
 
   takes_as : (end : End) (set : ℕ) (z : Bearer) (owner : Address) (target : Target) (rest : List Mode) (m : ℤ) → OwnerFits w.program set z → GivesBearer (scope_of w.program w.code r.placed.locals) z r.placed.cells rest → BearerAt w.code w.run.constants r.placed z owner → r.placed.instruction ≡ i.RemoveEnd end set z target → slice_get s.rows.numbers (place_at here.frame owner) ≡ Some m → TakesAs end set rest target m
   takes_as end set z owner target rest m fits gives at_z is at_owner =
-      let b = reads_bearer (site w c here s run r) (stands w c here s run r) z r.placed.cells rest owner c.cells m gives at_z r.holds.held.cells r.fits.cells at_owner in
+      let b = reads_bearer (site w c here s run r) (located w c here s run r) z r.placed.cells rest owner c.cells m gives at_z r.holds.held.cells r.fits.cells at_owner in
       record {
         of = b.value;
         below = b.below;
@@ -416,13 +416,13 @@ module _ (w : Compiled) (c : Core) (here : Here) (s : State) (run : Running) (r 
   given_not f e kind right d = ap f (store_is w c here s run r) ∙ d c.store (λ wrong. right (ap f (store_is w c here s run r) ∙ wrong))
 
   pub takes_delivers : (end : End) (set : ℕ) (owner to : Address) (m x : ℤ) (notes : Bool) (e : Seen) → IsQuiet notes set → TakesHere end set owner to → slice_get s.rows.numbers (place_at here.frame owner) ≡ Some m → Takes end set notes s.scene e (Ok x) m → Delivers w c r.placed.line (act w.code r.placed.line r.placed.instruction c) here (record s { scene = e }) to (as_value (Ok x))
-  takes_delivers end set owner to m x notes e told z at_owner taken =
+  takes_delivers end set owner to m x notes e reported z at_owner taken =
       let is = z.2.2 in
       let y = subst SuitsHere is (suits w c here s run r) in
       let target = z.2.0 in
       let a = takes_as end set z.0 owner target y.1.0 m y.0 y.1.1 z.1 is at_owner in
       let right : IsRight (removed_at end set a.of c.store) = fine_right IsFitting (removed_at end set a.of c.store) a.fine in
-      let gives = given_is (removed_at end set a.of) e x right (taken a.of a.refers (is_told w c here s run r notes (OfCount set) told)) in
+      let gives = given_is (removed_at end set a.of) e x right (taken a.of a.refers (is_told w c here s run r notes (OfCount set) reported)) in
       record {
         compiled = r.compiled;
         placed = r.placed;
@@ -450,12 +450,12 @@ module _ (w : Compiled) (c : Core) (here : Here) (s : State) (run : Running) (r 
 
   -- or there is a fault
   pub takes_not : (end : End) (set : ℕ) (owner to : Address) (m : ℤ) (kind : FaultKind) (notes : Bool) (e : Seen) (new : State) (result : Option Here) → IsQuiet notes set → TakesHere end set owner to → slice_get s.rows.numbers (place_at here.frame owner) ≡ Some m → Takes end set notes s.scene e (Err kind) m → new ≡ faulted kind (record s { scene = e }) → result ≡ None → Comes (is_due r.placed.instruction) w r.placed.line (act w.code r.placed.line r.placed.instruction c) s new result
-  takes_not end set owner to m kind notes e new result told z at_owner taken same none =
+  takes_not end set owner to m kind notes e new result reported z at_owner taken same none =
       let is = z.2.2 in
       let y = subst SuitsHere is (suits w c here s run r) in
       let target = z.2.0 in
       let a = takes_as end set z.0 owner target y.1.0 m y.0 y.1.1 z.1 is at_owner in
       let right = fine_right IsFitting (removed_at end set a.of c.store) a.fine in
       fails_on w c here s run r kind e new result (ap is_due is)
-      (a.acts ∙ ap (λ q. deliver_with r.placed.line target q a.below c) (given_not (removed_at end set a.of) e kind right (taken a.of a.refers (is_told w c here s run r notes (OfCount set) told))))
+      (a.acts ∙ ap (λ q. deliver_with r.placed.line target q a.below c) (given_not (removed_at end set a.of) e kind right (taken a.of a.refers (is_told w c here s run r notes (OfCount set) reported))))
       same none

@@ -24,7 +24,7 @@ use Rattle.ss_machine_frames.proofs.Writing.{cells_held}
 use Rattle.ss_machine_instructions.specs.Doing.{Compiled, Holds, Ready, OneTick}
 use Rattle.ss_machine_instructions.specs.Ways.{at_place, on_at}
 use Rattle.ss_machine_notices.specs.Beginning.{LetsGo, ThenLetsGo, Receives, ComesNext}
-use Rattle.ss_machine_instructions.proofs.Placing.{site, stands, goes_with}
+use Rattle.ss_machine_instructions.proofs.Placing.{site, located, goes_with}
 use Rattle.ss_machine_instructions.proofs.Settling.{store_is, notices_seen}
 
 -- ## Letting a notice go
@@ -150,7 +150,7 @@ module _ (w : Compiled) (c : Core) (here : Here) (s : State) (cell : ℕ) (r : R
       let c' = core_at (c.place + 1) c.cells c.frames c.store in
       let nothing : next_event c.store ≡ None = ap (λ o. coming_with o c.store) (ap (λ (x : Scene). next x.pending) r.holds.scene ∙ none) in
       let acts : m ≡ To c' = ap (λ x. act w.code l x c) r.runs.carries.2 ∙ ap (λ o. take_next w.code r.runs.carries.0 o c) nothing in
-      let h = goes_with w c here s (TakeEvent cell) r (c.place + 1) c.cells (cells_held (site w c here s (TakeEvent cell) r) (stands w c here s (TakeEvent cell) r) (c.place + 1) c.cells r.holds.held.cells) in
+      let h = goes_with w c here s (TakeEvent cell) r (c.place + 1) c.cells (cells_held (site w c here s (TakeEvent cell) r) (located w c here s (TakeEvent cell) r) (c.place + 1) c.cells r.holds.held.cells) in
       let holds : Holds w c' there s' = record { place = h.place; held = h.held; scene = h.scene; even = h.even; line = h.line } in
       let plain : OneTick t w l m s s' (Some there) = record { leads = (c', acts, holds); ticks = refl; steps = refl } in
       let on : result ≡ Some there = way ∙ ap (λ p. at_place here (p + 1)) r.holds.place in

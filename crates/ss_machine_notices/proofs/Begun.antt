@@ -34,7 +34,7 @@ use Rattle.ss_machine_instructions.specs.declared.state.State.{State}
 use Rattle.ss_machine_instructions.specs.Doing.{Compiled}
 use Rattle.ss_machine_notices.specs.Beginning.{ComesNext}
 use Rattle.ss_machine_instructions.proofs.Calling.{HasEntry, has_entry}
-use Rattle.ss_machine_instructions.proofs.Placing.{site, stands}
+use Rattle.ss_machine_instructions.proofs.Placing.{site, located}
 
 -- an event has its entry
 pub event_entered : (p : Program) (at first : ℕ) (es : List Event) (r : ℕ) (e : Event) → slice_get es r ≡ Some e → (place : ℕ) × (slice_get (event_entries p at first es) r ≡ Some (event_entry place e))
@@ -124,7 +124,7 @@ module _ (w : Compiled) (c : Core) (here : Here) (s : State) (cell : ℕ) (x : �
       by None h = h
       by (Some k) h =
           let lt = slice_get_within w.program.globals k Integer h.0 in
-          omega (arith, lt, globals_long, above_constants (site w c here n.before (TakeEvent cell) n.ready) (stands w c here n.before (TakeEvent cell) n.ready))
+          omega (arith, lt, globals_long, above_constants (site w c here n.before (TakeEvent cell) n.ready) (located w c here n.before (TakeEvent cell) n.ready))
 
   -- it holds a number
   pub begun_saving : IfSome n.coming.ranked.said.saved (λ k. (old : Value) × (slice_get c.store.globals k ≡ Some old) × (mode_of old ≡ Integer))

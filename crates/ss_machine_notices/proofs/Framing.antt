@@ -23,7 +23,7 @@ use Rattle.ss_machine_instructions.specs.Doing.{Compiled}
 use Rattle.ss_machine_instructions.specs.Entered.{Enters, call_of}
 use Rattle.ss_machine_notices.specs.Beginning.{ComesNext, Received}
 use Rattle.ss_machine_notices.proofs.Opening.{left_store}
-use Rattle.ss_machine_instructions.proofs.Placing.{site, stands}
+use Rattle.ss_machine_instructions.proofs.Placing.{site, located}
 use Rattle.ss_machine_frames.proofs.Reading.{hold_length, own_is}
 
 -- a global variable is another number, in a frame without cells
@@ -77,7 +77,7 @@ module _ (w : Compiled) (c : Core) (here : Here) (s : State) (cell : ℕ) (x : �
     values_long = hold_length h.values run.given.items h.hold ∙ given_long
 
     begin : frame ≡ here.frame + length c.store.locals + length c.cells
-    begin = omega (arith, enters.begin, n.ready.runs.carries.1, high, own_is (site w c here n.before (TakeEvent cell) n.ready) (stands w c here n.before (TakeEvent cell) n.ready))
+    begin = omega (arith, enters.begin, n.ready.runs.carries.1, high, own_is (site w c here n.before (TakeEvent cell) n.ready) (located w c here n.before (TakeEvent cell) n.ready))
 
     -- below the frame nothing has changed
     below_same : Agree s.rows rows 0 frame

@@ -92,7 +92,7 @@ suiting_as class field notes v u e g right = record {
   mode = g.mode;
   field_is = g.field_is;
   right = right;
-  told = g.told;
+  reported = g.reported;
 }
 
 -- what the machine's call says
@@ -173,7 +173,7 @@ module _ (class field : ℕ) (n : ℤ) (v : Value) (notes : Bool) (e : Seen) (g 
       by true same d = as_noted q d
       by false same d =
           subst (λ (q : OkOr (Unit {0}) FaultKind). SettledIn g.store op e new q) (sym d.0)
-          (set_quiet mid is (g.told same) ∙ ap (λ (t : Seen). Ok (with_seen g.store t)) (sym d.1))
+          (set_quiet mid is (g.reported same) ∙ ap (λ (t : Seen). Ok (with_seen g.store t)) (sym d.1))
 
   -- a text, which nothing notes
   pub text_set : (new : Seen) (q : OkOr (Unit {0}) FaultKind) → g.mode ≡ Alpha → IsSet class field n v e new q → SettledIn g.store op e new q
@@ -228,7 +228,7 @@ module _ (class : ℕ) (n : ℤ) (notes : Bool) (from given : ℕ) (rows : TwoRo
         mode = mode_of next_value.0;
         field_is = g.fields i (mode_of next_value.0) (ap (λ (ms : List Mode). slice_get ms i) (sym g.hold) ∙ mode_got g.values i next_value.0 next_value.1);
         right = refl;
-        told = λ none. ap (λ (ss : List Statistic). watch ss (OfAttribute class i)) statistics_same ∙ g.told none i lt;
+        reported = λ none. ap (λ (ss : List Statistic). watch ss (OfAttribute class i)) statistics_same ∙ g.reported none i lt;
       };
       lies = all_get rows from i g.values next_value.0 g.lie next_value.1;
       within = omega (arith, lt, g.within);
@@ -382,7 +382,7 @@ module _ (class : ℕ) (notes : Bool) (from given : ℕ) (rows : TwoRows) (old :
     lie = g.lie;
     within = g.within;
     small = g.small;
-    told = λ none field lt. ap (λ (x : Setting). watch x.statistics (OfAttribute class field)) ((created_fits n mid e).sound.scene.setting ∙ sym g.fits.sound.scene.setting) ∙ g.told none field lt;
+    reported = λ none field lt. ap (λ (x : Setting). watch x.statistics (OfAttribute class field)) ((created_fits n mid e).sound.scene.setting ∙ sym g.fits.sound.scene.setting) ∙ g.reported none field lt;
   }
 
   pub made : (n : ℤ) (mid new : Seen) (q : OkOr (Unit {0}) FaultKind) → made_one class (with_seen g.store old) ≡ Ok (Whole n, with_seen g.store mid) → SettledIn g.store (prepared class (Whole n) g.values t) mid new q → MadeIn g.store class g.values t old new (number_or n q)

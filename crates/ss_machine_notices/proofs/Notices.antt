@@ -41,7 +41,7 @@ use Rattle.ss_machine_instructions.specs.Doing.{Compiled, Ready, NoTick, Comes, 
 use Rattle.ss_machine_instructions.specs.Ways.{stopped, refused_by}
 use Rattle.ss_machine_instructions.specs.Worldly.{Settles, on_where, refused_where}
 use Rattle.ss_machine_notices.specs.Giving.{SettledInWithMemory, MadeIn, Gives}
-use Rattle.ss_machine_instructions.proofs.Placing.{site, stands, suits, small, deep_at, deep_here, calm}
+use Rattle.ss_machine_instructions.proofs.Placing.{site, located, suits, small, deep_at, deep_here, calm}
 use Rattle.ss_machine_instructions.proofs.Calling.{blocked}
 use Rattle.ss_machine_instructions.proofs.Settling.{fine_right, fine_is, store_is, statistics_seen, fails_on}
 use Rattle.ss_machine_notices.proofs.Scheduling.{refuses}
@@ -115,7 +115,7 @@ module _ (w : Compiled) (c : Core) (here : Here) (s : State) (run : Running) (r 
       let b = blocked modes rest t.over (t.modes ∙ block.is) in
       let off : take_off given t.over [] ≡ Some b.taken = ap (λ k. take_off k t.over []) (sym n) ∙ b.is in
       let high : length b.taken.below ≡ h = hold_length b.taken.below rest b.below ∙ block.height in
-      let own = own_is (site w c here s run r) (stands w c here s run r) in
+      let own = own_is (site w c here s run r) (located w c here s run r) in
       let place : here.frame + cell ≡ Low + length b.taken.below = omega (arith, at, high, own) in
       let long = taken_long given t.over [] b.taken off in
       let top : here.frame + cell + given ≡ Low + length t.over = omega (arith, place, long) in
@@ -136,13 +136,13 @@ module _ (w : Compiled) (c : Core) (here : Here) (s : State) (run : Running) (r 
         top = top;
         lie = subst (λ j. AllAt s.rows j b.taken.values) (sym place) parts.values;
         under = parts.below;
-        room = place_within (site w c here s run r) (stands w c here s run r) (here.frame + cell + given) (omega (arith, top, deep, deep_here w c here s run r));
+        room = place_within (site w c here s run r) (located w c here s run r) (here.frame + cell + given) (omega (arith, top, deep, deep_here w c here s run r));
         time_at = ap (slice_get s.rows.numbers) top ∙ all.0;
       }
 
   -- what the notice is given
   abbrev gives_of : (h cell given class : ℕ) (notes : Bool) (modes rest : List Mode) → Spread h cell given modes rest → GivenFit w.program class modes → IsQuietGiven notes class given → Gives class notes (here.frame + cell) given s.rows s.scene
-  gives_of h cell given class notes modes rest z fit told = record {
+  gives_of h cell given class notes modes rest z fit reported = record {
     program = w.program;
     typed = r.compiled.typed;
     modes = r.placed.locals;
@@ -157,7 +157,7 @@ module _ (w : Compiled) (c : Core) (here : Here) (s : State) (run : Running) (r 
     lie = z.lie;
     within = omega (arith, z.room);
     small = let few = r.holds.held.small in omega (arith, z.room, few);
-    told = λ none field lt. ap (λ ss. watch ss (OfAttribute class field)) (statistics_seen w c here s run r) ∙ told none field lt;
+    reported = λ none field lt. ap (λ ss. watch ss (OfAttribute class field)) (statistics_seen w c here s run r) ∙ reported none field lt;
   }
 
   -- how the definition reads the cells
@@ -189,9 +189,9 @@ module _ (w : Compiled) (c : Core) (here : Here) (s : State) (run : Running) (r 
   makes_in class cell given to z = (make_spread class cell given to z).room
 
   abbrev pub make_gives : (class cell given : ℕ) (to : Address) (notes : Bool) → MakesNotice class cell given to → IsQuietGiven notes class given → Gives class notes (here.frame + cell) given s.rows s.scene
-  make_gives class cell given to notes z told =
+  make_gives class cell given to notes z reported =
       let y = subst SuitsHere z.2.2 (suits w c here s run r) in
-      gives_of z.0 cell given class notes y.1 y.5.0 (make_spread class cell given to z) y.4 told
+      gives_of z.0 cell given class notes y.1 y.5.0 (make_spread class cell given to z) y.4 reported
 
   make_acts : (class cell given : ℕ) (to : Address) (z : MakesNotice class cell given to) (t : ℤ) → slice_get s.rows.numbers (here.frame + cell + given) ≡ Some t → act w.code r.placed.line r.placed.instruction c ≡ deliver_with r.placed.line z.2.0 (made_notice class (make_spread class cell given to z).taken.values t c.store) (Whole t ∷ (make_spread class cell given to z).taken.below) c
   make_acts class cell given to z t e =
@@ -217,8 +217,8 @@ module _ (w : Compiled) (c : Core) (here : Here) (s : State) (run : Running) (r 
   make_core class cell given to z t = record c { cells = Whole t ∷ (make_spread class cell given to z).taken.below }
 
   -- the number of the notice is to go to the target, once its time lies in the first of the cells
-  pub make_delivers : (class cell given : ℕ) (to : Address) (notes : Bool) (told : IsQuietGiven notes class given) (z : MakesNotice class cell given to) (t n : ℤ) (e : Seen) → slice_get s.rows.numbers (here.frame + cell + given) ≡ Some t → MadeIn c.store class (make_gives class cell given to notes z told).values t s.scene e (Ok n) → Delivers w (make_core class cell given to z t) r.placed.line (act w.code r.placed.line r.placed.instruction c) here (record s { scene = e; rows = with_number_at s.rows (here.frame + cell) t }) to (as_value (Ok n))
-  make_delivers class cell given to notes told z t n e at_time made =
+  pub make_delivers : (class cell given : ℕ) (to : Address) (notes : Bool) (reported : IsQuietGiven notes class given) (z : MakesNotice class cell given to) (t n : ℤ) (e : Seen) → slice_get s.rows.numbers (here.frame + cell + given) ≡ Some t → MadeIn c.store class (make_gives class cell given to notes z reported).values t s.scene e (Ok n) → Delivers w (make_core class cell given to z t) r.placed.line (act w.code r.placed.line r.placed.instruction c) here (record s { scene = e; rows = with_number_at s.rows (here.frame + cell) t }) to (as_value (Ok n))
+  make_delivers class cell given to notes reported z t n e at_time made =
       let y = subst SuitsHere z.2.2 (suits w c here s run r) in
       let v = make_spread class cell given to z in
       let l = r.placed.line in
@@ -227,7 +227,7 @@ module _ (w : Compiled) (c : Core) (here : Here) (s : State) (run : Running) (r 
       let ew : Elsewhere s.rows rows i = elsewhere_value s.rows i (Whole t) in
       let room = v.room in
       let place = v.place in
-      let under = above_constants (site w c here s run r) (stands w c here s run r) in
+      let under = above_constants (site w c here s run r) (located w c here s run r) in
       let k = length c.store.globals in
       let cells = Whole t ∷ v.taken.below in
       let gives : made_notice class v.taken.values t c.store ≡ Ok (Whole n, with_seen c.store e) = ap (made_notice class v.taken.values t) (store_is w c here s run r) ∙ made in
@@ -275,13 +275,13 @@ module _ (w : Compiled) (c : Core) (here : Here) (s : State) (run : Running) (r 
   makes class cell given to z e rows new result h = calm w c here s run r new result (ap is_due z.2.2) (record { leads = h.leads; ticks = h.ticks; steps = h.steps })
 
   -- or none was made
-  pub makes_not : (class cell given : ℕ) (to : Address) (notes : Bool) (told : IsQuietGiven notes class given) (z : MakesNotice class cell given to) (t : ℤ) (e : Seen) (refused : Refused) (new : State) (result : Option Here) → slice_get s.rows.numbers (here.frame + cell + given) ≡ Some t → MadeIn c.store class (make_gives class cell given to notes z told).values t s.scene e (Err refused) → new ≡ refused_by refused (record s { scene = e }) → result ≡ None → Comes (is_due r.placed.instruction) w r.placed.line (act w.code r.placed.line r.placed.instruction c) s new result
-  makes_not class cell given to notes told z t e (Fault kind) new result at_time made same none =
+  pub makes_not : (class cell given : ℕ) (to : Address) (notes : Bool) (reported : IsQuietGiven notes class given) (z : MakesNotice class cell given to) (t : ℤ) (e : Seen) (refused : Refused) (new : State) (result : Option Here) → slice_get s.rows.numbers (here.frame + cell + given) ≡ Some t → MadeIn c.store class (make_gives class cell given to notes z reported).values t s.scene e (Err refused) → new ≡ refused_by refused (record s { scene = e }) → result ≡ None → Comes (is_due r.placed.instruction) w r.placed.line (act w.code r.placed.line r.placed.instruction c) s new result
+  makes_not class cell given to notes reported z t e (Fault kind) new result at_time made same none =
       let v = make_spread class cell given to z in
       fails_on w c here s run r kind e new result (ap is_due z.2.2)
       (make_acts class cell given to z t at_time ∙ ap (λ q. deliver_with r.placed.line z.2.0 q (Whole t ∷ v.taken.below) c) (ap (made_notice class v.taken.values t) (store_is w c here s run r) ∙ made))
       same none
-  makes_not class cell given to notes told z t e Memory new result at_time made same none =
+  makes_not class cell given to notes reported z t e Memory new result at_time made same none =
       let m = act w.code r.placed.line r.placed.instruction c in
       let l = r.placed.line in
       let s' : State = stopped NoMemory (record s { scene = e }) in
@@ -304,23 +304,23 @@ module _ (w : Compiled) (c : Core) (here : Here) (s : State) (run : Running) (r 
       let y = subst SuitsHere z.2.2 (suits w c here s run r) in
       let v = again_spread class notice cell given z in
       let few : length y.5.0 ≤ w.run.depth = omega (arith, hold_length v.taken.below y.5.0 v.below, taken_long given v.over [] v.taken v.off, hold_length c.cells r.placed.cells r.fits.cells, ap length v.cells, deep_here w c here s run r) in (
-        read_within (site w c here s run r) (stands w c here s run r) z.0 Integer y.5.0 y.5.2.0 notice y.5.2.1 z.1 few,
+        read_within (site w c here s run r) (located w c here s run r) z.0 Integer y.5.0 y.5.2.0 notice y.5.2.1 z.1 few,
         v.room,
       )
 
   abbrev pub again_gives : (class : ℕ) (notice : Address) (cell given : ℕ) (notes : Bool) → Reschedules class notice cell given → IsQuietGiven notes class given → Gives class notes (here.frame + cell) given s.rows s.scene
-  again_gives class notice cell given notes z told =
+  again_gives class notice cell given notes z reported =
       let y = subst SuitsHere z.2.2 (suits w c here s run r) in
-      gives_of z.2.0 cell given class notes y.1 y.5.0 (again_spread class notice cell given z) y.4 told
+      gives_of z.2.0 cell given class notes y.1 y.5.0 (again_spread class notice cell given z) y.4 reported
 
-  pub reschedules : (class : ℕ) (notice : Address) (cell given : ℕ) (notes : Bool) (told : IsQuietGiven notes class given) (z : Reschedules class notice cell given) (n t : ℤ) (e : Seen) (answer : OkOr (Unit {0}) Refused) (new : State) (result : Option Here) → slice_get s.rows.numbers (place_at here.frame notice) ≡ Some n → slice_get s.rows.numbers (here.frame + cell + given) ≡ Some t → SettledInWithMemory c.store (rescheduled class (Whole n) (again_gives class notice cell given notes z told).values t) s.scene e answer → new ≡ refused_where answer (record s { scene = e }) → result ≡ on_where here answer → Comes (is_due r.placed.instruction) w r.placed.line (act w.code r.placed.line r.placed.instruction c) s new result
-  reschedules class notice cell given notes told z n t e answer new result at_notice at_time d same way =
+  pub reschedules : (class : ℕ) (notice : Address) (cell given : ℕ) (notes : Bool) (reported : IsQuietGiven notes class given) (z : Reschedules class notice cell given) (n t : ℤ) (e : Seen) (answer : OkOr (Unit {0}) Refused) (new : State) (result : Option Here) → slice_get s.rows.numbers (place_at here.frame notice) ≡ Some n → slice_get s.rows.numbers (here.frame + cell + given) ≡ Some t → SettledInWithMemory c.store (rescheduled class (Whole n) (again_gives class notice cell given notes z reported).values t) s.scene e answer → new ≡ refused_where answer (record s { scene = e }) → result ≡ on_where here answer → Comes (is_due r.placed.instruction) w r.placed.line (act w.code r.placed.line r.placed.instruction c) s new result
+  reschedules class notice cell given notes reported z n t e answer new result at_notice at_time d same way =
       let l = r.placed.line in
       let is = z.2.2 in
       let y = subst SuitsHere is (suits w c here s run r) in
       let v = again_spread class notice cell given z in
       let vs = v.taken.values in
-      let one = reads (site w c here s run r) (stands w c here s run r) z.0 Integer y.5.0 y.5.2.0 notice v.taken.below (Whole n) y.5.2.1 z.1 v.under v.below (only_number s.rows (place_at here.frame notice) n at_notice) in
+      let one = reads (site w c here s run r) (located w c here s run r) z.0 Integer y.5.0 y.5.2.0 notice v.taken.below (Whole n) y.5.2.1 z.1 v.under v.below (only_number s.rows (place_at here.frame notice) n at_notice) in
       let op : Store → OkOr Store Trouble = rescheduled class (Whole n) vs t in
       let left : Settles c l (act w.code l r.placed.instruction c) here s op = record {
         below = one.below;

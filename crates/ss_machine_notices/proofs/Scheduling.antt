@@ -35,7 +35,7 @@ use Rattle.ss_machine_instructions.specs.Doing.{Compiled, Ready, NoTick, Comes, 
 use Rattle.ss_machine_instructions.specs.Ways.{stopped, faulted_by, on_unless}
 use Rattle.ss_machine_instructions.specs.Worldly.{Settles, on_where, refused_where}
 use Rattle.ss_machine_notices.specs.Giving.{SettledInWithMemory}
-use Rattle.ss_machine_instructions.proofs.Placing.{site, stands, suits, deep_at, deep_here, calm}
+use Rattle.ss_machine_instructions.proofs.Placing.{site, located, suits, deep_at, deep_here, calm}
 use Rattle.ss_machine_instructions.proofs.Delivering.{delivers, deliver_is, number_right}
 use Rattle.ss_machine_instructions.proofs.Programs.{noticed_in}
 use Rattle.ss_machine_instructions.proofs.Settling.{fine_right, store_is, layout_seen, notices_seen, changes_settle, settles, went_on, fails_on}
@@ -50,7 +50,7 @@ module _ (w : Compiled) (c : Core) (here : Here) (s : State) (run : Running) (r 
   when_delivers : (moment : Value → Moment) (y : Operand) (target : Target) (time to : Address) (rest after : List Mode) (n : ℤ) (answer : OkOr ℤ FaultKind) → act w.code r.placed.line r.placed.instruction c ≡ with_value y c.store c.cells (λ v below. deliver r.placed.line target (turned Whole (time_at (moment v) c.store)) below c) → Gives (scope_of w.program w.code r.placed.locals) y Integer r.placed.cells rest → OperandAt w.code w.run.constants r.placed y time → Accepts (scope_of w.program w.code r.placed.locals) target Integer rest after → TargetAt w.code w.run.constants r.placed target to → length after ≤ w.run.depth → slice_get s.rows.numbers (place_at here.frame time) ≡ Some n → time_at (moment (Whole n)) c.store ≡ due answer → Delivers w c r.placed.line (act w.code r.placed.line r.placed.instruction c) here s to (as_value answer)
   when_delivers moment y target time to rest after n answer acts gives at_y accepts at_to deep at_time e =
       let l = r.placed.line in
-      let one = reads (site w c here s run r) (stands w c here s run r) y Integer r.placed.cells rest time c.cells (Whole n) gives at_y r.holds.held.cells r.fits.cells (only_number s.rows (place_at here.frame time) n at_time) in
+      let one = reads (site w c here s run r) (located w c here s run r) y Integer r.placed.cells rest time c.cells (Whole n) gives at_y r.holds.held.cells r.fits.cells (only_number s.rows (place_at here.frame time) n at_time) in
       delivers w c here s run r (as_value answer) to target Integer rest after one.below
       (acts
       ∙ one.is (λ v below. deliver l target (turned Whole (time_at (moment v) c.store)) below c)
@@ -61,7 +61,7 @@ module _ (w : Compiled) (c : Core) (here : Here) (s : State) (run : Running) (r 
   pub at_in : (time to : Address) → From w.code w.run.constants r.placed time (λ y. To w.code w.run.constants r.placed to (λ t. Is w.code w.run.constants r.placed (i.At y t))) → place_at here.frame time < length s.rows.numbers
   at_in time to z =
       let y = subst SuitsHere z.2.2 (suits w c here s run r) in
-      read_within (site w c here s run r) (stands w c here s run r) z.0 Integer r.placed.cells y.0 time y.1 z.1 (deep_here w c here s run r)
+      read_within (site w c here s run r) (located w c here s run r) z.0 Integer r.placed.cells y.0 time y.1 z.1 (deep_here w c here s run r)
 
   pub ats : (time to : Address) (n : ℤ) (answer : OkOr ℤ FaultKind) → From w.code w.run.constants r.placed time (λ y. To w.code w.run.constants r.placed to (λ t. Is w.code w.run.constants r.placed (i.At y t))) → slice_get s.rows.numbers (place_at here.frame time) ≡ Some n → Looks (not_past n) s.scene answer → Delivers w c r.placed.line (act w.code r.placed.line r.placed.instruction c) here s to (as_value answer)
   ats time to n answer z at looks =
@@ -75,7 +75,7 @@ module _ (w : Compiled) (c : Core) (here : Here) (s : State) (run : Running) (r 
   pub in_in : (units to : Address) → From w.code w.run.constants r.placed units (λ y. To w.code w.run.constants r.placed to (λ t. Is w.code w.run.constants r.placed (i.In y t))) → place_at here.frame units < length s.rows.numbers
   in_in units to z =
       let y = subst SuitsHere z.2.2 (suits w c here s run r) in
-      read_within (site w c here s run r) (stands w c here s run r) z.0 Integer r.placed.cells y.0 units y.1 z.1 (deep_here w c here s run r)
+      read_within (site w c here s run r) (located w c here s run r) z.0 Integer r.placed.cells y.0 units y.1 z.1 (deep_here w c here s run r)
 
   pub ins : (units to : Address) (n : ℤ) (answer : OkOr ℤ FaultKind) → From w.code w.run.constants r.placed units (λ y. To w.code w.run.constants r.placed to (λ t. Is w.code w.run.constants r.placed (i.In y t))) → slice_get s.rows.numbers (place_at here.frame units) ≡ Some n → Looks (time_after n) s.scene answer → Delivers w c r.placed.line (act w.code r.placed.line r.placed.instruction c) here s to (as_value answer)
   ins units to n answer z at looks =
@@ -125,10 +125,10 @@ module _ (w : Compiled) (c : Core) (here : Here) (s : State) (run : Running) (r 
   abbrev pub FilesNotice : (class : ℕ) → (notice time : Address) → Type 0
   FilesNotice class notice time = From w.code w.run.constants r.placed notice (λ y. From w.code w.run.constants r.placed time (λ z. Is w.code w.run.constants r.placed (i.FileNotice class y z)))
 
-  pub file_notice_in : (class : ℕ) (notice time : Address) → FilesNotice class notice time → BothWithin (site w c here s run r) (stands w c here s run r) notice time × IsNoticeClass s.scene class
+  pub file_notice_in : (class : ℕ) (notice time : Address) → FilesNotice class notice time → BothWithin (site w c here s run r) (located w c here s run r) notice time × IsNoticeClass s.scene class
   file_notice_in class notice time z =
       let y = subst SuitsHere z.2.2 (suits w c here s run r) in (
-        both_within (site w c here s run r) (stands w c here s run r) z.0 z.2.0 Integer Integer r.placed.cells y.1.0 notice time y.1.1 z.1 z.2.1 (deep_here w c here s run r),
+        both_within (site w c here s run r) (located w c here s run r) z.0 z.2.0 Integer Integer r.placed.cells y.1.0 notice time y.1.1 z.1 z.2.1 (deep_here w c here s run r),
         noticed class y.0,
       )
 
@@ -137,7 +137,7 @@ module _ (w : Compiled) (c : Core) (here : Here) (s : State) (run : Running) (r 
       let l = r.placed.line in
       let is = z.2.2 in
       let y = subst SuitsHere is (suits w c here s run r) in
-      let both = reads_both (site w c here s run r) (stands w c here s run r) z.0 z.2.0 Integer Integer r.placed.cells y.1.0 notice time c.cells (Whole n) (Whole t) y.1.1 z.1 z.2.1 r.holds.held.cells r.fits.cells (only_number s.rows (place_at here.frame notice) n at_notice) (only_number s.rows (place_at here.frame time) t at_time) in
+      let both = reads_both (site w c here s run r) (located w c here s run r) z.0 z.2.0 Integer Integer r.placed.cells y.1.0 notice time c.cells (Whole n) (Whole t) y.1.1 z.1 z.2.1 r.holds.held.cells r.fits.cells (only_number s.rows (place_at here.frame notice) n at_notice) (only_number s.rows (place_at here.frame time) t at_time) in
       let op : Store → OkOr Store Trouble = filed_notice class (Whole n) t in
       let left : Settles c l (act w.code l r.placed.instruction c) here s op = record {
         below = both.below;
@@ -154,7 +154,7 @@ module _ (w : Compiled) (c : Core) (here : Here) (s : State) (run : Running) (r 
   pub cancels_in : (class : ℕ) (notice : Address) → From w.code w.run.constants r.placed notice (λ y. Is w.code w.run.constants r.placed (i.Cancel class y)) → (place_at here.frame notice < length s.rows.numbers) × (class < length s.scene.heap.layout.classes)
   cancels_in class notice z =
       let y = subst SuitsHere z.2 (suits w c here s run r) in (
-        read_within (site w c here s run r) (stands w c here s run r) z.0 Integer r.placed.cells y.1.0 notice y.1.1 z.1 (deep_here w c here s run r),
+        read_within (site w c here s run r) (located w c here s run r) z.0 Integer r.placed.cells y.1.0 notice y.1.1 z.1 (deep_here w c here s run r),
         class_within class y.0,
       )
 
@@ -163,7 +163,7 @@ module _ (w : Compiled) (c : Core) (here : Here) (s : State) (run : Running) (r 
       let l = r.placed.line in
       let is = z.2 in
       let y = subst SuitsHere is (suits w c here s run r) in
-      let one = reads (site w c here s run r) (stands w c here s run r) z.0 Integer r.placed.cells y.1.0 notice c.cells (Whole n) y.1.1 z.1 r.holds.held.cells r.fits.cells (only_number s.rows (place_at here.frame notice) n at) in
+      let one = reads (site w c here s run r) (located w c here s run r) z.0 Integer r.placed.cells y.1.0 notice c.cells (Whole n) y.1.1 z.1 r.holds.held.cells r.fits.cells (only_number s.rows (place_at here.frame notice) n at) in
       let op : Store → OkOr Store Trouble = unscheduled class (Whole n) in
       let left : Settles c l (act w.code l r.placed.instruction c) here s op = record {
         below = one.below;

@@ -77,7 +77,7 @@ pub record Suiting (class field : ℕ) (noted : Bool) (v : Value) (e : Seen) : T
   pub mode : Mode
   pub field_is : field_mode program class field ≡ Some mode
   pub right : mode_of v ≡ mode
-  pub told : noted ≡ false → watch e.statistics (OfAttribute class field) ≡ false
+  pub reported : noted ≡ false → watch e.statistics (OfAttribute class field) ≡ false
 
 -- the value lies at a place
 pub record GivesOne (class field : ℕ) (noted : Bool) (place : ℕ) (rows : TwoRows) (e : Seen) : Type 0 where
@@ -105,4 +105,4 @@ pub record Gives (class : ℕ) (noted : Bool) (from given : ℕ) (rows : TwoRows
   pub lie : AllAt rows from values
   pub within : from + given ≤ length rows.numbers
   pub small : from + given ≤ 2 ^ 64
-  pub told : noted ≡ false → (field : ℕ) → field < given → watch e.statistics (OfAttribute class field) ≡ false
+  pub reported : noted ≡ false → (field : ℕ) → field < given → watch e.statistics (OfAttribute class field) ≡ false

@@ -67,7 +67,7 @@ found_set (z ∷ zs) zero x (suc i) y e = (λ t. absurd (omega (arith, t)), λ t
 found_set (z ∷ zs) (suc k) x zero y e = (λ t. absurd (omega (arith, t)), λ t. e)
 found_set (z ∷ zs) (suc k) x (suc i) y e = let h = found_set zs k x i y e in (λ t. h.0 (omega (arith, t)), λ t. h.1 (λ q. t (ap suc q)))
 
--- what is left of a row from an item on, and behind its end
+-- what is left of a row after an item, and after its end
 pub drop_one : {A : Type 0} (xs : List A) (k : ℕ) (x : A) → slice_get xs k ≡ Some x → drop k xs ≡ x ∷ drop (k + 1) xs
 drop_one [] zero x e = absurd cc
 drop_one [] (suc k) x e = absurd cc
@@ -164,7 +164,7 @@ said_still l m es ss ts entries layout statistics said =
 
 -- ## Ranks
 
--- what the program says of a class of notices stands at its rank
+-- what the program says of a class of notices is found at its rank
 pub ranked_there : (k : ℕ) (es : List Notices) (class : ℕ) (r : Ranked) → ranked_from k es class ≡ Some r → (i : ℕ) × (r.rank ≡ k + i) × (slice_get es i ≡ Some r.said)
 ranked_there k [] class r e = absurd cc
 ranked_there k (n ∷ es) class r e = by (λ e. ranked_there (k + 1) es class r e) (n.class == class) e

@@ -30,7 +30,7 @@ expression-returns-in_ok-from-in-Fetch t c =
     let m = c.variable_mode-mode.result in
     let mode = rw c.deref.ensures.value at c.variable_mode-mode.ensures in
     rw c.in-Fetch.is (put_ok c.put-in-Fetch.result code c.put-in-Fetch.new.self c.args.site.line c.move_of-in-Fetch.result _ c.move_of-in-Fetch.ensures c.put-in-Fetch.ensures.instructions c.put-in-Fetch.ensures.lines
-    (λ is ls. fetch_emitted g g code c.args.site to c.put-in-Fetch.new.self x m from (grows_same g) c.in_ok-from-in-Fetch.ensures (λ f t around stands. variable_known g g x m (grows_same g) mode f t c.args.site around stands) is ls))
+    (λ is ls. fetch_emitted g g code c.args.site to c.put-in-Fetch.new.self x m from (grows_same g) c.in_ok-from-in-Fetch.ensures (λ f t around located. variable_known g g x m (grows_same g) mode f t c.args.site around located) is ls))
 
 pub attribute-returns : goal.attribute-returns
 attribute-returns t c =
@@ -41,7 +41,7 @@ attribute-returns t c =
     let m = c.attribute_mode-mode.result in
     let made = c.attribute_of.ensures ∙ ap (λ k. fetching m k c.in_ok-field.field o.address c.args.to) c.in_ok-class.ensures ∙ ap (λ k. fetching m c.args.class k o.address c.args.to) c.in_ok-field.ensures in
     put_ok c.put.result code c.put.new.self c.args.site.line c.attribute_of.result _ made c.put.ensures.instructions c.put.ensures.lines
-    (λ is ls. attribute_emitted c.args.self.now g c.args.code.now c.args.site c.args.to code c.put.new.self (view_expression of) o g (grows_same g) c.in_ok-entity.ensures ls c.args.class c.args.field m (λ f t around stands. field_known g g c.args.class c.args.field m (grows_same g) c.attribute_mode-mode.ensures f t c.args.site around stands) is)
+    (λ is ls. attribute_emitted c.args.self.now g c.args.code.now c.args.site c.args.to code c.put.new.self (view_expression of) o g (grows_same g) c.in_ok-entity.ensures ls c.args.class c.args.field m (λ f t around located. field_known g g c.args.class c.args.field m (grows_same g) c.attribute_mode-mode.ensures f t c.args.site around located) is)
 
 pub expression-returns-in-Attribute : goal.expression-returns-in-Attribute
 unfolding view_expression

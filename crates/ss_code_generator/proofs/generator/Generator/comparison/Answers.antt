@@ -22,5 +22,5 @@ returns c =
     both_ok c.put.result c.put.ensures.instructions c.put.ensures.lines (λ is ls.
     compared old mid new c.args.code.now c.operand.new.code c.operand-2.new.code c.put.new.self c.args.site c.above.result c.args.skip c.args.relation a (view_expression c.args.second.now) c.in_ok-left.left c.in_ok-right.field-0 m
     c.in_ok-left.ensures c.above.ensures.line c.above.ensures.height c.in_ok-right.ensures
-    (λ f t n around stands typed. mode_found f old new c.args.site t a n m grows mode around stands typed)
+    (λ f t n around located typed. mode_found f old new c.args.site t a n m grows mode around located typed)
     (is ∙ ap (λ (y : Running). c.operand-2.new.code.instructions ++ y ∷ []) c.compare.ensures) ls)

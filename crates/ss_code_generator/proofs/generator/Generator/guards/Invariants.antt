@@ -9,4 +9,4 @@ use Rattle.ss_code_generator.proofs.generator.Generator.guards.Given as goal
 
 abbrev pub invariant-loop-i : goal.invariant-loop-i
 invariant-loop-i l =
-    EmitsAround l.initial.self l.self nothing l.rest l.site l.fn.behind (λ s. Every (λ g. GoodCondition s g.condition) (map view_guard (drop l.i l.guards))) (λ t b. guards_code t (length b + l.more) (map view_guard (drop l.i l.guards)) ++ b)
+    EmitsAround l.initial.self l.self nothing l.rest l.site l.fn.following (λ s. Every (λ g. GoodCondition s g.condition) (map view_guard (drop l.i l.guards))) (λ t b. guards_code t (length b + l.more) (map view_guard (drop l.i l.guards)) ++ b)
