@@ -374,7 +374,7 @@ classes_too_many = refl
 pub sets_enough : refusal_of_declarations (declares (system_owns (line 1) (many_names 64) ∷ class 2 job (belongs_to (many_names 64) ∷ []) ∷ [])) ≡ None
 sets_enough = refl
 
-pub sets_too_many : refusal_of_declarations (declares (system_owns (line 1) (many_names 64) ∷ class 2 job (belongs_to (many_names 65) ∷ []) ∷ [])) ≡ at TooMany 2
+pub sets_too_many : refusal_of_declarations (declares (class 1 job (belongs_to (many_names 65) ∷ []) ∷ system_owns (line 2) (many_names 65) ∷ [])) ≡ at TooMany 1
 sets_too_many = refl
 
 -- each class has its own attributes

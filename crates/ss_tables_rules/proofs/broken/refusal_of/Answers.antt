@@ -3,7 +3,6 @@ use Rattle.std.specs.List.{flat_map, fold}
 use Rattle.std.proofs.lemmas.List.Sums.{fold-append}
 use Rattle.std.proofs.lemmas.Result.{IfOk-weaker}
 use Rattle.ss_tree.specs.View.{view_preamble, view_program, view_section}
-use Rattle.ss_names_declarations.specs.Declarations.{declarations}
 use Rattle.ss_names_declarations.specs.Earliest.{earlier}
 use Rattle.ss_names_declarations.specs.declared.declaration.Declaration.{Declaration}
 use Rattle.ss_names.specs.Table.{Table, clashes, declared}
