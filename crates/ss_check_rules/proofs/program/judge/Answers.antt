@@ -29,8 +29,8 @@ as_many_uses all sections u =
 as_many_locals : (t : Table) (found : List Moded) (sections : List Section) → found ≡ map (locals_of t) (map view_section sections) → length found ≡ length sections
 as_many_locals t found sections l = ap length l ∙ length-map (map view_section sections) (locals_of t) ∙ length-map sections view_section
 
-pub program_judged-requires : goal.program_judged-requires
-program_judged-requires c =
+pub program_judged-found-requires : goal.program_judged-found-requires
+program_judged-found-requires c =
     let sections = c.args.program.now.sections.items in
     let t = c.args.names.now in
     let u = uses_are c.in_ok-all.all.items c.deref.result.now sections c.in_ok-all.ensures c.deref.ensures.value in
