@@ -70,17 +70,25 @@ each_plain_none step [] i d lt h = absurd (omega (arith, lt))
 each_plain_none step (x ∷ xs) zero d lt h = rw h refl
 each_plain_none step (x ∷ xs) (suc i) d lt h = rw (each_plain_none step xs i d (omega (arith, lt)) h) (cons_none (step x))
 
+-- of the item at a place
+pub each_at_fails : {A B : Type 0} (step : A → Option B) (xs : List A) (i : ℕ) (d : A) (e : ResolveError) →
+    i < length xs → Fails e (step (get_or xs i d)) → Fails e (each step xs)
+each_at_fails step xs i d Memory lt h = tt
+each_at_fails step xs i d Unresolved lt h = each_plain_none step xs i d lt h
+
+pub each_at_next : {A B : Type 0} (step : A → Option B) (xs : List A) (i : ℕ) (d : A) (old new : List B) (y : B) →
+    i < length xs → new ≡ old ++ y ∷ [] →
+    each step (take i xs) ≡ Some old → step (get_or xs i d) ≡ Some y → each step (take (i + 1) xs) ≡ Some new
+each_at_next step xs i d old new y lt e h g = rw (take_more xs i d lt, e) (each_more step (take i xs) (get_or xs i d) old y h g)
+
 pub each_plain_fails : {A B : Type 0} (step : A → Option B) (xs : List A) (i : ℕ) (x : A) (e : ResolveError) →
     i < length xs → x ≡ get_or xs i x → Fails e (step x) → Fails e (each step xs)
-each_plain_fails step xs i x Memory lt is h = tt
-each_plain_fails step xs i x Unresolved lt is h = each_plain_none step xs i x lt (subst (λ y. step y ≡ None) is h)
+each_plain_fails step xs i x e lt is h = each_at_fails step xs i x e lt (subst (λ y. Fails e (step y)) is h)
 
 pub each_plain_next : {A B : Type 0} (step : A → Option B) (xs : List A) (i : ℕ) (x : A) (old new : List B) (y : B) →
     i < length xs → x ≡ get_or xs i x → new ≡ old ++ y ∷ [] →
     each step (take i xs) ≡ Some old → step x ≡ Some y → each step (take (i + 1) xs) ≡ Some new
-each_plain_next step xs i x old new y lt is e h g =
-    let taken : take (i + 1) xs ≡ take i xs ++ x ∷ [] = take_more xs i x lt ∙ ap (λ z. take i xs ++ z ∷ []) (sym is) in
-    rw (taken, e) (each_more step (take i xs) x old y h g)
+each_plain_next step xs i x old new y lt is e h g = each_at_next step xs i x old new y lt e h (subst (λ z. step z ≡ Some y) is g)
 
 -- ---- results that are seen through a view
 

@@ -33,8 +33,7 @@ plain_numbers_next step i old new y e h g = rw (add-one, e) (each_more step (upt
 
 -- ---- what each item of a list gives, one after the other
 
-pub listed_next : {A B : Type 0} (f : A → List B) (xs : List A) (i : ℕ) (x : A) (old new : List B) → i < length xs → x ≡ get_or xs i x →
-    old ≡ flat_map f (take i xs) → new ≡ old ++ f x → new ≡ flat_map f (take (i + 1) xs)
-listed_next f xs i x old new lt is h e =
-    let taken : take (i + 1) xs ≡ take i xs ++ x ∷ [] = take_more xs i x lt ∙ ap (λ y. take i xs ++ y ∷ []) (sym is) in
-    e ∙ ap (λ l. l ++ f x) h ∙ flat_map_more f [] (take i xs) x ∙ ap (flat_map f) (sym taken)
+pub listed_next : {A B : Type 0} (f : A → List B) (xs : List A) (i : ℕ) (d : A) (old new : List B) → i < length xs →
+    old ≡ flat_map f (take i xs) → new ≡ old ++ f (get_or xs i d) → new ≡ flat_map f (take (i + 1) xs)
+listed_next f xs i d old new lt h e =
+    e ∙ ap (λ l. l ++ f (get_or xs i d)) h ∙ flat_map_more f [] (take i xs) (get_or xs i d) ∙ ap (flat_map f) (sym (take_more xs i d lt))

@@ -7,7 +7,7 @@ use Rattle.ss_program.specs.Program.{Start, AtEnd, From, After, Head, Numbers, M
 use Rattle.ss_names_uses.specs.declared.used.ClassNeed.TheVariants as needs
 use Rattle.ss_names_scopes.specs.Scopes.{Scope}
 use Rattle.ss_names_meaning.specs.Classes.{class_named, variable_named}
-use Rattle.ss_names_meaning.specs.Answers.{◌>>=◌, each, if_there}
+use Rattle.ss_names_meaning.specs.Answers.{◌>>=◌, if_there}
 use Rattle.ss_names_meaning.specs.Expressions.{expression, set_named}
 use Rattle.ss_names_meaning.specs.Conditions.{condition}
 
