@@ -107,7 +107,7 @@ fn are_numbers_related(relation: Relation, left: i64, right: i64) -> bool
 
 impl State {
     /// UnlessEqual, and the others that compare two numbers.
-    #[inline(always)]
+    #[inline]
     pub fn unless_numbers(
         &self,
         here: Here,
@@ -128,7 +128,7 @@ impl State {
     }
 
     /// UnlessTexts.
-    #[inline(always)]
+    #[inline]
     pub fn unless_texts(
         &self,
         here: Here,
@@ -145,7 +145,7 @@ impl State {
     }
 
     /// UnlessEmpty.
-    #[inline(always)]
+    #[inline]
     pub fn unless_empty(
         &mut self,
         here: Here,
@@ -163,7 +163,7 @@ impl State {
     }
 
     /// UnlessMember.
-    #[inline(always)]
+    #[inline]
     pub fn unless_member(
         &mut self,
         here: Here,
@@ -181,7 +181,7 @@ impl State {
     }
 
     /// Await.
-    #[inline(always)]
+    #[inline]
     pub fn await_event(&mut self, here: Here, skip: u32) -> Option<Here>
         requires { Can here self.old (Instruction.Await skip) }
         ensures { Does here self.old self.new result (Instruction.Await skip) }
@@ -191,7 +191,7 @@ impl State {
     }
 
     /// NextEvent.
-    #[inline(always)]
+    #[inline]
     pub fn next_event(&mut self, here: Here, back: u32) -> Option<Here>
         requires { Can here self.old (Instruction.NextEvent back) }
         ensures { Does here self.old self.new result (Instruction.NextEvent back) }

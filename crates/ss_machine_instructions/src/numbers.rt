@@ -86,7 +86,7 @@ impl State {
     }
 
     /// Move.
-    #[inline(always)]
+    #[inline]
     pub fn move_number(&mut self, here: Here, from: &Address, to: &Address) -> Option<Here>
         requires { Can here self.old (Instruction.Move from.now to.now) }
         ensures { Does here self.old self.new result (Instruction.Move from.now to.now) }
@@ -96,7 +96,7 @@ impl State {
     }
 
     /// MoveText.
-    #[inline(always)]
+    #[inline]
     pub fn move_text(&mut self, here: Here, from: &Address, to: &Address) -> Option<Here>
         requires { Can here self.old (Instruction.MoveText from.now to.now) }
         ensures { Does here self.old self.new result (Instruction.MoveText from.now to.now) }
@@ -106,7 +106,7 @@ impl State {
     }
 
     /// Add, Subtract, Multiply, Quotient, Remainder, Least and Greatest.
-    #[inline(always)]
+    #[inline]
     pub fn calculate(
         &mut self,
         here: Here,
@@ -123,7 +123,7 @@ impl State {
     }
 
     /// Unary.
-    #[inline(always)]
+    #[inline]
     pub fn apply(
         &mut self,
         here: Here,

@@ -325,7 +325,7 @@ fn take_end(
 
 impl State {
     /// FirstMember, LastMember and MemberCount.
-    #[inline(always)]
+    #[inline]
     pub fn of_set(
         &mut self,
         here: Here,
@@ -343,7 +343,7 @@ impl State {
     }
 
     /// Predecessor, Successor and Membership.
-    #[inline(always)]
+    #[inline]
     pub fn of_member(
         &mut self,
         here: Here,
@@ -361,7 +361,7 @@ impl State {
     }
 
     /// FileFirst.
-    #[inline(always)]
+    #[inline]
     pub fn file_first(
         &mut self,
         here: Here,
@@ -380,7 +380,7 @@ impl State {
     }
 
     /// FileLast.
-    #[inline(always)]
+    #[inline]
     pub fn file_last(
         &mut self,
         here: Here,
@@ -399,7 +399,7 @@ impl State {
     }
 
     /// FileRanked.
-    #[inline(always)]
+    #[inline]
     pub fn file_ranked(
         &mut self,
         here: Here,
@@ -418,7 +418,7 @@ impl State {
     }
 
     /// FileBeside, before a member.
-    #[inline(always)]
+    #[inline]
     pub fn file_before(
         &mut self,
         here: Here,
@@ -439,7 +439,7 @@ impl State {
     }
 
     /// FileBeside, after a member.
-    #[inline(always)]
+    #[inline]
     pub fn file_after(
         &mut self,
         here: Here,
@@ -460,7 +460,7 @@ impl State {
     }
 
     /// Remove.
-    #[inline(always)]
+    #[inline]
     pub fn remove(
         &mut self,
         here: Here,
@@ -479,7 +479,7 @@ impl State {
     }
 
     /// RemoveFirst and RemoveLast.
-    #[inline(always)]
+    #[inline]
     pub fn remove_end(
         &mut self,
         here: Here,

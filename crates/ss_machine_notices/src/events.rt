@@ -334,7 +334,7 @@ fn text_of(scene: &Scene, class: usize, field: usize, notice: i64) -> Result<Alp
 }
 
 // An attribute of a notice that is a number goes to its place.
-#[inline(always)]
+#[inline]
 fn read_number(scene: &Scene, rows: &mut Rows, what: Giving, field: usize) -> Result<(), FaultKind>
     requires class { what.class < length scene.now.heap.layout.classes }
     requires mode { slice_get (modes_of scene.now.heap.layout what.class) field ≡ Some Integer }
@@ -352,7 +352,7 @@ fn read_number(scene: &Scene, rows: &mut Rows, what: Giving, field: usize) -> Re
 }
 
 // One that is a text.
-#[inline(always)]
+#[inline]
 fn read_text(scene: &Scene, rows: &mut Rows, what: Giving, field: usize) -> Result<(), FaultKind>
     requires class { what.class < length scene.now.heap.layout.classes }
     requires mode { slice_get (modes_of scene.now.heap.layout what.class) field ≡ Some AlphaMode }
@@ -432,7 +432,7 @@ fn settled(state: &mut State, here: Here, answer: Result<(), Refused>) -> Option
 }
 
 /// At.
-#[inline(always)]
+#[inline]
 pub fn time_at(state: &mut State, here: Here, time: &Address, to: &Address) -> Option<Here>
     requires { Can here state.old (Instruction.At time.now to.now) }
     ensures { Does here state.old state.new result (Instruction.At time.now to.now) }
@@ -443,7 +443,7 @@ pub fn time_at(state: &mut State, here: Here, time: &Address, to: &Address) -> O
 }
 
 /// In.
-#[inline(always)]
+#[inline]
 pub fn time_in(state: &mut State, here: Here, units: &Address, to: &Address) -> Option<Here>
     requires { Can here state.old (Instruction.In units.now to.now) }
     ensures { Does here state.old state.new result (Instruction.In units.now to.now) }
@@ -454,7 +454,7 @@ pub fn time_in(state: &mut State, here: Here, units: &Address, to: &Address) -> 
 }
 
 /// MakeNotice.
-#[inline(always)]
+#[inline]
 pub fn make_notice(state: &mut State, here: Here, values: Values, to: &Address) -> Option<Here>
     requires { Can here state.old (Instruction.MakeNotice values.class values.cell values.count to.now values.noted) }
     ensures { Does here state.old state.new result (Instruction.MakeNotice values.class values.cell values.count to.now values.noted) }
@@ -483,7 +483,7 @@ pub fn make_notice(state: &mut State, here: Here, values: Values, to: &Address) 
 }
 
 /// FileNotice.
-#[inline(always)]
+#[inline]
 pub fn file_notice(
     state: &mut State,
     here: Here,
@@ -501,7 +501,7 @@ pub fn file_notice(
 }
 
 /// Reschedule.
-#[inline(always)]
+#[inline]
 pub fn reschedule(state: &mut State, here: Here, values: Values, notice: &Address) -> Option<Here>
     requires { Can here state.old (Instruction.Reschedule values.class notice.now values.cell values.count values.noted) }
     ensures { Does here state.old state.new result (Instruction.Reschedule values.class notice.now values.cell values.count values.noted) }
@@ -527,7 +527,7 @@ pub fn reschedule(state: &mut State, here: Here, values: Values, notice: &Addres
 }
 
 /// Cancel.
-#[inline(always)]
+#[inline]
 pub fn cancel(state: &mut State, here: Here, class: u32, notice: &Address) -> Option<Here>
     requires { Can here state.old (Instruction.Cancel class notice.now) }
     ensures { Does here state.old state.new result (Instruction.Cancel class notice.now) }
@@ -633,7 +633,7 @@ fn begin_event(
 }
 
 /// TakeEvent.
-#[inline(always)]
+#[inline]
 pub fn take_event(state: &mut State, here: Here, events: &[Entry], cell: u32) -> Option<Here>
     requires { CanWhere (λ w. events.now ≡ w.run.events) here state.old (Instruction.TakeEvent cell) }
     ensures { DoesWhere (λ w. events.now ≡ w.run.events) here state.old state.new result (Instruction.TakeEvent cell) }
