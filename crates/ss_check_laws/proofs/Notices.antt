@@ -1,5 +1,5 @@
 -- SCHEDULE, CANCEL and RESET.
-use Rattle.std.proofs.Common.{◌≡◌, ℕ, ◌<◌, ◌≤◌, Bool, true, List, ◌++◌, length, get_or, take, Option, Some, None, is_some, nat_le, option_map, [], refl, sym, ap, subst, arith, ◌∙◌, le-leb, leb-true}
+use Rattle.std.proofs.Common.{◌≡◌, ℕ, ◌<◌, ◌≤◌, Bool, true, false, List, ◌++◌, length, get_or, take, Option, Some, None, is_some, nat_le, option_map, [], refl, sym, ap, subst, arith, ◌∙◌, le-leb, leb-true}
 use Rattle.std.specs.Prelude.{slice_get}
 use Rattle.std.proofs.lemmas.Option.{slice_get_within}
 use Rattle.ss_base.specs.declared.layout.ClassKind.{ClassKind}

@@ -25,8 +25,8 @@ module _ (s : Scope) where
       followed (head_small s over) (λ h p. followed (each_small (phrase_small s) (phrases_of over)) (λ ps q. omega (arith, own_and_phrases over)))
   loop_small line (guarded guards) body = followed (each_small (guard_small s) guards) (λ gs p. omega arith)
 
-  find_small : (line : Line) (over : HeadTree) (found none : Block) → Within statement_nodes (1 + tree.head_nodes over + block_nodes found + block_nodes none) (find line s over found none)
-  find_small line over found none =
+  find_small : (line : Line) (over : HeadTree) (found missing : Block) → Within statement_nodes (1 + tree.head_nodes over + block_nodes found + block_nodes missing) (find line s over found missing)
+  find_small line over found missing =
       followed (head_small s over) (λ h p. followed (each_small (phrase_small s) (phrases_of over)) (λ ps q. omega (arith, own_and_phrases over)))
 
   find_by_small : (o : FindOutcome) (line : Line) (over : HeadTree) (first second : Block) → Within statement_nodes (1 + tree.head_nodes over + block_nodes first + block_nodes second) (find_by o line s over first second)
