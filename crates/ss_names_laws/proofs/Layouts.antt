@@ -18,7 +18,7 @@ use Rattle.ss_names_declarations.specs.Firsts.{value_for}
 use Rattle.ss_names_declarations.proofs.Entries.{there, value_at}
 use Rattle.ss_names.specs.declared.entry.Attribute.{Attribute}
 use Rattle.ss_names.specs.declared.entry.Set.{Set}
-use Rattle.ss_names.specs.Entries.{attribute_after, attribute_classes, attributes, attributes_after, attributes_of_class, classes, fields, mode_of_name, set_names, set_of, sets}
+use Rattle.ss_names.specs.Entries.{attribute_after, attribute_classes, attributes, attributes_after, attributes_of_class, classes, fields, mode_of_name, set_names, set_of}
 use Rattle.ss_names.specs.Table.{Table, table}
 use Rattle.ss_tables_rules.specs.Broken.{refusal_of_declarations}
 use Rattle.ss_names_meaning.specs.Answers.{◌>>=◌, each, upto}
