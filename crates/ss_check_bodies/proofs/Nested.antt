@@ -1,5 +1,5 @@
 -- Statements that have statements in them, by lists.
-use Rattle.std.proofs.Common.{◌≡◌, ℕ, zero, suc, ◌+◌, ◌*◌, ◌<◌, ◌≤◌, List, [], ◌∷◌, ◌++◌, length, get_or, take, map, Option, Some, None, refl, sym, ap, subst, ◌∙◌, arith}
+use Rattle.std.proofs.Common.{◌≡◌, ℕ, zero, suc, ◌+◌, ◌<◌, List, [], ◌∷◌, ◌++◌, length, get_or, take, map, Option, Some, None, refl, sym, ap, subst, ◌∙◌, arith}
 use Rattle.std.proofs.lemmas.List.{take_more, map-append}
 use Rattle.std.specs.Global.{Vec}
 use Rattle.ss_base.specs.declared.line.Line.{Line}
@@ -11,7 +11,6 @@ use Rattle.ss_tree.specs.declared.statement.FindOutcome.{FindOutcome}
 use Rattle.ss_tree.specs.declared.statement.Statement.{Statement as Parsed}
 use Rattle.ss_tree.specs.declared.statement.Statement.TheVariants as parsed
 use Rattle.ss_tree.specs.Tree.{StatementTree, statement_row, HeadTree, LoopHeadTree, guarded, GuardTree}
-use Rattle.ss_tree.specs.Nodes.{statement_nodes, statements_nodes}
 use Rattle.ss_tree.specs.View.{view_condition, view_expression, view_head, view_loop_head, view_statement}
 use Rattle.ss_tree.specs.Views.{view_if_made, view_loop_made, view_find_if_made}
 use Rattle.ss_program.specs.declared.condition.Condition.{Condition as ConditionMade}
@@ -21,7 +20,7 @@ use Rattle.ss_program.specs.declared.head.Phrase.{Phrase}
 use Rattle.ss_program.specs.declared.statement.Item.{Item as ItemMade}
 use Rattle.ss_program.specs.declared.statement.Statement.{Statement as Made}
 use Rattle.ss_program.specs.declared.statement.Statement.TheVariants as made
-use Rattle.ss_program.specs.Program.{Statement, If, Block, Done, Then}
+use Rattle.ss_program.specs.Program.{Statement, Block, Done, Then}
 use Rattle.ss_program.specs.View.{block_of, view_body, view_condition as condition_seen, view_guard as guard_seen, view_head as head_seen, view_item, view_phrase as phrase_seen, view_statement as view_made}
 use Rattle.ss_program.specs.Views.{view_if_made as if_seen, view_loop_made as loop_seen, view_for_made as for_seen, view_find_made as find_seen}
 use Rattle.ss_names_meaning.specs.declared.error.ResolveError.{ResolveError}
@@ -32,7 +31,7 @@ use Rattle.ss_names_meaning.specs.Expressions.{item}
 use Rattle.ss_names_meaning.specs.Conditions.{condition}
 use Rattle.ss_names_meaning.specs.Heads.{guard, head, resolved_phrase, phrases_of}
 use Rattle.ss_names_meaning.specs.Statements.{find, find_by, for_over, if_over, resolved_loop, simple_statement, statement, statements}
-use Rattle.ss_names_meaning.proofs.Steps.{none_after}
+use Rattle.ss_names_meaning.proofs.Steps.{fails_then, none_after}
 
 -- ---- loops around resolved statements
 
@@ -66,6 +65,13 @@ print_made c t line v ps es qs xs ls is e f h g =
     let lines : lines_of ls ≡ ps.items = g ∙ f in
     rw (is, shown, lines) refl
 
+pub print_fails : (c : Scope) (t : Parsed) (line : Line) (v : Vec ExpressionParsed) (ps : Vec (List ℕ)) (es : List ExpressionParsed) (e : ResolveError) →
+    t ≡ parsed.Print line v ps → es ≡ v.items → Fails e (each (item c) (map view_expression es)) → Fails e (simple_statement c (view_statement t))
+unfolding simple_statement view_statement
+print_fails c t line v ps es e is f h =
+    let shown : Fails e (each (item c) (map view_expression v.items)) = subst (λ l. Fails e (each (item c) (map view_expression l))) f h in
+    rw is (fails_then (each (item c) (map view_expression v.items)) _ e shown)
+
 -- FIND without an IF
 pub find_is : (c : Scope) (t : Parsed) (line : Line) (x : HeadParsed) (a b : Vec Made) → t ≡ parsed.Find line x → a.items ≡ [] → b.items ≡ [] →
     find line c (view_head x) (view_body a.items) (view_body b.items) ≡ simple_statement c (view_statement t)
@@ -95,55 +101,6 @@ pub find_if_is : (c : Scope) (t : Parsed) (line : Line) (x : HeadParsed) (o : Fi
     statement c (view_statement t) ≡ (statements c (statement_row (map view_statement ts)) >>= λ p. statements c (statement_row (map view_statement us)) >>= λ q. find_by o line c (view_head x) p q)
 unfolding statement
 find_if_is c t line x o a b ts us is e f = rw (is, e, f) (ap (statement c) (view_find_if_made line x o a b))
-
--- ---- how large the bodies in a statement are
-
-pub if_first_less : (t : Parsed) (line : Line) (x : ConditionParsed) (a b : Vec Parsed) (ts : List Parsed) → t ≡ parsed.If line x a b → ts ≡ a.items →
-    2 * statements_nodes (statement_row (map view_statement ts)) + 1 < 2 * statement_nodes (view_statement t)
-if_first_less t line x a b ts is e =
-    let f = ap statement_nodes (ap view_statement is ∙ view_if_made line x a b) in
-    let g = ap (λ l. statements_nodes (statement_row (map view_statement l))) e in
-    omega (arith, f, g)
-
-pub if_second_less : (t : Parsed) (line : Line) (x : ConditionParsed) (a b : Vec Parsed) (ts : List Parsed) → t ≡ parsed.If line x a b → ts ≡ b.items →
-    2 * statements_nodes (statement_row (map view_statement ts)) + 1 < 2 * statement_nodes (view_statement t)
-if_second_less t line x a b ts is e =
-    let f = ap statement_nodes (ap view_statement is ∙ view_if_made line x a b) in
-    let g = ap (λ l. statements_nodes (statement_row (map view_statement l))) e in
-    omega (arith, f, g)
-
-pub find_if_first_less : (t : Parsed) (line : Line) (x : HeadParsed) (o : FindOutcome) (a b : Vec Parsed) (ts : List Parsed) → t ≡ parsed.FindIf line x o a b → ts ≡ a.items →
-    2 * statements_nodes (statement_row (map view_statement ts)) + 1 < 2 * statement_nodes (view_statement t)
-find_if_first_less t line x o a b ts is e =
-    let f = ap statement_nodes (ap view_statement is ∙ view_find_if_made line x o a b) in
-    let g = ap (λ l. statements_nodes (statement_row (map view_statement l))) e in
-    omega (arith, f, g)
-
-pub find_if_second_less : (t : Parsed) (line : Line) (x : HeadParsed) (o : FindOutcome) (a b : Vec Parsed) (ts : List Parsed) → t ≡ parsed.FindIf line x o a b → ts ≡ b.items →
-    2 * statements_nodes (statement_row (map view_statement ts)) + 1 < 2 * statement_nodes (view_statement t)
-find_if_second_less t line x o a b ts is e =
-    let f = ap statement_nodes (ap view_statement is ∙ view_find_if_made line x o a b) in
-    let g = ap (λ l. statements_nodes (statement_row (map view_statement l))) e in
-    omega (arith, f, g)
-
-pub loop_body_less : (t : Parsed) (line : Line) (x : LoopHead) (a : Vec Parsed) (ts : List Parsed) → t ≡ parsed.Loop line x a → ts ≡ a.items →
-    2 * statements_nodes (statement_row (map view_statement ts)) + 1 < 2 * statement_nodes (view_statement t)
-loop_body_less t line x a ts is e =
-    let f = ap statement_nodes (ap view_statement is ∙ view_loop_made line x a) in
-    let g = ap (λ l. statements_nodes (statement_row (map view_statement l))) e in
-    omega (arith, f, g)
-
-part_of_row : (xs : List Parsed) (i : ℕ) (d : Parsed) → i < length xs →
-    statement_nodes (view_statement (get_or xs i d)) ≤ statements_nodes (statement_row (map view_statement xs))
-part_of_row [] i d lt = absurd (omega (arith, lt))
-part_of_row (x ∷ xs) zero d lt = omega arith
-part_of_row (x ∷ xs) (suc i) d lt = omega (arith, part_of_row xs i d (omega (arith, lt)))
-
-pub statement_less : (xs : List Parsed) (i : ℕ) (x : Parsed) → i < length xs → x ≡ get_or xs i x →
-    2 * statement_nodes (view_statement x) < 2 * statements_nodes (statement_row (map view_statement xs)) + 1
-statement_less xs i x lt is =
-    let f = ap (λ y. statement_nodes (view_statement y)) is in
-    omega (arith, f, part_of_row xs i x lt)
 
 -- ---- statements one after the other
 

@@ -2,7 +2,7 @@
 use Rattle.std.proofs.Common.{◌≡◌, Bool, true, false, Option, Some, None, Result, Ok, Err, ap, subst}
 use Rattle.ss_names_meaning.specs.declared.error.ResolveError.{ResolveError}
 use Rattle.ss_names_meaning.specs.declared.error.ResolveError.TheVariants.{Memory, Unresolved}
-use Rattle.ss_names_meaning.specs.Answers.{Gives, where_holds}
+use Rattle.ss_names_meaning.specs.Answers.{Fails, Gives, where_holds}
 
 -- ---- another view
 
@@ -23,3 +23,7 @@ where_seen view false x r h = seen view r None h
 -- what was made next
 pub next_made : {B Y : Type 0} (w : B → Y) (r : Result B ResolveError) (found : Option Y) (q : B) → Gives w r found → r ≡ Ok q → found ≡ Some (w q)
 next_made w r found q h e = subst (λ z. Gives w z found) e h
+
+-- what was made next failed
+pub next_failed : {B Y : Type 0} (w : B → Y) (r : Result B ResolveError) (found : Option Y) (e : ResolveError) → Gives w r found → r ≡ Err e → Fails e found
+next_failed w r found e h is = subst (λ z. Gives w z found) is h

@@ -284,7 +284,7 @@ call_without = refl
 -- READ RANK
 pub read_rank :
     statement in_main (read_statement (line 20) (named_plainly (codes "RANK") ∷ [])) ≡
-    Some (Read (line 20) (record { place = ToAttribute 1 0 (Fetch (Global 2)); mode = Integer } ∷ []))
+    Some (Read (line 20) (record { place = ToAttribute 1 0 (Fetch (Global 2)); mode = modes.Integer } ∷ []))
 unfolding statement simple_statement subscript each
 read_rank = refl
 

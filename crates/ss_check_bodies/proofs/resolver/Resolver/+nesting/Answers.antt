@@ -1,11 +1,8 @@
-use Rattle.std.proofs.Common.{◌+◌, ◌*◌, ◌<◌, map, refl, subst}
-use Rattle.ss_tree.specs.Nodes.{statement_nodes, statements_nodes}
-use Rattle.ss_tree.specs.Tree.{statement_row}
-use Rattle.ss_tree.specs.View.{view_statement}
+use Rattle.std.proofs.Common.{refl}
 use Rattle.ss_program.specs.View.{view_statement as view_resolved}
 use Rattle.ss_names_meaning.proofs.Steps.{failed, fails_then}
 use Rattle.ss_check_bodies.specs.Results.{scope_in}
-use Rattle.ss_check_bodies.proofs.Nested.{if_first_less, if_second_less, find_if_first_less, find_if_second_less, loop_body_less, statement_less, if_is, loop_is, find_if_is, no_statements, statements_fail, statements_next}
+use Rattle.ss_check_bodies.proofs.Nested.{if_is, loop_is, find_if_is, no_statements, statements_fail, statements_next}
 use Rattle.ss_check_bodies.proofs.resolver.Resolver.+nesting.Goals as goal
 
 pub resolve_statement-returns-in_err-first-in-If : goal.resolve_statement-returns-in_err-first-in-If
@@ -47,24 +44,6 @@ pub resolve_statement-returns-in_ok-first-in-Loop : goal.resolve_statement-retur
 resolve_statement-returns-in_ok-first-in-Loop t c =
     rw (loop_is (scope_in c.args.self.now) c.args.tree.now c.in-Loop.line c.in-Loop.head c.in-Loop.body c.deref-in-Loop.result.now c.in-Loop.is c.deref-in-Loop.ensures.value, c.in_ok-first-in-Loop.ensures)
     c.resolve_loop.ensures
-
-pub resolve_statement-resolve_body-requires : goal.resolve_statement-resolve_body-requires
-resolve_statement-resolve_body-requires t c κs b = (subst (λ n. 2 * statements_nodes (statement_row (map view_statement c.deref.result.now)) + 1 < n) c.decreases (if_first_less c.args.tree.now c.in-If.line c.in-If.condition c.in-If.then c.in-If.otherwise c.deref.result.now c.in-If.is c.deref.ensures.value), b)
-
-pub resolve_statement-resolve_body-requires-in-If : goal.resolve_statement-resolve_body-requires-in-If
-resolve_statement-resolve_body-requires-in-If t c κs b = (subst (λ n. 2 * statements_nodes (statement_row (map view_statement c.deref-in-If.result.now)) + 1 < n) c.decreases (if_second_less c.args.tree.now c.in-If.line c.in-If.condition c.in-If.then c.in-If.otherwise c.deref-in-If.result.now c.in-If.is c.deref-in-If.ensures.value), b)
-
-pub resolve_statement-resolve_body-requires-in-FindIf : goal.resolve_statement-resolve_body-requires-in-FindIf
-resolve_statement-resolve_body-requires-in-FindIf t c κs b = (subst (λ n. 2 * statements_nodes (statement_row (map view_statement c.deref-in-FindIf.result.now)) + 1 < n) c.decreases (find_if_first_less c.args.tree.now c.in-FindIf.line c.in-FindIf.head c.in-FindIf.outcome c.in-FindIf.then c.in-FindIf.otherwise c.deref-in-FindIf.result.now c.in-FindIf.is c.deref-in-FindIf.ensures.value), b)
-
-pub resolve_statement-resolve_body-requires-in-FindIf-2 : goal.resolve_statement-resolve_body-requires-in-FindIf-2
-resolve_statement-resolve_body-requires-in-FindIf-2 t c κs b = (subst (λ n. 2 * statements_nodes (statement_row (map view_statement c.deref-in-FindIf-2.result.now)) + 1 < n) c.decreases (find_if_second_less c.args.tree.now c.in-FindIf.line c.in-FindIf.head c.in-FindIf.outcome c.in-FindIf.then c.in-FindIf.otherwise c.deref-in-FindIf-2.result.now c.in-FindIf.is c.deref-in-FindIf-2.ensures.value), b)
-
-pub resolve_statement-resolve_body-requires-in-Loop : goal.resolve_statement-resolve_body-requires-in-Loop
-resolve_statement-resolve_body-requires-in-Loop t c κs b = (subst (λ n. 2 * statements_nodes (statement_row (map view_statement c.deref-in-Loop.result.now)) + 1 < n) c.decreases (loop_body_less c.args.tree.now c.in-Loop.line c.in-Loop.head c.in-Loop.body c.deref-in-Loop.result.now c.in-Loop.is c.deref-in-Loop.ensures.value), b)
-
-pub resolve_body-resolve_statement-requires : goal.resolve_body-resolve_statement-requires
-resolve_body-resolve_statement-requires t c κs b = (subst (λ n. 2 * statement_nodes (view_statement c.tree-item.result) < n) c.decreases (statement_less c.args.trees.now c.loop-tree.tree-index c.tree-item.result c.loop-tree-test.true c.tree-item.is), b)
 
 pub resolve_body-loop-tree-init : goal.resolve_body-loop-tree-init
 resolve_body-loop-tree-init t c =

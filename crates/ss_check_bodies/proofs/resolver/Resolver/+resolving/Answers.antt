@@ -1,5 +1,4 @@
 use Rattle.std.proofs.Common.{refl, subst}
-use Rattle.ss_tree.specs.View.{view_expression}
 use Rattle.ss_program.specs.View.{view_expression as view_resolved, view_option}
 use Rattle.ss_program.specs.Views.{with_operation}
 use Rattle.std.specs.List.{fold}
