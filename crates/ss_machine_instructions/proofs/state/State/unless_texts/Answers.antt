@@ -18,4 +18,4 @@ on_if-requires c = let z = c.requires in jump_small z.0 z.1 c.args.here c.args.s
 
 pub returns : goal.returns
 returns c = λ w core r.
-    compares w core c.args.here c.args.self.now (Runs c.args.left.now c.args.right.now c.args.skip c.args.relation) r Alpha c.args.relation c.args.left.now c.args.right.now c.args.skip (Text c.text.result) (Text c.text-2.result) c.are_related-holds.result c.on_if.result r.runs.carries (only_text c.args.self.now.rows (place_at c.args.here.frame c.args.left.now) c.text.result c.text.ensures) (only_text c.args.self.now.rows (place_at c.args.here.frame c.args.right.now) c.text-2.result c.text-2.ensures) c.are_related-holds.ensures c.on_if.ensures
+    compares w core c.args.here c.args.self.now (Runs c.args.left.now c.args.right.now c.args.skip c.args.relation) r Alpha c.args.relation c.args.left.now c.args.right.now c.args.skip (Text c.text.result) (Text c.text-2.result) c.are_texts_related-holds.result c.on_if.result r.runs.carries (only_text c.args.self.now.rows (place_at c.args.here.frame c.args.left.now) c.text.result c.text.ensures) (only_text c.args.self.now.rows (place_at c.args.here.frame c.args.right.now) c.text-2.result c.text-2.ensures) c.are_texts_related-holds.ensures c.on_if.ensures
