@@ -19,7 +19,7 @@ done-requires c = let z = c.requires in next_small z.0 z.1 c.args.here c.args.st
 pub returns : goal.returns
 returns c = λ w core r.
     let s = c.args.state.now in let n = c.number-notice.result in
-    let e = c.cancel-answer.new.state in let q = c.cancel-answer.result in
+    let e = c.cancel-answer.new.self in let q = c.cancel-answer.result in
     let same : to_z w64 (of_z w64 n) ≡ n = search rules in
     let gone = subst (λ (x : ℤ). Changes (unscheduled c.args.class (Whole x)) s.scene e q) same c.cancel-answer.ensures in
     cancels w core c.args.here s (Runs c.args.class c.args.notice.now) r c.args.class c.args.notice.now n e q c.done.new.self c.done.result r.runs.carries c.number-notice.ensures gone c.done.ensures.state c.done.ensures.way
