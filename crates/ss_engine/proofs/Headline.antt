@@ -14,7 +14,7 @@ use Rattle.ss_code_instructions.specs.Running.{Underway, Ends, Behaves, start, s
 use Rattle.ss_code_instructions.specs.Translation.{code_of}
 use Rattle.ss_code_instructions.specs.Laws.{EndingsStay, Grows, HasShape, OnTheWay, OneTickFewer, Pauses, Prefixes, StepsGoOn}
 use Rattle.ss_machine_instructions.specs.Doing.{Compiled}
-use Rattle.ss_machine.specs.Situations.{Situation, IsOf, ForEach}
+use Rattle.ss_machine.specs.Situations.{Situation, IsOf}
 use Rattle.ss_machine.specs.declared.stop.Stop.{Stop}
 use Rattle.ss_machine.specs.declared.stop.Stop.TheVariants.{Ended, Fault, Paused, Memory, Output, Input, Failed}
 use Rattle.ss_machine.specs.Start.{IsAtStart}

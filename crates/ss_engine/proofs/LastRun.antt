@@ -5,7 +5,6 @@ use Rattle.ss_machine.specs.declared.stop.Stop.{Stop}
 use Rattle.ss_machine.specs.declared.stop.Stop.TheVariants.{Paused}
 use Rattle.ss_engine.specs.declared.outcome.Outcome.TheVariants.{Stopped}
 use Rattle.ss_engine.specs.declared.session.Session.{Session}
-use Rattle.ss_engine.specs.Accepting.{Compiles}
 use Rattle.ss_engine.specs.Headline.{Simulated, handed_out}
 use Rattle.ss_engine.specs.LastRun.{LastRun, runs_of}
 use Rattle.ss_engine.specs.Sessions.{HasRun, WasRun, session_machine, session_reader, session_writer, last_stop}

@@ -9,11 +9,10 @@ use Rattle.ss_program.specs.WellTyped.{WellTyped}
 use Rattle.ss_check.specs.Checking.{program_of}
 use Rattle.ss_check.specs.ProgramLaws.{ProgramsResolve}
 use Rattle.ss_meaning.specs.Laws.{NeverWrong}
-use Rattle.ss_meaning.specs.Meaning.{Paused, Run, WentWrong, meaning}
+use Rattle.ss_meaning.specs.Meaning.{Run, WentWrong, meaning}
 use Rattle.ss_code_instructions.specs.Laws.{EndingsStay, Grows, Prefixes}
 use Rattle.ss_parse.specs.Openers.{nesting_limit}
 use Rattle.ss_engine.specs.Accepting.{IsProgramOf}
-use Rattle.ss_engine.specs.Headline.{IsMeaning}
 use Rattle.ss_engine.specs.Laws.{OneProgram, OneMeaning, EachHasOne, ProgramsAreTyped, NeverGoesWrong, ReportsGrow, TextEndingsStay}
 
 same_program : (p q : Program) → Some p ≡ Some q → p ≡ q
