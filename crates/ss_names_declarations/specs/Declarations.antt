@@ -2,10 +2,11 @@
 use Rattle.std.specs.Prelude.{ℕ, ◌+◌, List, [], ◌∷◌, ◌++◌, map, length, Option, Some, None}
 use Rattle.std.specs.List.{flat_map}
 use Rattle.ss_base.specs.declared.line.Line.{Line}
+use Rattle.ss_base.specs.declared.layout.ClassKind.TheVariants.{Notice}
 use Rattle.ss_tree.specs.Names.{NameBytes}
 use Rattle.ss_tree.specs.declared.preamble.Key.{Key}
+use Rattle.ss_tree.specs.declared.preamble.Mode.{Mode}
 use Rattle.ss_tree.specs.declared.preamble.Statistic.{Statistic as StatisticTree}
-use Rattle.ss_base.specs.declared.layout.ClassKind.TheVariants.{Notice}
 use Rattle.ss_tree.specs.Tree.{ClauseTree, has, owns, belongs_to, OrderTree, fifo, lifo, ranked, PreambleTree, permanent_entities, temporary_entities, event_notices, every, normally, system_owns, define_variables, define_sets, priority_order, break_ties, statistics, DefinitionTree, SectionKindTree, main, routine, event, SectionTree, ProgramTree}
 use Rattle.ss_names_declarations.specs.declared.declaration.SetRule.{SetRule}
 use Rattle.ss_names_declarations.specs.declared.declaration.SetRule.TheVariants.{Fifo, Lifo, Ranked}
@@ -13,13 +14,64 @@ use Rattle.ss_names_declarations.specs.declared.declaration.Declared.{Declared}
 use Rattle.ss_names_declarations.specs.declared.declaration.Declared.TheVariants.{Normally, Class, Attribute, Owner, Member, Variable, Order, RankKey, PriorityOrder, Priority, Ties, TieKey, Subject, Statistic, Main, Routine, Event, Parameter, Local}
 use Rattle.ss_names_declarations.specs.declared.declaration.Declaration.{Declaration}
 
+-- ---- single declarations
+
+abbrev pub at_line : Line → Declared → Declaration
+at_line line what = record { line = line; what = what }
+
+-- an attribute of a class
+abbrev pub attribute : Line → NameBytes → NameBytes → Declaration
+attribute line class name = at_line line (Attribute name class)
+
+-- a set of a class, or of THE SYSTEM
+abbrev pub owned_set : Line → Option NameBytes → NameBytes → Declaration
+owned_set line class name = at_line line (Owner name class)
+
+-- a set that the entities of a class may belong to
+abbrev pub member_set : Line → NameBytes → NameBytes → Declaration
+member_set line class name = at_line line (Member name class)
+
+-- a class of notices after INCLUDE
+abbrev pub notice : Line → NameBytes → Declaration
+notice line name = at_line line (Class name Notice)
+
+abbrev pub variable : Line → Mode → NameBytes → Declaration
+variable line mode name = at_line line (Variable name mode)
+
+-- a set that the DEFINE of this number orders
+abbrev pub ordered_set : Line → SetRule → ℕ → NameBytes → Declaration
+ordered_set line rule number name = at_line line (Order name rule number)
+
+-- a key of the DEFINE of this number
+abbrev pub rank_key : Line → ℕ → Key → Declaration
+rank_key line number key = at_line line (RankKey key.name key.high number)
+
+-- a class in the priority order
+abbrev pub priority : Line → NameBytes → Declaration
+priority line name = at_line line (Priority name)
+
+-- a key for the ties of a class
+abbrev pub tie_key : Line → NameBytes → Key → Declaration
+tie_key line class key = at_line line (TieKey class key.name key.high)
+
+abbrev pub statistic : Line → NameBytes → StatisticTree → Declaration
+statistic line subject s = at_line line (Statistic s.name s.kind subject)
+
+-- what the section of this number is given or yields
+abbrev pub parameter : Line → ℕ → NameBytes → Declaration
+parameter line number name = at_line line (Parameter name number)
+
+-- a local variable of the section of this number
+abbrev pub local : Line → ℕ → Mode → NameBytes → Declaration
+local line number mode name = at_line line (Local name number mode)
+
 -- ---- statements of the preamble
 
 -- what a clause of an EVERY declares, of its class
-abbrev pub clause_declares : NameBytes → ClauseTree → List Declared
-clause_declares class (has names) = map (λ name. Attribute name class) names
-clause_declares class (owns names) = map (λ name. Owner name (Some class)) names
-clause_declares class (belongs_to names) = map (λ name. Member name class) names
+abbrev pub in_clause : Line → NameBytes → ClauseTree → List Declaration
+in_clause line class (has names) = map (attribute line class) names
+in_clause line class (owns names) = map (owned_set line (Some class)) names
+in_clause line class (belongs_to names) = map (member_set line class) names
 
 -- how a DEFINE orders its sets
 abbrev pub rule_of : OrderTree → SetRule
@@ -27,78 +79,54 @@ rule_of fifo = Fifo
 rule_of lifo = Lifo
 rule_of (ranked keys) = Ranked
 
--- the keys of a DEFINE
-abbrev pub keys_of_order : OrderTree → List Key
-keys_of_order (ranked keys) = keys
-keys_of_order _ = []
-
-abbrev pub rank_key : ℕ → Key → Declared
-rank_key statement key = RankKey key.name key.high statement
-
-abbrev pub tie_key : NameBytes → Key → Declared
-tie_key class key = TieKey class key.name key.high
-
-abbrev pub statistic_of : NameBytes → StatisticTree → Declared
-statistic_of subject s = Statistic s.name s.kind subject
+-- the keys by which the DEFINE of this number ranks its sets
+abbrev pub in_order : Line → ℕ → OrderTree → List Declaration
+in_order line number fifo = []
+in_order line number lifo = []
+in_order line number (ranked keys) = map (rank_key line number) keys
 
 -- what the statement of this number in the preamble declares
-abbrev pub statement_declares : ℕ → PreambleTree → List Declared
-statement_declares number (permanent_entities line) = []
-statement_declares number (temporary_entities line) = []
-statement_declares number (event_notices line names) = map (λ name. Class name Notice) names
-statement_declares number (every line kind class clauses) = Class class kind ∷ flat_map (clause_declares class) clauses
-statement_declares number (normally line mode) = Normally mode ∷ []
-statement_declares number (system_owns line sets) = map (λ set. Owner set None) sets
-statement_declares number (define_variables line names mode) = map (λ name. Variable name mode) names
-statement_declares number (define_sets line names order) =
-    map (λ name. Order name (rule_of order) number) names ++ map (rank_key number) (keys_of_order order)
-statement_declares number (priority_order line classes) = PriorityOrder ∷ map Priority classes
-statement_declares number (break_ties line class keys) = Ties class ∷ map (tie_key class) keys
-statement_declares number (statistics line weighting found subject) = Subject subject weighting ∷ map (statistic_of subject) found
+abbrev pub in_statement : ℕ → PreambleTree → List Declaration
+in_statement number (permanent_entities line) = []
+in_statement number (temporary_entities line) = []
+in_statement number (event_notices line names) = map (notice line) names
+in_statement number (every line kind class clauses) =
+    at_line line (Class class kind) ∷ flat_map (in_clause line class) clauses
+in_statement number (normally line mode) = at_line line (Normally mode) ∷ []
+in_statement number (system_owns line sets) = map (owned_set line None) sets
+in_statement number (define_variables line names mode) = map (variable line mode) names
+in_statement number (define_sets line names order) =
+    map (ordered_set line (rule_of order) number) names ++ in_order line number order
+in_statement number (priority_order line classes) = at_line line PriorityOrder ∷ map (priority line) classes
+in_statement number (break_ties line class keys) = at_line line (Ties class) ∷ map (tie_key line class) keys
+in_statement number (statistics line weighting found subject) =
+    map (statistic line subject) found ++ at_line line (Subject subject weighting) ∷ []
 
-abbrev pub line_of_preamble : PreambleTree → Line
-line_of_preamble (permanent_entities line) = line
-line_of_preamble (temporary_entities line) = line
-line_of_preamble (event_notices line names) = line
-line_of_preamble (every line kind class clauses) = line
-line_of_preamble (normally line mode) = line
-line_of_preamble (system_owns line sets) = line
-line_of_preamble (define_variables line names mode) = line
-line_of_preamble (define_sets line names order) = line
-line_of_preamble (priority_order line classes) = line
-line_of_preamble (break_ties line class keys) = line
-line_of_preamble (statistics line weighting found subject) = line
-
--- ---- heads of sections
+-- ---- sections
 
 -- what the head of the section of this number declares
-abbrev pub head_declares : ℕ → SectionKindTree → List Declared
-head_declares number main = Main ∷ []
-head_declares number (routine name given yielding) =
-    Routine name number (length given) (length yielding) ∷ map (λ p. Parameter p number) (given ++ yielding)
-head_declares number (event name given saving) =
-    Event name number (length given) saving ∷ map (λ p. Parameter p number) given
+abbrev pub in_head : Line → ℕ → SectionKindTree → List Declaration
+in_head line number main = at_line line Main ∷ []
+in_head line number (routine name given yielding) =
+    at_line line (Routine name number (length given) (length yielding))
+    ∷ map (parameter line number) given ++ map (parameter line number) yielding
+in_head line number (event name given saving) =
+    at_line line (Event name number (length given) saving) ∷ map (parameter line number) given
 
--- ---- declarations with their lines
-
-abbrev pub at_line : Line → Declared → Declaration
-at_line line what = record { line = line; what = what }
-
-abbrev pub in_statement : ℕ → PreambleTree → List Declaration
-in_statement number s = map (at_line (line_of_preamble s)) (statement_declares number s)
-
--- a DEFINE at the head of the section of this number
+-- what a DEFINE at the head of the section of this number declares
 abbrev pub in_definition : ℕ → DefinitionTree → List Declaration
-in_definition number d = map (λ name. at_line d.line (Local name number d.mode)) d.names
+in_definition number d = map (local d.line number d.mode) d.names
 
 abbrev pub in_section : ℕ → SectionTree → List Declaration
-in_section number s = map (at_line s.line) (head_declares number s.kind) ++ flat_map (in_definition number) s.definitions
+in_section number s = in_head s.line number s.kind ++ flat_map (in_definition number) s.definitions
 
--- each item of a list with its number, from this one on
-abbrev pub flat_map_from : {A B : Type 0} → ℕ → (ℕ → A → List B) → List A → List B
-flat_map_from number f [] = []
-flat_map_from number f (x ∷ xs) = f number x ++ flat_map_from (number + 1) f xs
+-- ---- programs
+
+-- the lists that come of the items of a list, each with its number, the first of which is this
+abbrev pub flat_map_from : {A B : Type 0} → (ℕ → A → List B) → ℕ → List A → List B
+flat_map_from f number [] = []
+flat_map_from f number (x ∷ xs) = f number x ++ flat_map_from f (number + 1) xs
 
 -- what a program declares
 abbrev pub declarations : ProgramTree → List Declaration
-declarations p = flat_map_from 0 in_statement p.preamble ++ flat_map_from 0 in_section p.sections
+declarations p = flat_map_from in_statement 0 p.preamble ++ flat_map_from in_section 0 p.sections

@@ -3,12 +3,11 @@
 ghost use Rattle.std.specs.Prelude.{◌≡◌, [], ◌∷◌, ◌++◌, map, OnOk, IfOk};
 ghost use Rattle.std.specs.List.{flat_map};
 ghost use Rattle.ss_tree.specs.View.{view_clause, view_order, view_preamble, view_definition, view_kind, view_section, view_program};
-ghost use Rattle.ss_names_declarations.specs.declared.declaration.Declared.TheVariants as declared;
-ghost use Rattle.ss_names_declarations.specs.Declarations.{at_line, clause_declares, declarations, flat_map_from, head_declares, in_definition, in_section, in_statement, keys_of_order, rank_key, rule_of, statistic_of, tie_key};
+ghost use Rattle.ss_names_declarations.specs.Declarations.{at_line, attribute, owned_set, member_set, notice, variable, ordered_set, rank_key, priority, tie_key, statistic, parameter, local, in_clause, rule_of, in_order, in_statement, in_head, in_definition, in_section, flat_map_from, declarations};
 
 use crate::declaration::{Declaration, Declared, SetRule};
 use ss_base::{Line, Name};
-use ss_tree::preamble::{ClassKind, Clause, Key, PreambleStatement, SetOrder, Statistic};
+use ss_tree::preamble::{ClassKind, Clause, Key, Mode, PreambleStatement, SetOrder, Statistic};
 use ss_tree::program::{LocalDefinition, Program, Section, SectionKind};
 use std::alloc::{AllocError, Global};
 
@@ -16,7 +15,62 @@ use std::alloc::{AllocError, Global};
 fn add(out: &mut Vec<Declaration>, line: Line, what: Declared) -> Result<(), AllocError>
     ensures { OnOk result (out.new.items ≡ out.old.items ++ at_line line what ∷ []) }
 {
+    // The checker needs to see the type of the class that may own a set.
+    let _none: Option<Name> = None;
     out.push(Declaration { line, what })?;
+    Ok(())
+}
+
+// Adds attributes of a class.
+fn add_attributes(
+    out: &mut Vec<Declaration>,
+    line: Line,
+    class: Name,
+    names: &[Name],
+) -> Result<(), AllocError>
+    ensures { OnOk result (out.new.items ≡ out.old.items ++ map (attribute line class) names.now) }
+{
+    for name in names {
+        let attribute = Declared::Attribute {
+            attribute: *name,
+            class,
+        };
+        add(out, line, attribute)?;
+    }
+    Ok(())
+}
+
+// Adds the sets of an owner.
+fn add_owned_sets(
+    out: &mut Vec<Declaration>,
+    line: Line,
+    class: &Option<Name>,
+    names: &[Name],
+) -> Result<(), AllocError>
+    ensures { OnOk result (out.new.items ≡ out.old.items ++ map (owned_set line class.now) names.now) }
+{
+    for name in names {
+        let owner = Declared::Owner {
+            set: *name,
+            class: *class,
+        };
+        add(out, line, owner)?;
+    }
+    Ok(())
+}
+
+// Adds the sets that the entities of a class may belong to.
+fn add_member_sets(
+    out: &mut Vec<Declaration>,
+    line: Line,
+    class: Name,
+    names: &[Name],
+) -> Result<(), AllocError>
+    ensures { OnOk result (out.new.items ≡ out.old.items ++ map (member_set line class) names.now) }
+{
+    for name in names {
+        add(out, line, Declared::Member { set: *name, class })?;
+    }
     Ok(())
 }
 
@@ -27,59 +81,59 @@ fn add_clause(
     class: Name,
     clause: &Clause,
 ) -> Result<(), AllocError>
-    ensures { OnOk result (out.new.items ≡ out.old.items ++ map (at_line line) (clause_declares class (view_clause clause.now))) }
+    ensures { OnOk result (out.new.items ≡ out.old.items ++ in_clause line class (view_clause clause.now)) }
 {
     match clause {
-        Clause::Has(names) => {
-            for name in names {
-                add(
-                    out,
-                    line,
-                    Declared::Attribute {
-                        attribute: *name,
-                        class,
-                    },
-                )?;
-            }
-        }
-        Clause::Owns(names) => add_owned(out, line, Some(class), names)?,
-        Clause::BelongsTo(names) => {
-            for name in names {
-                add(out, line, Declared::Member { set: *name, class })?;
-            }
-        }
+        Clause::Has(names) => add_attributes(out, line, class, names),
+        Clause::Owns(names) => add_owned_sets(out, line, &Some(class), names),
+        Clause::BelongsTo(names) => add_member_sets(out, line, class, names),
     }
-    Ok(())
 }
 
-// Adds the sets of an owner.
-fn add_owned(
+// Adds what the clauses of an EVERY declare, of its class.
+fn add_clauses(
     out: &mut Vec<Declaration>,
     line: Line,
-    class: Option<Name>,
-    sets: &[Name],
-) -> Result<(), AllocError>
-    ensures { OnOk result (out.new.items ≡ out.old.items ++ map (λ set. at_line line (declared.Owner set class)) sets.now) }
-{
-    for set in sets {
-        add(out, line, Declared::Owner { set: *set, class })?;
-    }
-    Ok(())
-}
-
-// Adds a class and what its clauses declare.
-fn add_every(
-    out: &mut Vec<Declaration>,
-    line: Line,
-    kind: ClassKind,
     class: Name,
     clauses: &[Clause],
 ) -> Result<(), AllocError>
-    ensures { OnOk result (out.new.items ≡ out.old.items ++ map (at_line line) (declared.Class class kind ∷ flat_map (clause_declares class) (map view_clause clauses.now))) }
+    ensures { OnOk result (out.new.items ≡ out.old.items ++ flat_map (in_clause line class) (map view_clause clauses.now)) }
 {
-    add(out, line, Declared::Class { class, kind })?;
     for clause in clauses {
         add_clause(out, line, class, clause)?;
+    }
+    Ok(())
+}
+
+// Adds the classes of notices after INCLUDE.
+fn add_notices(out: &mut Vec<Declaration>, line: Line, names: &[Name]) -> Result<(), AllocError>
+    ensures { OnOk result (out.new.items ≡ out.old.items ++ map (notice line) names.now) }
+{
+    for name in names {
+        let notice = Declared::Class {
+            class: *name,
+            kind: ClassKind::Notice,
+        };
+        add(out, line, notice)?;
+    }
+    Ok(())
+}
+
+// Adds variables of a mode.
+fn add_variables(
+    out: &mut Vec<Declaration>,
+    line: Line,
+    mode: Mode,
+    names: &[Name],
+) -> Result<(), AllocError>
+    ensures { OnOk result (out.new.items ≡ out.old.items ++ map (variable line mode) names.now) }
+{
+    for name in names {
+        let variable = Declared::Variable {
+            variable: *name,
+            mode,
+        };
+        add(out, line, variable)?;
     }
     Ok(())
 }
@@ -95,13 +149,60 @@ fn rule_of(order: &SetOrder) -> SetRule
     }
 }
 
-// The keys of a DEFINE.
-fn keys_of_order(order: &SetOrder) -> &[Key]
-    ensures { result.now ≡ keys_of_order (view_order order.now) }
+// Adds the sets that the statement of this number orders.
+fn add_ordered_sets(
+    out: &mut Vec<Declaration>,
+    line: Line,
+    rule: SetRule,
+    statement: usize,
+    names: &[Name],
+) -> Result<(), AllocError>
+    ensures { OnOk result (out.new.items ≡ out.old.items ++ map (ordered_set line rule statement) names.now) }
+{
+    for name in names {
+        let order = Declared::Order {
+            set: *name,
+            rule,
+            statement,
+        };
+        add(out, line, order)?;
+    }
+    Ok(())
+}
+
+// Adds the keys of the statement of this number.
+fn add_rank_keys(
+    out: &mut Vec<Declaration>,
+    line: Line,
+    statement: usize,
+    keys: &[Key],
+) -> Result<(), AllocError>
+    ensures { OnOk result (out.new.items ≡ out.old.items ++ map (rank_key line statement) keys.now) }
+{
+    for key in keys {
+        let rank_key = Declared::RankKey {
+            attribute: key.name,
+            high: key.high,
+            statement,
+        };
+        add(out, line, rank_key)?;
+    }
+    Ok(())
+}
+
+// Adds the keys by which the statement of this number ranks its sets, if it does.
+fn add_order(
+    out: &mut Vec<Declaration>,
+    line: Line,
+    statement: usize,
+    order: &SetOrder,
+) -> Result<(), AllocError>
+    ensures { OnOk result (out.new.items ≡ out.old.items ++ in_order line statement (view_order order.now)) }
 {
     match order {
-        SetOrder::Ranked(keys) => keys,
-        SetOrder::Fifo | SetOrder::Lifo => &[],
+        SetOrder::Fifo => Ok(()),
+        SetOrder::Lifo => Ok(()),
+        SetOrder::Ranked(keys) => add_rank_keys(out, line, statement, keys),
     }
 }
 
@@ -110,33 +211,42 @@ fn add_sets(
     out: &mut Vec<Declaration>,
     line: Line,
     statement: usize,
-    sets: &[Name],
+    names: &[Name],
     order: &SetOrder,
 ) -> Result<(), AllocError>
-    ensures { OnOk result (out.new.items ≡ out.old.items ++ map (at_line line) (map (λ name. declared.Order name (rule_of (view_order order.now)) statement) sets.now ++ map (rank_key statement) (keys_of_order (view_order order.now)))) }
+    ensures { OnOk result (out.new.items ≡ out.old.items ++ (map (ordered_set line (rule_of (view_order order.now)) statement) names.now ++ in_order line statement (view_order order.now))) }
 {
     let rule = rule_of(order);
-    for set in sets {
-        add(
-            out,
-            line,
-            Declared::Order {
-                set: *set,
-                rule,
-                statement,
-            },
-        )?;
+    add_ordered_sets(out, line, rule, statement, names)?;
+    add_order(out, line, statement, order)
+}
+
+// Adds the classes of the priority order.
+fn add_priorities(out: &mut Vec<Declaration>, line: Line, names: &[Name]) -> Result<(), AllocError>
+    ensures { OnOk result (out.new.items ≡ out.old.items ++ map (priority line) names.now) }
+{
+    for name in names {
+        add(out, line, Declared::Priority { class: *name })?;
     }
-    for key in keys_of_order(order) {
-        add(
-            out,
-            line,
-            Declared::RankKey {
-                attribute: key.name,
-                high: key.high,
-                statement,
-            },
-        )?;
+    Ok(())
+}
+
+// Adds the keys for the ties of a class.
+fn add_tie_keys(
+    out: &mut Vec<Declaration>,
+    line: Line,
+    class: Name,
+    keys: &[Key],
+) -> Result<(), AllocError>
+    ensures { OnOk result (out.new.items ≡ out.old.items ++ map (tie_key line class) keys.now) }
+{
+    for key in keys {
+        let tie_key = Declared::TieKey {
+            class,
+            attribute: key.name,
+            high: key.high,
+        };
+        add(out, line, tie_key)?;
     }
     Ok(())
 }
@@ -148,18 +258,15 @@ fn add_statistics(
     subject: Name,
     statistics: &[Statistic],
 ) -> Result<(), AllocError>
-    ensures { OnOk result (out.new.items ≡ out.old.items ++ map (at_line line) (map (statistic_of subject) statistics.now)) }
+    ensures { OnOk result (out.new.items ≡ out.old.items ++ map (statistic line subject) statistics.now) }
 {
     for statistic in statistics {
-        add(
-            out,
-            line,
-            Declared::Statistic {
-                statistic: statistic.name,
-                kind: statistic.kind,
-                subject,
-            },
-        )?;
+        let what = Declared::Statistic {
+            statistic: statistic.name,
+            kind: statistic.kind,
+            subject,
+        };
+        add(out, line, what)?;
     }
     Ok(())
 }
@@ -173,57 +280,39 @@ fn add_statement(
     ensures { OnOk result (out.new.items ≡ out.old.items ++ in_statement number (view_preamble statement.now)) }
 {
     match statement {
-        PreambleStatement::PermanentEntities { .. } => {}
-        PreambleStatement::TemporaryEntities { .. } => {}
-        PreambleStatement::EventNotices { line, included } => {
-            for class in included {
-                add_every(out, *line, ClassKind::Notice, *class, &[])?;
-            }
-        }
+        PreambleStatement::PermanentEntities { .. } => Ok(()),
+        PreambleStatement::TemporaryEntities { .. } => Ok(()),
+        PreambleStatement::EventNotices { line, included } => add_notices(out, *line, included),
         PreambleStatement::Every {
             line,
             kind,
             class,
             clauses,
-        } => add_every(out, *line, *kind, *class, clauses)?,
-        PreambleStatement::Normally { line, mode } => {
-            add(out, *line, Declared::Normally { mode: *mode })?;
+        } => {
+            let every = Declared::Class {
+                class: *class,
+                kind: *kind,
+            };
+            add(out, *line, every)?;
+            add_clauses(out, *line, *class, clauses)
         }
-        PreambleStatement::SystemOwns { line, sets } => add_owned(out, *line, None, sets)?,
+        PreambleStatement::Normally { line, mode } => {
+            add(out, *line, Declared::Normally { mode: *mode })
+        }
+        PreambleStatement::SystemOwns { line, sets } => add_owned_sets(out, *line, &None, sets),
         PreambleStatement::DefineVariables { line, names, mode } => {
-            for name in names {
-                add(
-                    out,
-                    *line,
-                    Declared::Variable {
-                        variable: *name,
-                        mode: *mode,
-                    },
-                )?;
-            }
+            add_variables(out, *line, *mode, names)
         }
         PreambleStatement::DefineSets { line, names, order } => {
-            add_sets(out, *line, number, names, order)?;
+            add_sets(out, *line, number, names, order)
         }
         PreambleStatement::PriorityOrder { line, classes } => {
             add(out, *line, Declared::PriorityOrder)?;
-            for class in classes {
-                add(out, *line, Declared::Priority { class: *class })?;
-            }
+            add_priorities(out, *line, classes)
         }
         PreambleStatement::BreakTies { line, class, keys } => {
             add(out, *line, Declared::Ties { class: *class })?;
-            for key in keys {
-                add(
-                    out,
-                    *line,
-                    Declared::TieKey {
-                        class: *class,
-                        attribute: key.name,
-                        high: key.high,
-                    },
-                )?;
-            }
+            add_tie_keys(out, *line, *class, keys)
         }
         PreambleStatement::Statistics {
             line,
@@ -231,16 +320,25 @@ fn add_statement(
             statistics,
             subject,
         } => {
-            add(
-                out,
-                *line,
-                Declared::Subject {
-                    subject: *subject,
-                    weighting: *weighting,
-                },
-            )?;
             add_statistics(out, *line, *subject, statistics)?;
+            let what = Declared::Subject {
+                subject: *subject,
+                weighting: *weighting,
+            };
+            add(out, *line, what)
         }
+    }
+}
+
+// Adds what a preamble declares.
+fn add_preamble(
+    out: &mut Vec<Declaration>,
+    preamble: &[PreambleStatement],
+) -> Result<(), AllocError>
+    ensures { OnOk result (out.new.items ≡ out.old.items ++ flat_map_from in_statement 0 (map view_preamble preamble.now)) }
+{
+    for (number, statement) in preamble.iter().enumerate() {
+        add_statement(out, number, statement)?;
     }
     Ok(())
 }
@@ -250,19 +348,16 @@ fn add_parameters(
     out: &mut Vec<Declaration>,
     line: Line,
     section: usize,
-    parameters: &[Name],
+    names: &[Name],
 ) -> Result<(), AllocError>
-    ensures { OnOk result (out.new.items ≡ out.old.items ++ map (λ p. at_line line (declared.Parameter p section)) parameters.now) }
+    ensures { OnOk result (out.new.items ≡ out.old.items ++ map (parameter line section) names.now) }
 {
-    for parameter in parameters {
-        add(
-            out,
-            line,
-            Declared::Parameter {
-                parameter: *parameter,
-                section,
-            },
-        )?;
+    for name in names {
+        let parameter = Declared::Parameter {
+            parameter: *name,
+            section,
+        };
+        add(out, line, parameter)?;
     }
     Ok(())
 }
@@ -274,7 +369,7 @@ fn add_head(
     section: usize,
     kind: &SectionKind,
 ) -> Result<(), AllocError>
-    ensures { OnOk result (out.new.items ≡ out.old.items ++ map (at_line line) (head_declares section (view_kind kind.now))) }
+    ensures { OnOk result (out.new.items ≡ out.old.items ++ in_head line section (view_kind kind.now)) }
 {
     match kind {
         SectionKind::Main => add(out, line, Declared::Main),
@@ -310,21 +405,43 @@ fn add_head(
     }
 }
 
-// Adds what a DEFINE at the head of the section of this number declares.
-fn add_definition(
+// Adds local variables of the section of this number.
+fn add_locals(
     out: &mut Vec<Declaration>,
+    line: Line,
     section: usize,
-    definition: &LocalDefinition,
+    mode: Mode,
+    names: &[Name],
 ) -> Result<(), AllocError>
-    ensures { OnOk result (out.new.items ≡ out.old.items ++ in_definition section (view_definition definition.now)) }
+    ensures { OnOk result (out.new.items ≡ out.old.items ++ map (local line section mode) names.now) }
 {
-    for name in &definition.names {
+    for name in names {
         let local = Declared::Local {
             variable: *name,
             section,
-            mode: definition.mode,
+            mode,
         };
-        add(out, definition.line, local)?;
+        add(out, line, local)?;
+    }
+    Ok(())
+}
+
+// Adds what the DEFINEs at the head of the section of this number declare.
+fn add_definitions(
+    out: &mut Vec<Declaration>,
+    section: usize,
+    definitions: &[LocalDefinition],
+) -> Result<(), AllocError>
+    ensures { OnOk result (out.new.items ≡ out.old.items ++ flat_map (in_definition section) (map view_definition definitions.now)) }
+{
+    for definition in definitions {
+        add_locals(
+            out,
+            definition.line,
+            section,
+            definition.mode,
+            &definition.names,
+        )?;
     }
     Ok(())
 }
@@ -338,13 +455,21 @@ fn add_section(
     ensures { OnOk result (out.new.items ≡ out.old.items ++ in_section number (view_section section.now)) }
 {
     add_head(out, section.line, number, &section.kind)?;
-    for definition in &section.definitions {
-        add_definition(out, number, definition)?;
+    add_definitions(out, number, &section.definitions)
+}
+
+// Adds what the sections of a program declare.
+fn add_sections(out: &mut Vec<Declaration>, sections: &[Section]) -> Result<(), AllocError>
+    ensures { OnOk result (out.new.items ≡ out.old.items ++ flat_map_from in_section 0 (map view_section sections.now)) }
+{
+    for (number, section) in sections.iter().enumerate() {
+        add_section(out, number, section)?;
     }
     Ok(())
 }
 
-/// What a program declares, in the order of the text.
+/// What a program declares, in the order of the text. Nothing is left out that its preamble or the head of a section
+/// declares.
 ///
 /// # Errors
 /// `AllocError` where memory is refused.
@@ -352,11 +477,7 @@ pub fn declarations_of(alloc: Global, program: &Program) -> Result<Vec<Declarati
     ensures { IfOk result (λ out. out.items ≡ declarations (view_program program.now)) }
 {
     let mut out = Vec::new(alloc);
-    for (number, statement) in program.preamble.iter().enumerate() {
-        add_statement(&mut out, number, statement)?;
-    }
-    for (number, section) in program.sections.iter().enumerate() {
-        add_section(&mut out, number, section)?;
-    }
+    add_preamble(&mut out, &program.preamble)?;
+    add_sections(&mut out, &program.sections)?;
     Ok(out)
 }

@@ -9,7 +9,7 @@ pub trait Breach: Copy {
 
     /// The number of the rule in the order of the rules, and then the line.
     fn order_of(&self) -> (u32, u32)
-        ensures { (result.0, result.1) ≡ order self.now };
+        ensures { result ≡ order self.now };
 }
 
 // Whether a breach comes before another: by the rule, and then by the line.

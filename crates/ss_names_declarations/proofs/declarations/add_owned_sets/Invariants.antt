@@ -1,0 +1,6 @@
+use Rattle.std.proofs.Common.{◌≡◌, ◌++◌, map, take}
+use Rattle.ss_names_declarations.specs.Declarations.{owned_set}
+use Rattle.ss_names_declarations.proofs.declarations.add_owned_sets.Given as goal
+
+abbrev pub invariant-loop-name : goal.invariant-loop-name
+invariant-loop-name l = l.out.items ≡ l.initial.out.items ++ map (owned_set l.line l.class) (take l.name-index l.names)

@@ -1,0 +1,6 @@
+use Rattle.std.proofs.Common.{◌≡◌, ◌++◌, map, take}
+use Rattle.ss_names_declarations.specs.Declarations.{tie_key}
+use Rattle.ss_names_declarations.proofs.declarations.add_tie_keys.Given as goal
+
+abbrev pub invariant-loop-key : goal.invariant-loop-key
+invariant-loop-key l = l.out.items ≡ l.initial.out.items ++ map (tie_key l.line l.class) (take l.key-index l.keys)
