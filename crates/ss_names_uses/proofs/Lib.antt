@@ -1,2 +1,1 @@
-mod MentionRows
-mod DemandRows
+mod Rows

@@ -3,13 +3,11 @@
 ghost use Rattle.std.specs.Prelude.{◌≡◌, ◌++◌, ◌∷◌, [], map, true, IfOk};
 ghost use Rattle.std.specs.List.{flat_map};
 ghost use Rattle.ss_tree.specs.View.{view_expression, view_named, view_option, view_term};
-ghost use Rattle.ss_names_uses.specs.declared.used.Used.TheVariants.{Same};
-ghost use Rattle.std.specs.Prelude.{false};
-ghost use Rattle.ss_names_uses.specs.Uses.{at_line, designated, in_all, in_expression, in_named, in_option, in_term, mode_of};
+ghost use Rattle.ss_names_uses.specs.Uses.{at_line, class_used, count, designated, in_all_named, in_all_numbers, in_expression, in_named, in_option, in_term, mode_of, of_text, place, same};
 
-use crate::used::{CountNeed, ModeOf, Role, Use, Used};
-use ss_base::Line;
-use ss_tree::expression::{Designator, Expression, Named, Term};
+use crate::used::{ClassNeed, CountNeed, ModeOf, Role, Use, Used};
+use ss_base::{Line, Name};
+use ss_tree::expression::{Designator, Expression, Function, Named, Term};
 use std::alloc::AllocError;
 
 // The mode of a named place.
@@ -22,16 +20,16 @@ fn designated(designator: Designator) -> ModeOf
     }
 }
 
-/// The mode of a target.
-pub fn mode_of_target(target: &Named) -> ModeOf
+// The mode of a target.
+pub(crate) fn mode_of_target(target: &Named) -> ModeOf
     ensures { result ≡ designated target.now.designator }
 {
     designated(target.designator)
 }
 
-/// The mode of an expression; a text in parentheses is still a text.
+// The mode of an expression; a text in parentheses is still a text.
 #[tactic(auto, unfolding(ss_tree::specs::View::view_expression))]
-pub fn mode_of(expression: &Expression) -> ModeOf
+pub(crate) fn mode_of(expression: &Expression) -> ModeOf
     ensures { result ≡ mode_of (view_expression expression.now) }
 {
     match expression {
@@ -46,31 +44,96 @@ pub fn mode_of(expression: &Expression) -> ModeOf
     }
 }
 
-/// Adds one use.
-pub fn add(into: &mut Vec<Use>, line: Line, what: Used) -> Result<(), AllocError>
+// Adds one use.
+pub(crate) fn add(into: &mut Vec<Use>, line: Line, what: Used) -> Result<(), AllocError>
     ensures { IfOk result (λ _. into.new.items ≡ into.old.items ++ at_line line what ∷ []) }
 {
+    // The checker needs to see the types of what a use holds.
+    let _place = Designator::TimeV;
+    let _mode = ModeOf::Integer;
+    let _count = CountNeed::Arguments(Function::Abs);
     into.push(Use { line, what })?;
     Ok(())
 }
 
-/// Adds the use of two modes that have to be the same.
-pub fn add_same(
+// Adds the use of two modes that have to be the same.
+pub(crate) fn add_same(
     into: &mut Vec<Use>,
     line: Line,
     found: ModeOf,
     wanted: ModeOf,
 ) -> Result<(), AllocError>
-    ensures { IfOk result (λ _. into.new.items ≡ into.old.items ++ at_line line (Same found wanted) ∷ []) }
+    ensures { IfOk result (λ _. into.new.items ≡ into.old.items ++ same line found wanted ∷ []) }
 {
     add(into, line, Used::Same { found, wanted })
 }
 
-/// Adds the uses of an expression, from left to right. It may have to be a number; what is added, subtracted, multiplied or
-/// has a sign, each subscript, and each argument of a function has to be one.
-#[cycle(using)]
+// Adds the use of a class, and whether its entity is named.
+pub(crate) fn add_class(
+    into: &mut Vec<Use>,
+    line: Line,
+    need: ClassNeed,
+    class: Name,
+    called: bool,
+) -> Result<(), AllocError>
+    ensures { IfOk result (λ _. into.new.items ≡ into.old.items ++ class_used line need class called ∷ []) }
+{
+    let what = Used::Class {
+        need,
+        class,
+        called,
+    };
+    add(into, line, what)
+}
+
+// Adds the use of a count, and how many are wanted.
+pub(crate) fn add_count(
+    into: &mut Vec<Use>,
+    line: Line,
+    found: usize,
+    wanted: CountNeed,
+) -> Result<(), AllocError>
+    ensures { IfOk result (λ _. into.new.items ≡ into.old.items ++ count line found wanted ∷ []) }
+{
+    add(into, line, Used::Count { found, wanted })
+}
+
+// Adds the use of a named place with so many subscripts in a role. It may have to be a number.
+pub(crate) fn add_place(
+    into: &mut Vec<Use>,
+    line: Line,
+    role: Role,
+    number: bool,
+    designator: Designator,
+    subscripts: usize,
+) -> Result<(), AllocError>
+    ensures { IfOk result (λ _. into.new.items ≡ into.old.items ++ place line role number designator subscripts ∷ []) }
+{
+    let what = Used::Place {
+        role,
+        place: designator,
+        subscripts,
+        number,
+    };
+    add(into, line, what)
+}
+
+// Adds the use of a text, if it has to be a number.
+fn add_text(into: &mut Vec<Use>, line: Line, number: bool) -> Result<(), AllocError>
+    ensures { IfOk result (λ _. into.new.items ≡ into.old.items ++ of_text line number) }
+{
+    if number {
+        add_same(into, line, ModeOf::Alpha, ModeOf::Integer)
+    } else {
+        Ok(())
+    }
+}
+
+// Adds the uses of an expression, from left to right. It may have to be a number; what is added, subtracted, multiplied or
+// has a sign, each subscript, and each argument of a function has to be one.
+#[cycle(adding)]
 #[tactic(auto, unfolding(ss_tree::specs::View::view_expression))]
-pub fn add_expression(
+pub(crate) fn add_expression(
     into: &mut Vec<Use>,
     line: Line,
     number: bool,
@@ -80,23 +143,18 @@ pub fn add_expression(
 {
     match expression {
         Expression::Number(_) => Ok(()),
-        Expression::Text(_) => {
-            if number {
-                add_same(into, line, ModeOf::Alpha, ModeOf::Integer)
-            } else {
-                Ok(())
-            }
+        Expression::Text(_) => add_text(into, line, number),
+        Expression::Named(named) => {
+            let subscripts = named.subscripts.len();
+            add_place(into, line, Role::Value, number, named.designator, subscripts)?;
+            add_numbers(into, line, &named.subscripts)
         }
-        Expression::Named(named) => add_place(into, line, Role::Value, number, named),
         Expression::Call {
             function,
             arguments,
         } => {
-            let count = Used::Count {
-                found: arguments.len(),
-                wanted: CountNeed::Arguments(*function),
-            };
-            add(into, line, count)?;
+            let found = arguments.len();
+            add_count(into, line, found, CountNeed::Arguments(*function))?;
             add_numbers(into, line, arguments)
         }
         Expression::Parenthesised(inner) => add_expression(into, line, number, inner),
@@ -112,14 +170,14 @@ pub fn add_expression(
     }
 }
 
-/// Adds the uses of expressions that have to be numbers.
-#[cycle(using)]
-pub fn add_numbers(
+// Adds the uses of expressions that have to be numbers.
+#[cycle(adding)]
+fn add_numbers(
     into: &mut Vec<Use>,
     line: Line,
     expressions: &[Expression],
 ) -> Result<(), AllocError>
-    ensures { IfOk result (λ _. into.new.items ≡ into.old.items ++ in_all line true (map view_expression expressions.now)) }
+    ensures { IfOk result (λ _. into.new.items ≡ into.old.items ++ in_all_numbers line (map view_expression expressions.now)) }
 {
     for expression in expressions {
         add_expression(into, line, true, expression)?;
@@ -128,7 +186,7 @@ pub fn add_numbers(
 }
 
 // Adds the uses of the further terms of a sum.
-#[cycle(using)]
+#[cycle(adding)]
 fn add_terms(into: &mut Vec<Use>, line: Line, terms: &[Term]) -> Result<(), AllocError>
     ensures { IfOk result (λ _. into.new.items ≡ into.old.items ++ flat_map (in_term line) (map view_term terms.now)) }
 {
@@ -138,44 +196,8 @@ fn add_terms(into: &mut Vec<Use>, line: Line, terms: &[Term]) -> Result<(), Allo
     Ok(())
 }
 
-/// Adds the use of a named place in a role, which may have to be a number, and then those of its subscripts.
-#[cycle(using)]
-pub fn add_place(
-    into: &mut Vec<Use>,
-    line: Line,
-    role: Role,
-    number: bool,
-    named: &Named,
-) -> Result<(), AllocError>
-    ensures { IfOk result (λ _. into.new.items ≡ into.old.items ++ in_named line role number (view_named named.now)) }
-{
-    let place = Used::Place {
-        role,
-        place: named.designator,
-        subscripts: named.subscripts.len(),
-        number,
-    };
-    add(into, line, place)?;
-    add_numbers(into, line, &named.subscripts)
-}
-
-/// Adds the uses of several named places in a role.
-pub fn add_places(
-    into: &mut Vec<Use>,
-    line: Line,
-    role: Role,
-    all: &[Named],
-) -> Result<(), AllocError>
-    ensures { IfOk result (λ _. into.new.items ≡ into.old.items ++ flat_map (in_named line role false) (map view_named all.now)) }
-{
-    for named in all {
-        add_place(into, line, role, false, named)?;
-    }
-    Ok(())
-}
-
-/// Adds the uses of an expression that has to be a number, if there is one.
-pub fn add_maybe(
+// Adds the uses of an expression that has to be a number, if there is one.
+pub(crate) fn add_maybe(
     into: &mut Vec<Use>,
     line: Line,
     expression: &Option<Expression>,
@@ -184,6 +206,50 @@ pub fn add_maybe(
 {
     match expression {
         Some(expression) => add_expression(into, line, true, expression),
+        None => Ok(()),
+    }
+}
+
+// Adds the use of a named place in a role, and then those of its subscripts. It may have to be a number.
+pub(crate) fn add_named(
+    into: &mut Vec<Use>,
+    line: Line,
+    role: Role,
+    number: bool,
+    named: &Named,
+) -> Result<(), AllocError>
+    ensures { IfOk result (λ _. into.new.items ≡ into.old.items ++ in_named line role number (view_named named.now)) }
+{
+    let subscripts = named.subscripts.len();
+    add_place(into, line, role, number, named.designator, subscripts)?;
+    add_numbers(into, line, &named.subscripts)
+}
+
+// Adds the uses of several named places in a role, which may be of any mode.
+pub(crate) fn add_all_named(
+    into: &mut Vec<Use>,
+    line: Line,
+    role: Role,
+    all: &[Named],
+) -> Result<(), AllocError>
+    ensures { IfOk result (λ _. into.new.items ≡ into.old.items ++ in_all_named line role (map view_named all.now)) }
+{
+    for named in all {
+        add_named(into, line, role, false, named)?;
+    }
+    Ok(())
+}
+
+// Adds the uses of a target that takes a number, if there is one.
+pub(crate) fn add_maybe_target(
+    into: &mut Vec<Use>,
+    line: Line,
+    target: &Option<Named>,
+) -> Result<(), AllocError>
+    ensures { IfOk result (λ _. into.new.items ≡ into.old.items ++ in_option (in_named line Role.Target true) (view_option view_named target.now)) }
+{
+    match target {
+        Some(target) => add_named(into, line, Role::Target, true, target),
         None => Ok(()),
     }
 }

@@ -2,28 +2,33 @@
 
 ghost use Rattle.std.specs.Prelude.{◌≡◌, ◌++◌, map, IfOk};
 ghost use Rattle.std.specs.List.{flat_map};
-ghost use Rattle.ss_tree.specs.View.{view_head, view_loop_head, view_phrase, view_start};
-ghost use Rattle.ss_names_uses.specs.Uses.{in_head, in_loop_head, in_phrase, in_start, loop_variable};
+ghost use Rattle.ss_tree.specs.View.{view_guard, view_head, view_loop_head, view_phrase, view_start};
+ghost use Rattle.ss_names_uses.specs.Uses.{in_guard, in_head, in_loop_head, in_option, in_phrase, in_start, loop_variable};
 
 use crate::conditions::add_condition;
-use crate::expressions::{add, add_expression, add_maybe, add_place};
-use crate::used::{ClassNeed, Role, Use, Used};
+use crate::expressions::{add_class, add_expression, add_maybe, add_named, add_place};
+use crate::used::{ClassNeed, Role, Use};
 use ss_base::{Line, Name};
 use ss_tree::expression::Designator;
-use ss_tree::head::{Head, LoopHead, MemberStart, Phrase};
+use ss_tree::head::{Guard, Head, LoopHead, MemberStart, Phrase};
 use std::alloc::AllocError;
 
 // Adds the use of the variable of a loop, which takes numbers.
 fn add_variable(into: &mut Vec<Use>, line: Line, variable: Name) -> Result<(), AllocError>
     ensures { IfOk result (λ _. into.new.items ≡ into.old.items ++ loop_variable line variable) }
 {
-    let variable = Used::Place {
-        role: Role::LoopVariable,
-        place: Designator::Name(variable),
-        subscripts: 0,
-        number: true,
-    };
-    add(into, line, variable)
+    let variable = Designator::Name(variable);
+    add_place(into, line, Role::LoopVariable, true, variable, 0)
+}
+
+// Adds the use of the variable after CALLED, if there is one.
+fn add_called(into: &mut Vec<Use>, line: Line, called: &Option<Name>) -> Result<(), AllocError>
+    ensures { IfOk result (λ _. into.new.items ≡ into.old.items ++ in_option (loop_variable line) called.now) }
+{
+    match called {
+        Some(variable) => add_variable(into, line, *variable),
+        None => Ok(()),
+    }
 }
 
 // Adds the uses of the member with which a loop begins.
@@ -48,8 +53,18 @@ fn add_phrases(into: &mut Vec<Use>, line: Line, phrases: &[Phrase]) -> Result<()
     Ok(())
 }
 
-/// Adds the uses of the head of a FOR.
-pub fn add_head(into: &mut Vec<Use>, line: Line, head: &Head) -> Result<(), AllocError>
+// Adds the uses of the conditions of a loop that begins with WHILE or UNTIL.
+fn add_guards(into: &mut Vec<Use>, line: Line, guards: &[Guard]) -> Result<(), AllocError>
+    ensures { IfOk result (λ _. into.new.items ≡ into.old.items ++ flat_map (in_guard line) (map view_guard guards.now)) }
+{
+    for guard in guards {
+        add_condition(into, line, &guard.condition)?;
+    }
+    Ok(())
+}
+
+// Adds the uses of the head of a FOR.
+pub(crate) fn add_head(into: &mut Vec<Use>, line: Line, head: &Head) -> Result<(), AllocError>
     ensures { IfOk result (λ _. into.new.items ≡ into.old.items ++ in_head line (view_head head.now)) }
 {
     match head {
@@ -74,7 +89,7 @@ pub fn add_head(into: &mut Vec<Use>, line: Line, head: &Head) -> Result<(), Allo
             ..
         } => {
             add_variable(into, line, *variable)?;
-            add_place(into, line, Role::Set, false, set)?;
+            add_named(into, line, Role::Set, false, set)?;
             add_start(into, line, start)?;
             add_phrases(into, line, phrases)
         }
@@ -83,31 +98,23 @@ pub fn add_head(into: &mut Vec<Use>, line: Line, head: &Head) -> Result<(), Allo
             called,
             phrases,
         } => {
-            let each = Used::Class {
-                need: ClassNeed::Permanent,
-                class: *class,
-                called: called.is_some(),
-            };
-            add(into, line, each)?;
-            if let Some(variable) = called {
-                add_variable(into, line, *variable)?;
-            }
+            add_class(into, line, ClassNeed::Permanent, *class, called.is_some())?;
+            add_called(into, line, called)?;
             add_phrases(into, line, phrases)
         }
     }
 }
 
-/// Adds the uses of the head of a loop.
-pub fn add_loop_head(into: &mut Vec<Use>, line: Line, head: &LoopHead) -> Result<(), AllocError>
+// Adds the uses of the head of a loop.
+pub(crate) fn add_loop_head(
+    into: &mut Vec<Use>,
+    line: Line,
+    head: &LoopHead,
+) -> Result<(), AllocError>
     ensures { IfOk result (λ _. into.new.items ≡ into.old.items ++ in_loop_head line (view_loop_head head.now)) }
 {
     match head {
         LoopHead::For(head) => add_head(into, line, head),
-        LoopHead::Guards(guards) => {
-            for guard in guards {
-                add_condition(into, line, &guard.condition)?;
-            }
-            Ok(())
-        }
+        LoopHead::Guards(guards) => add_guards(into, line, guards),
     }
 }

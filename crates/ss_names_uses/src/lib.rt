@@ -3,6 +3,7 @@
 
 mod conditions;
 mod expressions;
+mod handed;
 mod heads;
 mod pictures;
 mod sections;

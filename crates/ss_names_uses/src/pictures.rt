@@ -1,15 +1,24 @@
-//! The uses in a PRINT.
+//! The items of a PRINT and the fields of its pictures.
 
-ghost use Rattle.std.specs.Prelude.{◌≡◌, ◌++◌, map, IfOk};
+ghost use Rattle.std.specs.Prelude.{◌≡◌, ◌++◌, map, slice_get, IfOk};
+ghost use Rattle.ss_picture.specs.Pictures.{picture_fields};
 ghost use Rattle.ss_tree.specs.View.{view_expression};
-ghost use Rattle.ss_names_uses.specs.Uses.{fields_of, in_field, in_item, in_print};
+ghost use Rattle.ss_names_uses.specs.Uses.{as_mean, fields_of, in_field, in_field_at, in_item, in_item_at, in_items, in_places, in_print, of_decimals, of_fit};
 
-use crate::expressions::{add, add_expression, add_place};
+use crate::expressions::{add, add_expression, add_named};
 use crate::used::{Role, Use, Used};
 use ss_base::{Line, PictureLine};
 use ss_picture::{Field, Picture};
 use ss_tree::expression::Expression;
 use std::alloc::{AllocError, Global};
+
+// Adds the fields of a picture.
+fn add_fields(alloc: Global, into: &mut Vec<Field>, picture: &PictureLine) -> Result<(), AllocError>
+    ensures { IfOk result (λ _. into.new.items ≡ into.old.items ++ picture_fields picture.now) }
+{
+    let picture = Picture::of(alloc, picture.bytes())?;
+    into.extend_from_slice(picture.fields())
+}
 
 // The fields of some pictures, from the left, one picture after another.
 fn fields_of(alloc: Global, pictures: &[PictureLine]) -> Result<Vec<Field>, AllocError>
@@ -17,52 +26,75 @@ fn fields_of(alloc: Global, pictures: &[PictureLine]) -> Result<Vec<Field>, Allo
 {
     let mut fields = Vec::new(alloc);
     for picture in pictures {
-        let picture = Picture::of(alloc, picture.bytes())?;
-        fields.extend_from_slice(picture.fields())?;
+        add_fields(alloc, &mut fields, picture)?;
     }
     Ok(fields)
 }
 
-// Adds the use of an item in a field with decimals, which has to be a MEAN.
+// What an item is in a field with decimals: it has to be a MEAN.
 #[tactic(auto, unfolding(ss_tree::specs::View::view_expression))]
-fn add_mean(into: &mut Vec<Use>, line: Line, item: &Expression) -> Result<(), AllocError> {
+fn as_mean(item: &Expression) -> Used
+    ensures { result ≡ as_mean (view_expression item.now) }
+{
     match item {
-        Expression::Named(named) => add(
-            into,
-            line,
-            Used::Mean {
-                place: named.designator,
-            },
-        ),
-        Expression::Parenthesised(inner) => add_mean(into, line, inner),
+        Expression::Named(named) => Used::Mean {
+            place: named.designator,
+        },
+        Expression::Parenthesised(inner) => as_mean(inner),
         Expression::Number(_)
         | Expression::Text(_)
         | Expression::Call { .. }
         | Expression::Product { .. }
         | Expression::Signed { .. }
-        | Expression::Sum { .. } => add(into, line, Used::Unfit),
+        | Expression::Sum { .. } => Used::Unfit,
     }
 }
 
-// Adds the uses of a field and its item. A field has at most 9 decimals.
+// What an item is in a field of so many decimals, which may be at most 9.
+fn of_decimals(item: &Expression, decimals: usize) -> Used
+    ensures { result ≡ of_decimals (view_expression item.now) decimals }
+{
+    if decimals <= 9 {
+        as_mean(item)
+    } else {
+        Used::Unfit
+    }
+}
+
+// Adds the use of an item in its field, if that has decimals.
 fn add_field(
     into: &mut Vec<Use>,
     line: Line,
     item: &Expression,
-    field: Option<&Field>,
+    field: Field,
 ) -> Result<(), AllocError>
     ensures { IfOk result (λ _. into.new.items ≡ into.old.items ++ in_field line (view_expression item.now) field) }
 {
-    match field {
-        Some(field) => {
-            if field.decimals == 0 {
-                Ok(())
-            } else if field.decimals <= 9 {
-                add_mean(into, line, item)
-            } else {
-                add(into, line, Used::Unfit)
-            }
-        }
+    if field.decimals == 0 {
+        return Ok(());
+    }
+    add(into, line, of_decimals(item, field.decimals))
+}
+
+// The field in a place, if there is one.
+fn field_at(fields: &[Field], place: usize) -> Option<Field>
+    ensures { result ≡ slice_get fields.now place }
+{
+    fields.get(place).copied()
+}
+
+// Adds the use of an item in the field in the same place, if there is one.
+fn add_field_at(
+    into: &mut Vec<Use>,
+    line: Line,
+    fields: &[Field],
+    place: usize,
+    item: &Expression,
+) -> Result<(), AllocError>
+    ensures { IfOk result (λ _. into.new.items ≡ into.old.items ++ in_field_at line fields.now place (view_expression item.now)) }
+{
+    match field_at(fields, place) {
+        Some(field) => add_field(into, line, item, field),
         None => Ok(()),
     }
 }
@@ -73,7 +105,7 @@ fn add_item(into: &mut Vec<Use>, line: Line, item: &Expression) -> Result<(), Al
     ensures { IfOk result (λ _. into.new.items ≡ into.old.items ++ in_item line (view_expression item.now)) }
 {
     match item {
-        Expression::Named(named) => add_place(into, line, Role::Item, false, named),
+        Expression::Named(named) => add_named(into, line, Role::Item, false, named),
         Expression::Parenthesised(inner) => add_item(into, line, inner),
         Expression::Number(_)
         | Expression::Text(_)
@@ -84,8 +116,62 @@ fn add_item(into: &mut Vec<Use>, line: Line, item: &Expression) -> Result<(), Al
     }
 }
 
-/// Adds the uses of a PRINT.
-pub fn add_print(
+// Adds the uses of an item and of its field.
+fn add_item_at(
+    into: &mut Vec<Use>,
+    line: Line,
+    fields: &[Field],
+    place: usize,
+    item: &Expression,
+) -> Result<(), AllocError>
+    ensures { IfOk result (λ _. into.new.items ≡ into.old.items ++ in_item_at line fields.now place (view_expression item.now)) }
+{
+    add_field_at(into, line, fields, place, item)?;
+    add_item(into, line, item)
+}
+
+// Adds the uses of items, each with the field in its place.
+fn add_placed_items(
+    into: &mut Vec<Use>,
+    line: Line,
+    fields: &[Field],
+    items: &[Expression],
+) -> Result<(), AllocError>
+    ensures { IfOk result (λ _. into.new.items ≡ into.old.items ++ in_places (in_item_at line fields.now) 0 (map view_expression items.now)) }
+{
+    for (place, item) in items.iter().enumerate() {
+        add_item_at(into, line, fields, place, item)?;
+    }
+    Ok(())
+}
+
+// Adds the use of fields that don't fit their items, if they don't.
+fn add_fit(into: &mut Vec<Use>, line: Line, fits: bool) -> Result<(), AllocError>
+    ensures { IfOk result (λ _. into.new.items ≡ into.old.items ++ of_fit line fits) }
+{
+    if fits {
+        Ok(())
+    } else {
+        add(into, line, Used::Unfit)
+    }
+}
+
+// Adds the uses of items with fields.
+fn add_items(
+    into: &mut Vec<Use>,
+    line: Line,
+    items: &[Expression],
+    fields: &[Field],
+) -> Result<(), AllocError>
+    ensures { IfOk result (λ _. into.new.items ≡ into.old.items ++ in_items line (map view_expression items.now) fields.now) }
+{
+    let fits = items.len() == fields.len();
+    add_fit(into, line, fits)?;
+    add_placed_items(into, line, fields, items)
+}
+
+// Adds the uses of a PRINT.
+pub(crate) fn add_print(
     alloc: Global,
     into: &mut Vec<Use>,
     line: Line,
@@ -95,12 +181,5 @@ pub fn add_print(
     ensures { IfOk result (λ _. into.new.items ≡ into.old.items ++ in_print line (map view_expression items.now) pictures.now) }
 {
     let fields = fields_of(alloc, pictures)?;
-    if items.len() != fields.len() {
-        add(into, line, Used::Unfit)?;
-    }
-    for (place, item) in items.iter().enumerate() {
-        add_field(into, line, item, fields.get(place))?;
-        add_item(into, line, item)?;
-    }
-    Ok(())
+    add_items(into, line, items, &fields)
 }

@@ -1,19 +1,22 @@
-//! The uses of sections.
+//! The uses of a section.
 
 ghost use Rattle.std.specs.Prelude.{◌≡◌, ◌++◌, map, IfOk};
-ghost use Rattle.ss_tree.specs.View.{view_kind, view_section};
-ghost use Rattle.ss_names_uses.specs.Uses.{in_kind, parameters, uses};
+ghost use Rattle.std.specs.List.{flat_map};
+ghost use Rattle.ss_tree.specs.View.{view_definition, view_kind, view_section};
+ghost use Rattle.ss_names_uses.specs.Uses.{in_definition, in_event, in_kind, local, parameter, uses};
 
-use crate::expressions::{add, add_same};
+use crate::expressions::{add, add_class, add_count};
+use crate::handed::add_as_attributes;
 use crate::statements::add_body;
-use crate::used::{ClassNeed, CountNeed, ModeOf, Use, Used};
+use crate::used::{ClassNeed, CountNeed, Use, Used};
 use ss_base::{Line, Name};
-use ss_tree::program::{Section, SectionKind};
+use ss_tree::preamble::Mode;
+use ss_tree::program::{LocalDefinition, Section, SectionKind};
 use std::alloc::{AllocError, Global};
 
 // Adds the uses of parameters.
 fn add_parameters(into: &mut Vec<Use>, line: Line, names: &[Name]) -> Result<(), AllocError>
-    ensures { IfOk result (λ _. into.new.items ≡ into.old.items ++ parameters line names.now) }
+    ensures { IfOk result (λ _. into.new.items ≡ into.old.items ++ map (parameter line) names.now) }
 {
     for name in names {
         add(into, line, Used::Parameter { name: *name })?;
@@ -25,25 +28,15 @@ fn add_parameters(into: &mut Vec<Use>, line: Line, names: &[Name]) -> Result<(),
 fn add_event(
     into: &mut Vec<Use>,
     line: Line,
-    class: Name,
+    class: &Name,
     given: &[Name],
-) -> Result<(), AllocError> {
-    let event = Used::Class {
-        need: ClassNeed::Notice,
-        class,
-        called: true,
-    };
-    add(into, line, event)?;
-    let count = Used::Count {
-        found: given.len(),
-        wanted: CountNeed::Attributes(class),
-    };
-    add(into, line, count)?;
+) -> Result<(), AllocError>
+    ensures { IfOk result (λ _. into.new.items ≡ into.old.items ++ in_event line class.now given.now) }
+{
+    add_class(into, line, ClassNeed::Notice, *class, true)?;
+    add_count(into, line, given.len(), CountNeed::Attributes(*class))?;
     add_parameters(into, line, given)?;
-    for (place, name) in given.iter().enumerate() {
-        add_same(into, line, ModeOf::Named(*name), ModeOf::Attribute { class, place })?;
-    }
-    Ok(())
+    add_as_attributes(into, line, class, given)
 }
 
 // Adds the uses of the head of a section.
@@ -60,28 +53,49 @@ fn add_kind(into: &mut Vec<Use>, line: Line, kind: &SectionKind) -> Result<(), A
             add_parameters(into, line, given)?;
             add_parameters(into, line, yielding)
         }
-        SectionKind::Event { name, given, .. } => add_event(into, line, *name, given),
+        SectionKind::Event { name, given, .. } => add_event(into, line, name, given),
     }
 }
 
-/// The uses of a section, in the order of the text.
+// Adds the uses of names that a local DEFINE gives a mode.
+fn add_locals(
+    into: &mut Vec<Use>,
+    line: Line,
+    mode: Mode,
+    names: &[Name],
+) -> Result<(), AllocError>
+    ensures { IfOk result (λ _. into.new.items ≡ into.old.items ++ map (local line mode) names.now) }
+{
+    for name in names {
+        add(into, line, Used::Local { name: *name, mode })?;
+    }
+    Ok(())
+}
+
+// Adds the uses of the names that local DEFINEs give modes.
+fn add_definitions(
+    into: &mut Vec<Use>,
+    definitions: &[LocalDefinition],
+) -> Result<(), AllocError>
+    ensures { IfOk result (λ _. into.new.items ≡ into.old.items ++ flat_map in_definition (map view_definition definitions.now)) }
+{
+    for definition in definitions {
+        add_locals(into, definition.line, definition.mode, &definition.names)?;
+    }
+    Ok(())
+}
+
+/// The uses of a section, in the order of the text: its parameters, the names that it defines, and all that its statements
+/// use.
 ///
 /// # Errors
 /// `AllocError` where memory is refused.
 pub fn uses_of(alloc: Global, section: &Section) -> Result<Vec<Use>, AllocError>
     ensures { IfOk result (λ found. found.items ≡ uses (view_section section.now)) }
 {
-    let mut into = Vec::new(alloc);
-    add_kind(&mut into, section.line, &section.kind)?;
-    for definition in &section.definitions {
-        for name in &definition.names {
-            let local = Used::Local {
-                name: *name,
-                mode: definition.mode,
-            };
-            add(&mut into, definition.line, local)?;
-        }
-    }
-    add_body(alloc, &mut into, &section.body)?;
-    Ok(into)
+    let mut found = Vec::new(alloc);
+    add_kind(&mut found, section.line, &section.kind)?;
+    add_definitions(&mut found, &section.definitions)?;
+    add_body(alloc, &mut found, &section.body)?;
+    Ok(found)
 }

@@ -1,0 +1,142 @@
+-- The uses of rows of the tree, by rows as lists, and lists that a loop builds.
+use Rattle.std.proofs.Common.{◌≡◌, append_assoc, Bool, true, false, ℕ, suc, ◌+◌, ◌<◌, List, [], ◌∷◌, ◌++◌, length, get_or, take, map, refl, sym, ap, ◌∙◌, arith}
+use Rattle.std.proofs.lemmas.List.{append-nil, take_more, map-append, flat_map_more, length-map, length-take-le}
+use Rattle.std.specs.List.{flat_map}
+use Rattle.std.specs.Global.{Vec, Box}
+use Rattle.ss_base.specs.declared.line.Line.{Line}
+use Rattle.ss_base.specs.declared.words.Sign.{Sign}
+use Rattle.ss_tree.specs.declared.expression.Function.{Function}
+use Rattle.ss_tree.specs.declared.expression.Named.{Named}
+use Rattle.ss_tree.specs.declared.expression.Term.{Term}
+use Rattle.ss_tree.specs.declared.expression.Expression.{Expression}
+use Rattle.ss_tree.specs.declared.expression.Expression.TheVariants as variants
+use Rattle.ss_tree.specs.declared.condition.Condition.{Condition}
+use Rattle.ss_tree.specs.declared.head.Head.{Head}
+use Rattle.ss_tree.specs.declared.head.LoopHead.{LoopHead}
+use Rattle.ss_tree.specs.declared.statement.FindOutcome.{FindOutcome}
+use Rattle.ss_tree.specs.declared.statement.Statement.{Statement}
+use Rattle.ss_tree.specs.declared.statement.Statement.TheVariants as statements
+use Rattle.ss_tree.specs.Tree.{ExpressionTree, StatementTree, expression_row, term_row, statement_row}
+use Rattle.ss_tree.specs.View.{view_expression, view_named, view_statement, view_term}
+use Rattle.ss_tree.specs.Views.{view_named_made, view_call_made, view_product_made, view_sum_made, view_if_made, view_loop_made, view_find_if_made}
+use Rattle.ss_names_uses.specs.declared.used.Role.{Role}
+use Rattle.ss_names_uses.specs.declared.used.Role.TheVariants as roles
+use Rattle.ss_names_uses.specs.declared.used.CountNeed.TheVariants as counts
+use Rattle.ss_names_uses.specs.declared.used.Use.{Use}
+use Rattle.ss_names_uses.specs.Uses.{row_length, place, count, in_expression, in_numbers, in_terms, in_term, in_all_numbers, in_named, in_item, in_places, in_itself, in_inner, in_row, in_statement, in_body}
+
+-- ---- rows
+
+in_number_row : (line : Line) (es : List ExpressionTree) → in_numbers line (expression_row es) ≡ in_all_numbers line es
+in_number_row line [] = refl
+in_number_row line (e ∷ es) = ap (λ us. in_expression line true e ++ us) (in_number_row line es)
+
+in_term_row : (line : Line) (ts : List (Sign × ExpressionTree)) → in_terms line (term_row ts) ≡ flat_map (in_term line) ts
+in_term_row line [] = refl
+in_term_row line (t ∷ ts) = ap (λ us. in_expression line true t.1 ++ us) (in_term_row line ts)
+
+row_counted : (es : List Expression) → row_length (expression_row (map view_expression es)) ≡ length es
+row_counted [] = refl
+row_counted (e ∷ es) = ap suc (row_counted es)
+
+-- a named place, by the list of its subscripts
+pub in_named_listed : (line : Line) (role : Role) (b : Bool) (n : Named) → in_named line role b (view_named n) ≡ place line role b n.designator (length n.subscripts.items) ∷ in_all_numbers line (map view_expression n.subscripts.items)
+in_named_listed line role b n =
+    ap (λ (k : ℕ). place line role b n.designator k ∷ in_numbers line (expression_row (map view_expression n.subscripts.items))) (row_counted n.subscripts.items) ∙
+    ap (λ us. place line role b n.designator (length n.subscripts.items) ∷ us) (in_number_row line (map view_expression n.subscripts.items))
+
+pub in_named_made : (line : Line) (b : Bool) (n : Named) → in_expression line b (view_expression (variants.Named n)) ≡ place line roles.Value b n.designator (length n.subscripts.items) ∷ in_all_numbers line (map view_expression n.subscripts.items)
+in_named_made line b n = ap (in_expression line b) (view_named_made n) ∙ in_named_listed line roles.Value b n
+
+pub in_call_made : (line : Line) (b : Bool) (f : Function) (v : Vec Expression) → in_expression line b (view_expression (variants.Call f v)) ≡ count line (length v.items) (counts.Arguments f) ∷ in_all_numbers line (map view_expression v.items)
+in_call_made line b f v =
+    ap (in_expression line b) (view_call_made f v) ∙
+    ap (λ (k : ℕ). count line k (counts.Arguments f) ∷ in_numbers line (expression_row (map view_expression v.items))) (row_counted v.items) ∙
+    ap (λ us. count line (length v.items) (counts.Arguments f) ∷ us) (in_number_row line (map view_expression v.items))
+
+pub in_product_made : (line : Line) (b : Bool) (e : Box Expression) (v : Vec Expression) → in_expression line b (view_expression (variants.Product e v)) ≡ in_expression line true (view_expression e.value) ++ in_all_numbers line (map view_expression v.items)
+in_product_made line b e v =
+    ap (in_expression line b) (view_product_made e v) ∙
+    ap (λ us. in_expression line true (view_expression e.value) ++ us) (in_number_row line (map view_expression v.items))
+
+pub in_sum_made : (line : Line) (b : Bool) (e : Box Expression) (v : Vec Term) → in_expression line b (view_expression (variants.Sum e v)) ≡ in_expression line true (view_expression e.value) ++ flat_map (in_term line) (map view_term v.items)
+in_sum_made line b e v =
+    ap (in_expression line b) (view_sum_made e v) ∙
+    ap (λ us. in_expression line true (view_expression e.value) ++ us) (in_term_row line (map view_term v.items))
+
+-- an item that is a named place
+pub item_named : (line : Line) (n : Named) → in_item line (view_expression (variants.Named n)) ≡ in_named line roles.Item false (view_named n)
+item_named line n = ap (in_item line) (view_named_made n)
+
+-- ---- the next of a list
+
+next_taken : {X Y : Type 0} (f : X → Y) (xs : List X) (i : ℕ) (x : X) → i < length xs → x ≡ get_or xs i x → map f (take (i + 1) xs) ≡ map f (take i xs) ++ f x ∷ []
+next_taken f xs i x lt e =
+    ap (map f) (take_more xs i x lt) ∙ map-append f (take i xs) (get_or xs i x ∷ []) ∙ ap (λ y. map f (take i xs) ++ f y ∷ []) (sym e)
+
+-- the one use of one more of a list comes last
+pub next_one : {X A : Type 0} (f : X → A) (xs : List X) (i : ℕ) (x : X) (old now new : List A) → i < length xs → x ≡ get_or xs i x → now ≡ old ++ map f (take i xs) → new ≡ now ++ f x ∷ [] → new ≡ old ++ map f (take (i + 1) xs)
+next_one f xs i x old now new lt is h e =
+    e ∙ ap (λ us. us ++ f x ∷ []) h ∙ append_assoc old (map f (take i xs)) (f x ∷ []) ∙ ap (λ l. old ++ l) (sym (next_taken f xs i x lt is))
+
+-- the uses of one more of a list come last
+pub next_noted : {X Y A : Type 0} (f : Y → List A) (v : X → Y) (xs : List X) (i : ℕ) (x : X) (old now new : List A) → i < length xs → x ≡ get_or xs i x → now ≡ old ++ flat_map f (map v (take i xs)) → new ≡ now ++ f (v x) → new ≡ old ++ flat_map f (map v (take (i + 1) xs))
+next_noted f v xs i x old now new lt is h e =
+    e ∙ ap (λ us. us ++ f (v x)) h ∙ flat_map_more f old (map v (take i xs)) (v x) ∙ ap (λ l. old ++ flat_map f l) (sym (next_taken v xs i x lt is))
+
+-- ---- places
+
+places_more : {Y : Type 0} (f : ℕ → Y → List Use) (k : ℕ) (ys : List Y) (y : Y) → in_places f k (ys ++ y ∷ []) ≡ in_places f k ys ++ f (k + length ys) y
+places_more f k [] y =
+    let here : k + 0 ≡ k = omega arith in
+    append-nil (f k y) ∙ ap (λ (n : ℕ). f n y) (sym here)
+places_more f k (x ∷ ys) y =
+    let there : (k + 1) + length ys ≡ k + suc (length ys) = omega arith in
+    ap (λ l. f k x ++ l) (places_more f (k + 1) ys y ∙ ap (λ (n : ℕ). in_places f (k + 1) ys ++ f n y) there) ∙ sym (append_assoc (f k x) (in_places f (k + 1) ys) (f (k + suc (length ys)) y))
+
+plus_zero : (n : ℕ) → 0 + n ≡ n
+plus_zero n = omega arith
+
+place_added : {Y : Type 0} (f : ℕ → Y → List Use) (ys : List Y) (y : Y) (i : ℕ) (old now new : List Use) → length ys ≡ i → now ≡ old ++ in_places f 0 ys → new ≡ now ++ f i y → new ≡ old ++ in_places f 0 (ys ++ y ∷ [])
+place_added f ys y i old now new counted h e =
+    e ∙ ap (λ l. l ++ f i y) h ∙ append_assoc old (in_places f 0 ys) (f i y) ∙
+    ap (λ l. old ++ l) (ap (λ (n : ℕ). in_places f 0 ys ++ f n y) (sym (plus_zero (length ys) ∙ counted)) ∙ sym (places_more f 0 ys y))
+
+-- the uses of the next in its place come last
+pub next_place : {X Y : Type 0} (f : ℕ → Y → List Use) (v : X → Y) (xs : List X) (i : ℕ) (x : X) (old now new : List Use) → i < length xs → x ≡ get_or xs i x → now ≡ old ++ in_places f 0 (map v (take i xs)) → new ≡ now ++ f i (v x) → new ≡ old ++ in_places f 0 (map v (take (i + 1) xs))
+next_place f v xs i x old now new lt is h e =
+    place_added f (map v (take i xs)) (v x) i old now new (length-map (take i xs) v ∙ length-take-le i xs (omega arith)) h e ∙
+    ap (λ l. old ++ in_places f 0 l) (sym (next_taken v xs i x lt is))
+
+pub next_place_plain : {X : Type 0} (f : ℕ → X → List Use) (xs : List X) (i : ℕ) (x : X) (old now new : List Use) → i < length xs → x ≡ get_or xs i x → now ≡ old ++ in_places f 0 (take i xs) → new ≡ now ++ f i x → new ≡ old ++ in_places f 0 (take (i + 1) xs)
+next_place_plain f xs i x old now new lt is h e =
+    place_added f (take i xs) x i old now new (length-take-le i xs (omega arith)) h e ∙
+    ap (λ l. old ++ in_places f 0 l) (sym (take_more xs i x lt ∙ ap (λ y. take i xs ++ y ∷ []) (sym is)))
+
+-- ---- the statements in a statement
+
+in_statement_row : (ts : List StatementTree) → in_row (statement_row ts) ≡ in_body ts
+in_statement_row [] = refl
+in_statement_row (t ∷ ts) = ap (λ us. in_statement t ++ us) (in_statement_row ts)
+
+pub inner_if : (l : Line) (c : Condition) (t e : Vec Statement) → in_inner (view_statement (statements.If l c t e)) ≡ in_body (map view_statement t.items) ++ in_body (map view_statement e.items)
+inner_if l c t e =
+    ap in_inner (view_if_made l c t e) ∙
+    ap (λ us. us ++ in_row (statement_row (map view_statement e.items))) (in_statement_row (map view_statement t.items)) ∙
+    ap (λ us. in_body (map view_statement t.items) ++ us) (in_statement_row (map view_statement e.items))
+
+pub inner_find_if : (l : Line) (h : Head) (o : FindOutcome) (t e : Vec Statement) → in_inner (view_statement (statements.FindIf l h o t e)) ≡ in_body (map view_statement t.items) ++ in_body (map view_statement e.items)
+inner_find_if l h o t e =
+    ap in_inner (view_find_if_made l h o t e) ∙
+    ap (λ us. us ++ in_row (statement_row (map view_statement e.items))) (in_statement_row (map view_statement t.items)) ∙
+    ap (λ us. in_body (map view_statement t.items) ++ us) (in_statement_row (map view_statement e.items))
+
+pub inner_loop : (l : Line) (h : LoopHead) (b : Vec Statement) → in_inner (view_statement (statements.Loop l h b)) ≡ in_body (map view_statement b.items)
+inner_loop l h b = ap in_inner (view_loop_made l h b) ∙ in_statement_row (map view_statement b.items)
+
+-- the uses of one more statement of a body come last: its own, and then those of the statements in it
+pub next_walked : (xs : List Statement) (i : ℕ) (x : Statement) (old now noted new : List Use) → i < length xs → x ≡ get_or xs i x → now ≡ old ++ in_body (map view_statement (take i xs)) → noted ≡ now ++ in_itself (view_statement x) → new ≡ noted ++ in_inner (view_statement x) → new ≡ old ++ in_body (map view_statement (take (i + 1) xs))
+next_walked xs i x old now noted new lt is h n e =
+    let s = view_statement x in
+    let whole : new ≡ now ++ in_statement s = e ∙ ap (λ l. l ++ in_inner s) n ∙ append_assoc now (in_itself s) (in_inner s) in
+    next_noted in_statement view_statement xs i x old now new lt is h whole

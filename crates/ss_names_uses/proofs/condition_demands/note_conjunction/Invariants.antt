@@ -1,8 +1,0 @@
-use Rattle.std.proofs.Common.{◌≡◌, ◌++◌, map, take}
-use Rattle.std.specs.List.{flat_map}
-use Rattle.ss_tree.specs.View.{view_test}
-use Rattle.ss_names_uses.specs.Demands.{in_test}
-use Rattle.ss_names_uses.proofs.condition_demands.note_conjunction.Given as goal
-
-abbrev pub invariant-loop-test : goal.invariant-loop-test
-invariant-loop-test l = l.into ≡ l.initial.into ++ flat_map (in_test l.line) (map view_test (take l.test-index l.tests))

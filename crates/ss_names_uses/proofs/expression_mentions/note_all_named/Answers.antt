@@ -1,8 +1,0 @@
-use Rattle.ss_tree.specs.View.{view_named}
-use Rattle.ss_names_uses.specs.Mentions.{in_named}
-use Rattle.ss_names_uses.proofs.MentionRows.{next_noted}
-use Rattle.ss_names_uses.proofs.expression_mentions.note_all_named.Goals as goal
-
-pub loop-named-preserved : goal.loop-named-preserved
-loop-named-preserved c =
-    next_noted (in_named c.args.line c.args.role) view_named c.args.all.now c.loop-named.named-index c.named-item.result c.args.into.now.items c.loop-named.into.items c.note_named.new.into.items c.loop-named-test.true c.named-item.is c.loop-named.invariant c.in_ok-note_named.ensures

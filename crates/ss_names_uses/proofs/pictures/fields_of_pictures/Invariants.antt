@@ -1,6 +1,0 @@
-use Rattle.std.proofs.Common.{◌≡◌, take}
-use Rattle.ss_names_uses.specs.Demands.{fields_of_pictures}
-use Rattle.ss_names_uses.proofs.pictures.fields_of_pictures.Given as goal
-
-abbrev pub invariant-loop-picture : goal.invariant-loop-picture
-invariant-loop-picture l = l.fields.items ≡ fields_of_pictures (take l.picture-index l.pictures)

@@ -1,7 +1,0 @@
-use Rattle.std.proofs.Common.{◌≡◌, ◌++◌, map, take}
-use Rattle.ss_tree.specs.View.{view_statement}
-use Rattle.ss_names_uses.specs.Mentions.{in_body}
-use Rattle.ss_names_uses.proofs.statement_mentions.+walking.Given as goal
-
-abbrev pub invariant-note_body-loop-statement : goal.invariant-note_body-loop-statement
-invariant-note_body-loop-statement l = l.into.items ≡ l.initial.into.items ++ in_body (map view_statement (take l.statement-index l.body))
