@@ -1,2 +1,3 @@
 mod Rows
+pub mod Earliest
 pub mod Entries

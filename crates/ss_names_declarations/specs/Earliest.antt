@@ -1,7 +1,7 @@
 -- The first breach of rules that a program is refused for. A breach has a place: the number of its rule in the order of the
 -- rules, and then its line.
-use Rattle.std.specs.Prelude.{◌≡◌, ℕ, Bool, true, ◌||◌, ◌&&◌, ◌==◌, nat_le, nat_lt, List, [], ◌∷◌, Option, Some, None, if◌then◌else◌}
-use Rattle.std.specs.List.{find, fold, list_all}
+use Rattle.std.specs.Prelude.{◌≡◌, ℕ, Bool, true, false, ◌||◌, ◌&&◌, ◌==◌, nat_le, nat_lt, List, [], ◌∷◌, ◌++◌, Option, Some, None, if◌then◌else◌}
+use Rattle.std.specs.List.{AllByRecursion, filter, find, fold, list_all}
 
 abbrev pub comes_before : ℕ × ℕ → ℕ × ℕ → Bool
 comes_before a b = nat_lt a.0 b.0 || ((a.0 == b.0) && nat_lt a.1 b.1)
@@ -19,15 +19,30 @@ earlier_of order found (Some e) = earlier order found e
 abbrev pub earliest : {E : Type 0} → (E → ℕ × ℕ) → List E → Option E
 earliest order breaches = fold (earlier order) None breaches
 
--- ---- the first place in the text
+-- ---- laws
+
+-- no breach comes before the earliest
+abbrev pub EarliestIsLeast : {E : Type 0} → (E → ℕ × ℕ) → Type 0
+EarliestIsLeast {E} order =
+    (breaches : List E) (b : E) → earliest order breaches ≡ Some b →
+    AllByRecursion (λ c. comes_before (order c) (order b) ≡ false) breaches
+
+-- whether a breach is one of the same rule
+abbrev pub is_of_rule : {E : Type 0} → (E → ℕ × ℕ) → E → E → Bool
+is_of_rule order b c = (order c).0 == (order b).0
 
 -- whether the lines of breaches come in the order of the text
 abbrev pub is_in_order : {E : Type 0} → (E → ℕ × ℕ) → List E → Bool
 is_in_order order [] = true
 is_in_order order (b ∷ bs) = list_all (λ c. nat_le (order b).1 (order c).1) bs && is_in_order order bs
 
--- of breaches in the order of the text, the earliest is the first in the text of its rule
+-- if the breaches of its rule come in the order of the text, the earliest is the first of them
 abbrev pub EarliestIsFirst : {E : Type 0} → (E → ℕ × ℕ) → Type 0
 EarliestIsFirst {E} order =
-    (breaches : List E) (b : E) → is_in_order order breaches ≡ true → earliest order breaches ≡ Some b →
-    find (λ c. (order c).0 == (order b).0) breaches ≡ Some b
+    (breaches : List E) (b : E) → is_in_order order (filter (is_of_rule order b) breaches) ≡ true →
+    earliest order breaches ≡ Some b → find (is_of_rule order b) breaches ≡ Some b
+
+-- the earliest of two lists is the earlier of that of each
+abbrev pub EarliestOfParts : {E : Type 0} → (E → ℕ × ℕ) → Type 0
+EarliestOfParts {E} order =
+    (before after : List E) → earliest order (before ++ after) ≡ earlier_of order (earliest order before) (earliest order after)

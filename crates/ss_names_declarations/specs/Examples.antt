@@ -1,4 +1,4 @@
--- Worked examples: what small programs declare, read off by hand.
+-- Worked examples: what small programs declare, and the earliest of some breaches, read off by hand.
 use Rattle.std.specs.Prelude.{◌≡◌, ℕ, Bool, true, false, [], ◌∷◌, Some, None, codes, refl}
 use Rattle.ss_base.specs.declared.line.Line.{Line}
 use Rattle.ss_base.specs.declared.layout.ClassKind.TheVariants as class_kinds
@@ -13,6 +13,7 @@ use Rattle.ss_names_declarations.specs.declared.declaration.Declared.{Declared}
 use Rattle.ss_names_declarations.specs.declared.declaration.Declared.TheVariants as d
 use Rattle.ss_names_declarations.specs.declared.declaration.Declaration.{Declaration}
 use Rattle.ss_names_declarations.specs.Declarations.{at_line, declarations}
+use Rattle.ss_names_declarations.specs.Earliest.{earliest}
 
 abbrev line : ℕ → Line
 line n = record { 0 = n }
@@ -77,3 +78,18 @@ three_sections = refl
 -- the empty program declares nothing
 pub nothing : declarations (record { preamble = []; sections = [] }) ≡ []
 nothing = refl
+
+-- ---- the earliest breach, where a breach is its rule and its line
+
+abbrev itself : ℕ × ℕ → ℕ × ℕ
+itself place = place
+
+abbrev breach : ℕ → ℕ → ℕ × ℕ
+breach rule line = (rule, line)
+
+-- the first rule decides, and then the line
+pub the_rule_first : earliest itself (breach 52 1 ∷ breach 51 9 ∷ breach 53 2 ∷ breach 51 4 ∷ []) ≡ Some (breach 51 4)
+the_rule_first = refl
+
+pub none_broken : earliest itself [] ≡ None
+none_broken = refl

@@ -1,7 +1,7 @@
 //! The first breach of a rule.
 
 ghost use Rattle.std.specs.Prelude.{◌≡◌, ℕ};
-ghost use Rattle.ss_names_declarations.specs.Earliest.{comes_before, earlier, earlier_of};
+ghost use Rattle.ss_names_declarations.specs.Earliest.{EarliestIsFirst, EarliestIsLeast, EarliestOfParts, comes_before, earlier, earlier_of};
 
 /// A breach of a rule in a line.
 pub trait Breach: Copy {
@@ -46,3 +46,11 @@ pub fn earlier_of<E: Breach>(found: Option<E>, breach: Option<E>) -> Option<E>
         Some(breach) => earlier(found, breach),
     }
 }
+
+/// What is proved of the earliest of any breaches. None comes before it. If the breaches of its rule come in the order of
+/// the text, it is the first of them. Of two lists it is the earlier of that of each.
+pub fn laws_of_earliest<E: Breach>()
+    ensures least { EarliestIsLeast E.order }
+    ensures first { EarliestIsFirst E.order }
+    ensures parts { EarliestOfParts E.order }
+{}

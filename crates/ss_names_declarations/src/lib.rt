@@ -12,7 +12,7 @@ mod table;
 
 pub use declaration::{Declaration, Declared, SetRule};
 pub use declarations::declarations_of;
-pub use earliest::{Breach, earlier, earlier_of};
+pub use earliest::{Breach, earlier, earlier_of, laws_of_earliest};
 pub use first::{has_entry, insert_first, insert_if, key_at, value_at};
 pub use keys::Keys;
 pub use seed::Seed;

@@ -49,10 +49,10 @@ used n what = at_line (line n) what
 
 -- a name in a role, with so many subscripts, and whether it has to be a number
 abbrev named_in : ℕ → Role → NameBytes → ℕ → Bool → Use
-named_in n role name subscripts is_number = used n (Place role (designators.Name name) subscripts is_number)
+named_in n role what subscripts is_number = used n (Place role (designators.Name what) subscripts is_number)
 
 abbrev class_in : ℕ → ClassNeed → NameBytes → Bool → Use
-class_in n need name is_called = used n (Class need name is_called)
+class_in n need class is_called = used n (Class need class is_called)
 
 abbrev same_in : ℕ → ModeOf → ModeOf → Use
 same_in n found wanted = used n (Same found wanted)
