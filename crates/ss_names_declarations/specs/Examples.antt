@@ -85,7 +85,7 @@ abbrev itself : ℕ × ℕ → ℕ × ℕ
 itself place = place
 
 abbrev breach : ℕ → ℕ → ℕ × ℕ
-breach rule line = (rule, line)
+breach rule n = (rule, n)
 
 -- the first rule decides, and then the line
 pub the_rule_first : earliest itself (breach 52 1 ∷ breach 51 9 ∷ breach 53 2 ∷ breach 51 4 ∷ []) ≡ Some (breach 51 4)
