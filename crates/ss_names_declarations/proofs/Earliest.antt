@@ -2,7 +2,7 @@
 use Rattle.std.proofs.Common.{◌≡◌, ℕ, ◌<◌, ◌≤◌, Bool, true, false, cond, ◌&&◌, ◌==◌, nat_lt, nat_le, List, [], ◌∷◌, ◌++◌, Option, Some, None, ◌⊎◌, inl, inr, ⊎_elim, refl, sym, ap, subst, ◌∙◌, true≢false, arith}
 use Rattle.std.specs.Bool.{Decides}
 use Rattle.std.specs.List.{AllByRecursion, filter, find, fold, list_all}
-use Rattle.std.proofs.lemmas.Bool.{and_from, and_parts, cases_Bool, cond-false, cond-true, eq-eqb, eqb-false, eqb-true, false_from_ne_true, leb-true, ne_eqb}
+use Rattle.std.proofs.lemmas.Bool.{and_from, and_parts, cases_Bool, cases_lt, cond-false, cond-true, eq-eqb, eqb-false, eqb-true, false_from_ne_true, leb-true, ne_eqb}
 use Rattle.std.proofs.lemmas.Bool.Decides.{Decides-and, Decides-eqb, Decides-ltb, Decides-or}
 use Rattle.std.proofs.lemmas.Option.{none-some, same_Some}
 use Rattle.ss_names_declarations.specs.Earliest.{EarliestIsFirst, EarliestIsLeast, EarliestOfParts, comes_before, earlier, earlier_of, earliest, is_in_order, is_of_rule}
@@ -43,18 +43,25 @@ crossed p q (inl a) (inr b) = omega arith
 crossed p q (inr a) (inl b) = omega arith
 crossed p q (inr a) (inr b) = omega arith
 
+at_most : (m n : ℕ) → (m < n → ⊥) → n ≤ m
+at_most m n h = ⊎_elim (λ l. absurd (h l)) (λ g. g) (cases_lt m n)
+
+less_than : (m n : ℕ) → m ≤ n → (n ≡ m → ⊥) → m < n
+less_than m n le h = ⊎_elim (λ l. l) (λ g. let same : n ≡ m = omega arith in absurd (h same)) (cases_lt m n)
+
+-- a place that does not come before a second, which does not come before a third, does not come before the third
 between : (p q r : ℕ × ℕ) → IsBefore p r → (IsBefore p q → ⊥) → (IsBefore q r → ⊥) → ⊥
 between p q r (inl less) h k =
-    let a : p.0 < q.0 → ⊥ = λ l. h (inl l) in
-    let b : q.0 < r.0 → ⊥ = λ l. k (inl l) in
+    let a : q.0 ≤ p.0 = at_most p.0 q.0 (λ l. h (inl l)) in
+    let b : r.0 ≤ q.0 = at_most q.0 r.0 (λ l. k (inl l)) in
     omega arith
 between p q r (inr both) h k =
-    let a : p.0 < q.0 → ⊥ = λ l. h (inl l) in
-    let b : q.0 < r.0 → ⊥ = λ l. k (inl l) in
+    let a : q.0 ≤ p.0 = at_most p.0 q.0 (λ l. h (inl l)) in
+    let b : r.0 ≤ q.0 = at_most q.0 r.0 (λ l. k (inl l)) in
     let first : p.0 ≡ q.0 = omega arith in
     let second : q.0 ≡ r.0 = omega arith in
-    let c : p.1 < q.1 → ⊥ = λ l. h (inr (first, l)) in
-    let d : q.1 < r.1 → ⊥ = λ l. k (inr (second, l)) in
+    let c : q.1 ≤ p.1 = at_most p.1 q.1 (λ l. h (inr (first, l))) in
+    let d : r.1 ≤ q.1 = at_most q.1 r.1 (λ l. k (inr (second, l))) in
     omega arith
 
 onward : (p q r : ℕ × ℕ) → comes_before p q ≡ true → comes_before q r ≡ true → comes_before p r ≡ true
@@ -211,8 +218,8 @@ module _ {E : Type 0} (order : E → ℕ × ℕ) where
   passed_second b x y ys low after e = ⊎_elim
       (λ p. cond-true (is_of_rule order b x) (Some x) (find (is_of_rule order b) (y ∷ ys)) p ∙ sym (cond-true (is_of_rule order b x) (Some x) (find (is_of_rule order b) ys) p) ∙ e)
       (λ p.
-      let other : (order x).0 ≡ (order b).0 → ⊥ = eqb-false (order x).0 (order b).0 p in
-      let later : (order y).0 < (order x).0 → ⊥ = λ l. not_before (order y) (order x) after (inl l) in
+      let less : (order b).0 < (order x).0 = less_than (order b).0 (order x).0 low (eqb-false (order x).0 (order b).0 p) in
+      let high : (order x).0 ≤ (order y).0 = at_most (order y).0 (order x).0 (λ l. not_before (order y) (order x) after (inl l)) in
       let apart : (order y).0 ≡ (order b).0 → ⊥ = λ same. omega arith in
       cond-false (is_of_rule order b x) (Some x) (find (is_of_rule order b) (y ∷ ys)) p ∙
       cond-false (is_of_rule order b y) (Some y) (find (is_of_rule order b) ys) (ne_eqb (order y).0 (order b).0 apart) ∙

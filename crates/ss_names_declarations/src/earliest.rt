@@ -12,13 +12,11 @@ pub trait Breach: Copy {
         ensures { result ≡ order self.now };
 }
 
-// Whether a breach comes before another: by the rule, and then by the line.
-fn comes_before<E: Breach>(a: &E, b: &E) -> bool
-    ensures { result ≡ comes_before (E.order a.now) (E.order b.now) }
+// Whether a place comes before another: by the rule, and then by the line.
+fn comes_before(a: (u32, u32), b: (u32, u32)) -> bool
+    ensures { result ≡ comes_before a b }
 {
-    let (rule, line) = a.order_of();
-    let (other_rule, other_line) = b.order_of();
-    rule < other_rule || (rule == other_rule && line < other_line)
+    a.0 < b.0 || (a.0 == b.0 && a.1 < b.1)
 }
 
 /// What was found so far or, if it comes before that, one more.
@@ -28,7 +26,7 @@ pub fn earlier<E: Breach>(found: Option<E>, breach: E) -> Option<E>
     match found {
         None => Some(breach),
         Some(first) => {
-            if comes_before(&breach, &first) {
+            if comes_before(breach.order_of(), first.order_of()) {
                 Some(breach)
             } else {
                 Some(first)

@@ -17,8 +17,8 @@ use std::alloc::AllocError;
 fn add_variable(into: &mut Vec<Use>, line: Line, variable: Name) -> Result<(), AllocError>
     ensures { IfOk result (λ _. into.new.items ≡ into.old.items ++ loop_variable line variable) }
 {
-    let variable = Designator::Name(variable);
-    add_place(into, line, Role::LoopVariable, true, variable, 0)
+    let place = Designator::Name(variable);
+    add_place(into, line, Role::LoopVariable, true, place, 0)
 }
 
 // Adds the use of the variable after CALLED, if there is one.
