@@ -44,10 +44,10 @@ crossed p q (inr a) (inl b) = omega arith
 crossed p q (inr a) (inr b) = omega arith
 
 at_most : (m n : ℕ) → (m < n → ⊥) → n ≤ m
-at_most m n h = ⊎_elim (λ l. absurd (h l)) (λ g. g) (cases_lt m n)
+at_most m n h = ⊎_elim (λ (l : m < n). absurd (h l)) (λ (g : n ≤ m). g) (cases_lt m n)
 
 less_than : (m n : ℕ) → m ≤ n → (n ≡ m → ⊥) → m < n
-less_than m n le h = ⊎_elim (λ l. l) (λ g. let same : n ≡ m = omega arith in absurd (h same)) (cases_lt m n)
+less_than m n le h = ⊎_elim (λ (l : m < n). l) (λ (g : n ≤ m). let same : n ≡ m = omega arith in absurd (h same)) (cases_lt m n)
 
 -- a place that does not come before a second, which does not come before a third, does not come before the third
 between : (p q r : ℕ × ℕ) → IsBefore p r → (IsBefore p q → ⊥) → (IsBefore q r → ⊥) → ⊥
@@ -87,24 +87,24 @@ module _ {E : Type 0} (order : E → ℕ × ℕ) where
   of_three : (a : Option E) (b c : E) → earlier_of order a (earlier order (Some b) c) ≡ earlier order (earlier order a b) c
   of_three None b c = of_none (earlier order (Some b) c)
   of_three (Some x) b c = ⊎_elim
-      (λ cb. ⊎_elim
-      (λ bx.
+      (λ (cb : comes_before (order c) (order b) ≡ true). ⊎_elim
+      (λ (bx : comes_before (order b) (order x) ≡ true).
       let cx : comes_before (order c) (order x) ≡ true = onward (order c) (order b) (order x) cb bx in
       ap (λ (t : Bool). earlier_of order (Some x) (cond t (Some c) (Some b))) cb ∙
       ap (λ (t : Bool). cond t (Some c) (Some x)) cx ∙
       sym (ap (λ (t : Bool). cond t (Some c) (Some b)) cb) ∙
       sym (ap (λ (t : Bool). earlier order (cond t (Some b) (Some x)) c) bx))
-      (λ bx.
+      (λ (bx : comes_before (order b) (order x) ≡ false).
       ap (λ (t : Bool). earlier_of order (Some x) (cond t (Some c) (Some b))) cb ∙
       sym (ap (λ (t : Bool). earlier order (cond t (Some b) (Some x)) c) bx))
       (cases_Bool (comes_before (order b) (order x))))
-      (λ cb. ⊎_elim
-      (λ bx.
+      (λ (cb : comes_before (order c) (order b) ≡ false). ⊎_elim
+      (λ (bx : comes_before (order b) (order x) ≡ true).
       ap (λ (t : Bool). earlier_of order (Some x) (cond t (Some c) (Some b))) cb ∙
       ap (λ (t : Bool). cond t (Some b) (Some x)) bx ∙
       sym (ap (λ (t : Bool). cond t (Some c) (Some b)) cb) ∙
       sym (ap (λ (t : Bool). earlier order (cond t (Some b) (Some x)) c) bx))
-      (λ bx.
+      (λ (bx : comes_before (order b) (order x) ≡ false).
       let cx : comes_before (order c) (order x) ≡ false = chain (order c) (order b) (order x) cb bx in
       ap (λ (t : Bool). earlier_of order (Some x) (cond t (Some c) (Some b))) cb ∙
       ap (λ (t : Bool). cond t (Some b) (Some x)) bx ∙
@@ -143,10 +143,10 @@ module _ {E : Type 0} (order : E → ℕ × ℕ) where
   least_from : (found : E) (xs : List E) (b : E) → fold (earlier order) (Some found) xs ≡ Some b → (comes_before (order found) (order b) ≡ false) × AllByRecursion (λ c. comes_before (order c) (order b) ≡ false) xs
   least_from found [] b e = (subst (λ x. comes_before (order found) (order x) ≡ false) (same_Some found b e) (not_itself (order found)), tt)
   least_from found (y ∷ ys) b e = ⊎_elim
-      (λ t.
+      (λ (t : comes_before (order y) (order found) ≡ true).
       let r = least_from y ys b (taken found y ys t ∙ e) in
       (chain (order found) (order y) (order b) (one_way (order y) (order found) t) r.0, (r.0, r.1)))
-      (λ t.
+      (λ (t : comes_before (order y) (order found) ≡ false).
       let r = least_from found ys b (kept found y ys t ∙ e) in
       (r.0, (chain (order y) (order found) (order b) t r.0, r.1)))
       (cases_Bool (comes_before (order y) (order found)))
@@ -163,11 +163,11 @@ module _ {E : Type 0} (order : E → ℕ × ℕ) where
       let same : (order found).0 ≡ (order b).0 = ap (λ (x : E). (order x).0) (same_Some found b e) in
       omega arith
   no_later found (y ∷ ys) b e = ⊎_elim
-      (λ t.
+      (λ (t : comes_before (order y) (order found) ≡ true).
       let low : (order b).0 ≤ (order y).0 = no_later y ys b (taken found y ys t ∙ e) in
       let high : (order y).0 ≤ (order found).0 = rule_first (order y) (order found) (is_before (order y) (order found) t) in
       omega arith)
-      (λ t. no_later found ys b (kept found y ys t ∙ e))
+      (λ (t : comes_before (order y) (order found) ≡ false). no_later found ys b (kept found y ys t ∙ e))
       (cases_Bool (comes_before (order y) (order found)))
 
   abbrev reaches : E → E → Bool
@@ -216,11 +216,11 @@ module _ {E : Type 0} (order : E → ℕ × ℕ) where
 
   passed_second : (b x y : E) (ys : List E) → (order b).0 ≤ (order x).0 → comes_before (order y) (order x) ≡ false → find (is_of_rule order b) (x ∷ ys) ≡ Some b → find (is_of_rule order b) (x ∷ y ∷ ys) ≡ Some b
   passed_second b x y ys low after e = ⊎_elim
-      (λ p. cond-true (is_of_rule order b x) (Some x) (find (is_of_rule order b) (y ∷ ys)) p ∙ sym (cond-true (is_of_rule order b x) (Some x) (find (is_of_rule order b) ys) p) ∙ e)
-      (λ p.
+      (λ (p : is_of_rule order b x ≡ true). cond-true (is_of_rule order b x) (Some x) (find (is_of_rule order b) (y ∷ ys)) p ∙ sym (cond-true (is_of_rule order b x) (Some x) (find (is_of_rule order b) ys) p) ∙ e)
+      (λ (p : is_of_rule order b x ≡ false).
       let less : (order b).0 < (order x).0 = less_than (order b).0 (order x).0 low (eqb-false (order x).0 (order b).0 p) in
       let high : (order x).0 ≤ (order y).0 = at_most (order y).0 (order x).0 (λ l. not_before (order y) (order x) after (inl l)) in
-      let apart : (order y).0 ≡ (order b).0 → ⊥ = λ same. omega arith in
+      let apart : (order y).0 ≡ (order b).0 → ⊥ = λ (same : (order y).0 ≡ (order b).0). omega arith in
       cond-false (is_of_rule order b x) (Some x) (find (is_of_rule order b) (y ∷ ys)) p ∙
       cond-false (is_of_rule order b y) (Some y) (find (is_of_rule order b) ys) (ne_eqb (order y).0 (order b).0 apart) ∙
       sym (cond-false (is_of_rule order b x) (Some x) (find (is_of_rule order b) ys) p) ∙ e)
@@ -231,13 +231,13 @@ module _ {E : Type 0} (order : E → ℕ × ℕ) where
       let same : (order found).0 ≡ (order b).0 = ap (λ (x : E). (order x).0) (same_Some found b e) in
       cond-true (is_of_rule order b found) (Some found) None (eq-eqb (order found).0 (order b).0 same) ∙ e
   first_from found (y ∷ ys) b sorted e = ⊎_elim
-      (λ t.
+      (λ (t : comes_before (order y) (order found) ≡ true).
       let there : fold (earlier order) (Some y) ys ≡ Some b = taken found y ys t ∙ e in
       let low : (order b).0 ≤ (order y).0 = no_later y ys b there in
       let rest : is_in_order order (filter (is_of_rule order b) (y ∷ ys)) ≡ true = in_order_on (is_of_rule order b found) found (filter (is_of_rule order b) (y ∷ ys)) sorted in
       let other : is_of_rule order b found ≡ false = of_other_rule (is_of_rule order b found) (is_of_rule order b y) b found y (filter (is_of_rule order b) ys) refl refl low t sorted in
       passed b found y ys other (first_from y ys b rest there))
-      (λ t.
+      (λ (t : comes_before (order y) (order found) ≡ false).
       let there : fold (earlier order) (Some found) ys ≡ Some b = kept found y ys t ∙ e in
       let low : (order b).0 ≤ (order found).0 = no_later found ys b there in
       let rest : is_in_order order (filter (is_of_rule order b) (found ∷ ys)) ≡ true = without_second (is_of_rule order b found) (is_of_rule order b y) found y (filter (is_of_rule order b) ys) sorted in
