@@ -1,12 +1,11 @@
--- Steps for each number below a bound.
-use Rattle.std.proofs.Common.{◌≡◌, ℕ, zero, suc, ◌+◌, ◌<◌, List, [], ◌∷◌, ◌++◌, map, Option, Some, None, refl, ap, subst, ◌∙◌, arith, add-one, inl, inr}
+-- Steps for each number below a bound, and lists put together.
+use Rattle.std.proofs.Common.{◌≡◌, ℕ, zero, suc, ◌+◌, ◌<◌, List, [], ◌∷◌, ◌++◌, length, get_or, take, map, Option, Some, None, refl, sym, ap, subst, ◌∙◌, arith, add-one, inl, inr}
 use Rattle.std.specs.List.{flat_map}
-use Rattle.std.proofs.lemmas.List.{append-nil, map-append}
-use Rattle.std.proofs.lemmas.Grind.{flat_map-append}
+use Rattle.std.proofs.lemmas.List.{take_more, map-append, flat_map_more}
 use Rattle.std.proofs.lemmas.Bool.{cases_lt}
 use Rattle.ss_names_meaning.specs.declared.error.ResolveError.{ResolveError}
 use Rattle.ss_names_meaning.specs.declared.error.ResolveError.TheVariants.{Memory, Unresolved}
-use Rattle.ss_names_meaning.specs.Answers.{◌>>=◌, each, upto, Fails}
+use Rattle.ss_names_meaning.specs.Answers.{each, upto, Fails}
 use Rattle.ss_names_meaning.proofs.Each.{each_more}
 use Rattle.ss_names_meaning.proofs.EachThat.{front_none, last_none}
 
@@ -45,33 +44,10 @@ pub plain_numbers_next : {B : Type 0} (step : ℕ → Option B) (i : ℕ) (old n
 unfolding upto
 plain_numbers_next step i old new y e h g = rw (add-one, e) (each_more step (upto i) i old y h g)
 
--- ---- results that are lists, and are put together
+-- ---- what each item of a list gives, one after the other
 
--- lists, one after the other
-abbrev pub together : {B : Type 0} → Option (List (List B)) → Option (List B)
-together found = found >>= λ them. Some (flat_map (λ one. one) them)
-
-pub no_lists : {B : Type 0} (step : ℕ → Option (List B)) (ys : List B) → ys ≡ [] → together (each step (upto 0)) ≡ Some ys
-unfolding each upto
-no_lists step ys e = rw e refl
-
-one_appended : {B : Type 0} (them : List (List B)) (more : List B) → flat_map (λ one. one) (them ++ more ∷ []) ≡ flat_map (λ one. one) them ++ more
-one_appended them more = flat_map-append (λ one. one) them (more ∷ []) ∙ ap (λ z. flat_map (λ one. one) them ++ z) (append-nil more)
-
-lists_appended : {B : Type 0} (found next : Option (List (List B))) (old more : List B) →
-    ((them : List (List B)) → found ≡ Some them → next ≡ Some (them ++ more ∷ [])) →
-    together found ≡ Some old → together next ≡ Some (old ++ more)
-lists_appended None next old more h e = absurd cc
-lists_appended (Some them) next old more h e =
-    let made : flat_map (λ one. one) them ≡ old = cc in
-    rw (h them refl, one_appended them more, made) refl
-
-pub lists_next : {B : Type 0} (step : ℕ → Option (List B)) (i : ℕ) (old new more : List B) → new ≡ old ++ more →
-    together (each step (upto i)) ≡ Some old → step i ≡ Some more → together (each step (upto (i + 1))) ≡ Some new
-unfolding upto
-lists_next step i old new more e h g =
-    rw (add-one, e) (lists_appended (each step (upto i)) (each step (upto i ++ i ∷ [])) old more (λ them k. each_more step (upto i) i them more k g) h)
-
-pub lists_fail : {B : Type 0} (step : ℕ → Option (List B)) (n i : ℕ) (e : ResolveError) → i < n → Fails e (step i) → Fails e (together (each step (upto n)))
-lists_fail step n i Memory lt h = tt
-lists_fail step n i Unresolved lt h = rw (upto_none step n i lt h) refl
+pub listed_next : {A B : Type 0} (f : A → List B) (xs : List A) (i : ℕ) (x : A) (old new : List B) → i < length xs → x ≡ get_or xs i x →
+    old ≡ flat_map f (take i xs) → new ≡ old ++ f x → new ≡ flat_map f (take (i + 1) xs)
+listed_next f xs i x old new lt is h e =
+    let taken : take (i + 1) xs ≡ take i xs ++ x ∷ [] = take_more xs i x lt ∙ ap (λ y. take i xs ++ y ∷ []) (sym is) in
+    e ∙ ap (λ l. l ++ f x) h ∙ flat_map_more f [] (take i xs) x ∙ ap (flat_map f) (sym taken)

@@ -1,5 +1,5 @@
 -- Resolved conditions: each name is replaced by what it means.
-use Rattle.std.specs.Prelude.{List, Option, Some, None}
+use Rattle.std.specs.Prelude.{List, Option, Some}
 use Rattle.ss_tree.specs.Tree.{TestTree, compare, empty, member, data_ended, ConditionTree}
 use Rattle.ss_program.specs.Program.{Test, Compare, DataEnded, Empty, Member, Condition}
 use Rattle.ss_names_meaning.specs.Answers.{◌>>=◌, each}

@@ -1,8 +1,7 @@
 -- What follows from the table of a program: classes, sets and their disciplines, global variables, statistics.
-use Rattle.std.specs.Prelude.{ℕ, ◌+◌, ◌==◌, Bool, ◌∷◌, List, [], slice_get, get_or, Option, Some, None}
-use Rattle.std.specs.Map.{keys_of, values_of}
+use Rattle.std.specs.Prelude.{ℕ, ◌==◌, Bool, ◌∷◌, List, [], length, slice_get, get_or, Option, Some, None}
+use Rattle.std.specs.Map.{values_of}
 use Rattle.std.specs.List.{filter, flat_map}
-use Rattle.ss_base.specs.declared.layout.ClassKind.{ClassKind}
 use Rattle.ss_base.specs.declared.layout.Discipline.{Discipline}
 use Rattle.ss_base.specs.declared.layout.Discipline.TheVariants as orders
 use Rattle.ss_base.specs.declared.layout.Mode.{Mode}
@@ -11,11 +10,9 @@ use Rattle.ss_base.specs.declared.layout.SetLayout.{SetLayout}
 use Rattle.ss_base.specs.Layout.{layout_of}
 use Rattle.ss_base.specs.Plain.{PlainClass, PlainLayout}
 use Rattle.ss_tree.specs.Names.{NameBytes}
-use Rattle.ss_base.specs.declared.words.Weighting.{Weighting}
 use Rattle.ss_names_declarations.specs.declared.declaration.SetRule.{SetRule}
 use Rattle.ss_names_declarations.specs.declared.declaration.SetRule.TheVariants as rules
 use Rattle.ss_names_declarations.specs.Firsts.{same_name, value_for}
-use Rattle.ss_names.specs.declared.entry.Attribute.{Attribute}
 use Rattle.ss_names.specs.declared.entry.Order.{Order}
 use Rattle.ss_names.specs.declared.entry.Set.{Set}
 use Rattle.ss_names.specs.declared.entry.RankedBy.{RankedBy}
@@ -24,9 +21,8 @@ use Rattle.ss_names.specs.declared.meaning.Meaning.{Meaning}
 use Rattle.ss_names.specs.declared.meaning.Meaning.TheVariants as meanings
 use Rattle.ss_names.specs.Table.{Table}
 use Rattle.ss_program.specs.declared.sections.Statistic.{Statistic}
-use Rattle.ss_program.specs.declared.sections.Subject.{Subject}
 use Rattle.ss_program.specs.declared.statement.CountedClass.{CountedClass}
-use Rattle.ss_names_meaning.specs.Answers.{◌>>=◌, each, where_holds}
+use Rattle.ss_names_meaning.specs.Answers.{◌>>=◌, each, upto, where_holds}
 
 -- ---- classes and sets
 
@@ -36,17 +32,14 @@ field_mode t name = do
   attribute ← value_for t.attributes name
   Some attribute.mode
 
--- a class by its number, with the modes of its attributes
-abbrev pub class_laid : Table → ℕ × ClassKind → Option PlainClass
-class_laid t c = do
-  modes ← each (field_mode t) (get_or t.fields c.0 [])
-  Some (record { kind = c.1; fields = modes })
+-- the class of this number, with the modes of its attributes
+abbrev pub class_laid : Table → ℕ → Option PlainClass
+class_laid t n = do
+  kind ← slice_get (values_of t.classes) n
+  modes ← each (field_mode t) (get_or t.fields n [])
+  Some (record { kind = kind; fields = modes })
 
--- each item of a list with its number, from this one on
-abbrev pub counted_from : {A : Type 0} → ℕ → List A → List (ℕ × A)
-counted_from n [] = []
-counted_from n (x ∷ xs) = (n, x) ∷ counted_from (n + 1) xs
-
+-- a set, which needs an owner and a class of members
 abbrev pub set_laid : Set → Option SetLayout
 set_laid set = do
   owner ← set.owner
@@ -55,7 +48,7 @@ set_laid set = do
 
 abbrev pub layout : Table → Option PlainLayout
 layout t = do
-  classes ← each (class_laid t) (counted_from 0 (values_of t.classes))
+  classes ← each (class_laid t) (upto (length t.classes))
   sets ← each set_laid t.sets
   layout_of classes sets
 
@@ -107,19 +100,21 @@ abbrev pub count_by : Meaning → List CountedClass
 count_by (meanings.Count count) = count ∷ []
 count_by _ = []
 
--- N. of each permanent class
-abbrev pub counts : Table → Option (List CountedClass)
-counts t = Some (flat_map count_by (values_of t.meanings))
+-- N. of each permanent class, in the order of the text
+abbrev pub counts : Table → List CountedClass
+counts t = flat_map count_by (values_of t.meanings)
 
-abbrev pub statistic_kept : Table → ℕ × Weighting → Option Statistic
-statistic_kept t h = do
-  known ← slice_get t.subjects h.0
+-- the statistic of the history of this number
+abbrev pub statistic_kept : Table → ℕ → Option Statistic
+statistic_kept t n = do
+  weighting ← slice_get (values_of t.histories) n
+  known ← slice_get t.subjects n
   subject ← known
-  Some (record { subject = subject; weighting = h.1 })
+  Some (record { subject = subject; weighting = weighting })
 
 -- a statistic for each history
 abbrev pub statistics : Table → Option (List Statistic)
-statistics t = each (statistic_kept t) (counted_from 0 (values_of t.histories))
+statistics t = each (statistic_kept t) (upto (length t.histories))
 
 -- ---- all of it
 
@@ -135,6 +130,5 @@ abbrev pub laid_out : Table → Option ResolvedLayout
 laid_out t = do
   laid ← layout t
   ordered ← disciplines t
-  counted ← counts t
   kept ← statistics t
-  Some (record { layout = laid; disciplines = ordered; globals = values_of t.variables; counts = counted; statistics = kept })
+  Some (record { layout = laid; disciplines = ordered; globals = values_of t.variables; counts = counts t; statistics = kept })

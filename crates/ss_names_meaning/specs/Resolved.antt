@@ -1,5 +1,5 @@
 -- A resolved program: each name is replaced by what it means.
-use Rattle.std.specs.Prelude.{ℕ, map, nat_eq, nat_le, Bool, true, false, is_some, List, [], length, take, drop, slice_get, get_or, Option, Some, None}
+use Rattle.std.specs.Prelude.{ℕ, map, nat_eq, nat_le, Bool, true, false, List, [], length, take, drop, slice_get, get_or, Option, Some, None}
 use Rattle.std.specs.List.{list_all, list_any, position}
 use Rattle.std.specs.Map.{keys_of, values_of}
 use Rattle.ss_base.specs.declared.layout.Mode.{Mode}
@@ -15,18 +15,21 @@ use Rattle.ss_names.specs.declared.meaning.Meaning.TheVariants as meanings
 use Rattle.ss_names.specs.Table.{Table}
 use Rattle.ss_names_scopes.specs.Locals.{Moded, locals_of}
 use Rattle.ss_program.specs.Program.{Block, Routine, Event, Program}
-use Rattle.ss_names_meaning.specs.Answers.{◌>>=◌, each, where_holds}
+use Rattle.ss_names_meaning.specs.Answers.{◌>>=◌, each, upto, where_holds}
 use Rattle.ss_names_meaning.specs.Layouts.{ResolvedLayout, laid_out, tie_keys}
 use Rattle.ss_names_meaning.specs.Statements.{statements}
 
 -- ---- sections
 
-abbrev pub local_mode : NameBytes × Option Mode → Option Mode
-local_mode entry = entry.1
+-- the mode of the local variable of this number
+abbrev pub local_mode : Moded → ℕ → Option Mode
+local_mode locals n = do
+  known ← slice_get (values_of locals) n
+  known
 
 -- the modes of the local variables, in the order of their numbers
 abbrev pub local_modes : Moded → Option (List Mode)
-local_modes locals = each local_mode locals
+local_modes locals = each (local_mode locals) (upto (length locals))
 
 -- a resolved section: the line of its head, the modes of its local variables, and its statements
 pub record Parts : Type 0 where

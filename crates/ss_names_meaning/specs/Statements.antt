@@ -1,12 +1,11 @@
 -- Resolved statements: each name is replaced by what it means.
-use Rattle.std.specs.Prelude.{ℕ, slice_get, nat_le, ◌&&◌, ◌==◌, List, [], ◌∷◌, length, Option, Some, None}
+use Rattle.std.specs.Prelude.{ℕ, slice_get, nat_le, ◌&&◌, ◌==◌, List, length, Option, Some, None}
 use Rattle.ss_base.specs.declared.line.Line.{Line}
 use Rattle.ss_tree.specs.declared.statement.FindOutcome.{FindOutcome}
 use Rattle.ss_tree.specs.declared.statement.FindOutcome.TheVariants as outcomes
 use Rattle.ss_tree.specs.Tree.{ConditionTree, ExpressionTree, NamedTree, HeadTree, LoopHeadTree, for_head, guarded, PositionTree, by_discipline, at_first, at_last, before, after, WhenTree, at_time, in_units, now, StatementTree, let_statement, add_statement, subtract_statement, call_statement, return_statement, stop_statement, read_statement, start_simulation, if_statement, loop_statement, find_statement, find_if_statement, create_statement, create_every, destroy_statement, file_statement, remove_end, remove_statement, schedule_new, schedule_statement, cancel_statement, reset_statement, print_statement, skip_statement, StatementRow, no_statement, and_statement}
 use Rattle.ss_tree.specs.Names.{NameBytes}
 use Rattle.ss_program.specs.declared.expression.Variable.{Variable}
-use Rattle.ss_program.specs.declared.expression.Variable.TheVariants.{Global, Local}
 use Rattle.ss_base.specs.declared.words.Sign.TheVariants.{Plus, Minus}
 use Rattle.ss_program.specs.Program.{Expression, Fetch, Place, ToVariable, Target, Position, ByDiscipline, AsFirst, AsLast, BeforeMember, AfterMember, When, At, In, Now, Restart, Statement, Let, Change, Call, Return, Stop, Read, Simulate, If, Loop, For, Find, Create, CreateEvery, Destroy, File, RemoveEnd, Remove, ScheduleNew, Schedule, Cancel, Reset, Print, Skip, Block, Done, Then}
 use Rattle.std.specs.Map.{values_of}
@@ -140,32 +139,86 @@ abbrev pub old_notice : Line → NamedClass → Expression → List Expression �
 old_notice line class notice given due =
     where_holds (nat_le (length given) class.attributes) (Schedule line class.class notice given due)
 
+-- a statement without statements in it; None for another
+unfoldable pub simple_statement : Scope → StatementTree → Option Statement
+simple_statement c (let_statement line n e) = do
+  place ← target c n
+  value ← expression c e
+  Some (Let line place value)
+simple_statement c (add_statement line e n) = do
+  value ← expression c e
+  place ← target c n
+  Some (Change line Plus place value)
+simple_statement c (subtract_statement line e n) = do
+  value ← expression c e
+  place ← target c n
+  Some (Change line Minus place value)
+simple_statement c (call_statement line name given yielding) = do
+  routine ← routine_named c name
+  values ← each (expression c) given
+  places ← each (target c) yielding
+  call_of line routine.0 routine.1 values places
+simple_statement c (return_statement line) = Some Return
+simple_statement c (stop_statement line) = Some Stop
+simple_statement c (read_statement line targets) = do
+  readers ← each (reader c) targets
+  Some (Read line readers)
+simple_statement c (start_simulation line) = Some Simulate
+simple_statement c (find_statement line over) = find line c over Done Done
+simple_statement c (create_statement line name called) = do
+  class ← class_named c needs.Single name
+  place ← new_place c class.variable called
+  Some (Create line class.class place)
+simple_statement c (create_every line names) = do
+  classes ← each (counted c) names
+  Some (CreateEvery line classes)
+simple_statement c (destroy_statement line name called) = do
+  class ← class_named c needs.Single name
+  entity ← entity_called c class.variable called
+  Some (Destroy line class.class entity)
+simple_statement c (file_statement line e position_tree n) = do
+  x ← expression c e
+  at ← position c position_tree
+  set ← set_named c n
+  Some (File line set.0 x at set.1)
+simple_statement c (remove_end line end n m) = do
+  place ← target c n
+  set ← set_named c m
+  Some (RemoveEnd line end set.0 place set.1)
+simple_statement c (remove_statement line e n) = do
+  x ← expression c e
+  set ← set_named c n
+  Some (Remove line set.0 x set.1)
+simple_statement c (schedule_new line name called given time) = do
+  class ← class_named c needs.Notice name
+  place ← new_place c class.variable called
+  values ← each (expression c) given
+  due ← when c time
+  new_notice line class place values due
+simple_statement c (schedule_statement line name called given time) = do
+  class ← class_named c needs.Notice name
+  notice ← entity_called c class.variable called
+  values ← each (expression c) given
+  due ← when c time
+  old_notice line class notice values due
+simple_statement c (cancel_statement line name called) = do
+  class ← class_named c needs.Notice name
+  notice ← entity_called c class.variable called
+  Some (Cancel line class.class notice)
+simple_statement c (reset_statement line targets) = do
+  restarts ← each (restart c) targets
+  Some (Reset line restarts)
+simple_statement c (print_statement line items pictures) = do
+  shown ← each (item c) items
+  Some (Print line shown pictures)
+simple_statement c (skip_statement line e) = do
+  count ← expression c e
+  Some (Skip line count)
+simple_statement c _ = None
+
 module _ (c : Scope) where
   unfoldable mutual
     pub statement : StatementTree → Option Statement
-    statement (let_statement line n e) = do
-      place ← target c n
-      value ← expression c e
-      Some (Let line place value)
-    statement (add_statement line e n) = do
-      value ← expression c e
-      place ← target c n
-      Some (Change line Plus place value)
-    statement (subtract_statement line e n) = do
-      value ← expression c e
-      place ← target c n
-      Some (Change line Minus place value)
-    statement (call_statement line name given yielding) = do
-      routine ← routine_named c name
-      values ← each (expression c) given
-      places ← each (target c) yielding
-      call_of line routine.0 routine.1 values places
-    statement (return_statement line) = Some Return
-    statement (stop_statement line) = Some Stop
-    statement (read_statement line targets) = do
-      readers ← each (reader c) targets
-      Some (Read line readers)
-    statement (start_simulation line) = Some Simulate
     statement (if_statement line test first second) = do
       a ← statements first
       b ← statements second
@@ -173,60 +226,11 @@ module _ (c : Scope) where
     statement (loop_statement line over row) = do
       body ← statements row
       resolved_loop line c over body
-    statement (find_statement line over) = find line c over Done Done
     statement (find_if_statement line over outcome first second) = do
       a ← statements first
       b ← statements second
       find_by outcome line c over a b
-    statement (create_statement line name called) = do
-      class ← class_named c needs.Single name
-      place ← new_place c class.variable called
-      Some (Create line class.class place)
-    statement (create_every line names) = do
-      classes ← each (counted c) names
-      Some (CreateEvery line classes)
-    statement (destroy_statement line name called) = do
-      class ← class_named c needs.Single name
-      entity ← entity_called c class.variable called
-      Some (Destroy line class.class entity)
-    statement (file_statement line e position_tree n) = do
-      x ← expression c e
-      at ← position c position_tree
-      set ← set_named c n
-      Some (File line set.0 x at set.1)
-    statement (remove_end line end n m) = do
-      place ← target c n
-      set ← set_named c m
-      Some (RemoveEnd line end set.0 place set.1)
-    statement (remove_statement line e n) = do
-      x ← expression c e
-      set ← set_named c n
-      Some (Remove line set.0 x set.1)
-    statement (schedule_new line name called given time) = do
-      class ← class_named c needs.Notice name
-      place ← new_place c class.variable called
-      values ← each (expression c) given
-      due ← when c time
-      new_notice line class place values due
-    statement (schedule_statement line name called given time) = do
-      class ← class_named c needs.Notice name
-      notice ← entity_called c class.variable called
-      values ← each (expression c) given
-      due ← when c time
-      old_notice line class notice values due
-    statement (cancel_statement line name called) = do
-      class ← class_named c needs.Notice name
-      notice ← entity_called c class.variable called
-      Some (Cancel line class.class notice)
-    statement (reset_statement line targets) = do
-      restarts ← each (restart c) targets
-      Some (Reset line restarts)
-    statement (print_statement line items pictures) = do
-      shown ← each (item c) items
-      Some (Print line shown pictures)
-    statement (skip_statement line e) = do
-      count ← expression c e
-      Some (Skip line count)
+    statement s = simple_statement c s
 
     pub statements : StatementRow → Option Block
     statements no_statement = Some Done
@@ -234,20 +238,3 @@ module _ (c : Scope) where
       first ← statement s
       rest ← statements ss
       Some (Then first rest)
-
--- ---- the bodies in a statement
-
--- the resolved bodies in a statement: one of a loop, two of an IF and of the IF after a FIND, none of others
-abbrev pub inner : Scope → StatementTree → Option (Block × Block)
-inner c (if_statement line test first second) = do
-  a ← statements c first
-  b ← statements c second
-  Some (a, b)
-inner c (loop_statement line over row) = do
-  body ← statements c row
-  Some (body, Done)
-inner c (find_if_statement line over outcome first second) = do
-  a ← statements c first
-  b ← statements c second
-  Some (a, b)
-inner c _ = Some (Done, Done)

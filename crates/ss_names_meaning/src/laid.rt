@@ -1,6 +1,5 @@
 //! What the table lays out, in one struct.
 
-ghost use Rattle.std.specs.Prelude.{◌≡◌};
 ghost use Rattle.ss_names_meaning.specs.Answers.{Gives};
 ghost use Rattle.ss_names_meaning.specs.Layouts.{laid_out};
 ghost use Rattle.ss_names_meaning.specs.View.{view_laid};

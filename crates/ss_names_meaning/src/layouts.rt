@@ -1,54 +1,103 @@
 //! Classes and sets.
 
 ghost use Rattle.std.specs.Prelude.{◌≡◌, IfOk};
-ghost use Rattle.ss_names_meaning.specs.Answers.{Gives};
-ghost use Rattle.ss_names_meaning.specs.Layouts.{layout, set_laid};
+ghost use Rattle.ss_names_declarations.specs.Firsts.{value_for};
+ghost use Rattle.ss_names_meaning.specs.Answers.{Gives, each, upto};
+ghost use Rattle.ss_names_meaning.specs.Layouts.{class_laid, field_mode, layout, set_laid};
 
 use crate::error::ResolveError;
-use ss_base::{ClassKind, ClassLayout, Layout, Name, SetLayout};
-use ss_names::{Names, Set};
+use ss_base::{ClassLayout, Layout, Mode, Name, SetLayout};
+use ss_names::{Attribute, Names, Set};
+use ss_names_declarations::value_at;
 use std::alloc::{AllocError, Global};
 
-// A class with these attributes.
-fn class_laid(
-    alloc: Global,
-    names: &Names,
-    kind: ClassKind,
-    attributes: &[Name],
-) -> Result<ClassLayout, ResolveError> {
-    let mut fields = Vec::new(alloc);
-    for name in attributes {
-        match names.attributes.get(name) {
-            Some(attribute) => fields.push(attribute.mode)?,
-            None => return Err(ResolveError::Unresolved),
-        }
+/// An attribute by its name.
+pub(crate) fn attribute_named(names: &Names, name: &Name) -> Option<Attribute>
+    ensures { result ≡ value_for names.now.attributes name.now }
+{
+    names.attributes.get(name).copied()
+}
+
+// The mode of an attribute.
+fn field_mode(names: &Names, name: &Name) -> Result<Mode, ResolveError>
+    ensures { Gives (λ x. x) result (field_mode names.now name.now) }
+{
+    match attribute_named(names, name) {
+        Some(attribute) => Ok(attribute.mode),
+        None => Err(ResolveError::Unresolved),
     }
+}
+
+// The modes of attributes.
+fn field_modes(alloc: Global, names: &Names, trees: &[Name]) -> Result<Vec<Mode>, ResolveError>
+    ensures { Gives (λ v. v.items) result (each (field_mode names.now) trees.now) }
+{
+    let mut resolved = Vec::new(alloc);
+    for tree in trees {
+        let one = field_mode(names, tree)?;
+        resolved.push(one)?;
+    }
+    Ok(resolved)
+}
+
+// The class of this number.
+fn class_laid(alloc: Global, names: &Names, number: usize) -> Result<ClassLayout, ResolveError>
+    ensures { Gives (λ x. x) result (class_laid names.now number) }
+{
+    let Some(kind) = value_at(&names.classes, number) else {
+        return Err(ResolveError::Unresolved);
+    };
+    let fields = field_modes(alloc, names, names.attributes_of(number))?;
     Ok(ClassLayout { kind, fields })
 }
 
-// A set.
-fn set_laid(set: Set) -> Result<SetLayout, ResolveError>
-    ensures { Gives (λ x. x) result (set_laid set) }
+// So many classes.
+fn classes_laid(
+    alloc: Global,
+    names: &Names,
+    count: usize,
+) -> Result<Vec<ClassLayout>, ResolveError>
+    ensures { Gives (λ v. v.items) result (each (class_laid names.now) (upto count)) }
 {
-    match (set.owner, set.member) {
-        (Some(owner), Some(member)) => Ok(SetLayout { owner, member }),
-        _ => Err(ResolveError::Unresolved),
+    let mut resolved = Vec::new(alloc);
+    for number in 0..count {
+        let one = class_laid(alloc, names, number)?;
+        resolved.push(one)?;
     }
+    Ok(resolved)
+}
+
+// A set.
+fn set_laid(set: &Set) -> Result<SetLayout, ResolveError>
+    ensures { Gives (λ x. x) result (set_laid set.now) }
+{
+    let Some(owner) = set.owner else {
+        return Err(ResolveError::Unresolved);
+    };
+    let Some(member) = set.member else {
+        return Err(ResolveError::Unresolved);
+    };
+    Ok(SetLayout { owner, member })
+}
+
+// Sets.
+fn sets_laid(alloc: Global, trees: &[Set]) -> Result<Vec<SetLayout>, ResolveError>
+    ensures { Gives (λ v. v.items) result (each set_laid trees.now) }
+{
+    let mut resolved = Vec::new(alloc);
+    for tree in trees {
+        let one = set_laid(tree)?;
+        resolved.push(one)?;
+    }
+    Ok(resolved)
 }
 
 /// The classes and the sets.
 pub(crate) fn resolve_layout(alloc: Global, names: &Names) -> Result<Layout, ResolveError>
     ensures { Gives (λ x. x) result (layout names.now) }
 {
-    let mut classes = Vec::new(alloc);
-    for (number, kind) in names.classes.values().iter().enumerate() {
-        let class = class_laid(alloc, names, *kind, names.attributes_of(number))?;
-        classes.push(class)?;
-    }
-    let mut sets = Vec::new(alloc);
-    for set in &names.sets {
-        sets.push(set_laid(*set)?)?;
-    }
+    let classes = classes_laid(alloc, names, names.classes.len())?;
+    let sets = sets_laid(alloc, &names.sets)?;
     Layout::new(classes, sets).ok_or(ResolveError::Unresolved)
 }
 

@@ -1,4 +1,3 @@
-use Rattle.std.proofs.Common.{length, subst, ◌<◌}
 use Rattle.ss_names_meaning.specs.Layouts.{class_laid}
 use Rattle.ss_names_meaning.proofs.Steps.{failed}
 use Rattle.ss_names_meaning.proofs.Numbers.{numbers_fail, no_plain_numbers, plain_numbers_next}
@@ -10,7 +9,7 @@ loop-number-init c = no_plain_numbers (class_laid c.args.names.now) c.new-resolv
 pub returns-in_err-one : goal.returns-in_err-one
 returns-in_err-one c =
     failed _ c.from_residual.result c.in_err-one.field-0.0 _ c.from_residual.ensures.1
-    (numbers_fail (class_laid c.args.names.now) (length c.args.names.now.classes) c.loop-number.number c.in_err-one.field-0.0 (subst (λ n. c.loop-number.number < n) c.classes-number-end.ensures c.loop-number-test.true) c.in_err-one.ensures)
+    (numbers_fail (class_laid c.args.names.now) c.args.count c.loop-number.number c.in_err-one.field-0.0 c.loop-number-test.true c.in_err-one.ensures)
 
 pub loop-number-preserved : goal.loop-number-preserved
 loop-number-preserved c =

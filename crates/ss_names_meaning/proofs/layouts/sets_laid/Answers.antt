@@ -1,17 +1,16 @@
-use Rattle.std.proofs.Common.{length, subst, ◌<◌}
 use Rattle.ss_names_meaning.specs.Layouts.{set_laid}
+use Rattle.ss_names_meaning.proofs.Each.{each_plain_fails, each_plain_next, no_plain_items}
 use Rattle.ss_names_meaning.proofs.Steps.{failed}
-use Rattle.ss_names_meaning.proofs.Numbers.{numbers_fail, no_plain_numbers, plain_numbers_next}
 use Rattle.ss_names_meaning.proofs.layouts.sets_laid.Goals as goal
 
-pub loop-number-init : goal.loop-number-init
-loop-number-init c = no_plain_numbers (set_laid c.args.names.now) c.new-resolved.result.items c.new-resolved.ensures.items
+pub loop-tree-init : goal.loop-tree-init
+loop-tree-init c = no_plain_items set_laid c.new-resolved.result.items c.new-resolved.ensures.items
 
 pub returns-in_err-one : goal.returns-in_err-one
 returns-in_err-one c =
     failed _ c.from_residual.result c.in_err-one.field-0.0 _ c.from_residual.ensures.1
-    (numbers_fail (set_laid c.args.names.now) (length c.args.names.now.sets) c.loop-number.number c.in_err-one.field-0.0 (subst (λ n. c.loop-number.number < n) c.sets-number-end.ensures c.loop-number-test.true) c.in_err-one.ensures)
+    (each_plain_fails set_laid c.args.trees.now c.loop-tree.tree-index c.tree-item.result c.in_err-one.field-0.0 c.loop-tree-test.true c.tree-item.is c.in_err-one.ensures)
 
-pub loop-number-preserved : goal.loop-number-preserved
-loop-number-preserved c =
-    plain_numbers_next (set_laid c.args.names.now) c.loop-number.number c.loop-number.resolved.items c.push.new.self.items c.in_ok-one.one c.in_ok-push.ensures.items c.loop-number.invariant c.in_ok-one.ensures
+pub loop-tree-preserved : goal.loop-tree-preserved
+loop-tree-preserved c =
+    each_plain_next set_laid c.args.trees.now c.loop-tree.tree-index c.tree-item.result c.loop-tree.resolved.items c.push.new.self.items c.in_ok-one.one c.loop-tree-test.true c.tree-item.is c.in_ok-push.ensures.items c.loop-tree.invariant c.in_ok-one.ensures

@@ -1,8 +1,7 @@
-use Rattle.std.proofs.Common.{length, subst, ◌<◌}
 use Rattle.ss_names_meaning.specs.Layouts.{statistic_kept}
 use Rattle.ss_names_meaning.proofs.Steps.{failed}
 use Rattle.ss_names_meaning.proofs.Numbers.{numbers_fail, no_plain_numbers, plain_numbers_next}
-use Rattle.ss_names_meaning.proofs.statistics.resolve_statistics.Goals as goal
+use Rattle.ss_names_meaning.proofs.globals.statistics_upto.Goals as goal
 
 pub loop-number-init : goal.loop-number-init
 loop-number-init c = no_plain_numbers (statistic_kept c.args.names.now) c.new-resolved.result.items c.new-resolved.ensures.items
@@ -10,7 +9,7 @@ loop-number-init c = no_plain_numbers (statistic_kept c.args.names.now) c.new-re
 pub returns-in_err-one : goal.returns-in_err-one
 returns-in_err-one c =
     failed _ c.from_residual.result c.in_err-one.field-0.0 _ c.from_residual.ensures.1
-    (numbers_fail (statistic_kept c.args.names.now) (length c.args.names.now.histories) c.loop-number.number c.in_err-one.field-0.0 (subst (λ n. c.loop-number.number < n) c.histories-number-end.ensures c.loop-number-test.true) c.in_err-one.ensures)
+    (numbers_fail (statistic_kept c.args.names.now) c.args.count c.loop-number.number c.in_err-one.field-0.0 c.loop-number-test.true c.in_err-one.ensures)
 
 pub loop-number-preserved : goal.loop-number-preserved
 loop-number-preserved c =

@@ -3,7 +3,7 @@ use Rattle.std.specs.List.{filter}
 use Rattle.ss_names_declarations.specs.Firsts.{same_name}
 use Rattle.ss_names_meaning.specs.Answers.{each}
 use Rattle.ss_names_meaning.specs.Layouts.{tied_by}
-use Rattle.ss_names_meaning.proofs.ranking.resolve_ties.Given as goal
+use Rattle.ss_names_meaning.proofs.ranking.ties_among.Given as goal
 
 abbrev pub invariant-loop-tie : goal.invariant-loop-tie
-invariant-loop-tie l = each (tied_by l.names l.class) (filter (λ k. same_name k.class l.name) (take l.tie-index l.tie-items)) ≡ Some l.resolved.items
+invariant-loop-tie l = each (tied_by l.names l.class) (filter (λ k. same_name k.class l.name) (take l.tie-index l.keys)) ≡ Some l.resolved.items
