@@ -5,9 +5,8 @@ use Rattle.ss_tree.specs.Tree.{ExpressionRow, HeadTree}
 use Rattle.ss_program.specs.declared.expression.Operator.{Operator}
 use Rattle.ss_program.specs.declared.head.Head.{Head as HeadMade}
 use Rattle.ss_program.specs.declared.head.Phrase.{Phrase as PhraseMade}
-use Rattle.ss_program.specs.Program.{Block, Calculate, Expression, Head, Phrase}
-use Rattle.ss_program.specs.View.{view_body, view_head, view_phrase}
-use Rattle.ss_check_bodies.specs.declared.bodies.Bodies.{Bodies}
+use Rattle.ss_program.specs.Program.{Calculate, Expression, Head, Phrase}
+use Rattle.ss_program.specs.View.{view_head, view_phrase}
 use Rattle.ss_names_meaning.specs.declared.error.ResolveError.{ResolveError}
 use Rattle.ss_names_meaning.specs.Answers.{◌>>=◌, each}
 use Rattle.ss_names_scopes.specs.Scopes.{Scope}
@@ -34,7 +33,3 @@ abbrev pub operation : Scope → Operator → ExpressionRow → Option Expressio
 operation c operator arguments = do
   p ← two c arguments
   Some (Calculate operator p.0 p.1)
-
--- the bodies in a statement
-abbrev pub bodies_seen : Bodies → Block × Block
-bodies_seen b = (view_body b.first.items, view_body b.second.items)

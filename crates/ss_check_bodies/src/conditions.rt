@@ -1,10 +1,10 @@
 //! Conditions with their names resolved.
 
-ghost use Rattle.ss_names_scopes.specs.Seen.{scope_seen};
-ghost use Rattle.std.specs.Prelude.{◌≡◌, map};
+ghost use Rattle.std.specs.Prelude.{map};
 ghost use Rattle.ss_tree.specs.View.{view_condition, view_conjunction, view_test};
 ghost use Rattle.ss_program.specs.View.{view_condition as condition_seen, view_conjunction as conjunction_seen, view_test as test_seen};
-ghost use Rattle.ss_names_meaning.specs.Answers.{Gives, each};
+ghost use Rattle.ss_names_scopes.specs.Seen.{scope_seen};
+ghost use Rattle.ss_names_meaning.specs.Answers.{Gives};
 ghost use Rattle.ss_names_meaning.specs.Conditions.{condition, conjunction, one_test};
 
 use crate::expressions::resolve_expression;

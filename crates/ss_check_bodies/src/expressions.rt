@@ -1,20 +1,19 @@
 //! Expressions with their names resolved.
 
-ghost use Rattle.ss_names_scopes.specs.Seen.{scope_seen};
-ghost use Rattle.std.specs.Prelude.{◌≡◌, map, Some, None};
+ghost use Rattle.std.specs.Prelude.{◌≡◌, map, Some};
 ghost use Rattle.std.specs.List.{fold};
 ghost use Rattle.ss_tree.specs.View.{view_expression, view_term};
 ghost use Rattle.ss_tree.specs.Tree.{call, expression_row, named, term_row};
 ghost use Rattle.ss_program.specs.Program.{Calculate};
 ghost use Rattle.ss_program.specs.View.{view_expression as view_resolved, view_option};
 ghost use Rattle.ss_program.specs.Views.{with_operation};
-ghost use Rattle.ss_names_meaning.specs.Answers.{Gives};
-ghost use Rattle.ss_names_meaning.specs.Expressions.{entity_implied, entity_of, expression, factors, one, place_named, resolved_value, subscript, terms, two, value_alone, value_of_entity};
+ghost use Rattle.ss_names_scopes.specs.Seen.{scope_seen};
+ghost use Rattle.ss_names_meaning.specs.Answers.{Gives, each};
+ghost use Rattle.ss_names_meaning.specs.Expressions.{entity_implied, entity_of, expression, factors, of_class, of_owner, one, place_named, resolved_operator, resolved_value, subscript, terms, two, value_alone, value_of_entity, with_entity};
 ghost use Rattle.ss_check_bodies.specs.Results.{operation};
 
 use crate::results::unresolved;
-use crate::words::resolved_operator;
-use ss_base::{Owner, Value};
+use ss_base::{Owner, Sign, Value};
 use ss_names::Meaning;
 use ss_names_meaning::ResolveError;
 use ss_names_scopes::{Scope, variable_of};
@@ -38,6 +37,40 @@ fn entity_implied(scope: &Scope<'_>, class: usize) -> Result<Resolved, ResolveEr
     }
 }
 
+// Of each entity of a class: the one in the subscript, or else the one in the variable of the class.
+fn of_class(
+    scope: &Scope<'_>,
+    class: usize,
+    subscript: Option<Resolved>,
+) -> Result<Option<Resolved>, ResolveError>
+    ensures { Gives (view_option view_resolved) result (of_class (scope_seen scope.now) class (view_option view_resolved subscript)) }
+{
+    match subscript {
+        Some(entity) => Ok(Some(entity)),
+        None => {
+            let entity = entity_implied(scope, class)?;
+            Ok(Some(entity))
+        }
+    }
+}
+
+// The entity by its owner: THE SYSTEM takes no subscript.
+fn of_owner(
+    scope: &Scope<'_>,
+    owner: Owner,
+    subscript: Option<Resolved>,
+) -> Result<Option<Resolved>, ResolveError>
+    ensures { Gives (view_option view_resolved) result (of_owner (scope_seen scope.now) owner (view_option view_resolved subscript)) }
+{
+    match owner {
+        Owner::Class(class) => of_class(scope, class, subscript),
+        Owner::System => match subscript {
+            Some(entity) => Err(unresolved(entity)),
+            None => Ok(None),
+        },
+    }
+}
+
 /// The entity that has what a name means: that of the subscript, or else the one in the variable of its class. None for what no
 /// entity has, which takes no subscript.
 pub(crate) fn entity_of(
@@ -47,23 +80,14 @@ pub(crate) fn entity_of(
 ) -> Result<Option<Resolved>, ResolveError>
     ensures { Gives (view_option view_resolved) result (entity_of (scope_seen scope.now) meaning (view_option view_resolved subscript)) }
 {
-    if matches!(meaning, Meaning::NoticeTime) {
-        return Ok(subscript);
-    }
-    match scope.names.owner_of(meaning) {
-        Owner::Class(class) => match subscript {
-            Some(entity) => Ok(Some(entity)),
-            None => Ok(Some(entity_implied(scope, class)?)),
-        },
-        Owner::System => match subscript {
-            Some(_) => Err(ResolveError::Unresolved),
-            None => Ok(None),
-        },
+    match meaning {
+        Meaning::NoticeTime => Ok(subscript),
+        _ => of_owner(scope, scope.names.owner_of(meaning), subscript),
     }
 }
 
 // The value of what an entity has.
-#[tactic(auto, unfolding(ss_program::specs::View::view_expression), using(crate::proofs::Seen::plain_seen))]
+#[tactic(auto, unfolding(ss_program::specs::View::view_expression))]
 fn value_of_entity(
     alloc: Global,
     meaning: Meaning,
@@ -84,21 +108,21 @@ fn value_of_entity(
             set,
             member: of,
         }),
-        Meaning::Statistic {
-            fold: Some(fold),
-            statistic,
-        } => Ok(Resolved::FigureOf {
-            fold,
-            statistic,
-            entity: of,
-        }),
+        Meaning::Statistic { fold, statistic } => match fold {
+            Some(fold) => Ok(Resolved::FigureOf {
+                fold,
+                statistic,
+                entity: of,
+            }),
+            None => Err(unresolved(of)),
+        },
         Meaning::NoticeTime => Ok(Resolved::TimeOf { notice: of }),
         _ => Err(unresolved(of)),
     }
 }
 
 // The value of what there is one of.
-#[tactic(auto, unfolding(ss_program::specs::View::view_expression), using(crate::proofs::Seen::plain_seen))]
+#[tactic(auto, unfolding(ss_program::specs::View::view_expression))]
 fn value_alone(meaning: Meaning) -> Result<Resolved, ResolveError>
     ensures { Gives view_resolved result (value_alone meaning) }
 {
@@ -113,10 +137,10 @@ fn value_alone(meaning: Meaning) -> Result<Resolved, ResolveError>
             },
         }),
         Meaning::OfSet { query, set } => Ok(Resolved::OfSystemSet { query, set }),
-        Meaning::Statistic {
-            fold: Some(fold),
-            statistic,
-        } => Ok(Resolved::Figure { fold, statistic }),
+        Meaning::Statistic { fold, statistic } => match fold {
+            Some(fold) => Ok(Resolved::Figure { fold, statistic }),
+            None => Err(ResolveError::Unresolved),
+        },
         Meaning::Clock => Ok(Resolved::Clock),
         _ => Err(ResolveError::Unresolved),
     }
@@ -136,8 +160,24 @@ pub(crate) fn resolved_value(
     }
 }
 
-/// What is named, and the entity that has it.
-#[cycle(resolving)]
+// What is named, and the entity that has it, by the subscript.
+fn with_entity(
+    scope: &Scope<'_>,
+    place: Designator,
+    subscript: Option<Resolved>,
+) -> Result<(Meaning, Option<Resolved>), ResolveError>
+    ensures { Gives (λ p. (p.0, view_option view_resolved p.1)) result (with_entity (scope_seen scope.now) place (view_option view_resolved subscript)) }
+{
+    match scope.meaning(place) {
+        Some(meaning) => {
+            let entity = entity_of(scope, meaning, subscript)?;
+            Ok((meaning, entity))
+        }
+        None => Err(unresolved(subscript)),
+    }
+}
+
+/// What is named, with its subscripts, and the entity that has it.
 pub(crate) fn resolve_place(
     alloc: Global,
     scope: &Scope<'_>,
@@ -146,12 +186,8 @@ pub(crate) fn resolve_place(
 ) -> Result<(Meaning, Option<Resolved>), ResolveError>
     ensures { Gives (λ p. (p.0, view_option view_resolved p.1)) result (place_named (scope_seen scope.now) place (expression_row (map view_expression subscripts.now))) }
 {
-    let Some(meaning) = scope.meaning(place) else {
-        return Err(ResolveError::Unresolved);
-    };
     let subscript = resolve_subscript(alloc, scope, subscripts)?;
-    let entity = entity_of(scope, meaning, subscript)?;
-    Ok((meaning, entity))
+    with_entity(scope, place, subscript)
 }
 
 // ---- expressions
@@ -215,7 +251,8 @@ fn resolve_named(
 ) -> Result<Resolved, ResolveError>
     ensures { Gives view_resolved result (expression (scope_seen scope.now) (named designator (expression_row (map view_expression subscripts.now)))) }
 {
-    let (meaning, entity) = resolve_place(alloc, scope, designator, subscripts)?;
+    let subscript = resolve_subscript(alloc, scope, subscripts)?;
+    let (meaning, entity) = with_entity(scope, designator, subscript)?;
     resolved_value(alloc, meaning, entity)
 }
 
@@ -317,6 +354,16 @@ fn resolve_two(
     }
 }
 
+// What joins a further term to a sum.
+fn resolved_operator(sign: Sign) -> Operator
+    ensures { result ≡ resolved_operator sign }
+{
+    match sign {
+        Sign::Plus => Operator::Add,
+        Sign::Minus => Operator::Subtract,
+    }
+}
+
 // The further factors of a product.
 #[cycle(resolving)]
 fn resolve_factors(
@@ -372,4 +419,20 @@ fn calculate(
         operand: right,
     })?;
     Ok(Resolved::Calculate { first, further })
+}
+
+/// Expressions.
+pub(crate) fn resolve_all(
+    alloc: Global,
+    scope: &Scope<'_>,
+    trees: &[Expression],
+) -> Result<Vec<Resolved>, ResolveError>
+    ensures { Gives (λ v. map view_resolved v.items) result (each (expression (scope_seen scope.now)) (map view_expression trees.now)) }
+{
+    let mut resolved = Vec::new(alloc);
+    for tree in trees {
+        let one = resolve_expression(alloc, scope, tree)?;
+        resolved.push(one)?;
+    }
+    Ok(resolved)
 }

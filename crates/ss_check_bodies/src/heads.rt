@@ -1,22 +1,21 @@
 //! Heads of loops with their names resolved.
 
-ghost use Rattle.ss_names_scopes.specs.Seen.{scope_seen};
 ghost use Rattle.std.specs.Prelude.{◌≡◌, map};
 ghost use Rattle.ss_tree.specs.View.{view_expression, view_guard, view_head, view_option, view_phrase, view_start};
 ghost use Rattle.ss_program.specs.View.{view_expression as view_resolved, view_guard as guard_seen, view_head as head_seen, view_option as option_seen, view_phrase as phrase_seen, view_start as start_seen};
+ghost use Rattle.ss_names_scopes.specs.Seen.{scope_seen};
 ghost use Rattle.ss_names_meaning.specs.Answers.{Gives, each, if_there};
-ghost use Rattle.ss_names_meaning.specs.Contexts.{if_permanent, permanent_class};
 ghost use Rattle.ss_names_meaning.specs.Expressions.{expression};
-ghost use Rattle.ss_names_meaning.specs.Heads.{called_variable, guard, head, if_variable, loop_variable, resolved_phrase, phrases_of, resolved_start};
+ghost use Rattle.ss_names_meaning.specs.Heads.{called_variable, guard, head, phrases_of, resolved_phrase, resolved_start};
 
-use crate::classes::class_named;
+use crate::classes::{class_named, variable_named};
 use crate::conditions::resolve_condition;
 use crate::expressions::resolve_expression;
 use crate::places::resolve_set;
 use crate::results::beside;
 use ss_base::Name;
 use ss_names_meaning::ResolveError;
-use ss_names_scopes::{Scope, variable_of};
+use ss_names_scopes::Scope;
 use ss_names_uses::ClassNeed;
 use ss_program::expression::{Expression as Resolved, Variable};
 use ss_program::head::{
@@ -102,16 +101,6 @@ pub(crate) fn phrases_of(head: &Head) -> &[Phrase]
 
 // ---- what a FOR goes over
 
-// The variable that takes the items of a loop.
-fn loop_variable(scope: &Scope<'_>, name: Name) -> Result<Variable, ResolveError>
-    ensures { Gives (λ x. x) result (loop_variable (scope_seen scope.now) name) }
-{
-    match scope.meaning_of_name(&name) {
-        Some(meaning) => variable_of(meaning).ok_or(ResolveError::Unresolved),
-        None => Err(ResolveError::Unresolved),
-    }
-}
-
 // The variable after CALLED, or else that of the class.
 fn called_variable(
     scope: &Scope<'_>,
@@ -122,7 +111,7 @@ fn called_variable(
 {
     match called {
         None => Ok(implied),
-        Some(name) => loop_variable(scope, *name),
+        Some(name) => variable_named(scope, name),
     }
 }
 
@@ -181,7 +170,7 @@ pub(crate) fn resolve_head(
             step,
             ..
         } => {
-            let variable = loop_variable(scope, *variable)?;
+            let variable = variable_named(scope, variable)?;
             let first = resolve_expression(alloc, scope, from)?;
             let bounds = beside(first, resolve_expression(alloc, scope, to))?;
             let ((first, limit), step) = beside(bounds, resolve_step(alloc, scope, step))?;
@@ -199,7 +188,7 @@ pub(crate) fn resolve_head(
             reverse,
             ..
         } => {
-            let variable = loop_variable(scope, *variable)?;
+            let variable = variable_named(scope, variable)?;
             let set = resolve_set(alloc, scope, set)?;
             let ((set, owner), start) = beside(set, resolve_start(alloc, scope, start))?;
             Ok(ResolvedHead::Members {
@@ -211,7 +200,7 @@ pub(crate) fn resolve_head(
             })
         }
         Head::Class { class, called, .. } => {
-            let class = class_named(scope, ClassNeed::Permanent, *class)?;
+            let class = class_named(scope, ClassNeed::Permanent, class)?;
             let variable = called_variable(scope, class.variable, called)?;
             Ok(ResolvedHead::Each {
                 variable,

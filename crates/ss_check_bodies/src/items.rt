@@ -1,11 +1,11 @@
 //! Items of PRINT with their names resolved.
 
-ghost use Rattle.ss_names_scopes.specs.Seen.{scope_seen};
-ghost use Rattle.std.specs.Prelude.{◌≡◌, map, option_map};
+ghost use Rattle.std.specs.Prelude.{map, option_map};
 ghost use Rattle.ss_tree.specs.Tree.{expression_row, named};
 ghost use Rattle.ss_tree.specs.View.{view_expression};
 ghost use Rattle.ss_program.specs.Program.{AValue};
 ghost use Rattle.ss_program.specs.View.{view_expression as view_resolved, view_item, view_option};
+ghost use Rattle.ss_names_scopes.specs.Seen.{scope_seen};
 ghost use Rattle.ss_names_meaning.specs.Answers.{Gives, each};
 ghost use Rattle.ss_names_meaning.specs.Expressions.{expression, item, resolved_item, resolved_value};
 
@@ -18,10 +18,19 @@ use ss_program::statement::Item;
 use ss_tree::expression::{Designator, Expression};
 use std::alloc::Global;
 
-// ---- what is named
+// An item that is a value.
+fn value_item(
+    alloc: Global,
+    meaning: Meaning,
+    entity: Option<Resolved>,
+) -> Result<Item, ResolveError>
+    ensures { Gives view_item result (option_map AValue (resolved_value meaning (view_option view_resolved entity))) }
+{
+    let value = resolved_value(alloc, meaning, entity)?;
+    Ok(Item::Value { value })
+}
 
 // What PRINT shows of what a name means, of the entity that has it.
-#[tactic(auto, using(crate::proofs::Seen::plain_seen))]
 fn resolved_item(
     alloc: Global,
     meaning: Meaning,
@@ -30,21 +39,16 @@ fn resolved_item(
     ensures { Gives view_item result (resolved_item meaning (view_option view_resolved entity)) }
 {
     match meaning {
-        Meaning::Statistic {
-            fold: None,
-            statistic,
-        } => match entity {
-            Some(entity) => Ok(Item::MeanOf { statistic, entity }),
-            None => Ok(Item::Mean { statistic }),
+        Meaning::Statistic { fold, statistic } => match fold {
+            Some(_) => value_item(alloc, meaning, entity),
+            None => match entity {
+                Some(entity) => Ok(Item::MeanOf { statistic, entity }),
+                None => Ok(Item::Mean { statistic }),
+            },
         },
-        _ => {
-            let value = resolved_value(alloc, meaning, entity)?;
-            Ok(Item::Value { value })
-        }
+        _ => value_item(alloc, meaning, entity),
     }
 }
-
-// ---- items
 
 // What is named, with its subscripts.
 fn resolve_named(

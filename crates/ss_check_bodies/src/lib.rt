@@ -8,13 +8,11 @@ mod entities;
 mod expressions;
 mod heads;
 mod items;
-mod lists;
 mod loops;
 mod notices;
 mod places;
 mod results;
 mod statements;
-mod words;
 
 pub use bodies::resolve_body;
 pub use ss_names_meaning::ResolveError;

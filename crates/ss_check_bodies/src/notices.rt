@@ -1,34 +1,24 @@
 //! Statements on notices and statistics with their names resolved.
 
-ghost use Rattle.ss_names_scopes.specs.Seen.{scope_seen};
-ghost use Rattle.std.specs.Prelude.{◌≡◌, map};
-ghost use Rattle.ss_tree.specs.View.{view_expression, view_named, view_option, view_when};
-ghost use Rattle.ss_tree.specs.Tree.{cancel_statement, reset_statement, schedule_new, schedule_statement};
+ghost use Rattle.std.specs.Prelude.{map};
+ghost use Rattle.ss_tree.specs.View.{view_statement, view_when};
 ghost use Rattle.ss_program.specs.View.{view_expression as expression_seen, view_place, view_statement as view_resolved, view_when as when_seen};
+ghost use Rattle.ss_names_scopes.specs.Seen.{scope_seen};
 ghost use Rattle.ss_names_meaning.specs.Answers.{Gives};
-ghost use Rattle.ss_names_meaning.specs.Statements.{new_notice, old_notice, statement, when};
+ghost use Rattle.ss_names_meaning.specs.Statements.{new_notice, old_notice, simple_statement, when};
 
-use crate::classes::{NamedClass, class_named};
-use crate::expressions::resolve_expression;
-use crate::lists::resolve_all;
+use crate::classes::class_named;
+use crate::expressions::{resolve_all, resolve_expression};
 use crate::places::{resolve_entity_called, resolve_new_place, resolve_restarts};
 use crate::results::{beside, where_holds};
-use ss_base::{Line, Name};
-use ss_names_meaning::ResolveError;
+use ss_base::Line;
+use ss_names_meaning::{NamedClass, ResolveError};
 use ss_names_scopes::Scope;
 use ss_names_uses::ClassNeed;
 use ss_program::expression::Expression as Value;
 use ss_program::statement::{Place, Statement as Resolved, When as ResolvedWhen};
-use ss_tree::expression::{Expression, Named};
-use ss_tree::statement::When;
+use ss_tree::statement::{Statement, When};
 use std::alloc::Global;
-
-/// What any SCHEDULE says: the values that the notice is given, and when it is due.
-#[derive(Clone, Copy)]
-pub(crate) struct ScheduleTerms<'a> {
-    pub(crate) given: &'a [Expression],
-    pub(crate) when: &'a When,
-}
 
 // The time for which a notice is scheduled.
 fn resolve_when(
@@ -51,7 +41,7 @@ fn resolve_when(
     }
 }
 
-// A new notice, where its class has as many attributes as are given at least.
+// A new notice, if its class has at least as many attributes as values are given.
 #[tactic(auto, unfolding(ss_program::specs::View::view_statement), using(crate::proofs::Seen::where_seen))]
 fn new_notice(
     line: Line,
@@ -75,7 +65,7 @@ fn new_notice(
     )
 }
 
-// A notice that is there already, where its class has as many attributes as are given at least.
+// A notice that is there already, if its class has at least as many attributes as values are given.
 #[tactic(auto, unfolding(ss_program::specs::View::view_statement), using(crate::proofs::Seen::where_seen))]
 fn old_notice(
     line: Line,
@@ -99,74 +89,62 @@ fn old_notice(
     )
 }
 
-/// SCHEDULE A.
-#[tactic(auto, unfolding(ss_names_meaning::specs::Statements::statement, ss_program::specs::View::view_statement))]
-pub(crate) fn resolve_schedule_new(
+/// A statement on notices and statistics. `Unresolved` for one with statements in it.
+#[tactic(auto, unfolding(ss_names_meaning::specs::Statements::simple_statement, ss_tree::specs::View::view_statement, ss_program::specs::View::view_statement))]
+pub(crate) fn resolve_on_notices(
     alloc: Global,
     scope: &Scope<'_>,
-    line: Line,
-    class: Name,
-    called: &Option<Named>,
-    terms: ScheduleTerms<'_>,
+    tree: &Statement,
 ) -> Result<Resolved, ResolveError>
-    ensures { Gives view_resolved result (statement (scope_seen scope.now) (schedule_new line class (view_option view_named called.now) (map view_expression terms.given.now) (view_when terms.when.now))) }
+    ensures { Gives view_resolved result (simple_statement (scope_seen scope.now) (view_statement tree.now)) }
 {
-    let class = class_named(scope, ClassNeed::Notice, class)?;
-    let into = resolve_new_place(alloc, scope, class.variable, called)?;
-    let (into, given) = beside(into, resolve_all(alloc, scope, terms.given))?;
-    let ((into, given), when) = beside((into, given), resolve_when(alloc, scope, terms.when))?;
-    new_notice(line, class, into, given, when)
-}
-
-/// SCHEDULE THE.
-#[tactic(auto, unfolding(ss_names_meaning::specs::Statements::statement, ss_program::specs::View::view_statement))]
-pub(crate) fn resolve_schedule(
-    alloc: Global,
-    scope: &Scope<'_>,
-    line: Line,
-    class: Name,
-    called: &Option<Expression>,
-    terms: ScheduleTerms<'_>,
-) -> Result<Resolved, ResolveError>
-    ensures { Gives view_resolved result (statement (scope_seen scope.now) (schedule_statement line class (view_option view_expression called.now) (map view_expression terms.given.now) (view_when terms.when.now))) }
-{
-    let class = class_named(scope, ClassNeed::Notice, class)?;
-    let notice = resolve_entity_called(alloc, scope, class.variable, called)?;
-    let (notice, given) = beside(notice, resolve_all(alloc, scope, terms.given))?;
-    let ((notice, given), when) = beside((notice, given), resolve_when(alloc, scope, terms.when))?;
-    old_notice(line, class, notice, given, when)
-}
-
-/// CANCEL.
-#[tactic(auto, unfolding(ss_names_meaning::specs::Statements::statement, ss_program::specs::View::view_statement))]
-pub(crate) fn resolve_cancel(
-    alloc: Global,
-    scope: &Scope<'_>,
-    line: Line,
-    class: Name,
-    called: &Option<Expression>,
-) -> Result<Resolved, ResolveError>
-    ensures { Gives view_resolved result (statement (scope_seen scope.now) (cancel_statement line class (view_option view_expression called.now))) }
-{
-    let class = class_named(scope, ClassNeed::Notice, class)?;
-    let notice = resolve_entity_called(alloc, scope, class.variable, called)?;
-    Ok(Resolved::Cancel {
-        line,
-        class: class.class,
-        notice,
-    })
-}
-
-/// RESET.
-#[tactic(auto, unfolding(ss_names_meaning::specs::Statements::statement, ss_program::specs::View::view_statement))]
-pub(crate) fn resolve_reset(
-    alloc: Global,
-    scope: &Scope<'_>,
-    line: Line,
-    targets: &[Named],
-) -> Result<Resolved, ResolveError>
-    ensures { Gives view_resolved result (statement (scope_seen scope.now) (reset_statement line (map view_named targets.now))) }
-{
-    let restarts = resolve_restarts(alloc, scope, targets)?;
-    Ok(Resolved::Reset { line, restarts })
+    match tree {
+        Statement::ScheduleNew {
+            line,
+            class,
+            called,
+            given,
+            when,
+        } => {
+            let class = class_named(scope, ClassNeed::Notice, class)?;
+            let into = resolve_new_place(alloc, scope, class.variable, called)?;
+            let with = beside(into, resolve_all(alloc, scope, given))?;
+            let ((into, given), when) = beside(with, resolve_when(alloc, scope, when))?;
+            new_notice(*line, class, into, given, when)
+        }
+        Statement::Schedule {
+            line,
+            class,
+            called,
+            given,
+            when,
+        } => {
+            let class = class_named(scope, ClassNeed::Notice, class)?;
+            let notice = resolve_entity_called(alloc, scope, class.variable, called)?;
+            let with = beside(notice, resolve_all(alloc, scope, given))?;
+            let ((notice, given), when) = beside(with, resolve_when(alloc, scope, when))?;
+            old_notice(*line, class, notice, given, when)
+        }
+        Statement::Cancel {
+            line,
+            class,
+            called,
+        } => {
+            let class = class_named(scope, ClassNeed::Notice, class)?;
+            let notice = resolve_entity_called(alloc, scope, class.variable, called)?;
+            Ok(Resolved::Cancel {
+                line: *line,
+                class: class.class,
+                notice,
+            })
+        }
+        Statement::Reset { line, targets } => {
+            let restarts = resolve_restarts(alloc, scope, targets)?;
+            Ok(Resolved::Reset {
+                line: *line,
+                restarts,
+            })
+        }
+        _ => Err(ResolveError::Unresolved),
+    }
 }

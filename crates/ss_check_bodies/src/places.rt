@@ -1,12 +1,12 @@
 //! Targets and sets with their names resolved.
 
-ghost use Rattle.ss_names_scopes.specs.Seen.{scope_seen};
-ghost use Rattle.std.specs.Prelude.{◌≡◌, map, Some, None};
+ghost use Rattle.std.specs.Prelude.{◌≡◌, map, None};
 ghost use Rattle.ss_tree.specs.View.{view_expression, view_named, view_option};
 ghost use Rattle.ss_program.specs.View.{view_expression as view_resolved, view_option as option_seen, view_owner, view_place, view_restart, view_target};
+ghost use Rattle.ss_names_scopes.specs.Seen.{scope_seen};
 ghost use Rattle.ss_names_meaning.specs.Answers.{Gives, each};
-ghost use Rattle.ss_names_meaning.specs.Expressions.{resolved_set, place_of, set_named, target};
-ghost use Rattle.ss_names_meaning.specs.Statements.{entity_called, mode_of_target, new_place, reader, restart, owner_of_statistic};
+ghost use Rattle.ss_names_meaning.specs.Expressions.{owner_named, place_of, set_named, set_number, set_of_name, target};
+ghost use Rattle.ss_names_meaning.specs.Statements.{entity_called, history_of, new_place, reader, restart};
 
 use crate::expressions::{entity_of, resolve_expression, resolve_place, resolve_subscript};
 use crate::results::unresolved;
@@ -20,21 +20,30 @@ use std::alloc::Global;
 
 // ---- targets
 
+// The target that is of no entity.
+fn place_alone(meaning: Meaning) -> Result<Place, ResolveError>
+    ensures { Gives view_place result (place_of meaning None) }
+{
+    match meaning {
+        Meaning::Variable { variable, .. } => Ok(Place::ToVariable { variable }),
+        Meaning::Class { variable, .. } => Ok(Place::ToVariable {
+            variable: Variable::Global { number: variable },
+        }),
+        Meaning::Count { count } => Ok(Place::ToCount { count }),
+        _ => Err(ResolveError::Unresolved),
+    }
+}
+
 // The target that a name means, of the entity that has it.
-#[tactic(auto, using(crate::proofs::Seen::plain_seen))]
 fn place_of(meaning: Meaning, entity: Option<Resolved>) -> Result<Place, ResolveError>
     ensures { Gives view_place result (place_of meaning (option_seen view_resolved entity)) }
 {
-    match (meaning, entity) {
-        (Meaning::Variable { variable, .. }, None) => Ok(Place::ToVariable { variable }),
-        (Meaning::Class { variable, .. }, None) => Ok(Place::ToVariable {
-            variable: Variable::Global { number: variable },
-        }),
-        (Meaning::Count { count }, None) => Ok(Place::ToCount { count }),
-        (Meaning::Attribute { class, field, .. }, Some(of)) => {
-            Ok(Place::ToAttribute { class, field, of })
-        }
-        _ => Err(ResolveError::Unresolved),
+    match entity {
+        None => place_alone(meaning),
+        Some(of) => match meaning {
+            Meaning::Attribute { class, field, .. } => Ok(Place::ToAttribute { class, field, of }),
+            _ => Err(unresolved(of)),
+        },
     }
 }
 
@@ -128,21 +137,33 @@ pub(crate) fn resolve_entity_called(
 // ---- sets
 
 // The owner of a set.
-fn owner_named(entity: Option<Resolved>) -> SetOwner {
+fn owner_named(entity: Option<Resolved>) -> SetOwner
+    ensures { view_owner result ≡ owner_named (option_seen view_resolved entity) }
+{
     match entity {
         Some(entity) => SetOwner::Entity { entity },
         None => SetOwner::TheSystem,
     }
 }
 
-// The set of a name, which nothing hides.
-fn set_meaning(scope: &Scope<'_>, place: Designator) -> Result<(Meaning, usize), ResolveError> {
-    let Designator::Name(name) = place else {
-        return Err(ResolveError::Unresolved);
-    };
-    match scope.names.meaning(&name) {
-        Some(Meaning::Set { set }) => Ok((Meaning::Set { set }, set)),
-        _ => Err(ResolveError::Unresolved),
+// The number of a set.
+fn set_number(meaning: Option<Meaning>) -> Option<usize>
+    ensures { result ≡ set_number meaning }
+{
+    match meaning {
+        Some(Meaning::Set { set }) => Some(set),
+        _ => None,
+    }
+}
+
+// The number of the set of a name, which nothing hides.
+fn set_of_name(scope: &Scope<'_>, place: &Designator) -> Option<usize>
+    ensures { result ≡ set_of_name (scope_seen scope.now) place.now }
+{
+    match place {
+        Designator::Name(name) => set_number(scope.names.meaning(name)),
+        Designator::TimeV => None,
+        Designator::TimeA => None,
     }
 }
 
@@ -154,25 +175,24 @@ pub(crate) fn resolve_set(
 ) -> Result<(usize, SetOwner), ResolveError>
     ensures { Gives (λ p. (p.0, view_owner p.1)) result (set_named (scope_seen scope.now) (view_named tree.now)) }
 {
-    let (meaning, set) = set_meaning(scope, tree.designator)?;
+    let Some(set) = set_of_name(scope, &tree.designator) else {
+        return Err(ResolveError::Unresolved);
+    };
     let subscript = resolve_subscript(alloc, scope, &tree.subscripts)?;
-    let owner = owner_named(entity_of(scope, meaning, subscript)?);
-    Ok((set, owner))
+    let entity = entity_of(scope, Meaning::Set { set }, subscript)?;
+    Ok((set, owner_named(entity)))
 }
 
 // ---- statistics
 
 // The number of the history of what is named.
-fn history_of(scope: &Scope<'_>, place: Designator) -> Result<usize, ResolveError> {
+fn history_of(scope: &Scope<'_>, place: &Designator) -> Option<usize>
+    ensures { result ≡ history_of (scope_seen scope.now) place.now }
+{
     match place {
-        Designator::Name(name) => {
-            scope
-                .names
-                .histories
-                .place(&name)
-                .ok_or(ResolveError::Unresolved)
-        }
-        Designator::TimeV | Designator::TimeA => Err(ResolveError::Unresolved),
+        Designator::Name(name) => scope.names.histories.place(name),
+        Designator::TimeV => None,
+        Designator::TimeA => None,
     }
 }
 
@@ -180,7 +200,9 @@ fn history_of(scope: &Scope<'_>, place: Designator) -> Result<usize, ResolveErro
 fn resolve_restart(alloc: Global, scope: &Scope<'_>, tree: &Named) -> Result<Restart, ResolveError>
     ensures { Gives view_restart result (restart (scope_seen scope.now) (view_named tree.now)) }
 {
-    let statistic = history_of(scope, tree.designator)?;
+    let Some(statistic) = history_of(scope, &tree.designator) else {
+        return Err(ResolveError::Unresolved);
+    };
     let (_, of) = resolve_place(alloc, scope, tree.designator, &tree.subscripts)?;
     Ok(Restart { statistic, of })
 }

@@ -12,13 +12,8 @@ use Rattle.ss_names.specs.Entries.{count_name}
 use Rattle.ss_names_scopes.specs.Scopes.{Scope, meaning_of_name, variable_of}
 use Rattle.ss_program.specs.declared.expression.Variable.{Variable}
 use Rattle.ss_program.specs.declared.statement.CountedClass.{CountedClass}
+use Rattle.ss_names_meaning.specs.declared.classes.NamedClass.{NamedClass}
 use Rattle.ss_names_meaning.specs.Answers.{◌>>=◌, where_holds}
-
--- a class, how many attributes it has, and the variable that has its entity where none is named
-pub record NamedClass : Type 0 where
-  pub class : ℕ
-  pub attributes : ℕ
-  pub variable : Variable
 
 -- whether a class of this kind suits a place: single entities are those of temporary classes and notices
 abbrev pub suits : ClassKind → ClassNeed → Bool

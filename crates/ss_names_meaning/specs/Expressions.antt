@@ -106,9 +106,18 @@ abbrev pub owner_named : Option Expression → SetOwner
 owner_named None = TheSystem
 owner_named (Some e) = Entity e
 
+-- the number of a set, which nothing hides
+abbrev pub set_number : Option Meaning → Option ℕ
+set_number (Some (meanings.Set set)) = Some set
+set_number _ = None
+
+abbrev pub set_of_name : Scope → Designator → Option ℕ
+set_of_name s (designators.Name name) = set_number (value_for s.table.meanings name)
+set_of_name s _ = None
+
 -- what is named, and the entity that has it, by the subscript if there is one
-abbrev pub meant : Scope → Designator → Option Expression → Option (Meaning × Option Expression)
-meant s place e = do
+abbrev pub with_entity : Scope → Designator → Option Expression → Option (Meaning × Option Expression)
+with_entity s place e = do
   m ← meaning s place
   of ← entity_of s m e
   Some (m, of)
@@ -123,7 +132,7 @@ module _ (s : Scope) where
     expression (text t) = Some (Constant (Text t))
     expression (named designator subscripts) = do
       e ← subscript subscripts
-      p ← meant s designator e
+      p ← with_entity s designator e
       resolved_value p.0 p.1
     expression (call Abs arguments) = do
       e ← one arguments
@@ -190,7 +199,7 @@ module _ (s : Scope) where
   abbrev pub place_named : Designator → ExpressionRow → Option (Meaning × Option Expression)
   place_named place subscripts = do
     e ← subscript subscripts
-    meant s place e
+    with_entity s place e
 
   -- an item of PRINT: a mean if one is named alone, in any parentheses, and else a value
   abbrev pub item : ExpressionTree → Option Item
@@ -206,19 +215,10 @@ module _ (s : Scope) where
     p ← place_named n.designator n.subscripts
     place_of p.0 p.1
 
-  -- the number of a set, which nothing hides
-  abbrev pub set_number : Option Meaning → Option ℕ
-  set_number (Some (meanings.Set set)) = Some set
-  set_number _ = None
-
-  abbrev pub set_of_name : Designator → Option ℕ
-  set_of_name (designators.Name name) = set_number (value_for s.table.meanings name)
-  set_of_name _ = None
-
   -- a set and its owner
   abbrev pub set_named : NamedTree → Option (ℕ × SetOwner)
   set_named n = do
+    set ← set_of_name s n.designator
     e ← subscript n.subscripts
-    set ← set_of_name n.designator
     of ← entity_of s (meanings.Set set) e
     Some (set, owner_named of)

@@ -31,10 +31,6 @@ phrases_of (over_class class called phrases) = phrases
 
 -- ---- what a FOR goes over
 
--- the variable that takes the items of a loop
-abbrev pub loop_variable : Scope → NameBytes → Option Variable
-loop_variable c name = variable_named c name
-
 abbrev pub resolved_start : Scope → StartTree → Option Start
 resolved_start c from_end = Some AtEnd
 resolved_start c (from_member e) = do
@@ -47,18 +43,18 @@ resolved_start c (after_member e) = do
 -- the variable after CALLED, or else that of the class
 abbrev pub called_variable : Scope → Variable → Option NameBytes → Option Variable
 called_variable c implied None = Some implied
-called_variable c implied (Some name) = loop_variable c name
+called_variable c implied (Some name) = variable_named c name
 
 -- what a FOR goes over
 unfoldable pub head : Scope → HeadTree → Option Head
 head c (over_range variable from to step phrases) = do
-  v ← loop_variable c variable
+  v ← variable_named c variable
   x ← expression c from
   y ← expression c to
   z ← if_there (expression c) step
   Some (Numbers v x y z)
 head c (over_members variable set from reverse phrases) = do
-  v ← loop_variable c variable
+  v ← variable_named c variable
   s ← set_named c set
   x ← resolved_start c from
   Some (Members v s.0 s.1 x reverse)

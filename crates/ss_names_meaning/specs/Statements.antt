@@ -17,7 +17,8 @@ use Rattle.ss_names.specs.declared.entry.RoutineSection.{RoutineSection}
 use Rattle.ss_names.specs.declared.meaning.Meaning.{Meaning}
 use Rattle.ss_names.specs.declared.meaning.Meaning.TheVariants as meanings
 use Rattle.ss_names_scopes.specs.Scopes.{Scope, mode_of}
-use Rattle.ss_names_meaning.specs.Classes.{NamedClass, class_named, counted}
+use Rattle.ss_names_meaning.specs.declared.classes.NamedClass.{NamedClass}
+use Rattle.ss_names_meaning.specs.Classes.{class_named, counted}
 use Rattle.ss_names_meaning.specs.Answers.{◌>>=◌, each, where_holds}
 use Rattle.ss_names_meaning.specs.Expressions.{expression, item, place_named, place_of, set_named, target}
 use Rattle.ss_names_meaning.specs.Conditions.{condition}

@@ -1,12 +1,14 @@
-//! What the table lays out, and what each name in a resolved program becomes.
+//! What the table of a program lays out.
 #![tactic(auto)]
 
+mod classes;
 mod error;
 mod globals;
 mod laid;
 mod layouts;
 mod ranking;
 
+pub use classes::NamedClass;
 pub use error::ResolveError;
 pub use laid::{Laid, lay_out};
 pub use layouts::layout;
