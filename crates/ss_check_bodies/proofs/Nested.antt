@@ -26,91 +26,30 @@ use Rattle.ss_program.specs.Views.{view_if_made as if_seen, view_loop_made as lo
 use Rattle.ss_names_meaning.specs.declared.error.ResolveError.{ResolveError}
 use Rattle.ss_names_meaning.specs.declared.error.ResolveError.TheVariants.{Memory, Unresolved}
 use Rattle.ss_names_meaning.specs.Answers.{◌>>=◌, each, Fails}
-use Rattle.ss_names_meaning.specs.Contexts.{Context}
+use Rattle.ss_names_scopes.specs.Scopes.{Scope}
 use Rattle.ss_names_meaning.specs.Conditions.{condition}
 use Rattle.ss_names_meaning.specs.Heads.{guard, head, resolved_phrase, phrases_of}
-use Rattle.ss_names_meaning.specs.Statements.{find, find_by, for_over, if_over, inner, resolved_loop, statement, statements}
+use Rattle.ss_names_meaning.specs.Statements.{find, find_by, for_over, if_over, resolved_loop, statement, statements}
 use Rattle.ss_names_meaning.proofs.Steps.{none_after}
 
 -- ---- loops around resolved statements
 
-pub find_made : (c : Context) (line : Line) (t : HeadTree) (h : Head) (ps : Vec Phrase) (a b : Vec Made) →
+pub find_made : (c : Scope) (line : Line) (t : HeadTree) (h : Head) (ps : Vec Phrase) (a b : Vec Made) →
     head c t ≡ Some (head_seen h) → each (resolved_phrase c) (phrases_of t) ≡ Some (map phrase_seen ps.items) →
     find line c t (view_body a.items) (view_body b.items) ≡ Some (view_made (made.Find line h ps a b))
 find_made c line t h ps a b p q = rw (p, q) (ap (λ z. Some z) (sym (find_seen line h ps a b)))
 
-pub for_made : (c : Context) (line : Line) (t : HeadTree) (h : Head) (ps : Vec Phrase) (a : Vec Made) →
+pub for_made : (c : Scope) (line : Line) (t : HeadTree) (h : Head) (ps : Vec Phrase) (a : Vec Made) →
     head c t ≡ Some (head_seen h) → each (resolved_phrase c) (phrases_of t) ≡ Some (map phrase_seen ps.items) →
     for_over line c t (view_body a.items) ≡ Some (view_made (made.For line h ps a))
 for_made c line t h ps a p q = rw (p, q) (ap (λ z. Some z) (sym (for_seen line h ps a)))
 
-pub loop_made : (c : Context) (line : Line) (t : LoopHeadTree) (gs : List GuardTree) (rs : Vec Guard) (a : Vec Made) →
+pub loop_made : (c : Scope) (line : Line) (t : LoopHeadTree) (gs : List GuardTree) (rs : Vec Guard) (a : Vec Made) →
     t ≡ guarded gs → each (guard c) gs ≡ Some (map guard_seen rs.items) →
     resolved_loop line c t (view_body a.items) ≡ Some (view_made (made.Loop line rs a))
 loop_made c line t gs rs a is q = rw (is, q) (ap (λ z. Some z) (sym (loop_seen line rs a)))
 
 -- ---- statements that have statements in them
-
-abbrev with_pair : {A B C : Type 0} → (A → B → Option C) → Option (A × B) → Option C
-with_pair f None = None
-with_pair f (Some z) = f z.0 z.1
-
-both_found : {A B C : Type 0} (r : Option A) (s : Option B) (f : A → B → Option C) (p : A) (q : B) →
-    ◌>>=◌ {B = A × B} r (λ x. ◌>>=◌ {B = A × B} s (λ y. Some (x, y))) ≡ Some (p, q) → (r >>= λ x. s >>= λ y. f x y) ≡ f p q
-both_found None s f p q h = absurd cc
-both_found (Some x) None f p q h = absurd cc
-both_found (Some x) (Some y) f p q h = ap (with_pair f) h
-
-one_found : {A B C : Type 0} (r : Option A) (d : B) (f : A → Option C) (p : A) (q : B) →
-    ◌>>=◌ {B = A × B} r (λ x. Some (x, d)) ≡ Some (p, q) → (r >>= f) ≡ f p
-one_found None d f p q h = absurd cc
-one_found (Some x) d f p q h = ap (with_pair (λ a b. f a)) h
-
-both_missing : {A B C : Type 0} (r : Option A) (s : Option B) (f : A → B → Option C) →
-    ◌>>=◌ {B = A × B} r (λ x. ◌>>=◌ {B = A × B} s (λ y. Some (x, y))) ≡ None → (r >>= λ x. s >>= λ y. f x y) ≡ None
-both_missing None s f h = refl
-both_missing (Some x) None f h = refl
-both_missing (Some x) (Some y) f h = absurd cc
-
-one_missing : {A B C : Type 0} (r : Option A) (d : B) (f : A → Option C) → ◌>>=◌ {B = A × B} r (λ x. Some (x, d)) ≡ None → (r >>= f) ≡ None
-one_missing None d f h = refl
-one_missing (Some x) d f h = absurd cc
-
--- where a body in it has no resolved form, a statement has none
-no_inner : (c : Context) (t : StatementTree) → inner c t ≡ None → statement c t ≡ None
-unfolding statement
-no_inner c (if_statement line test first second) h = both_missing (statements c first) (statements c second) (λ a b. if_over line c test a b) h
-no_inner c (loop_statement line over row) h = one_missing (statements c row) Done (resolved_loop line c over) h
-no_inner c (find_if_statement line over outcome first second) h = both_missing (statements c first) (statements c second) (λ a b. find_by outcome line c over a b) h
-no_inner c _ h = absurd cc
-
-pub inner_fails : (c : Context) (t : StatementTree) (e : ResolveError) → Fails e (inner c t) → Fails e (statement c t)
-inner_fails c t Memory h = tt
-inner_fails c t Unresolved h = no_inner c t h
-
-pub if_around : (c : Context) (t : Parsed) (line : Line) (x : ConditionParsed) (a b : Vec Parsed) (p q : Block) →
-    t ≡ parsed.If line x a b → inner c (view_statement t) ≡ Some (p, q) → if_over line c (view_condition x) p q ≡ statement c (view_statement t)
-unfolding statement
-if_around c t line x a b p q is h =
-    let e = ap view_statement is ∙ view_if_made line x a b in
-    let f = both_found (statements c (statement_row (map view_statement a.items))) (statements c (statement_row (map view_statement b.items))) (λ x1 x2. if_over line c (view_condition x) x1 x2) p q (subst (λ z. inner c z ≡ Some (p, q)) e h) in
-    sym (ap (statement c) e ∙ f)
-
-pub loop_around : (c : Context) (t : Parsed) (line : Line) (x : LoopHead) (a : Vec Parsed) (p q : Block) →
-    t ≡ parsed.Loop line x a → inner c (view_statement t) ≡ Some (p, q) → resolved_loop line c (view_loop_head x) p ≡ statement c (view_statement t)
-unfolding statement
-loop_around c t line x a p q is h =
-    let e = ap view_statement is ∙ view_loop_made line x a in
-    let f = one_found (statements c (statement_row (map view_statement a.items))) Done (resolved_loop line c (view_loop_head x)) p q (subst (λ z. inner c z ≡ Some (p, q)) e h) in
-    sym (ap (statement c) e ∙ f)
-
-pub find_if_around : (c : Context) (t : Parsed) (line : Line) (x : HeadParsed) (o : FindOutcome) (a b : Vec Parsed) (p q : Block) →
-    t ≡ parsed.FindIf line x o a b → inner c (view_statement t) ≡ Some (p, q) → find_by o line c (view_head x) p q ≡ statement c (view_statement t)
-unfolding statement
-find_if_around c t line x o a b p q is h =
-    let e = ap view_statement is ∙ view_find_if_made line x o a b in
-    let f = both_found (statements c (statement_row (map view_statement a.items))) (statements c (statement_row (map view_statement b.items))) (λ x1 x2. find_by o line c (view_head x) x1 x2) p q (subst (λ z. inner c z ≡ Some (p, q)) e h) in
-    sym (ap (statement c) e ∙ f)
 
 -- a PRINT, by the items of its vectors
 pub print_is : (t : Parsed) (line : Line) (v : Vec ExpressionParsed) (ps : Vec (List ℕ)) (es : List ExpressionParsed) (qs : List (List ℕ)) →
@@ -118,26 +57,29 @@ pub print_is : (t : Parsed) (line : Line) (v : Vec ExpressionParsed) (ps : Vec (
 unfolding view_statement
 print_is t line v ps es qs is e f = rw (is, e, f) refl
 
-pub if_made : (line : Line) (c : Context) (x : ConditionParsed) (y : ConditionMade) (xs ys : Vec Made) →
+pub if_made : (line : Line) (c : Scope) (x : ConditionParsed) (y : ConditionMade) (xs ys : Vec Made) →
     condition c (view_condition x) ≡ Some (condition_seen y) → if_over line c (view_condition x) (view_body xs.items) (view_body ys.items) ≡ Some (view_made (made.If line y xs ys))
 if_made line c x y xs ys h = rw h (ap (λ z. Some z) (sym (if_seen line y xs ys)))
 
 -- ---- the bodies in a statement
 
-pub inner_if : (c : Context) (t : Parsed) (line : Line) (x : ConditionParsed) (a b : Vec Parsed) (ts us : List Parsed) →
+pub if_is : (c : Scope) (t : Parsed) (line : Line) (x : ConditionParsed) (a b : Vec Parsed) (ts us : List Parsed) →
     t ≡ parsed.If line x a b → ts ≡ a.items → us ≡ b.items →
-    inner c (view_statement t) ≡ ◌>>=◌ {B = Block × Block} (statements c (statement_row (map view_statement ts))) (λ p. ◌>>=◌ {B = Block × Block} (statements c (statement_row (map view_statement us))) (λ q. Some (p, q)))
-inner_if c t line x a b ts us is e f = rw (is, e, f) (ap (inner c) (view_if_made line x a b))
+    statement c (view_statement t) ≡ (statements c (statement_row (map view_statement ts)) >>= λ p. statements c (statement_row (map view_statement us)) >>= λ q. if_over line c (view_condition x) p q)
+unfolding statement
+if_is c t line x a b ts us is e f = rw (is, e, f) (ap (statement c) (view_if_made line x a b))
 
-pub inner_loop : (c : Context) (t : Parsed) (line : Line) (x : LoopHead) (a : Vec Parsed) (ts : List Parsed) →
+pub loop_is : (c : Scope) (t : Parsed) (line : Line) (x : LoopHead) (a : Vec Parsed) (ts : List Parsed) →
     t ≡ parsed.Loop line x a → ts ≡ a.items →
-    inner c (view_statement t) ≡ ◌>>=◌ {B = Block × Block} (statements c (statement_row (map view_statement ts))) (λ p. Some (p, Done))
-inner_loop c t line x a ts is e = rw (is, e) (ap (inner c) (view_loop_made line x a))
+    statement c (view_statement t) ≡ (statements c (statement_row (map view_statement ts)) >>= λ p. resolved_loop line c (view_loop_head x) p)
+unfolding statement
+loop_is c t line x a ts is e = rw (is, e) (ap (statement c) (view_loop_made line x a))
 
-pub inner_find_if : (c : Context) (t : Parsed) (line : Line) (x : HeadParsed) (o : FindOutcome) (a b : Vec Parsed) (ts us : List Parsed) →
+pub find_if_is : (c : Scope) (t : Parsed) (line : Line) (x : HeadParsed) (o : FindOutcome) (a b : Vec Parsed) (ts us : List Parsed) →
     t ≡ parsed.FindIf line x o a b → ts ≡ a.items → us ≡ b.items →
-    inner c (view_statement t) ≡ ◌>>=◌ {B = Block × Block} (statements c (statement_row (map view_statement ts))) (λ p. ◌>>=◌ {B = Block × Block} (statements c (statement_row (map view_statement us))) (λ q. Some (p, q)))
-inner_find_if c t line x o a b ts us is e f = rw (is, e, f) (ap (inner c) (view_find_if_made line x o a b))
+    statement c (view_statement t) ≡ (statements c (statement_row (map view_statement ts)) >>= λ p. statements c (statement_row (map view_statement us)) >>= λ q. find_by o line c (view_head x) p q)
+unfolding statement
+find_if_is c t line x o a b ts us is e f = rw (is, e, f) (ap (statement c) (view_find_if_made line x o a b))
 
 -- ---- how large the bodies in a statement are
 
@@ -190,11 +132,11 @@ statement_less xs i x lt is =
 
 -- ---- statements one after the other
 
-pub no_statements : (c : Context) (xs : List Made) → xs ≡ [] → statements c (statement_row []) ≡ Some (view_body xs)
+pub no_statements : (c : Scope) (xs : List Made) → xs ≡ [] → statements c (statement_row []) ≡ Some (view_body xs)
 unfolding statement statements
 no_statements c xs e = rw e refl
 
-statements_none : (c : Context) (xs : List Parsed) (i : ℕ) (d : Parsed) → i < length xs →
+statements_none : (c : Scope) (xs : List Parsed) (i : ℕ) (d : Parsed) → i < length xs →
     statement c (view_statement (get_or xs i d)) ≡ None → statements c (statement_row (map view_statement xs)) ≡ None
 unfolding statement statements
 statements_none c [] i d lt h = absurd (omega (arith, lt))
@@ -203,7 +145,7 @@ statements_none c (x ∷ xs) (suc i) d lt h =
     let rest : statements c (statement_row (map view_statement xs)) ≡ None = statements_none c xs i d (omega (arith, lt)) h in
     none_after (statement c (view_statement x)) (λ y. statements c (statement_row (map view_statement xs)) >>= λ ys. Some (Then y ys)) (λ y. rw rest refl)
 
-pub statements_fail : (c : Context) (xs : List Parsed) (i : ℕ) (x : Parsed) (e : ResolveError) → i < length xs → x ≡ get_or xs i x →
+pub statements_fail : (c : Scope) (xs : List Parsed) (i : ℕ) (x : Parsed) (e : ResolveError) → i < length xs → x ≡ get_or xs i x →
     Fails e (statement c (view_statement x)) → Fails e (statements c (statement_row (map view_statement xs)))
 statements_fail c xs i x Memory lt is h = tt
 statements_fail c xs i x Unresolved lt is h = statements_none c xs i x lt (subst (λ y. statement c (view_statement y) ≡ None) is h)
@@ -226,7 +168,7 @@ then_not_done None q h = cc
 then_not_done (Some x) None h = cc
 then_not_done (Some x) (Some rest) h = cc
 
-statements_more : (c : Context) (ts : List StatementTree) (t : StatementTree) (bs : List Statement) (b : Statement) →
+statements_more : (c : Scope) (ts : List StatementTree) (t : StatementTree) (bs : List Statement) (b : Statement) →
     statements c (statement_row ts) ≡ Some (block_of bs) → statement c t ≡ Some b → statements c (statement_row (ts ++ t ∷ [])) ≡ Some (block_of (bs ++ b ∷ []))
 unfolding statement statements
 statements_more c [] t [] b h k = rw k refl
@@ -235,7 +177,7 @@ statements_more c (s ∷ ss) t [] b h k = absurd (then_not_done (statement c s) 
 statements_more c (s ∷ ss) t (d ∷ ds) b h k =
     then_more (statement c s) (statements c (statement_row ss)) (statements c (statement_row (ss ++ t ∷ []))) d (block_of ds) (block_of (ds ++ b ∷ [])) h (λ q. statements_more c ss t ds b q k)
 
-pub statements_next : (c : Context) (xs : List Parsed) (i : ℕ) (x : Parsed) (old new : List Made) (y : Made) →
+pub statements_next : (c : Scope) (xs : List Parsed) (i : ℕ) (x : Parsed) (old new : List Made) (y : Made) →
     i < length xs → x ≡ get_or xs i x → new ≡ old ++ y ∷ [] →
     statements c (statement_row (map view_statement (take i xs))) ≡ Some (view_body old) → statement c (view_statement x) ≡ Some (view_made y) →
     statements c (statement_row (map view_statement (take (i + 1) xs))) ≡ Some (view_body new)

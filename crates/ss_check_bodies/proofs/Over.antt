@@ -12,7 +12,7 @@ use Rattle.ss_program.specs.View.{view_body, view_statement as view_made}
 use Rattle.ss_names_meaning.specs.declared.error.ResolveError.{ResolveError}
 use Rattle.ss_names_meaning.specs.declared.error.ResolveError.TheVariants.{Memory, Unresolved}
 use Rattle.ss_names_meaning.specs.Answers.{◌>>=◌, each, Fails}
-use Rattle.ss_names_meaning.specs.Contexts.{Context}
+use Rattle.ss_names_scopes.specs.Scopes.{Scope}
 use Rattle.ss_names_meaning.specs.Heads.{head, resolved_phrase, phrases_of}
 use Rattle.ss_check_bodies.specs.Results.{resolved_over, over_seen}
 use Rattle.ss_names_meaning.specs.Statements.{find, for_over}
@@ -43,20 +43,20 @@ pair_fails : {A B C : Type 0} (r : Option A) (s : Option B) (f : A → B → Opt
 pair_fails r s f Memory h = tt
 pair_fails r s f Unresolved h = pair_none r s f h
 
-pub for_given : (c : Context) (line : Line) (t : HeadTree) (h : HeadMade) (ps : Vec PhraseMade) (a : Vec Made) →
+pub for_given : (c : Scope) (line : Line) (t : HeadTree) (h : HeadMade) (ps : Vec PhraseMade) (a : Vec Made) →
     resolved_over c t ≡ Some (over_seen (h, ps)) → for_over line c t (view_body a.items) ≡ Some (view_made (made.For line h ps a))
 for_given c line t h ps a e =
     let found = pair_found (head c t) (each (resolved_phrase c) (phrases_of t)) _ _ e in
     for_made c line t h ps a found.0 found.1
 
-pub for_fails : (c : Context) (line : Line) (t : HeadTree) (a : Block) (e : ResolveError) → Fails e (resolved_over c t) → Fails e (for_over line c t a)
+pub for_fails : (c : Scope) (line : Line) (t : HeadTree) (a : Block) (e : ResolveError) → Fails e (resolved_over c t) → Fails e (for_over line c t a)
 for_fails c line t a e h = pair_fails (head c t) (each (resolved_phrase c) (phrases_of t)) (λ x y. Some (For line x y a)) e h
 
-pub find_given : (c : Context) (line : Line) (t : HeadTree) (h : HeadMade) (ps : Vec PhraseMade) (a b : Vec Made) →
+pub find_given : (c : Scope) (line : Line) (t : HeadTree) (h : HeadMade) (ps : Vec PhraseMade) (a b : Vec Made) →
     resolved_over c t ≡ Some (over_seen (h, ps)) → find line c t (view_body a.items) (view_body b.items) ≡ Some (view_made (made.Find line h ps a b))
 find_given c line t h ps a b e =
     let found = pair_found (head c t) (each (resolved_phrase c) (phrases_of t)) _ _ e in
     find_made c line t h ps a b found.0 found.1
 
-pub find_fails : (c : Context) (line : Line) (t : HeadTree) (a b : Block) (e : ResolveError) → Fails e (resolved_over c t) → Fails e (find line c t a b)
+pub find_fails : (c : Scope) (line : Line) (t : HeadTree) (a b : Block) (e : ResolveError) → Fails e (resolved_over c t) → Fails e (find line c t a b)
 find_fails c line t a b e h = pair_fails (head c t) (each (resolved_phrase c) (phrases_of t)) (λ x y. Some (Find line x y a b)) e h

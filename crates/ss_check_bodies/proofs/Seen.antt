@@ -1,10 +1,8 @@
 -- Answers of calls, seen through a view.
 use Rattle.std.proofs.Common.{◌≡◌, Bool, true, false, Option, Some, None, Result, Ok, Err, refl, ap, subst}
-use Rattle.ss_program.specs.Program.{Expression}
 use Rattle.ss_names_meaning.specs.declared.error.ResolveError.{ResolveError}
 use Rattle.ss_names_meaning.specs.declared.error.ResolveError.TheVariants.{Memory, Unresolved}
 use Rattle.ss_names_meaning.specs.Answers.{◌>>=◌, Fails, Gives, where_holds}
-use Rattle.ss_names_meaning.specs.Expressions.{without_subscript}
 use Rattle.ss_names_meaning.proofs.Steps.{none_after}
 
 -- ---- another view
@@ -17,11 +15,6 @@ seen : {A B : Type 0} (view : A → B) (r : Result A ResolveError) (found : Opti
 seen view (Ok y) found h = ap (each_seen view) h
 seen view (Err Memory) found h = tt
 seen view (Err Unresolved) found h = ap (each_seen view) h
-
-pub plain_seen : {A B : Type 0} (view : A → B) (s : Option Expression) (x : A) (r : Result A ResolveError) →
-    Gives (λ z. z) r (without_subscript s x) → Gives view r (without_subscript s (view x))
-plain_seen view None x r h = seen view r (Some x) h
-plain_seen view (Some e) x r h = seen view r None h
 
 pub where_seen : {A B : Type 0} (view : A → B) (b : Bool) (x : A) (r : Result A ResolveError) →
     Gives (λ z. z) r (where_holds b x) → Gives view r (where_holds b (view x))

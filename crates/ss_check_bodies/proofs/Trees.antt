@@ -23,9 +23,9 @@ use Rattle.ss_program.specs.Views.{with_operation, view_calculate_made}
 use Rattle.ss_names_meaning.specs.declared.error.ResolveError.{ResolveError}
 use Rattle.ss_names_meaning.specs.declared.error.ResolveError.TheVariants.{Memory, Unresolved}
 use Rattle.ss_names_meaning.specs.Answers.{◌>>=◌, Fails}
-use Rattle.ss_names_meaning.specs.Contexts.{Context}
+use Rattle.ss_names_scopes.specs.Scopes.{Scope}
 use Rattle.ss_names_meaning.specs.Expressions.{resolved_operator, expression, subscript, one, two, factors, terms}
-use Rattle.ss_names_meaning.proofs.Steps.{fails_then, none_after, some_after}
+use Rattle.ss_names_meaning.proofs.Steps.{none_after, some_after}
 
 -- ---- the items of a vector
 
@@ -37,12 +37,12 @@ pub call_is : (t : Parsed) (f : Function) (v : Vec Parsed) (es : List Parsed) �
     call f (expression_row (map view_expression es)) ≡ view_expression t
 call_is t f v es e h = rw (e, h) (sym (view_call_made f v))
 
-product_is : (c : Context) (b : Box Parsed) (v : Vec Parsed) →
+product_is : (c : Scope) (b : Box Parsed) (v : Vec Parsed) →
     expression c (view_expression (variants.Product b v)) ≡ (expression c (view_expression b.value) >>= λ left. factors c left (expression_row (map view_expression v.items)))
 unfolding expression
 product_is c b v = ap (expression c) (view_product_made b v)
 
-sum_is : (c : Context) (b : Box Parsed) (v : Vec Term) →
+sum_is : (c : Scope) (b : Box Parsed) (v : Vec Term) →
     expression c (view_expression (variants.Sum b v)) ≡ (expression c (view_expression b.value) >>= λ left. terms c left (term_row (map view_term v.items)))
 unfolding expression
 sum_is c b v = ap (expression c) (view_sum_made b v)
@@ -52,21 +52,21 @@ second_fails : {A B : Type 0} (r : Option A) (next : A → Option B) (x : A) (e 
 second_fails r next x Memory h k = tt
 second_fails r next x Unresolved h k = none_after r next k
 
-pub product_fails : (c : Context) (t : Parsed) (b : Box Parsed) (v : Vec Parsed) (es : List Parsed) (x : Expression) (e : ResolveError) →
+pub product_fails : (c : Scope) (t : Parsed) (b : Box Parsed) (v : Vec Parsed) (es : List Parsed) (x : Expression) (e : ResolveError) →
     t ≡ variants.Product b v → es ≡ v.items → expression c (view_expression b.value) ≡ Some x →
     ((left : Expression) → Fails e (factors c left (expression_row (map view_expression es)))) → Fails e (expression c (view_expression t))
 product_fails c t b v es x e is listed h k =
     let all : (left : Expression) → Fails e (factors c left (expression_row (map view_expression v.items))) = subst (λ l. (left : Expression) → Fails e (factors c left (expression_row (map view_expression l)))) listed k in
     rw (is, product_is c b v) (second_fails (expression c (view_expression b.value)) (λ left. factors c left (expression_row (map view_expression v.items))) x e h all)
 
-pub sum_fails : (c : Context) (t : Parsed) (b : Box Parsed) (v : Vec Term) (es : List Term) (x : Expression) (e : ResolveError) →
+pub sum_fails : (c : Scope) (t : Parsed) (b : Box Parsed) (v : Vec Term) (es : List Term) (x : Expression) (e : ResolveError) →
     t ≡ variants.Sum b v → es ≡ v.items → expression c (view_expression b.value) ≡ Some x →
     ((left : Expression) → Fails e (terms c left (term_row (map view_term es)))) → Fails e (expression c (view_expression t))
 sum_fails c t b v es x e is listed h k =
     let all : (left : Expression) → Fails e (terms c left (term_row (map view_term v.items))) = subst (λ l. (left : Expression) → Fails e (terms c left (term_row (map view_term l)))) listed k in
     rw (is, sum_is c b v) (second_fails (expression c (view_expression b.value)) (λ left. terms c left (term_row (map view_term v.items))) x e h all)
 
-pub product_made : (c : Context) (t : Parsed) (b : Box Parsed) (v : Vec Parsed) (es : List Parsed) (x : Box Made) (xs : Vec Operation) →
+pub product_made : (c : Scope) (t : Parsed) (b : Box Parsed) (v : Vec Parsed) (es : List Parsed) (x : Box Made) (xs : Vec Operation) →
     t ≡ variants.Product b v → es ≡ v.items → expression c (view_expression b.value) ≡ Some (view_made x.value) →
     ((left : Expression) → factors c left (expression_row (map view_expression es)) ≡ Some (fold with_operation left xs.items)) →
     expression c (view_expression t) ≡ Some (view_made (made.Calculate x xs))
@@ -74,7 +74,7 @@ product_made c t b v es x xs is listed h k =
     let all : factors c (view_made x.value) (expression_row (map view_expression v.items)) ≡ Some (fold with_operation (view_made x.value) xs.items) = subst (λ l. factors c (view_made x.value) (expression_row (map view_expression l)) ≡ Some (fold with_operation (view_made x.value) xs.items)) listed (k (view_made x.value)) in
     rw (is, product_is c b v, h) (all ∙ ap (λ z. Some z) (sym (view_calculate_made x xs)))
 
-pub sum_made : (c : Context) (t : Parsed) (b : Box Parsed) (v : Vec Term) (es : List Term) (x : Box Made) (xs : Vec Operation) →
+pub sum_made : (c : Scope) (t : Parsed) (b : Box Parsed) (v : Vec Term) (es : List Term) (x : Box Made) (xs : Vec Operation) →
     t ≡ variants.Sum b v → es ≡ v.items → expression c (view_expression b.value) ≡ Some (view_made x.value) →
     ((left : Expression) → terms c left (term_row (map view_term es)) ≡ Some (fold with_operation left xs.items)) →
     expression c (view_expression t) ≡ Some (view_made (made.Calculate x xs))
@@ -84,33 +84,33 @@ sum_made c t b v es x xs is listed h k =
 
 -- ---- subscripts and arguments
 
-pub subscript_is : (c : Context) (es : List Parsed) (e : Parsed) → 1 ≤ length es → length es < 2 → e ≡ get_or es 0 e →
+pub subscript_is : (c : Scope) (es : List Parsed) (e : Parsed) → 1 ≤ length es → length es < 2 → e ≡ get_or es 0 e →
     subscript c (expression_row (map view_expression es)) ≡ (expression c (view_expression e) >>= λ x. Some (Some x))
 unfolding expression subscript
 subscript_is c [] e a b is = absurd (omega (arith, a))
 subscript_is c (f ∷ []) e a b is = rw is refl
 subscript_is c (f ∷ g ∷ es) e a b is = absurd (omega (arith, b))
 
-pub subscripts_none : (c : Context) (es : List Parsed) → 2 ≤ length es → subscript c (expression_row (map view_expression es)) ≡ None
+pub subscripts_none : (c : Scope) (es : List Parsed) → 2 ≤ length es → subscript c (expression_row (map view_expression es)) ≡ None
 unfolding expression subscript
 subscripts_none c [] a = absurd (omega (arith, a))
 subscripts_none c (f ∷ []) a = absurd (omega (arith, a))
 subscripts_none c (f ∷ g ∷ es) a = refl
 
-pub one_is : (c : Context) (es : List Parsed) (e : Parsed) → 1 ≤ length es → length es < 2 → e ≡ get_or es 0 e →
+pub one_is : (c : Scope) (es : List Parsed) (e : Parsed) → 1 ≤ length es → length es < 2 → e ≡ get_or es 0 e →
     expression c (view_expression e) ≡ one c (expression_row (map view_expression es))
 unfolding expression one
 one_is c [] e a b is = absurd (omega (arith, a))
 one_is c (f ∷ []) e a b is = rw is refl
 one_is c (f ∷ g ∷ es) e a b is = absurd (omega (arith, b))
 
-pub not_one : (c : Context) (es : List Parsed) → 2 ≤ length es → one c (expression_row (map view_expression es)) ≡ None
+pub not_one : (c : Scope) (es : List Parsed) → 2 ≤ length es → one c (expression_row (map view_expression es)) ≡ None
 unfolding expression one
 not_one c [] a = absurd (omega (arith, a))
 not_one c (f ∷ []) a = absurd (omega (arith, a))
 not_one c (f ∷ g ∷ es) a = refl
 
-pub two_is : (c : Context) (es : List Parsed) (e f : Parsed) → 2 ≤ length es → length es < 3 → e ≡ get_or es 0 e → f ≡ get_or es 1 f →
+pub two_is : (c : Scope) (es : List Parsed) (e f : Parsed) → 2 ≤ length es → length es < 3 → e ≡ get_or es 0 e → f ≡ get_or es 1 f →
     two c (expression_row (map view_expression es)) ≡ (expression c (view_expression e) >>= λ x. expression c (view_expression f) >>= λ y. Some (x, y))
 unfolding expression two
 two_is c [] e f a b p q = absurd (omega (arith, a))
@@ -118,13 +118,13 @@ two_is c (u ∷ []) e f a b p q = absurd (omega (arith, a))
 two_is c (u ∷ v ∷ []) e f a b p q = rw (p, q) refl
 two_is c (u ∷ v ∷ w ∷ es) e f a b p q = absurd (omega (arith, b))
 
-pub less_than_two : (c : Context) (es : List Parsed) → length es < 2 → two c (expression_row (map view_expression es)) ≡ None
+pub less_than_two : (c : Scope) (es : List Parsed) → length es < 2 → two c (expression_row (map view_expression es)) ≡ None
 unfolding expression two
 less_than_two c [] a = refl
 less_than_two c (u ∷ []) a = refl
 less_than_two c (u ∷ v ∷ es) a = absurd (omega (arith, a))
 
-pub more_than_two : (c : Context) (es : List Parsed) → 3 ≤ length es → two c (expression_row (map view_expression es)) ≡ None
+pub more_than_two : (c : Scope) (es : List Parsed) → 3 ≤ length es → two c (expression_row (map view_expression es)) ≡ None
 unfolding expression two
 more_than_two c [] a = absurd (omega (arith, a))
 more_than_two c (u ∷ []) a = absurd (omega (arith, a))
@@ -133,7 +133,7 @@ more_than_two c (u ∷ v ∷ w ∷ es) a = refl
 
 -- ---- further factors and terms
 
-factors_more : (c : Context) (es : List ExpressionTree) (e : ExpressionTree) (left r x : Expression) →
+factors_more : (c : Scope) (es : List ExpressionTree) (e : ExpressionTree) (left r x : Expression) →
     factors c left (expression_row es) ≡ Some r → expression c e ≡ Some x → factors c left (expression_row (es ++ e ∷ [])) ≡ Some (Calculate Multiply r x)
 unfolding expression factors
 factors_more c [] e left r x h k =
@@ -143,7 +143,7 @@ factors_more c (f ∷ es) e left r x h k =
     some_after (expression c f) (λ y. factors c (Calculate Multiply left y) (expression_row es)) (λ y. factors c (Calculate Multiply left y) (expression_row (es ++ e ∷ []))) r (Calculate Multiply r x) h
     (λ y q. factors_more c es e (Calculate Multiply left y) r x q k)
 
-terms_more : (c : Context) (es : List (SignWord × ExpressionTree)) (e : SignWord × ExpressionTree) (left r x : Expression) →
+terms_more : (c : Scope) (es : List (SignWord × ExpressionTree)) (e : SignWord × ExpressionTree) (left r x : Expression) →
     terms c left (term_row es) ≡ Some r → expression c e.1 ≡ Some x → terms c left (term_row (es ++ e ∷ [])) ≡ Some (Calculate (resolved_operator e.0) r x)
 unfolding expression terms
 terms_more c [] e left r x h k =
@@ -153,7 +153,7 @@ terms_more c (f ∷ es) e left r x h k =
     some_after (expression c f.1) (λ y. terms c (Calculate (resolved_operator f.0) left y) (term_row es)) (λ y. terms c (Calculate (resolved_operator f.0) left y) (term_row (es ++ e ∷ []))) r (Calculate (resolved_operator e.0) r x) h
     (λ y q. terms_more c es e (Calculate (resolved_operator f.0) left y) r x q k)
 
-factors_none : (c : Context) (xs : List Parsed) (i : ℕ) (d : Parsed) (left : Expression) → i < length xs →
+factors_none : (c : Scope) (xs : List Parsed) (i : ℕ) (d : Parsed) (left : Expression) → i < length xs →
     expression c (view_expression (get_or xs i d)) ≡ None → factors c left (expression_row (map view_expression xs)) ≡ None
 unfolding expression factors
 factors_none c [] i d left lt h = absurd (omega (arith, lt))
@@ -161,7 +161,7 @@ factors_none c (x ∷ xs) zero d left lt h = rw h refl
 factors_none c (x ∷ xs) (suc i) d left lt h =
     none_after (expression c (view_expression x)) (λ y. factors c (Calculate Multiply left y) (expression_row (map view_expression xs))) (λ y. factors_none c xs i d (Calculate Multiply left y) (omega (arith, lt)) h)
 
-terms_none : (c : Context) (xs : List Term) (i : ℕ) (d : Term) (left : Expression) → i < length xs →
+terms_none : (c : Scope) (xs : List Term) (i : ℕ) (d : Term) (left : Expression) → i < length xs →
     expression c (view_expression (get_or xs i d).value) ≡ None → terms c left (term_row (map view_term xs)) ≡ None
 unfolding expression terms
 terms_none c [] i d left lt h = absurd (omega (arith, lt))
@@ -169,21 +169,21 @@ terms_none c (x ∷ xs) zero d left lt h = rw h refl
 terms_none c (x ∷ xs) (suc i) d left lt h =
     none_after (expression c (view_expression x.value)) (λ y. terms c (Calculate (resolved_operator x.sign) left y) (term_row (map view_term xs))) (λ y. terms_none c xs i d (Calculate (resolved_operator x.sign) left y) (omega (arith, lt)) h)
 
-pub factors_fail : (c : Context) (xs : List Parsed) (i : ℕ) (x : Parsed) (e : ResolveError) (left : Expression) → i < length xs → x ≡ get_or xs i x →
+pub factors_fail : (c : Scope) (xs : List Parsed) (i : ℕ) (x : Parsed) (e : ResolveError) (left : Expression) → i < length xs → x ≡ get_or xs i x →
     Fails e (expression c (view_expression x)) → Fails e (factors c left (expression_row (map view_expression xs)))
 factors_fail c xs i x Memory left lt is h = tt
 factors_fail c xs i x Unresolved left lt is h = factors_none c xs i x left lt (subst (λ y. expression c (view_expression y) ≡ None) is h)
 
-pub terms_fail : (c : Context) (xs : List Term) (i : ℕ) (x : Term) (e : ResolveError) (left : Expression) → i < length xs → x ≡ get_or xs i x →
+pub terms_fail : (c : Scope) (xs : List Term) (i : ℕ) (x : Term) (e : ResolveError) (left : Expression) → i < length xs → x ≡ get_or xs i x →
     Fails e (expression c (view_expression x.value)) → Fails e (terms c left (term_row (map view_term xs)))
 terms_fail c xs i x Memory left lt is h = tt
 terms_fail c xs i x Unresolved left lt is h = terms_none c xs i x left lt (subst (λ (y : Term). expression c (view_expression y.value) ≡ None) is h)
 
-pub no_factors : (c : Context) (ops : List Operation) → ops ≡ [] → (left : Expression) → factors c left (expression_row []) ≡ Some (fold with_operation left ops)
+pub no_factors : (c : Scope) (ops : List Operation) → ops ≡ [] → (left : Expression) → factors c left (expression_row []) ≡ Some (fold with_operation left ops)
 unfolding expression factors
 no_factors c ops e left = rw e refl
 
-pub no_terms : (c : Context) (ops : List Operation) → ops ≡ [] → (left : Expression) → terms c left (term_row []) ≡ Some (fold with_operation left ops)
+pub no_terms : (c : Scope) (ops : List Operation) → ops ≡ [] → (left : Expression) → terms c left (term_row []) ≡ Some (fold with_operation left ops)
 unfolding expression terms
 no_terms c ops e left = rw e refl
 
@@ -192,7 +192,7 @@ fold_next : (left r : Expression) (old new : List Operation) (o : Operation) →
     fold with_operation left new ≡ with_operation r o
 fold_next left r old new o e h = ap (fold with_operation left) e ∙ fold-append with_operation left old (o ∷ []) ∙ ap (λ z. with_operation z o) h
 
-pub factors_next : (c : Context) (xs : List Parsed) (i : ℕ) (x : Parsed) (old new : List Operation) (o : Operation) →
+pub factors_next : (c : Scope) (xs : List Parsed) (i : ℕ) (x : Parsed) (old new : List Operation) (o : Operation) →
     i < length xs → x ≡ get_or xs i x → new ≡ old ++ o ∷ [] → o.operator ≡ Multiply →
     ((left : Expression) → factors c left (expression_row (map view_expression (take i xs))) ≡ Some (fold with_operation left old)) →
     expression c (view_expression x) ≡ Some (view_made o.operand) →
@@ -204,7 +204,7 @@ factors_next c xs i x old new o lt is e m h g left =
     let grown : fold with_operation left new ≡ with_operation (fold with_operation left old) o = fold_next left (fold with_operation left old) old new o e refl in
     rw (taken, grown, m) (factors_more c before (view_expression x) left (fold with_operation left old) (view_made o.operand) (h left) g)
 
-pub terms_next : (c : Context) (xs : List Term) (i : ℕ) (x : Term) (old new : List Operation) (o : Operation) →
+pub terms_next : (c : Scope) (xs : List Term) (i : ℕ) (x : Term) (old new : List Operation) (o : Operation) →
     i < length xs → x ≡ get_or xs i x → new ≡ old ++ o ∷ [] → o.operator ≡ resolved_operator x.sign →
     ((left : Expression) → terms c left (term_row (map view_term (take i xs))) ≡ Some (fold with_operation left old)) →
     expression c (view_expression x.value) ≡ Some (view_made o.operand) →

@@ -1,4 +1,4 @@
--- What calls answer for steps one after the other.
+-- The scope that names are resolved by, and what calls answer for steps one after the other.
 use Rattle.std.specs.Prelude.{◌≡◌, List, map, Option, Some, Result, Ok, Err}
 use Rattle.std.specs.Global.{Vec}
 use Rattle.ss_tree.specs.Tree.{ExpressionRow, HeadTree}
@@ -7,11 +7,17 @@ use Rattle.ss_program.specs.declared.head.Head.{Head as HeadMade}
 use Rattle.ss_program.specs.declared.head.Phrase.{Phrase as PhraseMade}
 use Rattle.ss_program.specs.Program.{Calculate, Expression, Head, Phrase}
 use Rattle.ss_program.specs.View.{view_head, view_phrase}
+use Rattle.ss_names_scopes.specs.Scopes.{Scope}
+use Rattle.ss_names_scopes.specs.Seen.{scope_seen}
 use Rattle.ss_names_meaning.specs.declared.error.ResolveError.{ResolveError}
 use Rattle.ss_names_meaning.specs.Answers.{◌>>=◌, each}
-use Rattle.ss_names_scopes.specs.Scopes.{Scope}
 use Rattle.ss_names_meaning.specs.Expressions.{two}
 use Rattle.ss_names_meaning.specs.Heads.{head, resolved_phrase, phrases_of}
+use Rattle.ss_check_bodies.specs.declared.resolver.Resolver.{Resolver as ResolverValue}
+
+-- the scope of what resolves
+abbrev pub scope_in : ResolverValue → Scope
+scope_in r = scope_seen r.scope
 
 -- what was made first, beside what was made next, unless that failed
 abbrev pub MadeBeside : {A B : Type 0} → A → Result B ResolveError → Result (A × B) ResolveError → Type 0

@@ -1,18 +1,18 @@
 //! Classes by the kind that their place needs.
 
 ghost use Rattle.std.specs.Prelude.{◌≡◌};
-ghost use Rattle.ss_names_scopes.specs.Seen.{scope_seen};
 ghost use Rattle.ss_names_meaning.specs.Answers.{Gives, each};
 ghost use Rattle.ss_names_meaning.specs.Classes.{class_named, class_number, count_of, counted, suits, variable_named};
+ghost use Rattle.ss_check_bodies.specs.Results.{scope_in};
 
+use crate::resolver::Resolver;
 use ss_base::{ClassKind, Name, Spelling};
 use ss_names::Meaning;
 use ss_names_meaning::{NamedClass, ResolveError};
-use ss_names_scopes::{Scope, variable_of};
+use ss_names_scopes::variable_of;
 use ss_names_uses::ClassNeed;
 use ss_program::expression::Variable;
 use ss_program::statement::CountedClass;
-use std::alloc::Global;
 
 // Whether a class of this kind suits a place that needs the other.
 fn suits(kind: ClassKind, need: ClassNeed) -> bool
@@ -22,16 +22,6 @@ fn suits(kind: ClassKind, need: ClassNeed) -> bool
         ClassNeed::Permanent => matches!(kind, ClassKind::Permanent),
         ClassNeed::Notice => matches!(kind, ClassKind::Notice),
         ClassNeed::Single => !matches!(kind, ClassKind::Permanent),
-    }
-}
-
-/// The variable that a name means here: of a class its own, which a local one may hide.
-pub(crate) fn variable_named(scope: &Scope<'_>, name: &Name) -> Result<Variable, ResolveError>
-    ensures { Gives (λ x. x) result (variable_named (scope_seen scope.now) name.now) }
-{
-    match scope.meaning_of_name(name) {
-        Some(meaning) => variable_of(meaning).ok_or(ResolveError::Unresolved),
-        None => Err(ResolveError::Unresolved),
     }
 }
 
@@ -51,26 +41,6 @@ fn class_number(need: ClassNeed, meaning: Option<Meaning>) -> Option<usize>
     }
 }
 
-/// The class of a name, if it is of the kind that its place needs.
-pub(crate) fn class_named(
-    scope: &Scope<'_>,
-    need: ClassNeed,
-    name: &Name,
-) -> Result<NamedClass, ResolveError>
-    ensures { Gives (λ x. x) result (class_named (scope_seen scope.now) need name.now) }
-{
-    let Some(class) = class_number(need, scope.names.meaning(name)) else {
-        return Err(ResolveError::Unresolved);
-    };
-    let variable = variable_named(scope, name)?;
-    let attributes = scope.names.attributes_of(class).len();
-    Ok(NamedClass {
-        class,
-        attributes,
-        variable,
-    })
-}
-
 // The class whose N. this is.
 fn count_of(meaning: Option<Meaning>) -> Option<CountedClass>
     ensures { result ≡ count_of meaning }
@@ -81,26 +51,55 @@ fn count_of(meaning: Option<Meaning>) -> Option<CountedClass>
     }
 }
 
-// A permanent class with its N.
-fn counted(scope: &Scope<'_>, name: &Name) -> Result<CountedClass, ResolveError>
-    ensures { Gives (λ x. x) result (counted (scope_seen scope.now) name.now) }
-{
-    count_of(scope.names.meanings.meaning(&Spelling::derived(b'N', name)))
-        .ok_or(ResolveError::Unresolved)
-}
-
-/// The classes of a CREATE EVERY.
-pub(crate) fn all_counted(
-    alloc: Global,
-    scope: &Scope<'_>,
-    trees: &[Name],
-) -> Result<Vec<CountedClass>, ResolveError>
-    ensures { Gives (λ v. v.items) result (each (counted (scope_seen scope.now)) trees.now) }
-{
-    let mut resolved = Vec::new(alloc);
-    for tree in trees {
-        let one = counted(scope, tree)?;
-        resolved.push(one)?;
+impl Resolver<'_> {
+    /// The variable that a name means here: of a class its own, which a local one may hide.
+    pub(crate) fn variable_named(&self, name: &Name) -> Result<Variable, ResolveError>
+        ensures { Gives (λ x. x) result (variable_named (scope_in self.now) name.now) }
+    {
+        match self.scope.meaning_of_name(name) {
+            Some(meaning) => variable_of(meaning).ok_or(ResolveError::Unresolved),
+            None => Err(ResolveError::Unresolved),
+        }
     }
-    Ok(resolved)
+
+    /// The class of a name, if it is of the kind that its place needs.
+    pub(crate) fn class_named(
+        &self,
+        need: ClassNeed,
+        name: &Name,
+    ) -> Result<NamedClass, ResolveError>
+        ensures { Gives (λ x. x) result (class_named (scope_in self.now) need name.now) }
+    {
+        let Some(class) = class_number(need, self.scope.names.meaning(name)) else {
+            return Err(ResolveError::Unresolved);
+        };
+        let variable = self.variable_named(name)?;
+        let attributes = self.scope.names.attributes_of(class).len();
+        Ok(NamedClass {
+            class,
+            attributes,
+            variable,
+        })
+    }
+
+    // A permanent class with its N.
+    fn counted(&self, name: &Name) -> Result<CountedClass, ResolveError>
+        ensures { Gives (λ x. x) result (counted (scope_in self.now) name.now) }
+    {
+        let names = self.scope.names;
+        count_of(names.meanings.meaning(&Spelling::derived(b'N', name)))
+            .ok_or(ResolveError::Unresolved)
+    }
+
+    /// The classes of a CREATE EVERY.
+    pub(crate) fn all_counted(&self, trees: &[Name]) -> Result<Vec<CountedClass>, ResolveError>
+        ensures { Gives (λ v. v.items) result (each (counted (scope_in self.now)) trees.now) }
+    {
+        let mut resolved = Vec::new(self.alloc);
+        for tree in trees {
+            let one = self.counted(tree)?;
+            resolved.push(one)?;
+        }
+        Ok(resolved)
+    }
 }

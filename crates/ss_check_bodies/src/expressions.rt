@@ -7,84 +7,19 @@ ghost use Rattle.ss_tree.specs.Tree.{call, expression_row, named, term_row};
 ghost use Rattle.ss_program.specs.Program.{Calculate};
 ghost use Rattle.ss_program.specs.View.{view_expression as view_resolved, view_option};
 ghost use Rattle.ss_program.specs.Views.{with_operation};
-ghost use Rattle.ss_names_scopes.specs.Seen.{scope_seen};
 ghost use Rattle.ss_names_meaning.specs.Answers.{Gives, each};
 ghost use Rattle.ss_names_meaning.specs.Expressions.{entity_implied, entity_of, expression, factors, of_class, of_owner, one, place_named, resolved_operator, resolved_value, subscript, terms, two, value_alone, value_of_entity, with_entity};
-ghost use Rattle.ss_check_bodies.specs.Results.{operation};
+ghost use Rattle.ss_check_bodies.specs.Results.{operation, scope_in};
 
+use crate::resolver::Resolver;
 use crate::results::unresolved;
 use ss_base::{Owner, Sign, Value};
 use ss_names::Meaning;
 use ss_names_meaning::ResolveError;
-use ss_names_scopes::{Scope, variable_of};
+use ss_names_scopes::variable_of;
 use ss_program::expression::{Expression as Resolved, Operation, Operator, Variable};
 use ss_tree::expression::{Designator, Expression, Function, Term};
 use std::alloc::Global;
-
-// ---- what is named
-
-// The entity in the variable of a class.
-#[tactic(auto, unfolding(ss_program::specs::View::view_expression))]
-fn entity_implied(scope: &Scope<'_>, class: usize) -> Result<Resolved, ResolveError>
-    ensures { Gives view_resolved result (entity_implied (scope_seen scope.now) class) }
-{
-    let Some(meaning) = scope.meaning_of_class(class) else {
-        return Err(ResolveError::Unresolved);
-    };
-    match variable_of(meaning) {
-        Some(variable) => Ok(Resolved::Fetch { variable }),
-        None => Err(ResolveError::Unresolved),
-    }
-}
-
-// Of each entity of a class: the one in the subscript, or else the one in the variable of the class.
-fn of_class(
-    scope: &Scope<'_>,
-    class: usize,
-    subscript: Option<Resolved>,
-) -> Result<Option<Resolved>, ResolveError>
-    ensures { Gives (view_option view_resolved) result (of_class (scope_seen scope.now) class (view_option view_resolved subscript)) }
-{
-    match subscript {
-        Some(entity) => Ok(Some(entity)),
-        None => {
-            let entity = entity_implied(scope, class)?;
-            Ok(Some(entity))
-        }
-    }
-}
-
-// The entity by its owner: THE SYSTEM takes no subscript.
-fn of_owner(
-    scope: &Scope<'_>,
-    owner: Owner,
-    subscript: Option<Resolved>,
-) -> Result<Option<Resolved>, ResolveError>
-    ensures { Gives (view_option view_resolved) result (of_owner (scope_seen scope.now) owner (view_option view_resolved subscript)) }
-{
-    match owner {
-        Owner::Class(class) => of_class(scope, class, subscript),
-        Owner::System => match subscript {
-            Some(entity) => Err(unresolved(entity)),
-            None => Ok(None),
-        },
-    }
-}
-
-/// The entity that has what a name means: that of the subscript, or else the one in the variable of its class. None for what no
-/// entity has, which takes no subscript.
-pub(crate) fn entity_of(
-    scope: &Scope<'_>,
-    meaning: Meaning,
-    subscript: Option<Resolved>,
-) -> Result<Option<Resolved>, ResolveError>
-    ensures { Gives (view_option view_resolved) result (entity_of (scope_seen scope.now) meaning (view_option view_resolved subscript)) }
-{
-    match meaning {
-        Meaning::NoticeTime => Ok(subscript),
-        _ => of_owner(scope, scope.names.owner_of(meaning), subscript),
-    }
-}
 
 // The value of what an entity has.
 #[tactic(auto, unfolding(ss_program::specs::View::view_expression))]
@@ -160,200 +95,6 @@ pub(crate) fn resolved_value(
     }
 }
 
-// What is named, and the entity that has it, by the subscript.
-fn with_entity(
-    scope: &Scope<'_>,
-    place: Designator,
-    subscript: Option<Resolved>,
-) -> Result<(Meaning, Option<Resolved>), ResolveError>
-    ensures { Gives (λ p. (p.0, view_option view_resolved p.1)) result (with_entity (scope_seen scope.now) place (view_option view_resolved subscript)) }
-{
-    match scope.meaning(place) {
-        Some(meaning) => {
-            let entity = entity_of(scope, meaning, subscript)?;
-            Ok((meaning, entity))
-        }
-        None => Err(unresolved(subscript)),
-    }
-}
-
-/// What is named, with its subscripts, and the entity that has it.
-pub(crate) fn resolve_place(
-    alloc: Global,
-    scope: &Scope<'_>,
-    place: Designator,
-    subscripts: &[Expression],
-) -> Result<(Meaning, Option<Resolved>), ResolveError>
-    ensures { Gives (λ p. (p.0, view_option view_resolved p.1)) result (place_named (scope_seen scope.now) place (expression_row (map view_expression subscripts.now))) }
-{
-    let subscript = resolve_subscript(alloc, scope, subscripts)?;
-    with_entity(scope, place, subscript)
-}
-
-// ---- expressions
-
-// The expression with its names resolved.
-#[cycle(resolving)]
-#[tactic(auto, unfolding(ss_tree::specs::View::view_expression, ss_program::specs::View::view_expression, ss_names_meaning::specs::Expressions::expression))]
-pub(crate) fn resolve_expression(
-    alloc: Global,
-    scope: &Scope<'_>,
-    tree: &Expression,
-) -> Result<Resolved, ResolveError>
-    ensures { Gives view_resolved result (expression (scope_seen scope.now) (view_expression tree.now)) }
-{
-    match tree {
-        Expression::Number(number) => Ok(Resolved::Constant {
-            value: Value::Whole(*number),
-        }),
-        Expression::Text(text) => Ok(Resolved::Constant {
-            value: Value::Text(*text),
-        }),
-        Expression::Named(named) => {
-            resolve_named(alloc, scope, named.designator, &named.subscripts)
-        }
-        Expression::Call {
-            function,
-            arguments,
-        } => resolve_call(alloc, scope, *function, arguments),
-        Expression::Parenthesised(inner) => resolve_expression(alloc, scope, inner),
-        Expression::Product { first, further } => {
-            let first = resolve_expression(alloc, scope, first)?;
-            let first = Box::new(alloc, first)?;
-            let further = resolve_factors(alloc, scope, further)?;
-            Ok(Resolved::Calculate { first, further })
-        }
-        Expression::Signed { sign, term } => {
-            let term = resolve_expression(alloc, scope, term)?;
-            let term = Box::new(alloc, term)?;
-            Ok(Resolved::Signed {
-                sign: *sign,
-                term,
-            })
-        }
-        Expression::Sum { first, further } => {
-            let first = resolve_expression(alloc, scope, first)?;
-            let first = Box::new(alloc, first)?;
-            let further = resolve_terms(alloc, scope, further)?;
-            Ok(Resolved::Calculate { first, further })
-        }
-    }
-}
-
-// What is named, with its subscripts.
-#[cycle(resolving)]
-#[tactic(auto, unfolding(ss_names_meaning::specs::Expressions::expression))]
-fn resolve_named(
-    alloc: Global,
-    scope: &Scope<'_>,
-    designator: Designator,
-    subscripts: &[Expression],
-) -> Result<Resolved, ResolveError>
-    ensures { Gives view_resolved result (expression (scope_seen scope.now) (named designator (expression_row (map view_expression subscripts.now)))) }
-{
-    let subscript = resolve_subscript(alloc, scope, subscripts)?;
-    let (meaning, entity) = with_entity(scope, designator, subscript)?;
-    resolved_value(alloc, meaning, entity)
-}
-
-// The subscript, if there is one.
-#[cycle(resolving)]
-#[tactic(auto, unfolding(ss_names_meaning::specs::Expressions::subscript))]
-pub(crate) fn resolve_subscript(
-    alloc: Global,
-    scope: &Scope<'_>,
-    subscripts: &[Expression],
-) -> Result<Option<Resolved>, ResolveError>
-    ensures { Gives (view_option view_resolved) result (subscript (scope_seen scope.now) (expression_row (map view_expression subscripts.now))) }
-{
-    match subscripts {
-        [] => Ok(None),
-        [only] => {
-            let entity = resolve_expression(alloc, scope, only)?;
-            Ok(Some(entity))
-        }
-        [_, _, ..] => Err(ResolveError::Unresolved),
-    }
-}
-
-// A function with its arguments.
-#[cycle(resolving)]
-#[tactic(auto, unfolding(ss_names_meaning::specs::Expressions::expression, ss_program::specs::View::view_expression))]
-fn resolve_call(
-    alloc: Global,
-    scope: &Scope<'_>,
-    function: Function,
-    arguments: &[Expression],
-) -> Result<Resolved, ResolveError>
-    ensures { Gives view_resolved result (expression (scope_seen scope.now) (call function (expression_row (map view_expression arguments.now)))) }
-{
-    match function {
-        Function::Abs => {
-            let argument = resolve_one(alloc, scope, arguments)?;
-            let argument = Box::new(alloc, argument)?;
-            Ok(Resolved::Absolute { argument })
-        }
-        Function::Div => resolve_operation(alloc, scope, Operator::Quotient, arguments),
-        Function::Mod => resolve_operation(alloc, scope, Operator::Remainder, arguments),
-        Function::Min => resolve_operation(alloc, scope, Operator::Least, arguments),
-        Function::Max => resolve_operation(alloc, scope, Operator::Greatest, arguments),
-    }
-}
-
-// A function of two numbers, by what it makes of them.
-#[cycle(resolving)]
-fn resolve_operation(
-    alloc: Global,
-    scope: &Scope<'_>,
-    operator: Operator,
-    arguments: &[Expression],
-) -> Result<Resolved, ResolveError>
-    ensures { Gives view_resolved result (operation (scope_seen scope.now) operator (expression_row (map view_expression arguments.now))) }
-{
-    let (left, right) = resolve_two(alloc, scope, arguments)?;
-    calculate(alloc, left, operator, right)
-}
-
-// One argument.
-#[cycle(resolving)]
-#[tactic(auto, unfolding(ss_names_meaning::specs::Expressions::one))]
-fn resolve_one(
-    alloc: Global,
-    scope: &Scope<'_>,
-    arguments: &[Expression],
-) -> Result<Resolved, ResolveError>
-    ensures { Gives view_resolved result (one (scope_seen scope.now) (expression_row (map view_expression arguments.now))) }
-{
-    match arguments {
-        [only] => resolve_expression(alloc, scope, only),
-        [] => Err(ResolveError::Unresolved),
-        [_, _, ..] => Err(ResolveError::Unresolved),
-    }
-}
-
-// Two arguments, the left one in a box.
-#[cycle(resolving)]
-#[tactic(auto, unfolding(ss_names_meaning::specs::Expressions::two))]
-fn resolve_two(
-    alloc: Global,
-    scope: &Scope<'_>,
-    arguments: &[Expression],
-) -> Result<(Box<Resolved>, Resolved), ResolveError>
-    ensures { Gives (λ p. (view_resolved p.0.value, view_resolved p.1)) result (two (scope_seen scope.now) (expression_row (map view_expression arguments.now))) }
-{
-    match arguments {
-        [left, right] => {
-            let left = resolve_expression(alloc, scope, left)?;
-            let left = Box::new(alloc, left)?;
-            let right = resolve_expression(alloc, scope, right)?;
-            Ok((left, right))
-        }
-        [] => Err(ResolveError::Unresolved),
-        [_] => Err(ResolveError::Unresolved),
-        [_, _, _, ..] => Err(ResolveError::Unresolved),
-    }
-}
-
 // What joins a further term to a sum.
 fn resolved_operator(sign: Sign) -> Operator
     ensures { result ≡ resolved_operator sign }
@@ -362,46 +103,6 @@ fn resolved_operator(sign: Sign) -> Operator
         Sign::Plus => Operator::Add,
         Sign::Minus => Operator::Subtract,
     }
-}
-
-// The further factors of a product.
-#[cycle(resolving)]
-fn resolve_factors(
-    alloc: Global,
-    scope: &Scope<'_>,
-    trees: &[Expression],
-) -> Result<Vec<Operation>, ResolveError>
-    ensures { (left : _) → Gives (λ v. fold with_operation left v.items) result (factors (scope_seen scope.now) left (expression_row (map view_expression trees.now))) }
-{
-    let mut operations = Vec::new(alloc);
-    for tree in trees {
-        let operand = resolve_expression(alloc, scope, tree)?;
-        operations.push(Operation {
-            operator: Operator::Multiply,
-            operand,
-        })?;
-    }
-    Ok(operations)
-}
-
-// The further terms of a sum.
-#[cycle(resolving)]
-fn resolve_terms(
-    alloc: Global,
-    scope: &Scope<'_>,
-    trees: &[Term],
-) -> Result<Vec<Operation>, ResolveError>
-    ensures { (left : _) → Gives (λ v. fold with_operation left v.items) result (terms (scope_seen scope.now) left (term_row (map view_term trees.now))) }
-{
-    let mut operations = Vec::new(alloc);
-    for tree in trees {
-        let operand = resolve_expression(alloc, scope, &tree.value)?;
-        operations.push(Operation {
-            operator: resolved_operator(tree.sign),
-            operand,
-        })?;
-    }
-    Ok(operations)
 }
 
 // An operation on two numbers.
@@ -421,18 +122,293 @@ fn calculate(
     Ok(Resolved::Calculate { first, further })
 }
 
-/// Expressions.
-pub(crate) fn resolve_all(
-    alloc: Global,
-    scope: &Scope<'_>,
-    trees: &[Expression],
-) -> Result<Vec<Resolved>, ResolveError>
-    ensures { Gives (λ v. map view_resolved v.items) result (each (expression (scope_seen scope.now)) (map view_expression trees.now)) }
-{
-    let mut resolved = Vec::new(alloc);
-    for tree in trees {
-        let one = resolve_expression(alloc, scope, tree)?;
-        resolved.push(one)?;
+impl Resolver<'_> {
+    // ---- what is named
+
+    // The entity in the variable of a class.
+    #[tactic(auto, unfolding(ss_program::specs::View::view_expression))]
+    fn entity_implied(&self, class: usize) -> Result<Resolved, ResolveError>
+        ensures { Gives view_resolved result (entity_implied (scope_in self.now) class) }
+    {
+        let Some(meaning) = self.scope.meaning_of_class(class) else {
+            return Err(ResolveError::Unresolved);
+        };
+        match variable_of(meaning) {
+            Some(variable) => Ok(Resolved::Fetch { variable }),
+            None => Err(ResolveError::Unresolved),
+        }
     }
-    Ok(resolved)
+
+    // Of each entity of a class: the one in the subscript, or else the one in the variable of the class.
+    fn of_class(
+        &self,
+        class: usize,
+        subscript: Option<Resolved>,
+    ) -> Result<Option<Resolved>, ResolveError>
+        ensures { Gives (view_option view_resolved) result (of_class (scope_in self.now) class (view_option view_resolved subscript)) }
+    {
+        match subscript {
+            Some(entity) => Ok(Some(entity)),
+            None => {
+                let entity = self.entity_implied(class)?;
+                Ok(Some(entity))
+            }
+        }
+    }
+
+    // The entity by its owner: THE SYSTEM takes no subscript.
+    fn of_owner(
+        &self,
+        owner: Owner,
+        subscript: Option<Resolved>,
+    ) -> Result<Option<Resolved>, ResolveError>
+        ensures { Gives (view_option view_resolved) result (of_owner (scope_in self.now) owner (view_option view_resolved subscript)) }
+    {
+        match owner {
+            Owner::Class(class) => self.of_class(class, subscript),
+            Owner::System => match subscript {
+                Some(entity) => Err(unresolved(entity)),
+                None => Ok(None),
+            },
+        }
+    }
+
+    /// The entity that has what a name means: that of the subscript, or else the one in the variable of its class. None for what no
+    /// entity has, which takes no subscript.
+    pub(crate) fn entity_of(
+        &self,
+        meaning: Meaning,
+        subscript: Option<Resolved>,
+    ) -> Result<Option<Resolved>, ResolveError>
+        ensures { Gives (view_option view_resolved) result (entity_of (scope_in self.now) meaning (view_option view_resolved subscript)) }
+    {
+        match meaning {
+            Meaning::NoticeTime => Ok(subscript),
+            _ => self.of_owner(self.scope.names.owner_of(meaning), subscript),
+        }
+    }
+
+    // What is named, and the entity that has it, by the subscript.
+    fn with_entity(
+        &self,
+        place: Designator,
+        subscript: Option<Resolved>,
+    ) -> Result<(Meaning, Option<Resolved>), ResolveError>
+        ensures { Gives (λ p. (p.0, view_option view_resolved p.1)) result (with_entity (scope_in self.now) place (view_option view_resolved subscript)) }
+    {
+        match self.scope.meaning(place) {
+            Some(meaning) => {
+                let entity = self.entity_of(meaning, subscript)?;
+                Ok((meaning, entity))
+            }
+            None => Err(unresolved(subscript)),
+        }
+    }
+
+    /// What is named, with its subscripts, and the entity that has it.
+    pub(crate) fn resolve_place(
+        &self,
+        place: Designator,
+        subscripts: &[Expression],
+    ) -> Result<(Meaning, Option<Resolved>), ResolveError>
+        ensures { Gives (λ p. (p.0, view_option view_resolved p.1)) result (place_named (scope_in self.now) place (expression_row (map view_expression subscripts.now))) }
+    {
+        let subscript = self.resolve_subscript(subscripts)?;
+        self.with_entity(place, subscript)
+    }
+
+    // ---- expressions
+
+    // The expression with its names resolved.
+    #[cycle(resolving)]
+    #[tactic(auto, unfolding(ss_tree::specs::View::view_expression, ss_program::specs::View::view_expression, ss_names_meaning::specs::Expressions::expression))]
+    pub(crate) fn resolve_expression(&self, tree: &Expression) -> Result<Resolved, ResolveError>
+        ensures { Gives view_resolved result (expression (scope_in self.now) (view_expression tree.now)) }
+    {
+        match tree {
+            Expression::Number(number) => Ok(Resolved::Constant {
+                value: Value::Whole(*number),
+            }),
+            Expression::Text(text) => Ok(Resolved::Constant {
+                value: Value::Text(*text),
+            }),
+            Expression::Named(named) => {
+                self.resolve_named(named.designator, &named.subscripts)
+            }
+            Expression::Call {
+                function,
+                arguments,
+            } => self.resolve_call(*function, arguments),
+            Expression::Parenthesised(inner) => self.resolve_expression(inner),
+            Expression::Product { first, further } => {
+                let first = self.resolve_expression(first)?;
+                let first = Box::new(self.alloc, first)?;
+                let further = self.resolve_factors(further)?;
+                Ok(Resolved::Calculate { first, further })
+            }
+            Expression::Signed { sign, term } => {
+                let term = self.resolve_expression(term)?;
+                let term = Box::new(self.alloc, term)?;
+                Ok(Resolved::Signed {
+                    sign: *sign,
+                    term,
+                })
+            }
+            Expression::Sum { first, further } => {
+                let first = self.resolve_expression(first)?;
+                let first = Box::new(self.alloc, first)?;
+                let further = self.resolve_terms(further)?;
+                Ok(Resolved::Calculate { first, further })
+            }
+        }
+    }
+
+    // What is named, with its subscripts.
+    #[cycle(resolving)]
+    #[tactic(auto, unfolding(ss_names_meaning::specs::Expressions::expression))]
+    fn resolve_named(
+        &self,
+        designator: Designator,
+        subscripts: &[Expression],
+    ) -> Result<Resolved, ResolveError>
+        ensures { Gives view_resolved result (expression (scope_in self.now) (named designator (expression_row (map view_expression subscripts.now)))) }
+    {
+        let subscript = self.resolve_subscript(subscripts)?;
+        let (meaning, entity) = self.with_entity(designator, subscript)?;
+        resolved_value(self.alloc, meaning, entity)
+    }
+
+    // The subscript, if there is one.
+    #[cycle(resolving)]
+    #[tactic(auto, unfolding(ss_names_meaning::specs::Expressions::subscript))]
+    pub(crate) fn resolve_subscript(
+        &self,
+        subscripts: &[Expression],
+    ) -> Result<Option<Resolved>, ResolveError>
+        ensures { Gives (view_option view_resolved) result (subscript (scope_in self.now) (expression_row (map view_expression subscripts.now))) }
+    {
+        match subscripts {
+            [] => Ok(None),
+            [only] => {
+                let entity = self.resolve_expression(only)?;
+                Ok(Some(entity))
+            }
+            [_, _, ..] => Err(ResolveError::Unresolved),
+        }
+    }
+
+    // A function with its arguments.
+    #[cycle(resolving)]
+    #[tactic(auto, unfolding(ss_names_meaning::specs::Expressions::expression, ss_program::specs::View::view_expression))]
+    fn resolve_call(
+        &self,
+        function: Function,
+        arguments: &[Expression],
+    ) -> Result<Resolved, ResolveError>
+        ensures { Gives view_resolved result (expression (scope_in self.now) (call function (expression_row (map view_expression arguments.now)))) }
+    {
+        match function {
+            Function::Abs => {
+                let argument = self.resolve_one(arguments)?;
+                let argument = Box::new(self.alloc, argument)?;
+                Ok(Resolved::Absolute { argument })
+            }
+            Function::Div => self.resolve_operation(Operator::Quotient, arguments),
+            Function::Mod => self.resolve_operation(Operator::Remainder, arguments),
+            Function::Min => self.resolve_operation(Operator::Least, arguments),
+            Function::Max => self.resolve_operation(Operator::Greatest, arguments),
+        }
+    }
+
+    // A function of two numbers, by what it makes of them.
+    #[cycle(resolving)]
+    fn resolve_operation(
+        &self,
+        operator: Operator,
+        arguments: &[Expression],
+    ) -> Result<Resolved, ResolveError>
+        ensures { Gives view_resolved result (operation (scope_in self.now) operator (expression_row (map view_expression arguments.now))) }
+    {
+        let (left, right) = self.resolve_two(arguments)?;
+        calculate(self.alloc, left, operator, right)
+    }
+
+    // One argument.
+    #[cycle(resolving)]
+    #[tactic(auto, unfolding(ss_names_meaning::specs::Expressions::one))]
+    fn resolve_one(&self, arguments: &[Expression]) -> Result<Resolved, ResolveError>
+        ensures { Gives view_resolved result (one (scope_in self.now) (expression_row (map view_expression arguments.now))) }
+    {
+        match arguments {
+            [only] => self.resolve_expression(only),
+            [] => Err(ResolveError::Unresolved),
+            [_, _, ..] => Err(ResolveError::Unresolved),
+        }
+    }
+
+    // Two arguments, the left one in a box.
+    #[cycle(resolving)]
+    #[tactic(auto, unfolding(ss_names_meaning::specs::Expressions::two))]
+    fn resolve_two(
+        &self,
+        arguments: &[Expression],
+    ) -> Result<(Box<Resolved>, Resolved), ResolveError>
+        ensures { Gives (λ p. (view_resolved p.0.value, view_resolved p.1)) result (two (scope_in self.now) (expression_row (map view_expression arguments.now))) }
+    {
+        match arguments {
+            [left, right] => {
+                let left = self.resolve_expression(left)?;
+                let left = Box::new(self.alloc, left)?;
+                let right = self.resolve_expression(right)?;
+                Ok((left, right))
+            }
+            [] => Err(ResolveError::Unresolved),
+            [_] => Err(ResolveError::Unresolved),
+            [_, _, _, ..] => Err(ResolveError::Unresolved),
+        }
+    }
+
+    // The further factors of a product.
+    #[cycle(resolving)]
+    fn resolve_factors(&self, trees: &[Expression]) -> Result<Vec<Operation>, ResolveError>
+        ensures { (left : _) → Gives (λ v. fold with_operation left v.items) result (factors (scope_in self.now) left (expression_row (map view_expression trees.now))) }
+    {
+        let mut operations = Vec::new(self.alloc);
+        for tree in trees {
+            let operand = self.resolve_expression(tree)?;
+            operations.push(Operation {
+                operator: Operator::Multiply,
+                operand,
+            })?;
+        }
+        Ok(operations)
+    }
+
+    // The further terms of a sum.
+    #[cycle(resolving)]
+    fn resolve_terms(&self, trees: &[Term]) -> Result<Vec<Operation>, ResolveError>
+        ensures { (left : _) → Gives (λ v. fold with_operation left v.items) result (terms (scope_in self.now) left (term_row (map view_term trees.now))) }
+    {
+        let mut operations = Vec::new(self.alloc);
+        for tree in trees {
+            let operand = self.resolve_expression(&tree.value)?;
+            operations.push(Operation {
+                operator: resolved_operator(tree.sign),
+                operand,
+            })?;
+        }
+        Ok(operations)
+    }
+
+    /// Expressions.
+    pub(crate) fn resolve_all(&self, trees: &[Expression]) -> Result<Vec<Resolved>, ResolveError>
+        ensures { Gives (λ v. map view_resolved v.items) result (each (expression (scope_in self.now)) (map view_expression trees.now)) }
+    {
+        let mut resolved = Vec::new(self.alloc);
+        for tree in trees {
+            let one = self.resolve_expression(tree)?;
+            resolved.push(one)?;
+        }
+        Ok(resolved)
+    }
 }

@@ -5,14 +5,14 @@ ghost use Rattle.ss_tree.specs.Tree.{expression_row, named};
 ghost use Rattle.ss_tree.specs.View.{view_expression};
 ghost use Rattle.ss_program.specs.Program.{AValue};
 ghost use Rattle.ss_program.specs.View.{view_expression as view_resolved, view_item, view_option};
-ghost use Rattle.ss_names_scopes.specs.Seen.{scope_seen};
 ghost use Rattle.ss_names_meaning.specs.Answers.{Gives, each};
 ghost use Rattle.ss_names_meaning.specs.Expressions.{expression, item, resolved_item, resolved_value};
+ghost use Rattle.ss_check_bodies.specs.Results.{scope_in};
 
-use crate::expressions::{resolve_expression, resolve_place, resolved_value};
+use crate::expressions::resolved_value;
+use crate::resolver::Resolver;
 use ss_names::Meaning;
 use ss_names_meaning::ResolveError;
-use ss_names_scopes::Scope;
 use ss_program::expression::Expression as Resolved;
 use ss_program::statement::Item;
 use ss_tree::expression::{Designator, Expression};
@@ -50,62 +50,55 @@ fn resolved_item(
     }
 }
 
-// What is named, with its subscripts.
-fn resolve_named(
-    alloc: Global,
-    scope: &Scope<'_>,
-    designator: Designator,
-    subscripts: &[Expression],
-) -> Result<Item, ResolveError>
-    ensures { Gives view_item result (item (scope_seen scope.now) (named designator (expression_row (map view_expression subscripts.now)))) }
-{
-    let (meaning, entity) = resolve_place(alloc, scope, designator, subscripts)?;
-    resolved_item(alloc, meaning, entity)
-}
+impl Resolver<'_> {
+    // What is named, with its subscripts.
+    fn resolve_named_item(
+        &self,
+        designator: Designator,
+        subscripts: &[Expression],
+    ) -> Result<Item, ResolveError>
+        ensures { Gives view_item result (item (scope_in self.now) (named designator (expression_row (map view_expression subscripts.now)))) }
+    {
+        let (meaning, entity) = self.resolve_place(designator, subscripts)?;
+        resolved_item(self.alloc, meaning, entity)
+    }
 
-// A value.
-fn resolve_value(
-    alloc: Global,
-    scope: &Scope<'_>,
-    tree: &Expression,
-) -> Result<Item, ResolveError>
-    ensures { Gives view_item result (option_map AValue (expression (scope_seen scope.now) (view_expression tree.now))) }
-{
-    let value = resolve_expression(alloc, scope, tree)?;
-    Ok(Item::Value { value })
-}
+    // A value.
+    fn resolve_value_item(&self, tree: &Expression) -> Result<Item, ResolveError>
+        ensures { Gives view_item result (option_map AValue (expression (scope_in self.now) (view_expression tree.now))) }
+    {
+        let value = self.resolve_expression(tree)?;
+        Ok(Item::Value { value })
+    }
 
-// An item: a mean where that is named alone, through any parentheses, and else a value.
-#[tactic(auto, unfolding(ss_tree::specs::View::view_expression))]
-fn resolve_item(alloc: Global, scope: &Scope<'_>, tree: &Expression) -> Result<Item, ResolveError>
-    ensures { Gives view_item result (item (scope_seen scope.now) (view_expression tree.now)) }
-{
-    match tree {
-        Expression::Named(named) => {
-            resolve_named(alloc, scope, named.designator, &named.subscripts)
+    // An item: a mean where that is named alone, through any parentheses, and else a value.
+    #[tactic(auto, unfolding(ss_tree::specs::View::view_expression))]
+    fn resolve_item(&self, tree: &Expression) -> Result<Item, ResolveError>
+        ensures { Gives view_item result (item (scope_in self.now) (view_expression tree.now)) }
+    {
+        match tree {
+            Expression::Named(named) => {
+                self.resolve_named_item(named.designator, &named.subscripts)
+            }
+            Expression::Parenthesised(inner) => self.resolve_item(inner),
+            Expression::Number(_)
+            | Expression::Text(_)
+            | Expression::Call { .. }
+            | Expression::Product { .. }
+            | Expression::Signed { .. }
+            | Expression::Sum { .. } => self.resolve_value_item(tree),
         }
-        Expression::Parenthesised(inner) => resolve_item(alloc, scope, inner),
-        Expression::Number(_)
-        | Expression::Text(_)
-        | Expression::Call { .. }
-        | Expression::Product { .. }
-        | Expression::Signed { .. }
-        | Expression::Sum { .. } => resolve_value(alloc, scope, tree),
     }
-}
 
-/// The items of a PRINT.
-pub(crate) fn resolve_items(
-    alloc: Global,
-    scope: &Scope<'_>,
-    trees: &[Expression],
-) -> Result<Vec<Item>, ResolveError>
-    ensures { Gives (λ v. map view_item v.items) result (each (item (scope_seen scope.now)) (map view_expression trees.now)) }
-{
-    let mut resolved = Vec::new(alloc);
-    for tree in trees {
-        let one = resolve_item(alloc, scope, tree)?;
-        resolved.push(one)?;
+    /// The items of a PRINT.
+    pub(crate) fn resolve_items(&self, trees: &[Expression]) -> Result<Vec<Item>, ResolveError>
+        ensures { Gives (λ v. map view_item v.items) result (each (item (scope_in self.now)) (map view_expression trees.now)) }
+    {
+        let mut resolved = Vec::new(self.alloc);
+        for tree in trees {
+            let one = self.resolve_item(tree)?;
+            resolved.push(one)?;
+        }
+        Ok(resolved)
     }
-    Ok(resolved)
 }

@@ -11,9 +11,9 @@ mod items;
 mod loops;
 mod notices;
 mod places;
+mod resolver;
 mod results;
 mod statements;
 
-pub use bodies::resolve_body;
+pub use resolver::Resolver;
 pub use ss_names_meaning::ResolveError;
-pub use ss_names_scopes::Scope;

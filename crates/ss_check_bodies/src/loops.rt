@@ -2,88 +2,81 @@
 
 ghost use Rattle.ss_tree.specs.View.{view_head, view_loop_head};
 ghost use Rattle.ss_program.specs.View.{view_body, view_statement as view_resolved};
-ghost use Rattle.ss_names_scopes.specs.Seen.{scope_seen};
 ghost use Rattle.ss_names_meaning.specs.Answers.{Gives};
 ghost use Rattle.ss_names_meaning.specs.Statements.{find, for_over, resolved_loop};
-ghost use Rattle.ss_check_bodies.specs.Results.{resolved_over, over_seen};
+ghost use Rattle.ss_check_bodies.specs.Results.{over_seen, resolved_over, scope_in};
 
-use crate::heads::{phrases_of, resolve_guards, resolve_head, resolve_phrases};
+use crate::heads::phrases_of;
+use crate::resolver::Resolver;
 use crate::results::beside;
 use ss_base::Line;
 use ss_names_meaning::ResolveError;
-use ss_names_scopes::Scope;
 use ss_program::head::{Head as ResolvedHead, Phrase};
 use ss_program::statement::Statement as Resolved;
 use ss_tree::head::{Head, LoopHead};
-use std::alloc::Global;
 
-// What a FOR goes over, and its phrases.
-fn resolve_over(
-    alloc: Global,
-    scope: &Scope<'_>,
-    head: &Head,
-) -> Result<(ResolvedHead, Vec<Phrase>), ResolveError>
-    ensures { Gives over_seen result (resolved_over (scope_seen scope.now) (view_head head.now)) }
-{
-    let over = resolve_head(alloc, scope, head)?;
-    beside(over, resolve_phrases(alloc, scope, phrases_of(head)))
-}
+impl Resolver<'_> {
+    // What a FOR goes over, and its phrases.
+    fn resolve_over(&self, head: &Head) -> Result<(ResolvedHead, Vec<Phrase>), ResolveError>
+        ensures { Gives over_seen result (resolved_over (scope_in self.now) (view_head head.now)) }
+    {
+        let over = self.resolve_head(head)?;
+        beside(over, self.resolve_phrases(phrases_of(head)))
+    }
 
-// A FOR with its body.
-fn resolve_for(
-    alloc: Global,
-    scope: &Scope<'_>,
-    line: Line,
-    head: &Head,
-    body: Vec<Resolved>,
-) -> Result<Resolved, ResolveError>
-    ensures { Gives view_resolved result (for_over line (scope_seen scope.now) (view_head head.now) (view_body body.items)) }
-{
-    let (head, phrases) = resolve_over(alloc, scope, head)?;
-    Ok(Resolved::For {
-        line,
-        head,
-        phrases,
-        body,
-    })
-}
+    // A FOR with its body.
+    fn resolve_for(
+        &self,
+        line: Line,
+        head: &Head,
+        body: Vec<Resolved>,
+    ) -> Result<Resolved, ResolveError>
+        ensures { Gives view_resolved result (for_over line (scope_in self.now) (view_head head.now) (view_body body.items)) }
+    {
+        let (head, phrases) = self.resolve_over(head)?;
+        Ok(Resolved::For {
+            line,
+            head,
+            phrases,
+            body,
+        })
+    }
 
-/// A loop with its body.
-pub(crate) fn resolve_loop(
-    alloc: Global,
-    scope: &Scope<'_>,
-    line: Line,
-    head: &LoopHead,
-    body: Vec<Resolved>,
-) -> Result<Resolved, ResolveError>
-    ensures { Gives view_resolved result (resolved_loop line (scope_seen scope.now) (view_loop_head head.now) (view_body body.items)) }
-{
-    match head {
-        LoopHead::For(head) => resolve_for(alloc, scope, line, head, body),
-        LoopHead::Guards(guards) => {
-            let guards = resolve_guards(alloc, scope, guards)?;
-            Ok(Resolved::Loop { line, guards, body })
+    /// A loop with its body.
+    pub(crate) fn resolve_loop(
+        &self,
+        line: Line,
+        head: &LoopHead,
+        body: Vec<Resolved>,
+    ) -> Result<Resolved, ResolveError>
+        ensures { Gives view_resolved result (resolved_loop line (scope_in self.now) (view_loop_head head.now) (view_body body.items)) }
+    {
+        match head {
+            LoopHead::For(head) => self.resolve_for(line, head, body),
+            LoopHead::Guards(guards) => {
+                let guards = self.resolve_guards(guards)?;
+                Ok(Resolved::Loop { line, guards, body })
+            }
         }
     }
-}
 
-/// FIND THE FIRST CASE, with what follows where one was found and where none was.
-pub(crate) fn resolve_find(
-    alloc: Global,
-    scope: &Scope<'_>,
-    line: Line,
-    head: &Head,
-    found: Vec<Resolved>,
-    none: Vec<Resolved>,
-) -> Result<Resolved, ResolveError>
-    ensures { Gives view_resolved result (find line (scope_seen scope.now) (view_head head.now) (view_body found.items) (view_body none.items)) }
-{
-    let (head, phrases) = resolve_over(alloc, scope, head)?;
-    Ok(Resolved::Find {
-        line,
-        head,
-        phrases,
-        found,
-        none,
-    })
+    /// FIND THE FIRST CASE, with what follows where one was found and where none was.
+    pub(crate) fn resolve_find(
+        &self,
+        line: Line,
+        head: &Head,
+        found: Vec<Resolved>,
+        none: Vec<Resolved>,
+    ) -> Result<Resolved, ResolveError>
+        ensures { Gives view_resolved result (find line (scope_in self.now) (view_head head.now) (view_body found.items) (view_body none.items)) }
+    {
+        let (head, phrases) = self.resolve_over(head)?;
+        Ok(Resolved::Find {
+            line,
+            head,
+            phrases,
+            found,
+            none,
+        })
+    }
 }

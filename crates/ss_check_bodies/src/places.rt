@@ -3,22 +3,19 @@
 ghost use Rattle.std.specs.Prelude.{◌≡◌, map, None};
 ghost use Rattle.ss_tree.specs.View.{view_expression, view_named, view_option};
 ghost use Rattle.ss_program.specs.View.{view_expression as view_resolved, view_option as option_seen, view_owner, view_place, view_restart, view_target};
-ghost use Rattle.ss_names_scopes.specs.Seen.{scope_seen};
 ghost use Rattle.ss_names_meaning.specs.Answers.{Gives, each};
 ghost use Rattle.ss_names_meaning.specs.Expressions.{owner_named, place_of, set_named, set_number, set_of_name, target};
 ghost use Rattle.ss_names_meaning.specs.Statements.{entity_called, history_of, new_place, reader, restart};
+ghost use Rattle.ss_check_bodies.specs.Results.{scope_in};
 
-use crate::expressions::{entity_of, resolve_expression, resolve_place, resolve_subscript};
+use crate::resolver::Resolver;
 use crate::results::unresolved;
 use ss_names::Meaning;
 use ss_names_meaning::ResolveError;
-use ss_names_scopes::{Scope, mode_of};
+use ss_names_scopes::mode_of;
 use ss_program::expression::{Expression as Resolved, SetOwner, Variable};
 use ss_program::statement::{Place, Restart, Target};
 use ss_tree::expression::{Designator, Expression, Named};
-use std::alloc::Global;
-
-// ---- targets
 
 // The target that is of no entity.
 fn place_alone(meaning: Meaning) -> Result<Place, ResolveError>
@@ -47,95 +44,6 @@ fn place_of(meaning: Meaning, entity: Option<Resolved>) -> Result<Place, Resolve
     }
 }
 
-/// A target.
-pub(crate) fn resolve_target(
-    alloc: Global,
-    scope: &Scope<'_>,
-    tree: &Named,
-) -> Result<Place, ResolveError>
-    ensures { Gives view_place result (target (scope_seen scope.now) (view_named tree.now)) }
-{
-    let (meaning, entity) = resolve_place(alloc, scope, tree.designator, &tree.subscripts)?;
-    place_of(meaning, entity)
-}
-
-/// Targets.
-pub(crate) fn resolve_targets(
-    alloc: Global,
-    scope: &Scope<'_>,
-    trees: &[Named],
-) -> Result<Vec<Place>, ResolveError>
-    ensures { Gives (λ v. map view_place v.items) result (each (target (scope_seen scope.now)) (map view_named trees.now)) }
-{
-    let mut resolved = Vec::new(alloc);
-    for tree in trees {
-        let one = resolve_target(alloc, scope, tree)?;
-        resolved.push(one)?;
-    }
-    Ok(resolved)
-}
-
-// A target of READ.
-fn resolve_reader(alloc: Global, scope: &Scope<'_>, tree: &Named) -> Result<Target, ResolveError>
-    ensures { Gives view_target result (reader (scope_seen scope.now) (view_named tree.now)) }
-{
-    let (meaning, entity) = resolve_place(alloc, scope, tree.designator, &tree.subscripts)?;
-    let place = place_of(meaning, entity)?;
-    match mode_of(meaning) {
-        Some(mode) => Ok(Target { place, mode }),
-        None => Err(unresolved(place)),
-    }
-}
-
-/// The targets of READ.
-pub(crate) fn resolve_readers(
-    alloc: Global,
-    scope: &Scope<'_>,
-    trees: &[Named],
-) -> Result<Vec<Target>, ResolveError>
-    ensures { Gives (λ v. map view_target v.items) result (each (reader (scope_seen scope.now)) (map view_named trees.now)) }
-{
-    let mut resolved = Vec::new(alloc);
-    for tree in trees {
-        let one = resolve_reader(alloc, scope, tree)?;
-        resolved.push(one)?;
-    }
-    Ok(resolved)
-}
-
-/// What takes the number of a new entity: the target after CALLED, or else the variable of the class.
-pub(crate) fn resolve_new_place(
-    alloc: Global,
-    scope: &Scope<'_>,
-    variable: Variable,
-    called: &Option<Named>,
-) -> Result<Place, ResolveError>
-    ensures { Gives view_place result (new_place (scope_seen scope.now) variable (view_option view_named called.now)) }
-{
-    match called {
-        None => Ok(Place::ToVariable { variable }),
-        Some(tree) => resolve_target(alloc, scope, tree),
-    }
-}
-
-/// The entity after CALLED, or else the one in the variable of the class.
-#[tactic(auto, unfolding(ss_program::specs::View::view_expression))]
-pub(crate) fn resolve_entity_called(
-    alloc: Global,
-    scope: &Scope<'_>,
-    variable: Variable,
-    called: &Option<Expression>,
-) -> Result<Resolved, ResolveError>
-    ensures { Gives view_resolved result (entity_called (scope_seen scope.now) variable (view_option view_expression called.now)) }
-{
-    match called {
-        None => Ok(Resolved::Fetch { variable }),
-        Some(tree) => resolve_expression(alloc, scope, tree),
-    }
-}
-
-// ---- sets
-
 // The owner of a set.
 fn owner_named(entity: Option<Resolved>) -> SetOwner
     ensures { view_owner result ≡ owner_named (option_seen view_resolved entity) }
@@ -156,69 +64,137 @@ fn set_number(meaning: Option<Meaning>) -> Option<usize>
     }
 }
 
-// The number of the set of a name, which nothing hides.
-fn set_of_name(scope: &Scope<'_>, place: &Designator) -> Option<usize>
-    ensures { result ≡ set_of_name (scope_seen scope.now) place.now }
-{
-    match place {
-        Designator::Name(name) => set_number(scope.names.meaning(name)),
-        Designator::TimeV => None,
-        Designator::TimeA => None,
+impl Resolver<'_> {
+    /// A target.
+    pub(crate) fn resolve_target(&self, tree: &Named) -> Result<Place, ResolveError>
+        ensures { Gives view_place result (target (scope_in self.now) (view_named tree.now)) }
+    {
+        let (meaning, entity) = self.resolve_place(tree.designator, &tree.subscripts)?;
+        place_of(meaning, entity)
     }
-}
 
-/// The number of the set that is named, and its owner.
-pub(crate) fn resolve_set(
-    alloc: Global,
-    scope: &Scope<'_>,
-    tree: &Named,
-) -> Result<(usize, SetOwner), ResolveError>
-    ensures { Gives (λ p. (p.0, view_owner p.1)) result (set_named (scope_seen scope.now) (view_named tree.now)) }
-{
-    let Some(set) = set_of_name(scope, &tree.designator) else {
-        return Err(ResolveError::Unresolved);
-    };
-    let subscript = resolve_subscript(alloc, scope, &tree.subscripts)?;
-    let entity = entity_of(scope, Meaning::Set { set }, subscript)?;
-    Ok((set, owner_named(entity)))
-}
-
-// ---- statistics
-
-// The number of the history of what is named.
-fn history_of(scope: &Scope<'_>, place: &Designator) -> Option<usize>
-    ensures { result ≡ history_of (scope_seen scope.now) place.now }
-{
-    match place {
-        Designator::Name(name) => scope.names.histories.place(name),
-        Designator::TimeV => None,
-        Designator::TimeA => None,
+    /// Targets.
+    pub(crate) fn resolve_targets(&self, trees: &[Named]) -> Result<Vec<Place>, ResolveError>
+        ensures { Gives (λ v. map view_place v.items) result (each (target (scope_in self.now)) (map view_named trees.now)) }
+    {
+        let mut resolved = Vec::new(self.alloc);
+        for tree in trees {
+            let one = self.resolve_target(tree)?;
+            resolved.push(one)?;
+        }
+        Ok(resolved)
     }
-}
 
-// A statistic that starts afresh, and of which entity.
-fn resolve_restart(alloc: Global, scope: &Scope<'_>, tree: &Named) -> Result<Restart, ResolveError>
-    ensures { Gives view_restart result (restart (scope_seen scope.now) (view_named tree.now)) }
-{
-    let Some(statistic) = history_of(scope, &tree.designator) else {
-        return Err(ResolveError::Unresolved);
-    };
-    let (_, of) = resolve_place(alloc, scope, tree.designator, &tree.subscripts)?;
-    Ok(Restart { statistic, of })
-}
-
-/// The statistics of a RESET.
-pub(crate) fn resolve_restarts(
-    alloc: Global,
-    scope: &Scope<'_>,
-    trees: &[Named],
-) -> Result<Vec<Restart>, ResolveError>
-    ensures { Gives (λ v. map view_restart v.items) result (each (restart (scope_seen scope.now)) (map view_named trees.now)) }
-{
-    let mut resolved = Vec::new(alloc);
-    for tree in trees {
-        let one = resolve_restart(alloc, scope, tree)?;
-        resolved.push(one)?;
+    // A target of READ.
+    fn resolve_reader(&self, tree: &Named) -> Result<Target, ResolveError>
+        ensures { Gives view_target result (reader (scope_in self.now) (view_named tree.now)) }
+    {
+        let (meaning, entity) = self.resolve_place(tree.designator, &tree.subscripts)?;
+        let place = place_of(meaning, entity)?;
+        match mode_of(meaning) {
+            Some(mode) => Ok(Target { place, mode }),
+            None => Err(unresolved(place)),
+        }
     }
-    Ok(resolved)
+
+    /// The targets of READ.
+    pub(crate) fn resolve_readers(&self, trees: &[Named]) -> Result<Vec<Target>, ResolveError>
+        ensures { Gives (λ v. map view_target v.items) result (each (reader (scope_in self.now)) (map view_named trees.now)) }
+    {
+        let mut resolved = Vec::new(self.alloc);
+        for tree in trees {
+            let one = self.resolve_reader(tree)?;
+            resolved.push(one)?;
+        }
+        Ok(resolved)
+    }
+
+    /// What takes the number of a new entity: the target after CALLED, or else the variable of the class.
+    pub(crate) fn resolve_new_place(
+        &self,
+        variable: Variable,
+        called: &Option<Named>,
+    ) -> Result<Place, ResolveError>
+        ensures { Gives view_place result (new_place (scope_in self.now) variable (view_option view_named called.now)) }
+    {
+        match called {
+            None => Ok(Place::ToVariable { variable }),
+            Some(tree) => self.resolve_target(tree),
+        }
+    }
+
+    /// The entity after CALLED, or else the one in the variable of the class.
+    #[tactic(auto, unfolding(ss_program::specs::View::view_expression))]
+    pub(crate) fn resolve_entity_called(
+        &self,
+        variable: Variable,
+        called: &Option<Expression>,
+    ) -> Result<Resolved, ResolveError>
+        ensures { Gives view_resolved result (entity_called (scope_in self.now) variable (view_option view_expression called.now)) }
+    {
+        match called {
+            None => Ok(Resolved::Fetch { variable }),
+            Some(tree) => self.resolve_expression(tree),
+        }
+    }
+
+    // The number of the set of a name, which nothing hides.
+    fn set_of_name(&self, place: &Designator) -> Option<usize>
+        ensures { result ≡ set_of_name (scope_in self.now) place.now }
+    {
+        match place {
+            Designator::Name(name) => set_number(self.scope.names.meaning(name)),
+            Designator::TimeV => None,
+            Designator::TimeA => None,
+        }
+    }
+
+    /// The number of the set that is named, and its owner.
+    pub(crate) fn resolve_set(&self, tree: &Named) -> Result<(usize, SetOwner), ResolveError>
+        ensures { Gives (λ p. (p.0, view_owner p.1)) result (set_named (scope_in self.now) (view_named tree.now)) }
+    {
+        let Some(set) = self.set_of_name(&tree.designator) else {
+            return Err(ResolveError::Unresolved);
+        };
+        let subscript = self.resolve_subscript(&tree.subscripts)?;
+        let entity = self.entity_of(Meaning::Set { set }, subscript)?;
+        Ok((set, owner_named(entity)))
+    }
+
+    // ---- statistics
+
+    // The number of the history of what is named.
+    fn history_of(&self, place: &Designator) -> Option<usize>
+        ensures { result ≡ history_of (scope_in self.now) place.now }
+    {
+        let names = self.scope.names;
+        match place {
+            Designator::Name(name) => names.histories.place(name),
+            Designator::TimeV => None,
+            Designator::TimeA => None,
+        }
+    }
+
+    // A statistic that starts afresh, and of which entity.
+    fn resolve_restart(&self, tree: &Named) -> Result<Restart, ResolveError>
+        ensures { Gives view_restart result (restart (scope_in self.now) (view_named tree.now)) }
+    {
+        let Some(statistic) = self.history_of(&tree.designator) else {
+            return Err(ResolveError::Unresolved);
+        };
+        let (_, of) = self.resolve_place(tree.designator, &tree.subscripts)?;
+        Ok(Restart { statistic, of })
+    }
+
+    /// The statistics of a RESET.
+    pub(crate) fn resolve_restarts(&self, trees: &[Named]) -> Result<Vec<Restart>, ResolveError>
+        ensures { Gives (λ v. map view_restart v.items) result (each (restart (scope_in self.now)) (map view_named trees.now)) }
+    {
+        let mut resolved = Vec::new(self.alloc);
+        for tree in trees {
+            let one = self.resolve_restart(tree)?;
+            resolved.push(one)?;
+        }
+        Ok(resolved)
+    }
 }

@@ -1,9 +1,0 @@
-use Rattle.std.proofs.Common.{◌≡◌, map, take, Some}
-use Rattle.ss_tree.specs.View.{view_test}
-use Rattle.ss_program.specs.View.{view_test as test_seen}
-use Rattle.ss_names_meaning.specs.Answers.{each}
-use Rattle.ss_names_meaning.specs.Conditions.{one_test}
-use Rattle.ss_check_bodies.proofs.conditions.resolve_tests.Given as goal
-
-abbrev pub invariant-loop-tree : goal.invariant-loop-tree
-invariant-loop-tree g l = each (one_test (g.S.Scope.context l.scope)) (map view_test (take l.tree-index l.trees)) ≡ Some (map test_seen l.resolved.items)

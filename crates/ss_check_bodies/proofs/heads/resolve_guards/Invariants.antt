@@ -1,9 +1,0 @@
-use Rattle.std.proofs.Common.{◌≡◌, map, take, Some}
-use Rattle.ss_tree.specs.View.{view_guard}
-use Rattle.ss_program.specs.View.{view_guard as guard_seen}
-use Rattle.ss_names_meaning.specs.Answers.{each}
-use Rattle.ss_names_meaning.specs.Heads.{guard}
-use Rattle.ss_check_bodies.proofs.heads.resolve_guards.Given as goal
-
-abbrev pub invariant-loop-tree : goal.invariant-loop-tree
-invariant-loop-tree g l = each (guard (g.S.Scope.context l.scope)) (map view_guard (take l.tree-index l.trees)) ≡ Some (map guard_seen l.resolved.items)

@@ -1,0 +1,107 @@
+use Rattle.std.proofs.Common.{refl, subst}
+use Rattle.ss_tree.specs.View.{view_expression}
+use Rattle.ss_program.specs.View.{view_expression as view_resolved, view_option}
+use Rattle.ss_program.specs.Views.{with_operation}
+use Rattle.std.specs.List.{fold}
+use Rattle.ss_names_meaning.specs.Answers.{Gives}
+use Rattle.ss_names_meaning.specs.Expressions.{expression}
+use Rattle.ss_names_meaning.proofs.Steps.{failed, fails_then}
+use Rattle.ss_check_bodies.specs.Results.{scope_in}
+use Rattle.ss_check_bodies.proofs.Trees.{named_is, call_is, product_fails, sum_fails, product_made, sum_made, subscript_is, subscripts_none, one_is, not_one, two_is, less_than_two, more_than_two, factors_fail, terms_fail, no_factors, no_terms, factors_next, terms_next}
+use Rattle.ss_check_bodies.proofs.resolver.Resolver.+resolving.Goals as goal
+
+pub resolve_expression-returns-in_err-further-in-Product : goal.resolve_expression-returns-in_err-further-in-Product
+resolve_expression-returns-in_err-further-in-Product t c =
+    failed view_resolved c.from_residual-in_err-further-in-Product.result c.in_err-further-in-Product.field-0.0 _ c.from_residual-in_err-further-in-Product.ensures.1
+    (product_fails (scope_in c.args.self.now) c.args.tree.now c.in-Product.first c.in-Product.further c.deref-in-Product-2.result.now (view_resolved c.in_ok-first-in-Product.first) c.in_err-further-in-Product.field-0.0
+    c.in-Product.is c.deref-in-Product-2.ensures.value (rw (← c.deref-in-Product.ensures) c.in_ok-first-in-Product.ensures) (λ left. c.in_err-further-in-Product.ensures left))
+
+pub resolve_expression-returns-in_err-further-in-Sum : goal.resolve_expression-returns-in_err-further-in-Sum
+resolve_expression-returns-in_err-further-in-Sum t c =
+    failed view_resolved c.from_residual-in_err-further-in-Sum.result c.in_err-further-in-Sum.field-0.0 _ c.from_residual-in_err-further-in-Sum.ensures.1
+    (sum_fails (scope_in c.args.self.now) c.args.tree.now c.in-Sum.first c.in-Sum.further c.deref-in-Sum-2.result.now (view_resolved c.in_ok-first-in-Sum.first) c.in_err-further-in-Sum.field-0.0
+    c.in-Sum.is c.deref-in-Sum-2.ensures.value (rw (← c.deref-in-Sum.ensures) c.in_ok-first-in-Sum.ensures) (λ left. c.in_err-further-in-Sum.ensures left))
+
+pub resolve_expression-returns-in-Named : goal.resolve_expression-returns-in-Named
+resolve_expression-returns-in-Named t c =
+    subst (λ e. Gives view_resolved c.resolve_named.result (expression (scope_in c.args.self.now) e)) (named_is c.args.tree.now c.in-Named.named c.deref.result.now c.in-Named.is c.deref.ensures.value) c.resolve_named.ensures
+
+pub resolve_expression-returns-in-Call : goal.resolve_expression-returns-in-Call
+resolve_expression-returns-in-Call t c =
+    subst (λ e. Gives view_resolved c.resolve_call.result (expression (scope_in c.args.self.now) e)) (call_is c.args.tree.now c.in-Call.function c.in-Call.arguments c.deref-in-Call.result.now c.in-Call.is c.deref-in-Call.ensures.value) c.resolve_call.ensures
+
+pub resolve_expression-returns-in_ok-further-in-Product : goal.resolve_expression-returns-in_ok-further-in-Product
+resolve_expression-returns-in_ok-further-in-Product t c =
+    product_made (scope_in c.args.self.now) c.args.tree.now c.in-Product.first c.in-Product.further c.deref-in-Product-2.result.now c.in_ok-first-in-Product-2.first c.in_ok-further-in-Product.further
+    c.in-Product.is c.deref-in-Product-2.ensures.value (rw (c.in_ok-first-in-Product-2.ensures.ok, ← c.deref-in-Product.ensures) c.in_ok-first-in-Product.ensures) (λ left. c.in_ok-further-in-Product.ensures left)
+
+pub resolve_expression-returns-in_ok-further-in-Sum : goal.resolve_expression-returns-in_ok-further-in-Sum
+resolve_expression-returns-in_ok-further-in-Sum t c =
+    sum_made (scope_in c.args.self.now) c.args.tree.now c.in-Sum.first c.in-Sum.further c.deref-in-Sum-2.result.now c.in_ok-first-in-Sum-2.first c.in_ok-further-in-Sum.further
+    c.in-Sum.is c.deref-in-Sum-2.ensures.value (rw (c.in_ok-first-in-Sum-2.ensures.ok, ← c.deref-in-Sum.ensures) c.in_ok-first-in-Sum.ensures) (λ left. c.in_ok-further-in-Sum.ensures left)
+
+pub resolve_factors-loop-tree-init : goal.resolve_factors-loop-tree-init
+resolve_factors-loop-tree-init t c = no_factors (scope_in c.args.self.now) c.new-operations.result.items c.new-operations.ensures.items
+
+pub resolve_factors-returns-in_err-operand : goal.resolve_factors-returns-in_err-operand
+resolve_factors-returns-in_err-operand t c left =
+    failed (λ v. fold with_operation left v.items) c.from_residual.result c.in_err-operand.field-0.0 _ c.from_residual.ensures.1
+    (factors_fail (scope_in c.args.self.now) c.args.trees.now c.loop-tree.tree-index c.tree-item.result c.in_err-operand.field-0.0 left c.loop-tree-test.true c.tree-item.is c.in_err-operand.ensures)
+
+pub resolve_factors-loop-tree-preserved : goal.resolve_factors-loop-tree-preserved
+resolve_factors-loop-tree-preserved t c =
+    factors_next (scope_in c.args.self.now) c.args.trees.now c.loop-tree.tree-index c.tree-item.result c.loop-tree.operations.items c.push.new.self.items _ c.loop-tree-test.true c.tree-item.is c.in_ok-push.ensures.items refl c.loop-tree.invariant c.in_ok-operand.ensures
+
+pub resolve_one-returns-in-len1 : goal.resolve_one-returns-in-len1
+resolve_one-returns-in-len1 t c =
+    subst (λ o. Gives view_resolved c.resolve_expression.result o) (one_is (scope_in c.args.self.now) c.args.arguments.now c.only-item.result c.in-len1.len_at_least c.in-len1.len_below c.only-item.is) c.resolve_expression.ensures
+
+pub resolve_one-returns-in-len2-up : goal.resolve_one-returns-in-len2-up
+resolve_one-returns-in-len2-up t c = not_one (scope_in c.args.self.now) c.args.arguments.now c.in-len2-up.len_at_least
+
+pub resolve_subscript-returns-in_err-entity-in-len1 : goal.resolve_subscript-returns-in_err-entity-in-len1
+resolve_subscript-returns-in_err-entity-in-len1 t c =
+    failed (view_option view_resolved) c.from_residual.result c.in_err-entity-in-len1.field-0.0 _ c.from_residual.ensures.1
+    (rw (subscript_is (scope_in c.args.self.now) c.args.subscripts.now c.only-item.result c.in-len1.len_at_least c.in-len1.len_below c.only-item.is)
+    (fails_then _ _ c.in_err-entity-in-len1.field-0.0 c.in_err-entity-in-len1.ensures))
+
+pub resolve_subscript-returns-in_ok-entity-in-len1 : goal.resolve_subscript-returns-in_ok-entity-in-len1
+resolve_subscript-returns-in_ok-entity-in-len1 t c =
+    rw (subscript_is (scope_in c.args.self.now) c.args.subscripts.now c.only-item.result c.in-len1.len_at_least c.in-len1.len_below c.only-item.is, c.in_ok-entity-in-len1.ensures) refl
+
+pub resolve_subscript-returns-in-len2-up : goal.resolve_subscript-returns-in-len2-up
+resolve_subscript-returns-in-len2-up t c = subscripts_none (scope_in c.args.self.now) c.args.subscripts.now c.in-len2-up.len_at_least
+
+pub resolve_terms-loop-tree-init : goal.resolve_terms-loop-tree-init
+resolve_terms-loop-tree-init t c = no_terms (scope_in c.args.self.now) c.new-operations.result.items c.new-operations.ensures.items
+
+pub resolve_terms-returns-in_err-operand : goal.resolve_terms-returns-in_err-operand
+resolve_terms-returns-in_err-operand t c left =
+    failed (λ v. fold with_operation left v.items) c.from_residual.result c.in_err-operand.field-0.0 _ c.from_residual.ensures.1
+    (terms_fail (scope_in c.args.self.now) c.args.trees.now c.loop-tree.tree-index c.tree-item.result c.in_err-operand.field-0.0 left c.loop-tree-test.true c.tree-item.is c.in_err-operand.ensures)
+
+pub resolve_terms-loop-tree-preserved : goal.resolve_terms-loop-tree-preserved
+resolve_terms-loop-tree-preserved t c =
+    terms_next (scope_in c.args.self.now) c.args.trees.now c.loop-tree.tree-index c.tree-item.result c.loop-tree.operations.items c.push.new.self.items _ c.loop-tree-test.true c.tree-item.is c.in_ok-push.ensures.items c.resolved_operator.ensures c.loop-tree.invariant c.in_ok-operand.ensures
+
+pub resolve_two-returns-in_err-left-in-len2 : goal.resolve_two-returns-in_err-left-in-len2
+resolve_two-returns-in_err-left-in-len2 t c =
+    failed _ c.from_residual.result c.in_err-left-in-len2.field-0.0 _ c.from_residual.ensures.1
+    (rw (two_is (scope_in c.args.self.now) c.args.arguments.now c.left-item.result c.right-item.result c.in-len2.len_at_least c.in-len2.len_below c.left-item.is c.right-item.is)
+    (fails_then _ _ c.in_err-left-in-len2.field-0.0 c.in_err-left-in-len2.ensures))
+
+pub resolve_two-returns-in_err-right-in-len2 : goal.resolve_two-returns-in_err-right-in-len2
+resolve_two-returns-in_err-right-in-len2 t c =
+    failed _ c.from_residual-in_err-right-in-len2.result c.in_err-right-in-len2.field-0.0 _ c.from_residual-in_err-right-in-len2.ensures.1
+    (rw (two_is (scope_in c.args.self.now) c.args.arguments.now c.left-item.result c.right-item.result c.in-len2.len_at_least c.in-len2.len_below c.left-item.is c.right-item.is, c.in_ok-left-in-len2.ensures)
+    (fails_then _ _ c.in_err-right-in-len2.field-0.0 c.in_err-right-in-len2.ensures))
+
+pub resolve_two-returns-in-len1 : goal.resolve_two-returns-in-len1
+resolve_two-returns-in-len1 t c = less_than_two (scope_in c.args.self.now) c.args.arguments.now c.in-len1.len_below
+
+pub resolve_two-returns-in_ok-right-in-len2 : goal.resolve_two-returns-in_ok-right-in-len2
+resolve_two-returns-in_ok-right-in-len2 t c =
+    rw (two_is (scope_in c.args.self.now) c.args.arguments.now c.left-item.result c.right-item.result c.in-len2.len_at_least c.in-len2.len_below c.left-item.is c.right-item.is, c.in_ok-left-in-len2.ensures, c.in_ok-right-in-len2.ensures, c.in_ok-left-in-len2-2.ensures.ok) refl
+
+pub resolve_two-returns-in-len3-up : goal.resolve_two-returns-in-len3-up
+resolve_two-returns-in-len3-up t c = more_than_two (scope_in c.args.self.now) c.args.arguments.now c.in-len3-up.len_at_least
