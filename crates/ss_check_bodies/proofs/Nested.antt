@@ -10,7 +10,7 @@ use Rattle.ss_tree.specs.declared.head.LoopHead.{LoopHead}
 use Rattle.ss_tree.specs.declared.statement.FindOutcome.{FindOutcome}
 use Rattle.ss_tree.specs.declared.statement.Statement.{Statement as Parsed}
 use Rattle.ss_tree.specs.declared.statement.Statement.TheVariants as parsed
-use Rattle.ss_tree.specs.Tree.{StatementTree, statement_row, if_statement, loop_statement, find_if_statement, print_statement, HeadTree, LoopHeadTree, guarded, GuardTree}
+use Rattle.ss_tree.specs.Tree.{StatementTree, statement_row, print_statement, HeadTree, LoopHeadTree, guarded, GuardTree}
 use Rattle.ss_tree.specs.Nodes.{statement_nodes, statements_nodes}
 use Rattle.ss_tree.specs.View.{view_condition, view_expression, view_head, view_loop_head, view_statement}
 use Rattle.ss_tree.specs.Views.{view_if_made, view_loop_made, view_find_if_made}

@@ -1,105 +1,80 @@
 -- Worked examples: expressions and statements in the sections of a small program, read off by hand.
-use Rattle.std.specs.Prelude.{◌≡◌, ℕ, nat_eq, [], ◌∷◌, pos, List, Option, Some, None, codes, refl}
-use Rattle.std.specs.Cmp.Lexicographic.{pointwise}
-use Rattle.std.specs.Map.{lookup}
-use Rattle.ss_base.specs.declared.layout.ClassKind.{ClassKind}
+use Rattle.std.specs.Prelude.{◌≡◌, ℕ, [], ◌∷◌, pos, Some, None, codes, refl}
 use Rattle.ss_base.specs.declared.layout.ClassKind.TheVariants.{Permanent, Temporary, Notice}
-use Rattle.ss_base.specs.declared.layout.Mode.TheVariants.{Integer}
+use Rattle.ss_base.specs.declared.layout.Mode.TheVariants as modes
 use Rattle.ss_base.specs.declared.line.Line.{Line}
 use Rattle.ss_base.specs.declared.value.Value.TheVariants.{Whole}
+use Rattle.ss_base.specs.declared.words.Sign.TheVariants as signs
+use Rattle.ss_base.specs.declared.words.Weighting.TheVariants.{Tally, Accumulate}
 use Rattle.ss_tree.specs.declared.expression.Designator.{Designator}
 use Rattle.ss_tree.specs.declared.expression.Designator.TheVariants.{Name, TimeV, TimeA}
 use Rattle.ss_tree.specs.declared.expression.Function.TheVariants.{Div}
-use Rattle.ss_base.specs.declared.words.Sign.TheVariants as signs
+use Rattle.ss_tree.specs.declared.preamble.Mode.TheVariants.{Integer}
+use Rattle.ss_tree.specs.declared.preamble.StatisticKind.TheVariants as figures
 use Rattle.ss_tree.specs.declared.statement.FindOutcome.TheVariants as outcomes
-use Rattle.ss_tree.specs.Tree.{ExpressionTree, number, named, call, parenthesised, sum, product, no_expression, and_expression, no_term, and_term, NamedTree, over_class, by_discipline, at_time, StatementTree, call_statement, read_statement, stop_statement, find_if_statement, create_statement, create_every, file_statement, schedule_new, reset_statement, print_statement, no_statement, and_statement}
+use Rattle.ss_tree.specs.Tree.{ExpressionTree, number, named, call, parenthesised, sum, product, no_expression, and_expression, no_term, and_term, NamedTree, over_class, by_discipline, at_time, call_statement, read_statement, stop_statement, find_if_statement, create_statement, create_every, file_statement, schedule_new, reset_statement, print_statement, no_statement, and_statement, has, owns, belongs_to, permanent_entities, temporary_entities, event_notices, every, normally, system_owns, statistics, routine, ProgramTree}
 use Rattle.ss_tree.specs.Names.{NameBytes}
+use Rattle.ss_names.specs.Table.{table}
+use Rattle.ss_names_scopes.specs.Locals.{Moded}
+use Rattle.ss_names_scopes.specs.Scopes.{Scope}
 use Rattle.ss_program.specs.declared.expression.Fold.TheVariants.{Sum}
 use Rattle.ss_program.specs.declared.expression.MemberQuery.TheVariants.{Successor}
 use Rattle.ss_program.specs.declared.expression.Operator.TheVariants.{Add, Subtract, Multiply}
 use Rattle.ss_program.specs.declared.expression.SetQuery.TheVariants.{MemberCount}
-use Rattle.ss_program.specs.declared.expression.Variable.{Variable}
 use Rattle.ss_program.specs.declared.expression.Variable.TheVariants.{Global, Local}
-use Rattle.ss_program.specs.Program.{Expression, Constant, Fetch, Attribute, OfSystemSet, OfSet, OfMember, TimeOf, Figure, Calculate, AValue, AMean, AMeanOf, TheSystem, Entity, ToVariable, ToAttribute, ToCount, ByDiscipline, At, Each, Call, Stop, Read, Find, Create, CreateEvery, File, ScheduleNew, Reset, Print, Done, Then}
-use Rattle.ss_names_meaning.specs.declared.meaning.ClassMeant.{ClassMeant}
-use Rattle.ss_names_meaning.specs.declared.meaning.Meaning.{Meaning}
-use Rattle.ss_names_meaning.specs.declared.meaning.Meaning.TheVariants as meanings
-use Rattle.ss_names_meaning.specs.declared.meaning.SetMeant.{SetMeant}
-use Rattle.ss_names_meaning.specs.declared.meaning.SetMeant.TheVariants.{OfSystem, OfEntity}
+use Rattle.ss_program.specs.Program.{Expression, Constant, Fetch, Attribute, OfSystemSet, OfSet, OfMember, Clock, TimeOf, Figure, Calculate, AValue, AMean, AMeanOf, TheSystem, Entity, ToVariable, ToAttribute, ToCount, ByDiscipline, At, Each, Call, Stop, Read, Find, Create, CreateEvery, File, ScheduleNew, Reset, Print, Done, Then}
 use Rattle.ss_names_meaning.specs.Answers.{each}
-use Rattle.ss_names_meaning.specs.Contexts.{Context}
 use Rattle.ss_names_meaning.specs.Expressions.{expression, item, subscript, two, factors, terms, target}
 use Rattle.ss_names_meaning.specs.Heads.{head}
-use Rattle.ss_names_meaning.specs.Statements.{statement, statements}
+use Rattle.ss_names_meaning.specs.Statements.{simple_statement, statement, statements}
 
 -- ---- the program
 
--- PREAMBLE
--- NORMALLY, MODE IS INTEGER
--- PERMANENT ENTITIES
--- EVERY MACHINE OWNS A QUEUE
--- TEMPORARY ENTITIES
--- EVERY JOB HAS A RANK AND MAY BELONG TO A QUEUE, A POOL
--- EVENT NOTICES
--- EVERY BELL HAS A TONE
--- THE SYSTEM OWNS A POOL
--- ACCUMULATE LOAD AS THE SUM, LEVEL AS THE MEAN OF N.POOL
--- TALLY GRADE AS THE MEAN OF RANK
--- END
--- ROUTINE SHOW GIVEN JOB
--- END
-
-abbrev by_name : {V : Type 0} → List (NameBytes × V) → NameBytes → Option V
-by_name entries name = lookup (pointwise nat_eq name) entries
-
--- what its names mean as values or targets in a section in which JOB means this variable; MACHINE, N.MACHINE, JOB and
--- BELL are the global variables 0 to 3
-abbrev meaning_where : Variable → Designator → Option Meaning
-meaning_where job (Name name) = by_name (
-    (codes "MACHINE", meanings.Variable (Global 0) (Some Integer)) ∷ (codes "N.MACHINE", meanings.Count (record { class = 0; variable = 1 })) ∷
-    (codes "JOB", meanings.Variable job (Some Integer)) ∷ (codes "RANK", meanings.Attribute 1 0 (Some Integer) job) ∷
-    (codes "N.QUEUE", meanings.OfSet MemberCount 0 (Global 0)) ∷ (codes "N.POOL", meanings.OfSystemSet MemberCount 1) ∷
-    (codes "S.POOL", meanings.OfMember Successor 1 job) ∷ (codes "BELL", meanings.Variable (Global 3) (Some Integer)) ∷
-    (codes "LOAD", meanings.Figure Sum 0) ∷ (codes "LEVEL", meanings.Mean 0) ∷ (codes "GRADE", meanings.MeanOf 1 job) ∷ []) name
-meaning_where job TimeV = Some meanings.Clock
-meaning_where job TimeA = Some meanings.NoticeTime
-
-abbrev set_meant : Designator → Option SetMeant
-set_meant (Name name) = by_name ((codes "QUEUE", OfEntity 0 (Global 0)) ∷ (codes "POOL", OfSystem 1) ∷ []) name
-set_meant TimeV = None
-set_meant TimeA = None
-
-abbrev class_with : ℕ → ClassKind → ℕ → Variable → Option ℕ → ClassMeant
-class_with class kind attributes variable count = record { class = class; kind = kind; attributes = attributes; variable = variable; count = count }
-
-abbrev class_where : Variable → NameBytes → Option ClassMeant
-class_where job name = by_name (
-    (codes "MACHINE", class_with 0 Permanent 0 (Global 0) (Some 1)) ∷ (codes "JOB", class_with 1 Temporary 1 job None) ∷
-    (codes "BELL", class_with 2 Notice 1 (Global 3) None) ∷ []) name
-
-abbrev statistic_meant : Designator → Option ℕ
-statistic_meant (Name name) = by_name ((codes "N.POOL", 0) ∷ (codes "RANK", 1) ∷ []) name
-statistic_meant TimeV = None
-statistic_meant TimeA = None
-
-abbrev where_job_is : Variable → Context
-where_job_is job = record {
-  meaning = meaning_where job;
-  set = set_meant;
-  class = class_where job;
-  routine = by_name ((codes "SHOW", record { routine = 0; given = 1; yielding = 0 }) ∷ []);
-  statistic = statistic_meant;
-}
-
--- MAIN, and the routine, whose parameter JOB hides the variable of the class
-abbrev in_main : Context
-in_main = where_job_is (Global 2)
-
-abbrev in_routine : Context
-in_routine = where_job_is (Local 0)
+--  1 PREAMBLE
+--  2 NORMALLY, MODE IS INTEGER
+--  3 PERMANENT ENTITIES
+--  4 EVERY MACHINE OWNS A QUEUE
+--  5 TEMPORARY ENTITIES
+--  6 EVERY JOB HAS A RANK AND MAY BELONG TO A QUEUE, A POOL
+--  7 EVENT NOTICES
+--  8 EVERY BELL HAS A TONE
+--  9 THE SYSTEM OWNS A POOL
+-- 10 ACCUMULATE LOAD AS THE SUM, LEVEL AS THE MEAN OF N.POOL
+-- 11 TALLY GRADE AS THE MEAN OF RANK
+-- 12 END
+-- 13 ROUTINE SHOW GIVEN JOB
+-- 14 END
 
 abbrev line : ℕ → Line
 line n = record { 0 = n }
+
+abbrev shop : ProgramTree
+shop = record {
+  preamble =
+      normally (line 2) Integer
+      ∷ permanent_entities (line 3)
+      ∷ every (line 4) Permanent (codes "MACHINE") (owns (codes "QUEUE" ∷ []) ∷ [])
+      ∷ temporary_entities (line 5)
+      ∷ every (line 6) Temporary (codes "JOB") (has (codes "RANK" ∷ []) ∷ belongs_to (codes "QUEUE" ∷ codes "POOL" ∷ []) ∷ [])
+      ∷ event_notices (line 7) []
+      ∷ every (line 8) Notice (codes "BELL") (has (codes "TONE" ∷ []) ∷ [])
+      ∷ system_owns (line 9) (codes "POOL" ∷ [])
+      ∷ statistics (line 10) Accumulate (record { name = codes "LOAD"; kind = figures.Sum } ∷ record { name = codes "LEVEL"; kind = figures.Mean } ∷ []) (codes "N.POOL")
+      ∷ statistics (line 11) Tally (record { name = codes "GRADE"; kind = figures.Mean } ∷ []) (codes "RANK")
+      ∷ [];
+  sections = record { line = line 13; kind = routine (codes "SHOW") (codes "JOB" ∷ []) []; definitions = []; body = [] } ∷ [];
+}
+
+abbrev scope_with : Moded → Scope
+scope_with locals = record { table = table shop; locals = locals; sections = locals ∷ [] }
+
+-- MAIN, without local variables: MACHINE, N.MACHINE, JOB and BELL are the global variables 0 to 3
+abbrev in_main : Scope
+in_main = scope_with []
+
+-- the routine, whose parameter JOB hides the variable of the class
+abbrev in_routine : Scope
+in_routine = scope_with ((codes "JOB", Some modes.Integer) ∷ [])
 
 -- a name without a subscript, and with one
 abbrev plain_name : NameBytes → ExpressionTree
@@ -166,6 +141,15 @@ mean_as_value = refl
 pub time_alone : expression in_main (named TimeA no_expression) ≡ None
 unfolding expression subscript
 time_alone = refl
+
+-- TIME.V takes none
+pub time_of_day : expression in_main (with_subscript TimeV (number (pos 1))) ≡ None
+unfolding expression subscript
+time_of_day = refl
+
+pub clock : expression in_main (named TimeV no_expression) ≡ Some Clock
+unfolding expression subscript
+clock = refl
 
 pub time_of_bell : expression in_main (with_subscript TimeA (plain_name (codes "BELL"))) ≡ Some (TimeOf (Fetch (Global 3)))
 unfolding expression subscript
@@ -241,84 +225,84 @@ mean_as_target = refl
 -- ---- statements
 
 -- CREATE A JOB; the class is made also where its variable is hidden
-pub create_job : statement in_main (create_statement (line 12) (codes "JOB") None) ≡ Some (Create (line 12) 1 (ToVariable (Global 2)))
-unfolding statement
+pub create_job : statement in_main (create_statement (line 20) (codes "JOB") None) ≡ Some (Create (line 20) 1 (ToVariable (Global 2)))
+unfolding statement simple_statement
 create_job = refl
 
-pub create_hidden : statement in_routine (create_statement (line 12) (codes "JOB") None) ≡ Some (Create (line 12) 1 (ToVariable (Local 0)))
-unfolding statement
+pub create_hidden : statement in_routine (create_statement (line 20) (codes "JOB") None) ≡ Some (Create (line 20) 1 (ToVariable (Local 0)))
+unfolding statement simple_statement
 create_hidden = refl
 
 -- CREATE A MACHINE, and CREATE EVERY MACHINE
-pub create_permanent : statement in_main (create_statement (line 12) (codes "MACHINE") None) ≡ None
-unfolding statement
+pub create_permanent : statement in_main (create_statement (line 20) (codes "MACHINE") None) ≡ None
+unfolding statement simple_statement
 create_permanent = refl
 
-pub create_machines : statement in_main (create_every (line 12) (codes "MACHINE" ∷ [])) ≡ Some (CreateEvery (line 12) (record { class = 0; variable = 1 } ∷ []))
-unfolding statement each
+pub create_machines : statement in_main (create_every (line 20) (codes "MACHINE" ∷ [])) ≡ Some (CreateEvery (line 20) (record { class = 0; variable = 1 } ∷ []))
+unfolding statement simple_statement each
 create_machines = refl
 
 -- FILE JOB IN QUEUE, which is that of the MACHINE in the variable MACHINE
 pub file_in_queue :
-    statement in_main (file_statement (line 12) (plain_name (codes "JOB")) by_discipline (named_plainly (codes "QUEUE"))) ≡
-    Some (File (line 12) 0 (Fetch (Global 2)) ByDiscipline (Entity (Fetch (Global 0))))
-unfolding statement expression subscript
+    statement in_main (file_statement (line 20) (plain_name (codes "JOB")) by_discipline (named_plainly (codes "QUEUE"))) ≡
+    Some (File (line 20) 0 (Fetch (Global 2)) ByDiscipline (Entity (Fetch (Global 0))))
+unfolding statement simple_statement expression subscript
 file_in_queue = refl
 
 -- FILE JOB IN POOL
 pub file_in_pool :
-    statement in_main (file_statement (line 12) (plain_name (codes "JOB")) by_discipline (named_plainly (codes "POOL"))) ≡
-    Some (File (line 12) 1 (Fetch (Global 2)) ByDiscipline TheSystem)
-unfolding statement expression subscript
+    statement in_main (file_statement (line 20) (plain_name (codes "JOB")) by_discipline (named_plainly (codes "POOL"))) ≡
+    Some (File (line 20) 1 (Fetch (Global 2)) ByDiscipline TheSystem)
+unfolding statement simple_statement expression subscript
 file_in_pool = refl
 
 -- SCHEDULE A BELL GIVEN 8 AT 9; a BELL has one attribute, so GIVEN 8, 8 is too much
 pub schedule_bell :
-    statement in_main (schedule_new (line 12) (codes "BELL") None (number (pos 8) ∷ []) (at_time (number (pos 9)))) ≡
-    Some (ScheduleNew (line 12) 2 (ToVariable (Global 3)) (whole 8 ∷ []) (At (whole 9)))
-unfolding statement expression each
+    statement in_main (schedule_new (line 20) (codes "BELL") None (number (pos 8) ∷ []) (at_time (number (pos 9)))) ≡
+    Some (ScheduleNew (line 20) 2 (ToVariable (Global 3)) (whole 8 ∷ []) (At (whole 9)))
+unfolding statement simple_statement expression each
 schedule_bell = refl
 
 pub schedule_too_much :
-    statement in_main (schedule_new (line 12) (codes "BELL") None (number (pos 8) ∷ number (pos 8) ∷ []) (at_time (number (pos 9)))) ≡ None
-unfolding statement expression each
+    statement in_main (schedule_new (line 20) (codes "BELL") None (number (pos 8) ∷ number (pos 8) ∷ []) (at_time (number (pos 9)))) ≡ None
+unfolding statement simple_statement expression each
 schedule_too_much = refl
 
 -- CALL SHOW GIVING 1, and CALL SHOW
-pub call_show : statement in_main (call_statement (line 12) (codes "SHOW") (number (pos 1) ∷ []) []) ≡ Some (Call (line 12) 0 (whole 1 ∷ []) [])
-unfolding statement expression each
+pub call_show : statement in_main (call_statement (line 20) (codes "SHOW") (number (pos 1) ∷ []) []) ≡ Some (Call (line 20) 0 (whole 1 ∷ []) [])
+unfolding statement simple_statement expression each
 call_show = refl
 
-pub call_without : statement in_main (call_statement (line 12) (codes "SHOW") [] []) ≡ None
-unfolding statement expression each
+pub call_without : statement in_main (call_statement (line 20) (codes "SHOW") [] []) ≡ None
+unfolding statement simple_statement expression each
 call_without = refl
 
 -- READ RANK
 pub read_rank :
-    statement in_main (read_statement (line 12) (named_plainly (codes "RANK") ∷ [])) ≡
-    Some (Read (line 12) (record { place = ToAttribute 1 0 (Fetch (Global 2)); mode = Integer } ∷ []))
-unfolding statement subscript each
+    statement in_main (read_statement (line 20) (named_plainly (codes "RANK") ∷ [])) ≡
+    Some (Read (line 20) (record { place = ToAttribute 1 0 (Fetch (Global 2)); mode = Integer } ∷ []))
+unfolding statement simple_statement subscript each
 read_rank = refl
 
 -- PRINT 1 LINE WITH LEVEL, RANK THUS, and a picture
 pub print_mean :
-    statement in_main (print_statement (line 12) (plain_name (codes "LEVEL") ∷ plain_name (codes "RANK") ∷ []) (codes "*.* *" ∷ [])) ≡
-    Some (Print (line 12) (AMean 0 ∷ AValue (Attribute 1 0 (Fetch (Global 2))) ∷ []) (codes "*.* *" ∷ []))
-unfolding statement expression subscript each
+    statement in_main (print_statement (line 20) (plain_name (codes "LEVEL") ∷ plain_name (codes "RANK") ∷ []) (codes "*.* *" ∷ [])) ≡
+    Some (Print (line 20) (AMean 0 ∷ AValue (Attribute 1 0 (Fetch (Global 2))) ∷ []) (codes "*.* *" ∷ []))
+unfolding statement simple_statement expression subscript each
 print_mean = refl
 
 -- RESET THE TOTALS OF N.POOL, and of N.QUEUE, which has no statistic
-pub reset_load : statement in_main (reset_statement (line 12) (named_plainly (codes "N.POOL") ∷ [])) ≡ Some (Reset (line 12) (record { statistic = 0; of = None } ∷ []))
-unfolding statement subscript each
+pub reset_load : statement in_main (reset_statement (line 20) (named_plainly (codes "N.POOL") ∷ [])) ≡ Some (Reset (line 20) (record { statistic = 0; of = None } ∷ []))
+unfolding statement simple_statement subscript each
 reset_load = refl
 
-pub reset_nothing : statement in_main (reset_statement (line 12) (named_plainly (codes "N.QUEUE") ∷ [])) ≡ None
-unfolding statement subscript each
+pub reset_nothing : statement in_main (reset_statement (line 20) (named_plainly (codes "N.QUEUE") ∷ [])) ≡ None
+unfolding statement simple_statement subscript each
 reset_nothing = refl
 
 -- FOR EACH MACHINE, FIND THE FIRST CASE IF NONE STOP ALWAYS
 pub find_machine :
-    statement in_main (find_if_statement (line 12) (over_class (codes "MACHINE") None []) outcomes.None (and_statement (stop_statement (line 13)) no_statement) no_statement) ≡
-    Some (Find (line 12) (Each (Global 0) 0) [] Done (Then Stop Done))
-unfolding statement statements head each
+    statement in_main (find_if_statement (line 20) (over_class (codes "MACHINE") None []) outcomes.None (and_statement (stop_statement (line 21)) no_statement) no_statement) ≡
+    Some (Find (line 20) (Each (Global 0) 0) [] Done (Then Stop Done))
+unfolding statement simple_statement statements head each
 find_machine = refl

@@ -1,2 +1,2 @@
-pub use Rattle.ss_names_meaning.specs.Resolved
 pub mod View
+pub mod Programs

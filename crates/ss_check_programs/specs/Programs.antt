@@ -1,35 +1,29 @@
 -- A worked example: a whole program, with its resolved form read off by hand.
-use Rattle.std.specs.Prelude.{◌≡◌, ℕ, Bool, true, false, is_some, if◌then◌else◌, List, [], ◌∷◌, pos, Some, None, codes, refl}
+use Rattle.std.specs.Prelude.{◌≡◌, ℕ, Bool, true, false, List, [], ◌∷◌, pos, Some, None, codes, refl}
 use Rattle.ss_base.specs.declared.layout.ClassKind.TheVariants.{Permanent, Temporary, Notice}
 use Rattle.ss_base.specs.declared.layout.Discipline.TheVariants as orders
 use Rattle.ss_base.specs.declared.layout.Mode.TheVariants.{Integer, Alpha}
 use Rattle.ss_base.specs.declared.layout.Owner.TheVariants as owners
 use Rattle.ss_base.specs.declared.layout.RankKey.{RankKey}
 use Rattle.ss_base.specs.declared.line.Line.{Line}
-use Rattle.ss_base.specs.declared.value.Value.TheVariants.{Whole as WholeNumber}
+use Rattle.ss_base.specs.declared.value.Value.TheVariants.{Whole}
 use Rattle.ss_base.specs.Plain.{PlainLayout}
 use Rattle.ss_tree.specs.declared.expression.Designator.TheVariants.{Name}
-use Rattle.ss_base.specs.declared.layout.ClassKind.TheVariants as class_words
 use Rattle.ss_tree.specs.declared.preamble.Key.{Key}
 use Rattle.ss_tree.specs.declared.preamble.Mode.TheVariants as mode_words
 use Rattle.ss_tree.specs.declared.preamble.StatisticKind.TheVariants as folds
-use Rattle.ss_base.specs.declared.words.Weighting.TheVariants as weighting_words
 use Rattle.ss_tree.specs.Tree.{ExpressionTree, number, named, no_expression, StatementTree, let_statement, has, owns, belongs_to, lifo, ranked, permanent_entities, temporary_entities, event_notices, every, normally, system_owns, define_variables, define_sets, priority_order, break_ties, statistics, main, routine, event, ProgramTree, SectionTree}
 use Rattle.ss_tree.specs.Names.{NameBytes}
-use Rattle.ss_names_declarations.specs.Firsts.{value_for}
 use Rattle.ss_names.specs.Table.{table}
-use Rattle.ss_check_scopes.specs.declared.known.Known.TheVariants as meanings
-use Rattle.ss_check_scopes.specs.Whole.{Whole}
 use Rattle.ss_program.specs.declared.expression.Variable.TheVariants.{Local}
 use Rattle.ss_program.specs.declared.sections.Subject.TheVariants.{OfAttribute, OfCount}
 use Rattle.ss_base.specs.declared.words.Weighting.TheVariants.{Tally, Accumulate}
 use Rattle.ss_program.specs.Program.{Constant, Fetch, ToVariable, Let, Done, Then, Routine, Event, Program}
 use Rattle.ss_names_meaning.specs.Answers.{each, upto}
 use Rattle.ss_names_meaning.specs.Expressions.{expression, subscript}
-use Rattle.ss_names_meaning.specs.Statements.{statement, statements}
+use Rattle.ss_names_meaning.specs.Statements.{simple_statement, statement, statements}
 use Rattle.ss_names_meaning.specs.Layouts.{disciplines, layout, tie_keys}
-use Rattle.ss_names_meaning.specs.Meanings.{context_in}
-use Rattle.ss_names_meaning.specs.Resolved.{resolved}
+use Rattle.ss_names_meaning.specs.Resolved.{resolved, resolved_with_locals}
 
 abbrev line : ℕ → Line
 line n = record { 0 = n }
@@ -81,20 +75,20 @@ yard = record {
       normally (line 2) mode_words.Integer
       ∷ define_variables (line 3) (codes "TITLE" ∷ []) mode_words.Alpha
       ∷ permanent_entities (line 4)
-      ∷ every (line 5) class_words.Permanent (codes "TRACK") (owns (codes "QUEUE" ∷ []) ∷ [])
+      ∷ every (line 5) Permanent (codes "TRACK") (owns (codes "QUEUE" ∷ []) ∷ [])
       ∷ temporary_entities (line 6)
-      ∷ every (line 7) class_words.Temporary (codes "WAGON") (has (codes "LOAD" ∷ codes "LABEL" ∷ []) ∷ belongs_to (codes "QUEUE" ∷ codes "POOL" ∷ []) ∷ [])
+      ∷ every (line 7) Temporary (codes "WAGON") (has (codes "LOAD" ∷ codes "LABEL" ∷ []) ∷ belongs_to (codes "QUEUE" ∷ codes "POOL" ∷ []) ∷ [])
       ∷ event_notices (line 8) []
-      ∷ every (line 9) class_words.Notice (codes "ARRIVAL") (has (codes "WEIGHT" ∷ codes "GATE" ∷ []) ∷ [])
-      ∷ every (line 10) class_words.Notice (codes "CHECK") []
+      ∷ every (line 9) Notice (codes "ARRIVAL") (has (codes "WEIGHT" ∷ codes "GATE" ∷ []) ∷ [])
+      ∷ every (line 10) Notice (codes "CHECK") []
       ∷ system_owns (line 11) (codes "POOL" ∷ [])
       ∷ define_variables (line 12) (codes "LABEL" ∷ []) mode_words.Alpha
       ∷ define_sets (line 13) (codes "QUEUE" ∷ []) (ranked (key true (codes "LOAD") ∷ key false (codes "LABEL") ∷ []))
       ∷ define_sets (line 14) (codes "POOL" ∷ []) lifo
       ∷ priority_order (line 15) (codes "CHECK" ∷ [])
       ∷ break_ties (line 16) (codes "ARRIVAL") (key true (codes "GATE") ∷ key false (codes "WEIGHT") ∷ [])
-      ∷ statistics (line 17) weighting_words.Tally (record { name = codes "HEAVY"; kind = folds.Sum } ∷ []) (codes "LOAD")
-      ∷ statistics (line 18) weighting_words.Accumulate (record { name = codes "LONG"; kind = folds.Maximum } ∷ []) (codes "N.QUEUE")
+      ∷ statistics (line 17) Tally (record { name = codes "HEAVY"; kind = folds.Sum } ∷ []) (codes "LOAD")
+      ∷ statistics (line 18) Accumulate (record { name = codes "LONG"; kind = folds.Maximum } ∷ []) (codes "N.QUEUE")
       ∷ [];
   sections =
       record { line = line 20; kind = main; definitions = []; body = let_named 21 (codes "COUNT") (number (pos 1)) ∷ [] }
@@ -107,17 +101,6 @@ yard = record {
         body = let_named 30 (codes "C") (plain (codes "A")) ∷ [];
       }
       ∷ [];
-}
-
--- what is known of its names: which are global, and what NORMALLY gives
-abbrev yard_whole : Whole
-yard_whole = record {
-  usual = Some mode_words.Integer;
-  meanings = λ name. if is_some (value_for (table yard).names name) then Some meanings.Routine else None;
-  is_watched = λ name. false;
-  attributes = λ name. None;
-  given = λ name. None;
-  yielding = λ name. None;
 }
 
 -- ---- the layout
@@ -191,12 +174,12 @@ yard_resolved = record {
   routines = mark ∷ [];
   events = check ∷ arrival ∷ [];
   locals = Integer ∷ [];
-  main = Then (Let (line 21) (ToVariable (Local 0)) (Constant (WholeNumber (pos 1)))) Done;
+  main = Then (Let (line 21) (ToVariable (Local 0)) (Constant (Whole (pos 1)))) Done;
 }
 
-pub yard_comes_to : resolved (table yard) yard_whole yard.sections ≡ Some yard_resolved
-unfolding resolved each upto context_in statement statements expression subscript
-yard_comes_to = refl
+pub yard_resolves : resolved (table yard) yard.sections ≡ Some yard_resolved
+unfolding resolved_with_locals each upto statement statements simple_statement expression subscript
+yard_resolves = refl
 
 -- ---- programs without a resolved form
 
@@ -216,16 +199,16 @@ abbrev depot : List SectionTree → ProgramTree
 depot sections = record { preamble = event_notices (line 2) (codes "CHECK" ∷ []) ∷ []; sections = sections }
 
 abbrev bare : List SectionTree → ProgramTree
-bare sections = record { preamble = temporary_entities (line 2) ∷ every (line 3) class_words.Temporary (codes "WAGON") [] ∷ []; sections = sections }
+bare sections = record { preamble = temporary_entities (line 2) ∷ every (line 3) Temporary (codes "WAGON") [] ∷ []; sections = sections }
 
-pub no_main : resolved (table (depot without_main)) yard_whole without_main ≡ None
-unfolding resolved each upto context_in statement statements
+pub no_main : resolved (table (depot without_main)) without_main ≡ None
+unfolding resolved_with_locals each upto statement statements simple_statement
 no_main = refl
 
-pub no_event_routine : resolved (table (depot main_alone)) yard_whole main_alone ≡ None
-unfolding resolved each upto context_in statement statements
+pub no_event_routine : resolved (table (depot main_alone)) main_alone ≡ None
+unfolding resolved_with_locals each upto statement statements simple_statement
 no_event_routine = refl
 
-pub no_notice_class : resolved (table (bare event_of_wagon)) yard_whole event_of_wagon ≡ None
-unfolding resolved each upto context_in statement statements
+pub no_notice_class : resolved (table (bare event_of_wagon)) event_of_wagon ≡ None
+unfolding resolved_with_locals each upto statement statements simple_statement
 no_notice_class = refl

@@ -1,20 +1,18 @@
 //! Event routines.
 
-ghost use Rattle.std.specs.Prelude.{◌≡◌, length, map, IfOk};
-ghost use Rattle.ss_tree.specs.View.{view_section};
+ghost use Rattle.std.specs.Prelude.{◌≡◌, map, IfOk};
 ghost use Rattle.ss_names_declarations.specs.Firsts.{value_for};
 ghost use Rattle.ss_program.specs.View.{view_event};
-ghost use Rattle.ss_names_meaning.specs.Answers.{◌>>=◌, Gives, each, upto};
-ghost use Rattle.ss_names_meaning.specs.Resolved.{class_event_from, class_variable, event_from, event_of_class, parts_with_locals, saved};
-ghost use Rattle.ss_check_programs.specs.View.{view_parts};
+ghost use Rattle.ss_names_meaning.specs.Answers.{Gives, each};
+ghost use Rattle.ss_names_meaning.specs.Resolved.{class_event_from, event_from, event_of_class, saved};
+ghost use Rattle.ss_check_programs.specs.View.{parts_in, table_in, view_parts};
 
-use crate::sections::{Parts, parts_at, split};
+use crate::sections::{Parts, ProgramSections, split};
 use ss_base::{Name, RankKey, RankKeys};
-use ss_names::{Meaning, Names};
+use ss_names::{EventSection, Meaning, Names};
+use ss_names_declarations::key_at;
 use ss_names_meaning::{ResolveError, resolve_ties};
-use ss_names_scopes::Locals;
 use ss_program::sections::Event;
-use ss_tree::program::Section;
 use std::alloc::{AllocError, Global};
 
 // The global variable that gets the number of the notice, if it is saved.
@@ -55,46 +53,64 @@ fn event_of_class(
     })
 }
 
-// A notice class of this name with its EVENT section.
-fn class_event(
-    alloc: Global,
-    names: &Names,
-    locals: &[Locals],
-    sections: &[Section],
-    class: usize,
-    name: Name,
-) -> Result<Event, ResolveError>
-    ensures { Gives view_event result (value_for names.now.events name >>= (λ known. class_event_from names.now (parts_with_locals names.now locals.now (map view_section sections.now)) class name known)) }
+// The EVENT section of a class of notices.
+fn event_section(names: &Names, name: &Name) -> Option<EventSection>
+    ensures { result ≡ value_for names.now.events name.now }
 {
-    let Some(known) = names.events.get(&name).copied() else {
-        return Err(ResolveError::Unresolved);
-    };
-    if names.attributes_of(class).len() < known.given {
-        return Err(ResolveError::Unresolved);
-    }
-    let ties = resolve_ties(alloc, names, class, name)?;
-    let saved = saved(names, &name, known.saving)?;
-    let parts = parts_at(alloc, names, locals, sections, known.section)?;
-    let event = event_of_class(alloc, class, ties, known.given, saved, parts)?;
-    Ok(event)
+    names.events.get(name).copied()
 }
 
-/// The notice classes with their event routines, in the order of rank.
-pub(crate) fn resolve_events(
-    alloc: Global,
-    names: &Names,
-    locals: &[Locals],
-    sections: &[Section],
-) -> Result<Vec<Event>, ResolveError>
-    ensures { Gives (λ v. map view_event v.items) result (each (event_from names.now (parts_with_locals names.now locals.now (map view_section sections.now))) names.now.ranks) }
-{
-    let mut resolved = Vec::new(alloc);
-    for class in names.ranks.as_slice() {
-        let Some(name) = names.classes.keys().get(*class) else {
+impl ProgramSections<'_> {
+    // A notice class of this name with its EVENT section.
+    fn class_event(
+        &self,
+        class: usize,
+        name: &Name,
+        known: EventSection,
+    ) -> Result<Event, ResolveError>
+        ensures { Gives view_event result (class_event_from (table_in self.now) (parts_in self.now) class name.now known) }
+    {
+        if self.names.attributes_of(class).len() < known.given {
+            return Err(ResolveError::Unresolved);
+        }
+        let ties = resolve_ties(self.alloc, self.names, class, *name)?;
+        let saved = saved(self.names, name, known.saving)?;
+        let parts = self.parts_at(known.section)?;
+        let event = event_of_class(self.alloc, class, ties, known.given, saved, parts)?;
+        Ok(event)
+    }
+
+    // The notice class of this number.
+    fn resolve_event(&self, class: usize) -> Result<Event, ResolveError>
+        ensures { Gives view_event result (event_from (table_in self.now) (parts_in self.now) class) }
+    {
+        let names = self.names;
+        let Some(name) = key_at(&names.classes, class) else {
             return Err(ResolveError::Unresolved);
         };
-        let event = class_event(alloc, names, locals, sections, *class, *name)?;
-        resolved.push(event)?;
+        let Some(known) = event_section(names, &name) else {
+            return Err(ResolveError::Unresolved);
+        };
+        self.class_event(class, &name, known)
     }
-    Ok(resolved)
+
+    // Notice classes.
+    fn events_of(&self, trees: &[usize]) -> Result<Vec<Event>, ResolveError>
+        ensures { Gives (λ v. map view_event v.items) result (each (event_from (table_in self.now) (parts_in self.now)) trees.now) }
+    {
+        let mut resolved = Vec::new(self.alloc);
+        for tree in trees {
+            let one = self.resolve_event(*tree)?;
+            resolved.push(one)?;
+        }
+        Ok(resolved)
+    }
+
+    /// The notice classes with their event routines, in the order of rank.
+    pub(crate) fn resolve_events(&self) -> Result<Vec<Event>, ResolveError>
+        ensures { Gives (λ v. map view_event v.items) result (each (event_from (table_in self.now) (parts_in self.now)) (table_in self.now).ranks) }
+    {
+        let names = self.names;
+        self.events_of(names.ranks.as_slice())
+    }
 }

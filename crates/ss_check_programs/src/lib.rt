@@ -7,4 +7,3 @@ mod routines;
 mod sections;
 
 pub use program::resolve;
-pub use ss_names_meaning::{disciplines, layout};

@@ -1,18 +1,16 @@
 //! Routines.
 
-ghost use Rattle.std.specs.Prelude.{◌≡◌, length, map, IfOk};
-ghost use Rattle.ss_tree.specs.View.{view_section};
+ghost use Rattle.std.specs.Prelude.{◌≡◌, map, IfOk};
+ghost use Rattle.std.specs.Map.{values_of};
 ghost use Rattle.ss_program.specs.View.{view_routine};
-ghost use Rattle.ss_names_meaning.specs.Answers.{Gives, each, upto};
-ghost use Rattle.ss_names_meaning.specs.Resolved.{parts_with_locals, routine_from, routine_of};
-ghost use Rattle.ss_check_programs.specs.View.{view_parts};
+ghost use Rattle.ss_names_meaning.specs.Answers.{Gives, each};
+ghost use Rattle.ss_names_meaning.specs.Resolved.{routine_from, routine_of};
+ghost use Rattle.ss_check_programs.specs.View.{parts_in, table_in, view_parts};
 
-use crate::sections::{Parts, parts_at, split};
-use ss_names::Names;
+use crate::sections::{Parts, ProgramSections, split};
+use ss_names::RoutineSection;
 use ss_names_meaning::ResolveError;
-use ss_names_scopes::Locals;
 use ss_program::sections::Routine;
-use ss_tree::program::Section;
 use std::alloc::{AllocError, Global};
 
 // A routine that is given and yields so many values.
@@ -37,20 +35,33 @@ fn routine_of(
     })
 }
 
-/// The routines, by their numbers.
-pub(crate) fn resolve_routines(
-    alloc: Global,
-    names: &Names,
-    locals: &[Locals],
-    sections: &[Section],
-) -> Result<Vec<Routine>, ResolveError>
-    ensures { Gives (λ v. map view_routine v.items) result (each (routine_from (parts_with_locals names.now locals.now (map view_section sections.now))) (values_of names.now.routines)) }
-{
-    let mut resolved = Vec::new(alloc);
-    for known in names.routines.values() {
-        let parts = parts_at(alloc, names, locals, sections, known.section)?;
-        let routine = routine_of(alloc, known.given, known.yielding, parts)?;
-        resolved.push(routine)?;
+impl ProgramSections<'_> {
+    // A routine.
+    fn resolve_routine(&self, known: &RoutineSection) -> Result<Routine, ResolveError>
+        ensures { Gives view_routine result (routine_from (parts_in self.now) known.now) }
+    {
+        let parts = self.parts_at(known.section)?;
+        let routine = routine_of(self.alloc, known.given, known.yielding, parts)?;
+        Ok(routine)
     }
-    Ok(resolved)
+
+    // Routines.
+    fn routines_of(&self, trees: &[RoutineSection]) -> Result<Vec<Routine>, ResolveError>
+        ensures { Gives (λ v. map view_routine v.items) result (each (routine_from (parts_in self.now)) trees.now) }
+    {
+        let mut resolved = Vec::new(self.alloc);
+        for tree in trees {
+            let one = self.resolve_routine(tree)?;
+            resolved.push(one)?;
+        }
+        Ok(resolved)
+    }
+
+    /// The routines, by their numbers.
+    pub(crate) fn resolve_routines(&self) -> Result<Vec<Routine>, ResolveError>
+        ensures { Gives (λ v. map view_routine v.items) result (each (routine_from (parts_in self.now)) (values_of (table_in self.now).routines)) }
+    {
+        let names = self.names;
+        self.routines_of(names.routines.values())
+    }
 }

@@ -81,3 +81,13 @@ pub each_plain_next : {A B : Type 0} (step : A → Option B) (xs : List A) (i : 
 each_plain_next step xs i x old new y lt is e h g =
     let taken : take (i + 1) xs ≡ take i xs ++ x ∷ [] = take_more xs i x lt ∙ ap (λ z. take i xs ++ z ∷ []) (sym is) in
     rw (taken, e) (each_more step (take i xs) x old y h g)
+
+-- ---- results that are seen through a view
+
+pub each_made_next : {A B Y : Type 0} (step : A → Option B) (view : Y → B) (xs : List A) (i : ℕ) (x : A) (old new : List Y) (y : Y) →
+    i < length xs → x ≡ get_or xs i x → new ≡ old ++ y ∷ [] →
+    each step (take i xs) ≡ Some (map view old) → step x ≡ Some (view y) → each step (take (i + 1) xs) ≡ Some (map view new)
+each_made_next step view xs i x old new y lt is e h g =
+    let taken : take (i + 1) xs ≡ take i xs ++ x ∷ [] = take_more xs i x lt ∙ ap (λ z. take i xs ++ z ∷ []) (sym is) in
+    let made : map view new ≡ map view old ++ view y ∷ [] = ap (map view) e ∙ map-append view old (y ∷ []) in
+    rw (taken, made) (each_more step (take i xs) x (map view old) (view y) h g)

@@ -1,7 +1,7 @@
 -- Steps for each number below a bound, and lists put together.
-use Rattle.std.proofs.Common.{◌≡◌, ℕ, zero, suc, ◌+◌, ◌<◌, List, [], ◌∷◌, ◌++◌, length, get_or, take, map, Option, Some, None, refl, sym, ap, subst, ◌∙◌, arith, add-one, inl, inr}
+use Rattle.std.proofs.Common.{◌≡◌, ℕ, zero, suc, ◌+◌, ◌<◌, List, [], ◌∷◌, ◌++◌, length, get_or, take, Option, Some, None, refl, sym, ap, subst, ◌∙◌, arith, add-one, inl, inr}
 use Rattle.std.specs.List.{flat_map}
-use Rattle.std.proofs.lemmas.List.{take_more, map-append, flat_map_more}
+use Rattle.std.proofs.lemmas.List.{take_more, flat_map_more}
 use Rattle.std.proofs.lemmas.Bool.{cases_lt}
 use Rattle.ss_names_meaning.specs.declared.error.ResolveError.{ResolveError}
 use Rattle.ss_names_meaning.specs.declared.error.ResolveError.TheVariants.{Memory, Unresolved}
@@ -21,19 +21,6 @@ upto_none step (suc n) i lt h =
 pub numbers_fail : {B : Type 0} (step : ℕ → Option B) (n i : ℕ) (e : ResolveError) → i < n → Fails e (step i) → Fails e (each step (upto n))
 numbers_fail step n i Memory lt h = tt
 numbers_fail step n i Unresolved lt h = upto_none step n i lt h
-
-pub no_numbers : {B Y : Type 0} (step : ℕ → Option B) (view : Y → B) (ys : List Y) → ys ≡ [] → each step (upto 0) ≡ Some (map view ys)
-unfolding each upto
-no_numbers step view ys e = rw e refl
-
-pub numbers_next : {B Y : Type 0} (step : ℕ → Option B) (view : Y → B) (i : ℕ) (old new : List Y) (y : Y) → new ≡ old ++ y ∷ [] →
-    each step (upto i) ≡ Some (map view old) → step i ≡ Some (view y) → each step (upto (i + 1)) ≡ Some (map view new)
-unfolding upto
-numbers_next step view i old new y e h g =
-    let made : map view new ≡ map view old ++ view y ∷ [] = ap (map view) e ∙ map-append view old (y ∷ []) in
-    rw (add-one, made) (each_more step (upto i) i (map view old) (view y) h g)
-
--- ---- results that are seen as they are
 
 pub no_plain_numbers : {B : Type 0} (step : ℕ → Option B) (ys : List B) → ys ≡ [] → each step (upto 0) ≡ Some ys
 unfolding each upto

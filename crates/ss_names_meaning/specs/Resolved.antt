@@ -37,11 +37,15 @@ pub record Parts : Type 0 where
   pub modes : List Mode
   pub body : Block
 
--- a section, where sections have these local variables, and it has these
+-- the statements of a section, where sections have these local variables, and it has these
+abbrev pub body_with : Table → List Moded → Moded → SectionTree → Option Block
+body_with t all locals s = statements (record { table = t; locals = locals; sections = all }) (statement_row s.body)
+
+-- the section
 abbrev pub parts_with : Table → List Moded → Moded → SectionTree → Option Parts
 parts_with t all locals s = do
   modes ← local_modes locals
-  done ← statements (record { table = t; locals = locals; sections = all }) (statement_row s.body)
+  done ← body_with t all locals s
   Some (record { line = s.line; modes = modes; body = done })
 
 -- the section of this number, where sections have these local variables
