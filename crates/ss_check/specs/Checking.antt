@@ -1,5 +1,5 @@
 -- What a program that breaks no rule becomes, and why another is refused.
-use Rattle.std.specs.Prelude.{◌≡◌, Option, Some, None, Unit}
+use Rattle.std.specs.Prelude.{◌≡◌, Option, Some, None}
 use Rattle.ss_tree.specs.Tree.{ProgramTree}
 use Rattle.ss_check_rules.specs.Refusal.{refusal_of_uses}
 use Rattle.ss_check_rules.specs.declared.error.CheckError.{CheckError}
@@ -8,7 +8,7 @@ use Rattle.ss_names.specs.Table.{table}
 use Rattle.ss_program.specs.declared.sections.Program.{Program as ProgramValue}
 use Rattle.ss_program.specs.Program.{Program}
 use Rattle.ss_program.specs.View.{view_program}
-use Rattle.ss_check_programs.specs.Resolved.{resolved}
+use Rattle.ss_names_meaning.specs.Resolved.{resolved}
 
 -- the program of a tree, with its names resolved
 abbrev pub program_of : ProgramTree → Option Program

@@ -1,10 +1,11 @@
 //! The check of a program.
 
-ghost use Rattle.std.specs.Prelude.{◌≡◌, ◌≤◌, None, IfOk, IfErr};
+ghost use Rattle.std.specs.Prelude.{◌≡◌, ◌≤◌, map, None, IfOk, IfErr, OnOk};
 ghost use Rattle.ss_tree.specs.Nodes.{nodes as tree_nodes};
-ghost use Rattle.ss_tree.specs.View.{view_program};
+ghost use Rattle.ss_tree.specs.View.{view_program, view_section};
 ghost use Rattle.ss_tables_rules.specs.Broken.{refusal_of_declarations as declared_refusal};
 ghost use Rattle.ss_names.specs.Table.{table};
+ghost use Rattle.ss_names_scopes.specs.Locals.{locals_of};
 ghost use Rattle.ss_program.specs.Checking.{program_in};
 ghost use Rattle.ss_program.specs.Nodes.{nodes};
 ghost use Rattle.ss_program.specs.View.{view_program as program_seen};
@@ -14,13 +15,28 @@ ghost use Rattle.ss_check.specs.Checking.{Becomes, ReportsCheckError, refusal_of
 use ss_check_programs::resolve;
 use ss_check_rules::{CheckError, judge};
 use ss_names::Names;
+use ss_names_scopes::Locals;
 use ss_program::checked::Checked;
 use ss_tables::Tables;
 use ss_tree::program::Program;
 use ss_tree::release::release_tree;
 use std::alloc::Global;
 
-// The resolved program, by its table, where it breaks no rule.
+// The local variables of each section, if the program breaks no rule on what it does with its names.
+fn keep_rules(alloc: Global, program: &Program, names: &Names) -> Result<Vec<Locals>, CheckError>
+    requires { names.now ≡ table (view_program program.now) }
+    ensures locals { IfOk result (λ found. found.items ≡ map (locals_of names.now) (map view_section program.now.sections.items)) }
+    ensures kept { OnOk result (refusal_of (view_program program.now) ≡ None) }
+    ensures refused { IfErr result (λ e. ReportsCheckError e (refusal_of (view_program program.now))) }
+{
+    let (broken, locals) = judge(alloc, program, names)?;
+    match broken {
+        Some(error) => Err(error),
+        None => Ok(locals),
+    }
+}
+
+// The resolved program, by its table, if it breaks no rule.
 fn checked(alloc: Global, program: &Program, names: &Names) -> Result<Checked, CheckError>
     requires names { names.now ≡ table (view_program program.now) }
     requires declared { declared_refusal (view_program program.now) ≡ None }
@@ -28,18 +44,15 @@ fn checked(alloc: Global, program: &Program, names: &Names) -> Result<Checked, C
     ensures nodes { IfOk result (λ c. nodes (program_seen (program_in c)) ≤ tree_nodes (view_program program.now)) }
     ensures refused { IfErr result (λ e. ReportsCheckError e (refusal_of (view_program program.now))) }
 {
-    let (broken, locals) = judge(alloc, program, names)?;
-    if let Some(error) = broken {
-        return Err(error);
-    }
+    let locals = keep_rules(alloc, program, names)?;
     match resolve(alloc, program, names, &locals)? {
         Some(resolved) => Ok(Checked::new(resolved)),
         None => unreachable!(),
     }
 }
 
-/// The program with its names resolved, where it breaks no rule on what it does with
-/// its names and values, the refusals 71 to 79. The tables are those of the program.
+/// The program with its names resolved, if it breaks no rule on what it does with its names and values, the refusals
+/// 71 to 79. The tables are those of the program.
 ///
 /// The result is well typed, and has no more nodes than the tree.
 ///

@@ -1,6 +1,7 @@
 -- The tables of a program, and why a program has none.
-use Rattle.std.specs.Prelude.{◌≡◌, Bool, is_some, List, ℕ, Option, Some, None, IfSome, Unit}
+use Rattle.std.specs.Prelude.{◌≡◌, Bool, is_some, Option, Some, None, Result, Ok, Err}
 use Rattle.ss_tree.specs.Tree.{ProgramTree}
+use Rattle.ss_tree.specs.Names.{NameBytes}
 use Rattle.ss_names_declarations.specs.Firsts.{value_for}
 use Rattle.ss_names.specs.Table.{Table, table}
 use Rattle.ss_tables_rules.specs.Broken.{refusal_of_declarations}
@@ -21,6 +22,12 @@ abbrev pub ReportsTableError : TableError → Option TableError → Type 0
 ReportsTableError errors.Memory found = Unit {0}
 ReportsTableError e found = found ≡ Some e
 
+-- the names, unless a rule is broken or memory was refused
+abbrev pub NamesUnless : {E : Type 0} → Table → Result (Option TableError) E → Result Table TableError → Type 0
+NamesUnless names (Ok None) result = result ≡ Ok names
+NamesUnless names (Ok (Some error)) result = result ≡ Err error
+NamesUnless names (Err e) result = result ≡ Err errors.Memory
+
 -- which global and derived names a program has
-abbrev pub is_declared : ProgramTree → List ℕ → Bool
+abbrev pub is_declared : ProgramTree → NameBytes → Bool
 is_declared p name = is_some (value_for (table p).meanings name)

@@ -3,19 +3,19 @@
 ghost use Rattle.std.specs.Prelude.{◌≡◌, ◌<◌, length, map, slice_get, option_map, is_some, Some, None, IfSome, IfOk, IfErr, OnOk};
 ghost use Rattle.std.specs.Map.{keys_of};
 ghost use Rattle.ss_tree.specs.Tree.{ProgramTree};
-ghost use Rattle.ss_tree.specs.View.{view_program};
-ghost use Rattle.ss_tables_rules.specs.Broken.{refusal_of_declarations};
+ghost use Rattle.ss_tree.specs.View.{view_program, view_section};
 ghost use Rattle.ss_names_declarations.specs.Firsts.{place_in};
-ghost use Rattle.ss_tables.specs.Tables.{is_declared};
+ghost use Rattle.ss_names.specs.Table.{declared};
+ghost use Rattle.ss_tables_rules.specs.Broken.{refusal_by, refusal_of_declarations};
 ghost use Rattle.ss_names_meaning.specs.Layouts.{layout};
-ghost use Rattle.ss_tables.specs.Tables.{AreTables, AreTablesOf, ReportsTableError};
+ghost use Rattle.ss_tables.specs.Tables.{AreTablesOf, NamesUnless, ReportsTableError, is_declared};
 
 use ss_base::Layout;
 use ss_names::{NameId, Names};
-use ss_names_declarations::declarations_of;
+use ss_names_declarations::{Declaration, declarations_of};
 use ss_names_meaning::layout;
 use ss_tables_rules::{TableError, refusal_of, seed_of};
-use ss_tree::program::Program;
+use ss_tree::program::{Program, Section};
 use std::alloc::{AllocError, Global};
 use std::marker::Model;
 
@@ -38,6 +38,42 @@ impl Model for Tables {
     ghost invariant = { λ t. AreTables t.names };
 }
 
+// The names, unless a rule is broken or memory was refused.
+fn names_unless(
+    names: Names,
+    broken: Result<Option<TableError>, AllocError>,
+) -> Result<Names, TableError>
+    ensures { NamesUnless names broken result }
+{
+    match broken {
+        Ok(None) => Ok(names),
+        Ok(Some(error)) => {
+            names.release();
+            Err(error)
+        }
+        Err(_) => {
+            names.release();
+            Err(TableError::Memory)
+        }
+    }
+}
+
+// The table of names of a program with these declarations and sections, if it breaks no rule.
+fn names_of(
+    alloc: Global,
+    declarations: &[Declaration],
+    sections: &[Section],
+) -> Result<Names, TableError>
+    ensures kept { OnOk result (refusal_by declarations.now (map view_section sections.now) ≡ None) }
+    ensures made { IfOk result (λ names. names ≡ declared declarations.now) }
+    ensures refused { IfErr result (λ e. ReportsTableError e (refusal_by declarations.now (map view_section sections.now))) }
+{
+    let seed = seed_of(declarations);
+    let names = Names::of(alloc, seed, declarations)?;
+    let broken = refusal_of(alloc, seed, &names, declarations, sections);
+    names_unless(names, broken)
+}
+
 impl Tables {
     /// The tables of a program.
     ///
@@ -49,12 +85,8 @@ impl Tables {
         ensures refused { IfErr result (λ e. ReportsTableError e (refusal_of_declarations (view_program program.now))) }
     {
         let declarations = declarations_of(alloc, program)?;
-        let seed = seed_of(&declarations);
-        let names = Names::of(alloc, seed, &declarations)?;
-        match refusal_of(alloc, seed, &names, &declarations, &program.sections)? {
-            Some(error) => Err(error),
-            None => Ok(Tables { names }),
-        }
+        let names = names_of(alloc, &declarations, &program.sections)?;
+        Ok(Tables { names })
     }
 
     /// The global or derived name of this spelling, in capitals. None just where the program declares none.

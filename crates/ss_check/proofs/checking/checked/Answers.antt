@@ -1,10 +1,16 @@
+use Rattle.std.proofs.Common.{refl, ◌∙◌}
+use Rattle.ss_tree.specs.View.{view_program}
+use Rattle.ss_tables.proofs.Refused.{refused_so}
+use Rattle.ss_check.specs.Checking.{ReportsCheckError}
+use Rattle.ss_check.proofs.Kept.{becomes, found_so}
 use Rattle.ss_check.proofs.checking.checked.Goals as goal
 
+pub returns-in_err-locals-clause-refused : goal.returns-in_err-locals-clause-refused
+returns-in_err-locals-clause-refused c =
+    refused_so ReportsCheckError c.from_residual.result c.in_err-locals.field-0.0 _ _ c.from_residual.ensures.1 c.in_err-locals.ensures.refused refl
+
 pub returns-clause-checked : goal.returns-clause-checked
-returns-clause-checked c = c.judged-result.ensures.checked
-
-pub returns-clause-nodes : goal.returns-clause-nodes
-returns-clause-nodes c = c.judged-result.ensures.nodes
-
-pub returns-clause-refused : goal.returns-clause-refused
-returns-clause-refused c = c.judged-result.ensures.refused
+returns-clause-checked c =
+    becomes (view_program c.args.program.now) c.in_ok-resolved.field-0 c.in-Some.resolved _ c.in_ok-locals.ensures.kept
+    (found_so c.args.names.now (view_program c.args.program.now) c.deref.result.now c.in_ok-resolved.field-0 (c.deref.ensures.value ∙ c.in_ok-locals.ensures.locals) c.requires.names c.in_ok-resolved.ensures)
+    c.in-Some.is c.new.ensures
