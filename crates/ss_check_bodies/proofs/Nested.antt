@@ -10,7 +10,7 @@ use Rattle.ss_tree.specs.declared.head.LoopHead.{LoopHead}
 use Rattle.ss_tree.specs.declared.statement.FindOutcome.{FindOutcome}
 use Rattle.ss_tree.specs.declared.statement.Statement.{Statement as Parsed}
 use Rattle.ss_tree.specs.declared.statement.Statement.TheVariants as parsed
-use Rattle.ss_tree.specs.Tree.{StatementTree, statement_row, print_statement, HeadTree, LoopHeadTree, guarded, GuardTree}
+use Rattle.ss_tree.specs.Tree.{StatementTree, statement_row, HeadTree, LoopHeadTree, guarded, GuardTree}
 use Rattle.ss_tree.specs.Nodes.{statement_nodes, statements_nodes}
 use Rattle.ss_tree.specs.View.{view_condition, view_expression, view_head, view_loop_head, view_statement}
 use Rattle.ss_tree.specs.Views.{view_if_made, view_loop_made, view_find_if_made}
@@ -18,18 +18,20 @@ use Rattle.ss_program.specs.declared.condition.Condition.{Condition as Condition
 use Rattle.ss_program.specs.declared.head.Guard.{Guard}
 use Rattle.ss_program.specs.declared.head.Head.{Head}
 use Rattle.ss_program.specs.declared.head.Phrase.{Phrase}
+use Rattle.ss_program.specs.declared.statement.Item.{Item as ItemMade}
 use Rattle.ss_program.specs.declared.statement.Statement.{Statement as Made}
 use Rattle.ss_program.specs.declared.statement.Statement.TheVariants as made
 use Rattle.ss_program.specs.Program.{Statement, If, Block, Done, Then}
-use Rattle.ss_program.specs.View.{block_of, view_body, view_condition as condition_seen, view_guard as guard_seen, view_head as head_seen, view_phrase as phrase_seen, view_statement as view_made}
+use Rattle.ss_program.specs.View.{block_of, view_body, view_condition as condition_seen, view_guard as guard_seen, view_head as head_seen, view_item, view_phrase as phrase_seen, view_statement as view_made}
 use Rattle.ss_program.specs.Views.{view_if_made as if_seen, view_loop_made as loop_seen, view_for_made as for_seen, view_find_made as find_seen}
 use Rattle.ss_names_meaning.specs.declared.error.ResolveError.{ResolveError}
 use Rattle.ss_names_meaning.specs.declared.error.ResolveError.TheVariants.{Memory, Unresolved}
 use Rattle.ss_names_meaning.specs.Answers.{◌>>=◌, each, Fails}
 use Rattle.ss_names_scopes.specs.Scopes.{Scope}
+use Rattle.ss_names_meaning.specs.Expressions.{item}
 use Rattle.ss_names_meaning.specs.Conditions.{condition}
 use Rattle.ss_names_meaning.specs.Heads.{guard, head, resolved_phrase, phrases_of}
-use Rattle.ss_names_meaning.specs.Statements.{find, find_by, for_over, if_over, resolved_loop, statement, statements}
+use Rattle.ss_names_meaning.specs.Statements.{find, find_by, for_over, if_over, resolved_loop, simple_statement, statement, statements}
 use Rattle.ss_names_meaning.proofs.Steps.{none_after}
 
 -- ---- loops around resolved statements
@@ -51,11 +53,18 @@ loop_made c line t gs rs a is q = rw (is, q) (ap (λ z. Some z) (sym (loop_seen 
 
 -- ---- statements that have statements in them
 
+abbrev pub lines_of : Vec (Vec ℕ) → List (List ℕ)
+lines_of ls = map (λ p. p.items) ls.items
+
 -- a PRINT, by the items of its vectors
-pub print_is : (t : Parsed) (line : Line) (v : Vec ExpressionParsed) (ps : Vec (List ℕ)) (es : List ExpressionParsed) (qs : List (List ℕ)) →
-    t ≡ parsed.Print line v ps → es ≡ v.items → qs ≡ ps.items → print_statement line (map view_expression es) qs ≡ view_statement t
-unfolding view_statement
-print_is t line v ps es qs is e f = rw (is, e, f) refl
+pub print_made : (c : Scope) (t : Parsed) (line : Line) (v : Vec ExpressionParsed) (ps : Vec (List ℕ)) (es : List ExpressionParsed) (qs : List (List ℕ)) (xs : Vec ItemMade) (ls : Vec (Vec ℕ)) →
+    t ≡ parsed.Print line v ps → es ≡ v.items → qs ≡ ps.items → each (item c) (map view_expression es) ≡ Some (map view_item xs.items) → lines_of ls ≡ qs →
+    simple_statement c (view_statement t) ≡ Some (view_made (made.Print line xs ls))
+unfolding simple_statement view_statement view_made
+print_made c t line v ps es qs xs ls is e f h g =
+    let shown : each (item c) (map view_expression v.items) ≡ Some (map view_item xs.items) = subst (λ l. each (item c) (map view_expression l) ≡ Some (map view_item xs.items)) e h in
+    let lines : lines_of ls ≡ ps.items = g ∙ f in
+    rw (is, shown, lines) refl
 
 pub if_made : (line : Line) (c : Scope) (x : ConditionParsed) (y : ConditionMade) (xs ys : Vec Made) →
     condition c (view_condition x) ≡ Some (condition_seen y) → if_over line c (view_condition x) (view_body xs.items) (view_body ys.items) ≡ Some (view_made (made.If line y xs ys))

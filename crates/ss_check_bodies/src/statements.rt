@@ -148,18 +148,22 @@ impl Resolver<'_> {
                 pictures,
             } => {
                 let lines = picture_lines(self.alloc, pictures)?;
-                let (lines, shown) = beside(lines, self.resolve_items(items))?;
+                let (pictures, items) = beside(lines, self.resolve_items(items))?;
                 Ok(Resolved::Print {
                     line: *line,
-                    items: shown,
-                    pictures: lines,
+                    items,
+                    pictures,
                 })
             }
             Statement::Skip { line, count } => {
                 let count = self.resolve_expression(count)?;
                 Ok(Resolved::Skip { line: *line, count })
             }
-            Statement::Find { line, head } => self.resolve_find(*line, head, Vec::new(self.alloc), Vec::new(self.alloc)),
+            Statement::Find { line, head } => {
+                let found = Vec::new(self.alloc);
+                let none = Vec::new(self.alloc);
+                self.resolve_find(*line, head, found, none)
+            }
             Statement::Return { .. } => Ok(Resolved::Return),
             Statement::Stop { .. } => Ok(Resolved::Stop),
             Statement::StartSimulation { .. } => Ok(Resolved::Simulate),

@@ -1,0 +1,13 @@
+use Rattle.std.proofs.Common.{map, ap, ◌∙◌}
+use Rattle.ss_program.specs.View.{view_item}
+use Rattle.ss_check_bodies.specs.Results.{scope_in}
+use Rattle.ss_check_bodies.proofs.Nested.{lines_of, print_made}
+use Rattle.ss_check_bodies.proofs.Seen.{next_made}
+use Rattle.ss_check_bodies.proofs.resolver.Resolver.resolve_simple.Goals as goal
+
+pub returns-in_ok-pictures-in-Print : goal.returns-in_ok-pictures-in-Print
+returns-in_ok-pictures-in-Print c =
+    print_made (scope_in c.args.self.now) c.args.tree.now c.in-Print.line c.in-Print.items c.in-Print.pictures c.deref-in-Print-2.result.now c.deref-in-Print.result.now
+    c.in_ok-pictures-in-Print.items c.in_ok-pictures-in-Print.pictures c.in-Print.is c.deref-in-Print-2.ensures.value c.deref-in-Print.ensures.value
+    (next_made (λ v. map view_item v.items) c.resolve_items.result _ _ c.resolve_items.ensures c.in_ok-pictures-in-Print.ensures.1)
+    (ap lines_of c.in_ok-pictures-in-Print.ensures.0 ∙ c.in_ok-lines-in-Print.ensures)
