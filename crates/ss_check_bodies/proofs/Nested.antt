@@ -66,6 +66,12 @@ print_made c t line v ps es qs xs ls is e f h g =
     let lines : lines_of ls ≡ ps.items = g ∙ f in
     rw (is, shown, lines) refl
 
+-- FIND without an IF
+pub find_is : (c : Scope) (t : Parsed) (line : Line) (x : HeadParsed) (a b : Vec Made) → t ≡ parsed.Find line x → a.items ≡ [] → b.items ≡ [] →
+    find line c (view_head x) (view_body a.items) (view_body b.items) ≡ simple_statement c (view_statement t)
+unfolding simple_statement view_statement
+find_is c t line x a b is e f = rw (is, e, f) refl
+
 pub if_made : (line : Line) (c : Scope) (x : ConditionParsed) (y : ConditionMade) (xs ys : Vec Made) →
     condition c (view_condition x) ≡ Some (condition_seen y) → if_over line c (view_condition x) (view_body xs.items) (view_body ys.items) ≡ Some (view_made (made.If line y xs ys))
 if_made line c x y xs ys h = rw h (ap (λ z. Some z) (sym (if_seen line y xs ys)))
