@@ -12,7 +12,7 @@ use Rattle.ss_tree.specs.declared.expression.Function.TheVariants.{Div}
 use Rattle.ss_tree.specs.declared.preamble.Mode.TheVariants.{Integer}
 use Rattle.ss_tree.specs.declared.preamble.StatisticKind.TheVariants as figures
 use Rattle.ss_tree.specs.declared.statement.FindOutcome.TheVariants as outcomes
-use Rattle.ss_tree.specs.Tree.{ExpressionTree, number, named, call, parenthesised, sum, product, no_expression, and_expression, no_term, and_term, NamedTree, over_class, by_discipline, at_time, call_statement, read_statement, stop_statement, find_if_statement, create_statement, create_every, file_statement, schedule_new, reset_statement, print_statement, no_statement, and_statement, has, owns, belongs_to, permanent_entities, temporary_entities, event_notices, every, normally, system_owns, statistics, routine, ProgramTree}
+use Rattle.ss_tree.specs.Tree.{ExpressionTree, number, named, call, parenthesised, sum, product, no_expression, and_expression, no_term, and_term, NamedTree, over_class, by_discipline, at_time, call_statement, read_statement, stop_statement, find_if_statement, create_statement, create_every, file_statement, schedule_new, reset_statement, print_statement, no_statement, and_statement, has, owns, belongs_to, permanent_entities, temporary_entities, event_notices, every, normally, system_owns, define_variables, statistics, routine, ProgramTree}
 use Rattle.ss_tree.specs.Names.{NameBytes}
 use Rattle.ss_names.specs.Table.{table}
 use Rattle.ss_names_scopes.specs.Locals.{Moded}
@@ -41,9 +41,11 @@ use Rattle.ss_names_meaning.specs.Statements.{simple_statement, statement, state
 --  9 THE SYSTEM OWNS A POOL
 -- 10 ACCUMULATE LOAD AS THE SUM, LEVEL AS THE MEAN OF N.POOL
 -- 11 TALLY GRADE AS THE MEAN OF RANK
--- 12 END
--- 13 ROUTINE SHOW GIVEN JOB
+-- 12 DEFINE LENGTH AS AN INTEGER VARIABLE
+-- 13 TALLY MEASURED AS THE SUM OF LENGTH
 -- 14 END
+-- 15 ROUTINE SHOW GIVEN JOB, LENGTH
+-- 16 END
 
 abbrev line : ℕ → Line
 line n = record { 0 = n }
@@ -61,20 +63,22 @@ shop = record {
       ∷ system_owns (line 9) (codes "POOL" ∷ [])
       ∷ statistics (line 10) Accumulate (record { name = codes "LOAD"; kind = figures.Sum } ∷ record { name = codes "LEVEL"; kind = figures.Mean } ∷ []) (codes "N.POOL")
       ∷ statistics (line 11) Tally (record { name = codes "GRADE"; kind = figures.Mean } ∷ []) (codes "RANK")
+      ∷ define_variables (line 12) (codes "LENGTH" ∷ []) Integer
+      ∷ statistics (line 13) Tally (record { name = codes "MEASURED"; kind = figures.Sum } ∷ []) (codes "LENGTH")
       ∷ [];
-  sections = record { line = line 13; kind = routine (codes "SHOW") (codes "JOB" ∷ []) []; definitions = []; body = [] } ∷ [];
+  sections = record { line = line 15; kind = routine (codes "SHOW") (codes "JOB" ∷ codes "LENGTH" ∷ []) []; definitions = []; body = [] } ∷ [];
 }
 
 abbrev scope_with : Moded → Scope
 scope_with locals = record { table = table shop; locals = locals; sections = locals ∷ [] }
 
--- MAIN, without local variables: MACHINE, N.MACHINE, JOB and BELL are the global variables 0 to 3
+-- MAIN, without local variables: MACHINE, N.MACHINE, JOB, BELL and LENGTH are the global variables 0 to 4
 abbrev in_main : Scope
 in_main = scope_with []
 
--- the routine, whose parameter JOB hides the variable of the class
+-- the routine, whose parameter JOB hides the variable of the class, and whose parameter LENGTH hides the global variable
 abbrev in_routine : Scope
-in_routine = scope_with ((codes "JOB", Some modes.Integer) ∷ [])
+in_routine = scope_with ((codes "JOB", Some modes.Integer) ∷ (codes "LENGTH", Some modes.Integer) ∷ [])
 
 -- a name without a subscript, and with one
 abbrev plain_name : NameBytes → ExpressionTree
@@ -268,8 +272,8 @@ pub schedule_too_much :
 unfolding statement simple_statement expression each
 schedule_too_much = refl
 
--- CALL SHOW GIVING 1, and CALL SHOW
-pub call_show : statement in_main (call_statement (line 20) (codes "SHOW") (number (pos 1) ∷ []) []) ≡ Some (Call (line 20) 0 (whole 1 ∷ []) [])
+-- CALL SHOW GIVING 1, 2, and CALL SHOW
+pub call_show : statement in_main (call_statement (line 20) (codes "SHOW") (number (pos 1) ∷ number (pos 2) ∷ []) []) ≡ Some (Call (line 20) 0 (whole 1 ∷ whole 2 ∷ []) [])
 unfolding statement simple_statement expression each
 call_show = refl
 
@@ -299,6 +303,15 @@ reset_load = refl
 pub reset_nothing : statement in_main (reset_statement (line 20) (named_plainly (codes "N.QUEUE") ∷ [])) ≡ None
 unfolding statement simple_statement subscript each
 reset_nothing = refl
+
+-- RESET THE TOTALS OF LENGTH, which the parameter of its name hides
+pub reset_variable : statement in_main (reset_statement (line 20) (named_plainly (codes "LENGTH") ∷ [])) ≡ Some (Reset (line 20) (record { statistic = 2; of = None } ∷ []))
+unfolding statement simple_statement subscript each
+reset_variable = refl
+
+pub reset_hidden : statement in_routine (reset_statement (line 20) (named_plainly (codes "LENGTH") ∷ [])) ≡ None
+unfolding statement simple_statement subscript each
+reset_hidden = refl
 
 -- FOR EACH MACHINE, FIND THE FIRST CASE IF NONE STOP ALWAYS
 pub find_machine :

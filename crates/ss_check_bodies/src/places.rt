@@ -163,13 +163,16 @@ impl Resolver<'_> {
 
     // ---- statistics
 
-    // The number of the history of what is named.
+    // The number of the history of what is named. A name that a local variable hides has none.
     fn history_of(&self, place: &Designator) -> Option<usize>
         ensures { result ≡ history_of (scope_in self.now) place.now }
     {
         let names = self.scope.names;
         match place {
-            Designator::Name(name) => names.histories.place(name),
+            Designator::Name(name) => match self.scope.locals.number(name) {
+                Some(_) => None,
+                None => names.histories.place(name),
+            },
             Designator::TimeV => None,
             Designator::TimeA => None,
         }

@@ -46,9 +46,14 @@ entity_called c variable (Some e) = expression c e
 
 -- ---- statistics
 
+-- a name that a local variable hides has no history
+abbrev pub unless_hidden : Option ℕ → Option ℕ → Option ℕ
+unless_hidden (Some local) found = None
+unless_hidden None found = found
+
 -- the number of the history of what is named
 abbrev pub history_of : Scope → Designator → Option ℕ
-history_of c (designators.Name name) = place_in c.table.histories name
+history_of c (designators.Name name) = unless_hidden (place_in c.locals name) (place_in c.table.histories name)
 history_of c _ = None
 
 -- the statistic that RESET starts afresh, and of which entity, if of one
