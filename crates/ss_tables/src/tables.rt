@@ -1,12 +1,12 @@
 //! The tables of a program.
 
-ghost use Rattle.std.specs.Prelude.{◌≡◌, ◌<◌, length, map, slice_get, option_map, is_some, Some, None, IfSome, IfOk, IfErr, OnOk};
+ghost use Rattle.std.specs.Prelude.{◌≡◌, ◌<◌, length, slice_get, option_map, is_some, Some, IfSome, IfOk, IfErr};
 ghost use Rattle.std.specs.Map.{keys_of};
 ghost use Rattle.ss_tree.specs.Tree.{ProgramTree};
-ghost use Rattle.ss_tree.specs.View.{view_program, view_section};
+ghost use Rattle.ss_tree.specs.View.{view_program};
+ghost use Rattle.ss_names_declarations.specs.Declarations.{declarations as declarations_seen};
 ghost use Rattle.ss_names_declarations.specs.Firsts.{place_in};
-ghost use Rattle.ss_names.specs.Table.{declared};
-ghost use Rattle.ss_tables_rules.specs.Broken.{refusal_by, refusal_of_declarations};
+ghost use Rattle.ss_tables_rules.specs.Broken.{refusal_of_declarations};
 ghost use Rattle.ss_names_meaning.specs.Layouts.{layout};
 ghost use Rattle.ss_tables.specs.Tables.{AreTablesOf, NamesUnless, ReportsTableError, is_declared};
 
@@ -15,7 +15,7 @@ use ss_names::{NameId, Names};
 use ss_names_declarations::{Declaration, declarations_of};
 use ss_names_meaning::layout;
 use ss_tables_rules::{TableError, refusal_of, seed_of};
-use ss_tree::program::{Program, Section};
+use ss_tree::program::Program;
 use std::alloc::{AllocError, Global};
 use std::marker::Model;
 
@@ -58,19 +58,19 @@ fn names_unless(
     }
 }
 
-// The table of names of a program with these declarations and sections, if it breaks no rule.
+// The table of names of a program with these declarations, if it breaks no rule.
 fn names_of(
     alloc: Global,
+    program: &Program,
     declarations: &[Declaration],
-    sections: &[Section],
 ) -> Result<Names, TableError>
-    ensures kept { OnOk result (refusal_by declarations.now (map view_section sections.now) ≡ None) }
-    ensures made { IfOk result (λ names. names ≡ declared declarations.now) }
-    ensures refused { IfErr result (λ e. ReportsTableError e (refusal_by declarations.now (map view_section sections.now))) }
+    requires { declarations.now ≡ declarations_seen (view_program program.now) }
+    ensures made { IfOk result (λ names. AreTablesOf (view_program program.now) names) }
+    ensures refused { IfErr result (λ e. ReportsTableError e (refusal_of_declarations (view_program program.now))) }
 {
     let seed = seed_of(declarations);
     let names = Names::of(alloc, seed, declarations)?;
-    let broken = refusal_of(alloc, seed, &names, declarations, sections);
+    let broken = refusal_of(alloc, seed, &names, declarations, program);
     names_unless(names, broken)
 }
 
@@ -85,7 +85,7 @@ impl Tables {
         ensures refused { IfErr result (λ e. ReportsTableError e (refusal_of_declarations (view_program program.now))) }
     {
         let declarations = declarations_of(alloc, program)?;
-        let names = names_of(alloc, &declarations, &program.sections)?;
+        let names = names_of(alloc, program, &declarations)?;
         Ok(Tables { names })
     }
 
