@@ -70,8 +70,8 @@ pub(crate) fn class_named(
 fn counted(scope: &Scope<'_>, name: &Name) -> Result<CountedClass, ResolveError>
     ensures { Gives (λ x. x) result (counted (scope_seen scope.now) name.now) }
 {
-    match scope.names.meanings.get(&Spelling::derived(b'N', name)) {
-        Some(Meaning::Count { count }) => Ok(*count),
+    match scope.names.meanings.meaning(&Spelling::derived(b'N', name)) {
+        Some(Meaning::Count { count }) => Ok(count),
         _ => Err(ResolveError::Unresolved),
     }
 }

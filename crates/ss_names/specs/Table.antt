@@ -216,12 +216,12 @@ subject_of _ = None
 abbrev pub subjects_by : List (NameBytes × Meaning) → List NameBytes → List (Option Subject)
 subjects_by ms names = map (λ name. subject_of (value_for ms name)) names
 
--- a table with what names mean
-abbrev pub with_meanings : Table → List (NameBytes × Meaning) → Option Line → List (Option Subject) → Table
-with_meanings t ms line found = record t { meanings = ms; clash = line; subjects = found }
-
 abbrev pub declared : List Declaration → Table
-declared ds = with_meanings (numbered ds) (meanings ds) (first_line (clashes ds)) (subjects_by (meanings ds) (keys_of (histories ds)))
+declared ds = record (numbered ds) {
+  meanings = meanings ds;
+  clash = first_line (clashes ds);
+  subjects = subjects_by (meanings ds) (keys_of (histories ds));
+}
 
 -- the table of a program
 abbrev pub table : ProgramTree → Table
