@@ -16,14 +16,14 @@ use Rattle.ss_names.specs.Table.{Entered, Table, clashes, clashes_after, declare
 use Rattle.ss_names.specs.Filling.{clash_after, enter, meanings_pass}
 
 -- a table with these meanings and this clash
-abbrev meant : Table → List (NameBytes × Meaning) → Option Line → Table
+abbrev pub meant : Table → List (NameBytes × Meaning) → Option Line → Table
 meant t ms line = record t { meanings = ms; clash = line }
 
-abbrev pair_of : Entered → NameBytes × Meaning
+abbrev pub pair_of : Entered → NameBytes × Meaning
 pair_of e = (e.name, e.meaning)
 
 -- the clash after these are entered
-abbrev clash_of : List (NameBytes × Meaning) → Option Line → List Entered → Option Line
+abbrev pub clash_of : List (NameBytes × Meaning) → Option Line → List Entered → Option Line
 clash_of ms line [] = line
 clash_of ms line (e ∷ es) = clash_of (with_first ms (pair_of e)) (clash_after line (value_for ms e.name) e.meaning e.line) es
 

@@ -136,7 +136,7 @@ field_more mode n owned e lt =
 
 -- ---- attributes of classes that are declared
 
-abbrev AllBelow : ℕ → List (NameBytes × ℕ) → Type 0
+abbrev pub AllBelow : ℕ → List (NameBytes × ℕ) → Type 0
 AllBelow n [] = Unit {0}
 AllBelow n (e ∷ es) = (e.1 < n) × AllBelow n es
 

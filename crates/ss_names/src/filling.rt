@@ -237,12 +237,33 @@ fn push_attribute(names: &mut Names, attribute: Name, class: usize) -> Result<()
     names.attributes.insert_new(attribute, entry)
 }
 
+// Whether a name is that of an attribute.
+fn has_attribute(names: &Names, name: &Name) -> bool
+    ensures { result ≡ is_some (value_for names.now.attributes name.now) }
+{
+    has_entry(&names.attributes, name)
+}
+
+// The number of a class.
+fn class_number(names: &Names, class: &Name) -> Option<usize>
+    ensures { result ≡ place_in names.now.classes class.now }
+{
+    names.classes.place(class)
+}
+
+// The number of a set.
+fn set_number(names: &Names, set: &Name) -> Option<usize>
+    ensures { result ≡ place_among names.now.set_names set.now }
+{
+    names.set_names.place(set)
+}
+
 // Enters an attribute of the class of this number, unless its name has an entry.
 fn add_field(names: &mut Names, attribute: Name, class: usize) -> Result<(), AllocError>
     requires { class < length names.old.fields }
     ensures { OnOk result (names.new ≡ with_fields names.old (with_field (mode_named names.old) (fields_of names.old) (attribute, class))) }
 {
-    if has_entry(&names.attributes, &attribute) {
+    if has_attribute(names, &attribute) {
         return Ok(());
     }
     push_attribute(names, attribute, class)
@@ -253,7 +274,7 @@ fn add_attribute(names: &mut Names, attribute: Name, class: &Name) -> Result<(),
     requires { HasRows names.old }
     ensures { OnOk result (names.new ≡ with_fields names.old (fields_added names.old (entry_if attribute (place_in names.old.classes class.now)))) }
 {
-    match names.classes.place(class) {
+    match class_number(names, class) {
         Some(class) => add_field(names, attribute, class),
         None => Ok(()),
     }
@@ -304,8 +325,9 @@ fn merge_set(names: &mut Names, set: &Name, more: Set)
     requires { HasRows names.old }
     ensures { names.new ≡ with_sets names.old (with_set names.old.set_names names.old.sets (set.now, more)) }
 {
-    if let Some(number) = names.set_names.place(set) {
-        merge_at(&mut names.sets, number, more);
+    match set_number(names, set) {
+        Some(number) => merge_at(&mut names.sets, number, more),
+        None => {}
     }
 }
 
@@ -323,7 +345,7 @@ fn add_notice(names: &mut Names, class: &Name) -> Result<(), AllocError>
     if !is_notice(names, class) {
         return Ok(());
     }
-    match names.classes.place(class) {
+    match class_number(names, class) {
         Some(number) => names.ranks.insert_new(number),
         None => Ok(()),
     }
@@ -347,7 +369,7 @@ fn add_entities(names: &mut Names, what: &Declared) -> Result<(), AllocError>
             Ok(())
         }
         Declared::Member { set, class } => {
-            let member = names.classes.place(class);
+            let member = class_number(names, class);
             let said = Set {
                 owner: None,
                 member,
@@ -395,7 +417,7 @@ fn fill_entities(names: &mut Names, declarations: &[Declaration]) -> Result<(), 
 fn add_variable(names: &mut Names, variable: &Name, mode: Mode) -> Result<(), AllocError>
     ensures { OnOk result (names.new ≡ with_variables names.old (fold with_first names.old.variables (if is_some (value_for names.old.attributes variable.now) then [] else (variable.now, mode) ∷ []))) }
 {
-    if has_entry(&names.attributes, variable) {
+    if has_attribute(names, variable) {
         return Ok(());
     }
     insert_spelled(&mut names.variables, Spelling::of_name(variable), mode)
@@ -665,7 +687,7 @@ fn enter_numbered(names: &mut Names, line: Line, name: &Name, set: usize) -> Res
 fn enter_set(names: &mut Names, line: Line, name: &Name) -> Result<(), AllocError>
     ensures { OnOk result (names.new ≡ fold (enter line) names.old (set_meanings name.now (place_among names.old.set_names name.now))) }
 {
-    match names.set_names.place(name) {
+    match set_number(names, name) {
         Some(set) => enter_numbered(names, line, name, set),
         None => Ok(()),
     }
@@ -689,7 +711,7 @@ fn attribute_meaning(names: &Names, attribute: &Name) -> Option<Meaning>
 fn variable_meaning(names: &Names, variable: &Name, mode: Mode) -> Option<Meaning>
     ensures { result ≡ variable_meaning names.now variable.now mode }
 {
-    if has_entry(&names.attributes, variable) {
+    if has_attribute(names, variable) {
         return None;
     }
     match names.variables.place(&Spelling::of_name(variable)) {
