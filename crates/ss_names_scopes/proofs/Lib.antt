@@ -1,2 +1,2 @@
 mod Entering
-mod Placing
+mod Found
