@@ -155,8 +155,8 @@ impl Names {
         row_at(&self.fields, class)
     }
 
-    // The set of this number.
-    fn set_at(&self, number: usize) -> Option<Set>
+    /// The set of this number. None if there are not so many.
+    pub fn set_at(&self, number: usize) -> Option<Set>
         ensures { result ≡ slice_get self.now.sets number }
     {
         self.sets.get(number).copied()

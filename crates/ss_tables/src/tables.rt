@@ -51,7 +51,7 @@ impl Tables {
         let declarations = declarations_of(alloc, program)?;
         let seed = seed_of(&declarations);
         let names = Names::of(alloc, seed, &declarations)?;
-        match refusal_of(alloc, seed, &names, &declarations, &program.sections)? {
+        match refusal_of(alloc, seed, &names, &declarations, program)? {
             Some(error) => Err(error),
             None => Ok(Tables { names }),
         }
