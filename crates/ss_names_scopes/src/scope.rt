@@ -1,7 +1,8 @@
 //! What a name means in a section.
 
 ghost use Rattle.ss_names_scopes.specs.Seen.{scope_seen};
-ghost use Rattle.std.specs.Prelude.{◌≡◌, slice_get};
+ghost use Rattle.std.specs.Prelude.{◌≡◌, ◌+◌, slice_get};
+ghost use Rattle.std.specs.Map.{values_of};
 ghost use Rattle.ss_names_scopes.specs.Scopes.{implied, known_mode, meaning, meaning_of_class, meaning_of_name, mode_at, mode_given, mode_of, parameter_mode, variable_of};
 
 use crate::locals::Locals;
@@ -46,6 +47,35 @@ fn mode_in_section(sections: &[Locals], section: usize, number: usize) -> Option
 {
     match sections.get(section) {
         Some(locals) => mode_given(locals.mode_at(number)),
+        None => None,
+    }
+}
+
+// The mode of the parameter of a section that comes so many places after those that it is given.
+fn mode_after(locals: &Locals, given: usize, place: usize) -> Option<Mode>
+    ensures { result ≡ mode_given (slice_get (values_of locals.now) (given + place)) }
+{
+    let count = locals.len();
+    if count <= place {
+        return None;
+    }
+    if count - place <= given {
+        return None;
+    }
+    mode_given(locals.mode_at(given + place))
+}
+
+// The mode of what the routine of a section yields in this place, after those that it is given.
+fn yielded_in_section(
+    sections: &[Locals],
+    section: usize,
+    given: usize,
+    place: usize,
+) -> Option<Mode>
+    ensures { result ≡ mode_at (slice_get sections.now section) (given + place) }
+{
+    match sections.get(section) {
+        Some(locals) => mode_after(locals, given, place),
         None => None,
     }
 }
@@ -128,5 +158,12 @@ impl<'a> Scope<'a> {
         ensures { result ≡ parameter_mode (scope_seen self.now) section number }
     {
         mode_in_section(self.sections, section, number)
+    }
+
+    /// The mode of what a routine yields in this place, after so many that it is given.
+    pub fn yielded_mode(&self, section: usize, given: usize, place: usize) -> Option<Mode>
+        ensures { result ≡ parameter_mode (scope_seen self.now) section (given + place) }
+    {
+        yielded_in_section(self.sections, section, given, place)
     }
 }

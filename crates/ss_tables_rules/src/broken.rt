@@ -1,6 +1,7 @@
 //! The first rule that a program breaks by what it declares.
 
-ghost use Rattle.std.specs.Prelude.{◌≡◌, IfOk};
+ghost use Rattle.std.specs.Prelude.{◌≡◌, option_map, IfOk};
+ghost use Rattle.ss_tables_rules.specs.declared.error.TableError.TheVariants as e;
 ghost use Rattle.ss_tree.specs.View.{view_program};
 ghost use Rattle.ss_names.specs.Table.{declared};
 ghost use Rattle.ss_names_declarations.specs.Declarations.{declarations as declarations_seen};
@@ -11,7 +12,7 @@ use crate::error::TableError;
 use crate::keys::misranked;
 use crate::modes::unmoded;
 use crate::once::repeated;
-use ss_base::Name;
+use ss_base::{Line, Name};
 use ss_names::Names;
 use ss_names_declarations::{Declaration, Declared, Seed};
 use ss_tree::program::Program;
@@ -50,6 +51,16 @@ pub fn seed_of(declarations: &[Declaration]) -> Seed {
     Seed::of(&names)
 }
 
+// The breach of a name that is declared as two things.
+fn clash_breach(clash: Option<Line>) -> Option<TableError>
+    ensures { result ≡ option_map e.Twice clash }
+{
+    match clash {
+        Some(line) => Some(TableError::Twice(line)),
+        None => None,
+    }
+}
+
 /// The first rule that a program breaks by what it declares, in the order of the rules' numbers, with the first line where
 /// it does; None where it breaks none. The declarations are those of the program, and the table is made from them.
 ///
@@ -66,7 +77,7 @@ pub fn refusal_of(
     requires names { names.now ≡ declared declarations.now }
     ensures { IfOk result (λ b. b ≡ refusal_of_declarations (view_program program.now)) }
 {
-    let clash = names.clash.map(TableError::Twice);
+    let clash = clash_breach(names.clash);
     let once = repeated(alloc, seed, names, declarations, clash)?;
     let by_table = declared_breaks(names, declarations, once);
     let by_keys = misranked(names, &program.preamble, by_table);
