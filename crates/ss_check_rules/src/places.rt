@@ -1,10 +1,10 @@
 //! The rules on named places and on modes.
 
-ghost use Rattle.std.specs.Prelude.{◌≡◌, ◌||◌, not, Some, slice_get};
+ghost use Rattle.std.specs.Prelude.{◌≡◌, ◌&&◌, ◌||◌, not, slice_get};
 ghost use Rattle.ss_names_declarations.specs.Firsts.{place_in, value_for};
 ghost use Rattle.ss_names_scopes.specs.Seen.{scope_seen};
 ghost use Rattle.ss_check_rules.specs.declared.error.CheckError.TheVariants as e;
-ghost use Rattle.ss_check_rules.specs.Kinds.{if_means, is_mean, is_target};
+ghost use Rattle.ss_check_rules.specs.Kinds.{if_means, is_mean, is_target, takes_values};
 ghost use Rattle.ss_check_rules.specs.Modes.{attribute_mode, differ, field_mode, given_mode, is_mean_as_value, is_text, mixes_modes, mode_meant, mode_of_attribute, mode_said, yielded_mode};
 ghost use Rattle.ss_check_rules.specs.Refusal.{class_breaks, meant_breaks, place_breaks, unless};
 ghost use Rattle.ss_names_scopes.specs.Scopes.{meaning};
@@ -177,6 +177,13 @@ fn is_target(role: Role) -> bool
     matches!(role, Role::Target)
 }
 
+// Whether a place is a target that takes no values.
+fn is_fixed(role: Role, meaning: Meaning) -> bool
+    ensures { result ≡ (is_target role && not (takes_values meaning)) }
+{
+    is_target(role) && !takes_values(meaning)
+}
+
 // The first of the rules after its kind that a place in a role breaks, which means this.
 fn meant_breaks(
     scope: &Scope<'_>,
@@ -194,8 +201,7 @@ fn meant_breaks(
     if !suits_subscripts(scope.names, meaning, subscripts) {
         return Some(CheckError::Subscript(line));
     }
-    let takes = takes_values(meaning);
-    if is_target(role) && !takes {
+    if is_fixed(role, meaning) {
         return Some(CheckError::NotAssignable(line));
     }
     unless(
@@ -223,6 +229,13 @@ pub fn place_breaks(
     }
 }
 
+// Whether an entity is named, or that in the variable of its class is a number.
+fn is_number(called: bool, meaning: Option<Meaning>) -> bool
+    ensures { result ≡ (called || not (is_text meaning)) }
+{
+    called || !is_text(meaning)
+}
+
 /// The first of the rules that a class breaks: it is of another kind, or its entity is in a variable of texts.
 pub fn class_breaks(
     scope: &Scope<'_>,
@@ -234,8 +247,8 @@ pub fn class_breaks(
     ensures { result ≡ class_breaks (scope_seen scope.now) line need class.now called }
 {
     if suits_class(scope.names.meaning(class), need) {
-        let text = is_text(scope.meaning_of_name(class));
-        unless(called || !text, CheckError::Mode(line))
+        let meaning = scope.meaning_of_name(class);
+        unless(is_number(called, meaning), CheckError::Mode(line))
     } else {
         Some(CheckError::Unknown(line))
     }

@@ -2,13 +2,13 @@
 
 ghost use Rattle.std.specs.Prelude.{◌≡◌, None, length, map, IfOk};
 ghost use Rattle.std.specs.List.{flat_map, fold, list_any};
-ghost use Rattle.ss_tree.specs.View.{view_program, view_section};
+ghost use Rattle.ss_tree.specs.View.{view_preamble, view_program, view_section};
 ghost use Rattle.ss_names.specs.Table.{table};
-ghost use Rattle.ss_names_declarations.specs.Earliest.{earlier};
+ghost use Rattle.ss_names_declarations.specs.Earliest.{earlier, earliest};
 ghost use Rattle.ss_names_uses.specs.Uses.{uses};
 ghost use Rattle.ss_names_scopes.specs.Locals.{locals_of, uses_seen};
 ghost use Rattle.ss_check_rules.specs.Order.{order_of};
-ghost use Rattle.ss_check_rules.specs.Refusal.{in_program, in_section, is_main_section, refusal_of_uses};
+ghost use Rattle.ss_check_rules.specs.Refusal.{breaches, in_program, in_section, is_main_section, refusal_of_uses};
 
 use crate::error::CheckError;
 use crate::preamble::preamble_breaks;
@@ -18,6 +18,7 @@ use ss_names::Names;
 use ss_names_declarations::earlier;
 use ss_names_scopes::{Locals, Scope, all_locals};
 use ss_names_uses::{Use, uses_of};
+use ss_tree::preamble::PreambleStatement;
 use ss_tree::program::{Program, Section, SectionKind};
 use std::alloc::{AllocError, Global};
 
@@ -33,12 +34,11 @@ fn is_main(section: &Section) -> bool
 
 // Whether one of these sections is MAIN.
 fn has_main(sections: &[Section]) -> bool
-    ensures { result ≡ list_any is_main_section (map view_section sections.now) }
+    ensures { result ≡ list_any (λ section. is_main_section (view_section section)) sections.now }
 {
     let mut any = false;
     for section in sections {
-        let one = is_main(section);
-        any = any || one;
+        any = any || is_main(section);
     }
     any
 }
@@ -92,6 +92,25 @@ fn sections_break(
     found
 }
 
+// The first rule that a program breaks, whose sections have these uses and local variables.
+fn program_judged(
+    names: &Names,
+    preamble: &[PreambleStatement],
+    sections: &[Section],
+    all: &[Vec<Use>],
+    locals: &[Locals],
+) -> Option<CheckError>
+    requires each { length all.now ≡ length sections.now }
+    requires every { length locals.now ≡ length sections.now }
+    requires uses { map uses_seen all.now ≡ map uses (map view_section sections.now) }
+    requires locals { locals.now ≡ map (locals_of names.now) (map view_section sections.now) }
+    ensures { result ≡ earliest order_of (breaches names.now (record { preamble = map view_preamble preamble.now; sections = map view_section sections.now })) }
+{
+    let by_preamble = preamble_breaks(names, preamble, None);
+    let by_program = program_breaks(sections, by_preamble);
+    sections_break(names, sections, all, locals, by_program)
+}
+
 /// The first rule that a program breaks, in the order 71, 72, 78, 79, 75, 76, 74, 73, 77, each over the whole program, with the
 /// first line where it does, 0 for 71. None where it breaks none. And the local variables of each of its sections.
 ///
@@ -108,8 +127,6 @@ pub fn judge(
 {
     let all = all_uses(alloc, &program.sections)?;
     let locals = all_locals(alloc, names, &all)?;
-    let by_preamble = preamble_breaks(names, &program.preamble, None);
-    let by_program = program_breaks(&program.sections, by_preamble);
-    let by_sections = sections_break(names, &program.sections, &all, &locals, by_program);
-    Ok((by_sections, locals))
+    let found = program_judged(names, &program.preamble, &program.sections, &all, &locals);
+    Ok((found, locals))
 }

@@ -1,17 +1,16 @@
 -- Names that are entered one after another, with their modes.
-use Rattle.std.proofs.Common.{◌≡◌, ℕ, ◌+◌, ◌<◌, List, [], ◌∷◌, ◌++◌, Option, Some, None, length, get_or, map, take, refl, sym, ap, ◌∙◌, arith}
-use Rattle.std.specs.Prelude.{slice_get}
+use Rattle.std.proofs.Common.{◌≡◌, ℕ, ◌+◌, ◌<◌, List, [], ◌∷◌, ◌++◌, Option, length, get_or, map, take, sym, ap, ◌∙◌}
 use Rattle.std.specs.List.{flat_map, fold}
 use Rattle.std.specs.Option.{option_or}
 use Rattle.std.proofs.Math.Path.{fun_ext}
-use Rattle.std.proofs.lemmas.Grind.{flat_map-append}
-use Rattle.std.proofs.lemmas.List.{map-append, take_more}
+use Rattle.std.proofs.lemmas.List.{map-append}
 use Rattle.std.proofs.lemmas.List.Sums.{fold-append}
 use Rattle.ss_base.specs.declared.layout.Mode.{Mode}
 use Rattle.ss_tree.specs.Names.{NameBytes}
 use Rattle.ss_names_declarations.specs.Firsts.{firsts, value_for, with_first}
 use Rattle.ss_names_declarations.proofs.Entries.{value_in_firsts}
 use Rattle.ss_names_scopes.specs.Locals.{moded_in}
+use Rattle.ss_names_scopes.proofs.Finding.{list_more}
 
 -- the mode of a name is found among the first entries
 pub moded_found : (usual : Option Mode) (all modes : List (NameBytes × Mode)) → modes ≡ firsts all → moded_in usual modes ≡ moded_in usual all
@@ -19,18 +18,6 @@ moded_found usual all modes is =
     fun_ext (λ name.
     ap (λ (l : List (NameBytes × Mode)). moded_in usual l name) is
     ∙ ap (λ (mode : Option Mode). (name, option_or mode usual)) (value_in_firsts all name))
-
-append_nil : {A : Type 0} (xs : List A) → xs ++ [] ≡ xs
-append_nil [] = refl
-append_nil (x ∷ xs) = ap (λ l. x ∷ l) (append_nil xs)
-
--- one more item
-next_one : {X : Type 0} (xs : List X) (i : ℕ) (x : X) → i < length xs → x ≡ get_or xs i x → take (i + 1) xs ≡ take i xs ++ x ∷ []
-next_one xs i x lt is = take_more xs i x lt ∙ ap (λ y. take i xs ++ y ∷ []) (sym is)
-
-list_more : {X A : Type 0} (f : X → List A) (xs : List X) (i : ℕ) (x : X) → i < length xs → x ≡ get_or xs i x → flat_map f (take i xs) ++ f x ≡ flat_map f (take (i + 1) xs)
-list_more f xs i x lt is =
-    sym (ap (flat_map f) (next_one xs i x lt is) ∙ flat_map-append f (take i xs) (x ∷ []) ∙ ap (λ l. flat_map f (take i xs) ++ l) (append_nil (f x)))
 
 -- the entries of one more item come last
 pub firsts_after : {X V : Type 0} (f : X → List (NameBytes × V)) (xs : List X) (i : ℕ) (x : X) (before after : List (NameBytes × V)) → i < length xs → x ≡ get_or xs i x → before ≡ firsts (flat_map f (take i xs)) → after ≡ fold with_first before (f x) → after ≡ firsts (flat_map f (take (i + 1) xs))
@@ -44,11 +31,3 @@ mapped_firsts_after g f xs i x before after lt is b a =
     a ∙ ap (λ l. fold with_first l (map g (f x))) b
     ∙ sym (fold-append with_first [] (map g (flat_map f (take i xs))) (map g (f x)))
     ∙ ap firsts (sym (map-append g (flat_map f (take i xs)) (f x)) ∙ ap (map g) (list_more f xs i x lt is))
-
--- a loop that adds the image of each item
-pub mapped_after : {X A B : Type 0} (view : X → B) (f : B → A) (xs : List X) (i : ℕ) (x : X) (y : A) (before after : List A) → i < length xs → x ≡ get_or xs i x → before ≡ map f (map view (take i xs)) → y ≡ f (view x) → after ≡ before ++ y ∷ [] → after ≡ map f (map view (take (i + 1) xs))
-mapped_after view f xs i x y before after lt is b e a =
-    a ∙ (λ k. b k ++ e k ∷ [])
-    ∙ sym (ap (λ l. map f (map view l)) (next_one xs i x lt is)
-    ∙ ap (map f) (map-append view (take i xs) (x ∷ []))
-    ∙ map-append f (map view (take i xs)) (view x ∷ []))

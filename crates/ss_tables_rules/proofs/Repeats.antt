@@ -15,7 +15,7 @@ use Rattle.ss_tables_rules.specs.declared.error.TableError.{TableError}
 use Rattle.ss_tables_rules.specs.Keyed.{Key, again_by_key, has_key, key_if, key_of, repeats_by_key, same_key, with_key}
 use Rattle.ss_tables_rules.specs.Once.{again, is_among, once_of, repeats_after, said_again, same_once, with_said}
 use Rattle.ss_tables_rules.specs.Order.{order_of}
-use Rattle.ss_tables_rules.proofs.Finding.{earlier_of_list}
+use Rattle.ss_names_scopes.proofs.Finding.{earlier_of_list}
 
 -- ---- keys
 
@@ -71,7 +71,7 @@ repeat_more t said after found next total ds i x lt is n a h =
     let key = key_if (once_of t x.what) in
     let breach = again_by_key said x.line x.what key in
     (λ k. fold (earlier order_of) (n k) (repeats_by_key t (a k) rest))
-    ∙ ap (λ (b : Option TableError). fold (earlier order_of) b (repeats_by_key t (with_key said key) rest)) (earlier_of_list found breach)
+    ∙ ap (λ (b : Option TableError). fold (earlier order_of) b (repeats_by_key t (with_key said key) rest)) (earlier_of_list order_of found breach)
     ∙ sym (fold-append (earlier order_of) found (as_list breach) (repeats_by_key t (with_key said key) rest))
     ∙ ap (λ (y : Declaration). fold (earlier order_of) found (repeats_by_key t said (y ∷ rest))) is
     ∙ sym (at_drop_more (λ (l : List Declaration). fold (earlier order_of) found (repeats_by_key t said l)) ds i x lt)

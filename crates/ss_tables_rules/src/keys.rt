@@ -76,8 +76,7 @@ fn is_foreign_to_any(names: &Names, sets: &[Name], key: Option<usize>) -> bool
 {
     let mut any = false;
     for set in sets {
-        let one = is_foreign(key, member_named(names, set));
-        any = any || one;
+        any = any || is_foreign(key, member_named(names, set));
     }
     any
 }

@@ -1,6 +1,6 @@
 use Rattle.std.proofs.Common.{ap, ◌∙◌}
 use Rattle.ss_names_scopes.specs.Locals.{locals, uses_seen}
-use Rattle.ss_names_scopes.proofs.Entering.{mapped_after}
+use Rattle.ss_names_scopes.proofs.Finding.{mapped_after}
 use Rattle.ss_names_scopes.proofs.locals.all_locals.Goals as goal
 
 pub loop-uses-preserved : goal.loop-uses-preserved

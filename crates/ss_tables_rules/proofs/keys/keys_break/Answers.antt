@@ -5,7 +5,8 @@ use Rattle.ss_names_declarations.specs.Firsts.{value_for}
 use Rattle.ss_tables_rules.specs.Keys.{class_of, is_foreign, is_foreign_to_any, misranked_key}
 use Rattle.ss_tables_rules.specs.Order.{order_of}
 use Rattle.ss_tables_rules.specs.declared.error.TableError.TheVariants as e
-use Rattle.ss_tables_rules.proofs.Finding.{earlier_if, found_after}
+use Rattle.ss_names_scopes.proofs.Finding.{found_after}
+use Rattle.ss_tables_rules.proofs.Finding.{earlier_if}
 use Rattle.ss_tables_rules.proofs.Foreign.{foreign_by_first}
 use Rattle.ss_tables_rules.proofs.keys.keys_break.Goals as goal
 

@@ -2,7 +2,7 @@ use Rattle.ss_tree.specs.View.{view_section}
 use Rattle.ss_names_declarations.specs.Earliest.{earlier}
 use Rattle.ss_tables_rules.specs.Order.{order_of}
 use Rattle.ss_tables_rules.specs.Rules.{unmoded_in}
-use Rattle.ss_tables_rules.proofs.Finding.{viewed_after}
+use Rattle.ss_names_scopes.proofs.Finding.{viewed_after}
 use Rattle.ss_tables_rules.proofs.modes.sections_break.Goals as goal
 
 pub loop-section-preserved : goal.loop-section-preserved

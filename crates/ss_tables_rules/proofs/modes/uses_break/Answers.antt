@@ -4,7 +4,8 @@ use Rattle.ss_names_scopes.specs.Locals.{local_of}
 use Rattle.ss_tables_rules.specs.Order.{order_of}
 use Rattle.ss_tables_rules.specs.Rules.{lacks_mode, unmoded_use}
 use Rattle.ss_tables_rules.specs.declared.error.TableError.TheVariants as e
-use Rattle.ss_tables_rules.proofs.Finding.{earlier_if, found_after}
+use Rattle.ss_names_scopes.proofs.Finding.{found_after}
+use Rattle.ss_tables_rules.proofs.Finding.{earlier_if}
 use Rattle.ss_tables_rules.proofs.modes.uses_break.Goals as goal
 
 pub loop-one-preserved : goal.loop-one-preserved
