@@ -17,7 +17,7 @@ use Rattle.ss_names_declarations.specs.declared.declaration.Declaration.{Declara
 use Rattle.ss_names_declarations.proofs.Entries.{keys_append}
 use Rattle.ss_names.specs.declared.entry.Attribute.{Attribute}
 use Rattle.ss_names.specs.Entries.{attribute_after, attribute_by, attributes_after, attributes_of_class, fields_by_class, given_by}
-use Rattle.ss_names.specs.Filling.{Fields, field_pushed, row_pushed, with_field}
+use Rattle.ss_names.specs.Filling.{Fields, field_pushed, with_field}
 
 -- ---- rows
 
@@ -150,7 +150,7 @@ below_by true p n k lt h =
     grind (arith, nat_tests)
 below_by false p n k lt h = absurd cc
 
-place_below : (names : List NameBytes) (name : NameBytes) (k : ℕ) → place_among names name ≡ Some k → k < length names
+pub place_below : (names : List NameBytes) (name : NameBytes) (k : ℕ) → place_among names name ≡ Some k → k < length names
 place_below names name k h =
     let p = position_or_len (same_name name) names in
     below_by (nat_lt p (length names)) p (length names) k refl h
@@ -159,10 +159,13 @@ as_many_keys : {V : Type 0} (cs : List (NameBytes × V)) → length (keys_of cs)
 as_many_keys [] = refl
 as_many_keys (c ∷ cs) = ap suc (as_many_keys cs)
 
+pub class_below : {V : Type 0} (cs : List (NameBytes × V)) (class : NameBytes) (k : ℕ) → place_in cs class ≡ Some k → k < length cs
+class_below cs class k h = subst (λ n. k < n) (as_many_keys cs) (place_below (keys_of cs) class k h)
+
 entry_below : {V : Type 0} (cs : List (NameBytes × V)) (name class : NameBytes) (o : Option ℕ) → place_in cs class ≡ o → AllBelow (length cs) (entry_if name o)
 entry_below cs name class None h = tt
 entry_below cs name class (Some k) h =
-    (subst (λ n. k < n) (as_many_keys cs) (place_below (keys_of cs) class k h), tt)
+    (class_below cs class k h, tt)
 
 attribute_below : (cs : List (NameBytes × ClassKind)) (w : Declared) → AllBelow (length cs) (attribute_by cs w)
 attribute_below cs (declared.Attribute name class) = entry_below cs name class (place_in cs class) refl

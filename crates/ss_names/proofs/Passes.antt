@@ -1,7 +1,6 @@
 -- What all passes together make of a list of declarations.
-use Rattle.std.proofs.Common.{◌≡◌, ℕ, List, [], ◌∷◌, ◌++◌, length, map, Option, Some, None, refl, sym, ap, ◌∙◌, append_assoc}
+use Rattle.std.proofs.Common.{◌≡◌, List, [], ◌∷◌, ◌++◌, length, Option, Some, None, refl, sym, ap, ◌∙◌, append_assoc}
 use Rattle.std.specs.List.{fold}
-use Rattle.std.specs.Map.{keys_of}
 use Rattle.std.specs.Option.{option_or}
 use Rattle.std.proofs.lemmas.List.{length-map}
 use Rattle.std.proofs.lemmas.List.FromFn.{length-map-range_with_len}
@@ -10,7 +9,7 @@ use Rattle.ss_base.specs.declared.layout.Mode.{Mode}
 use Rattle.ss_tree.specs.Names.{NameBytes}
 use Rattle.ss_names_declarations.specs.Firsts.{with_first, with_name}
 use Rattle.ss_names_declarations.specs.declared.declaration.Declaration.{Declaration}
-use Rattle.ss_names.specs.Entries.{attribute_by, attribute_classes, attributes_of_class, class_by, classes, event_by, events, first_mode, given_by, histories, history_by, mode_by, mode_of_name, modes, notice_by, priority_by, rank_key_by, routine_by, routines, set_by, set_names, sets, tie_key_by, usual_by, usual_mode, variable_by, with_number}
+use Rattle.ss_names.specs.Entries.{attribute_by, attributes_of_class, class_by, classes, event_by, events, first_mode, given_by, histories, history_by, mode_by, mode_of_name, modes, notice_by, priority_by, rank_key_by, routine_by, routines, set_by, set_names, sets, tie_key_by, usual_by, usual_mode, variable_by, with_number}
 use Rattle.ss_names.specs.Table.{Table, declared, numbered}
 use Rattle.ss_names.specs.Filling.{Fields, HasRows, entities_filled, entities_pass, fields_of, filled, kept_mode, meanings_pass, mode_named, names_pass, no_names, no_set, pushed, set_part, variables_pass, with_field, with_rows, with_set, with_subjects}
 use Rattle.ss_names.proofs.Fields.{attributes_below, attributes_filled, rows_kept}

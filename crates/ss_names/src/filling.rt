@@ -312,9 +312,9 @@ fn set_at(sets: &[Set], number: usize) -> Option<Set>
 }
 
 // Enters what is said of the set of this number.
-fn merge_at(sets: &mut [Set], number: usize, more: Set)
-    requires { number < length sets.old }
-    ensures { sets.new ≡ merged_at sets.old number more }
+fn merge_at(sets: &mut Vec<Set>, number: usize, more: Set)
+    requires { number < length sets.old.items }
+    ensures { sets.new.items ≡ merged_at sets.old.items number more }
 {
     let merged = merged_with(set_at(sets, number), more);
     sets[number] = merged;

@@ -1,5 +1,5 @@
 -- Names that are entered one after another, with their modes.
-use Rattle.std.proofs.Common.{◌≡◌, ℕ, ◌+◌, ◌<◌, List, [], ◌∷◌, ◌++◌, Option, length, get_or, map, take, sym, ap, ◌∙◌}
+use Rattle.std.proofs.Common.{◌≡◌, ℕ, ◌+◌, ◌<◌, List, [], Option, length, get_or, map, take, sym, ap, ◌∙◌}
 use Rattle.std.specs.List.{flat_map, fold}
 use Rattle.std.specs.Option.{option_or}
 use Rattle.std.proofs.Math.Path.{fun_ext}
@@ -7,7 +7,7 @@ use Rattle.std.proofs.lemmas.List.{map-append}
 use Rattle.std.proofs.lemmas.List.Sums.{fold-append}
 use Rattle.ss_base.specs.declared.layout.Mode.{Mode}
 use Rattle.ss_tree.specs.Names.{NameBytes}
-use Rattle.ss_names_declarations.specs.Firsts.{firsts, value_for, with_first}
+use Rattle.ss_names_declarations.specs.Firsts.{firsts, with_first}
 use Rattle.ss_names_declarations.proofs.Entries.{value_in_firsts}
 use Rattle.ss_names_scopes.specs.Locals.{moded_in}
 use Rattle.ss_names_scopes.proofs.Finding.{list_more}

@@ -1,4 +1,4 @@
-use Rattle.std.proofs.Common.{◌≡◌, ◌<◌, List, length, map, ap, ◌∙◌, arith}
+use Rattle.std.proofs.Common.{◌<◌, List, length, map, ap, ◌∙◌, arith}
 use Rattle.std.specs.List.{flat_map, fold}
 use Rattle.ss_tree.specs.View.{view_section}
 use Rattle.ss_names_declarations.specs.Earliest.{earlier}

@@ -1,10 +1,10 @@
-use Rattle.std.proofs.Common.{◌≡◌, ◌++◌, sym, ap, ◌∙◌}
+use Rattle.std.proofs.Common.{◌≡◌, sym, ◌∙◌}
 use Rattle.std.specs.List.{fold}
 use Rattle.std.proofs.lemmas.List.Sums.{fold-append}
 use Rattle.std.proofs.lemmas.Result.{on_ok_weaker}
 use Rattle.ss_names_declarations.specs.Firsts.{entry_if}
 use Rattle.ss_names.specs.Entries.{count_name}
-use Rattle.ss_names.specs.Table.{Table, class_named, count_named}
+use Rattle.ss_names.specs.Table.{class_named, count_named}
 use Rattle.ss_names.specs.Filling.{enter}
 use Rattle.ss_names.proofs.filling.enter_class.Goals as goal
 

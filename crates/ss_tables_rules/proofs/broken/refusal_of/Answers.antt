@@ -2,7 +2,6 @@ use Rattle.std.proofs.Common.{◌≡◌, ◌++◌, List, Option, None, map, opti
 use Rattle.std.specs.List.{flat_map, fold}
 use Rattle.std.proofs.lemmas.List.Sums.{fold-append}
 use Rattle.std.proofs.lemmas.Result.{IfOk-weaker}
-use Rattle.ss_tree.specs.Tree.{PreambleTree, SectionTree}
 use Rattle.ss_tree.specs.View.{view_preamble, view_program, view_section}
 use Rattle.ss_names_declarations.specs.Declarations.{declarations}
 use Rattle.ss_names_declarations.specs.Earliest.{earlier}

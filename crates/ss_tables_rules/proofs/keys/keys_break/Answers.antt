@@ -1,4 +1,4 @@
-use Rattle.std.proofs.Common.{◌≡◌, ◌||◌, not, cond, [], ◌∷◌, ap, ◌∙◌}
+use Rattle.std.proofs.Common.{◌≡◌, ◌||◌, cond, [], ◌∷◌, ap, ◌∙◌}
 use Rattle.std.specs.List.{fold}
 use Rattle.ss_names_declarations.specs.Earliest.{earlier, earlier_of}
 use Rattle.ss_names_declarations.specs.Firsts.{value_for}
