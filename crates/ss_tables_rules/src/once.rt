@@ -155,16 +155,22 @@ fn said_again(line: Line, what: &Declared) -> TableError
 }
 
 // The breach of a declaration with this key, after what was said.
-fn again_by_key(said: &Keys<Key>, key: Option<Key>, declaration: &Declaration) -> Option<TableError>
-    ensures { result ≡ again_by_key said.now declaration.now.line declaration.now.what key }
+fn again_by_key(
+    said: &Keys<Key>,
+    key: &Option<Key>,
+    declaration: &Declaration,
+) -> Option<TableError>
+    ensures { result ≡ again_by_key said.now declaration.now.line declaration.now.what key.now }
 {
-    let Some(key) = key else {
-        return None;
-    };
-    if said.contains(&key) {
-        Some(said_again(declaration.line, &declaration.what))
-    } else {
-        None
+    match key {
+        Some(key) => {
+            if said.contains(key) {
+                Some(said_again(declaration.line, &declaration.what))
+            } else {
+                None
+            }
+        }
+        None => None,
     }
 }
 
@@ -195,7 +201,7 @@ pub fn repeated(
     let mut found = found;
     for declaration in declarations {
         let key = key_said(names, &declaration.what);
-        found = earlier_of(found, again_by_key(&said, key, declaration));
+        found = earlier_of(found, again_by_key(&said, &key, declaration));
         note_key(&mut said, key)?;
     }
     Ok(found)
