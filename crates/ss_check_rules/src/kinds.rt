@@ -8,6 +8,7 @@ ghost use Rattle.ss_check_rules.specs.Kinds.{has_value, if_means, is_kind, is_me
 
 use ss_base::{ClassKind, Name, Owner};
 use ss_names::{Meaning, Names};
+use ss_names_declarations::has_entry;
 use ss_names_scopes::{Scope, variable_of};
 use ss_names_uses::{ClassNeed, Role};
 use ss_program::expression::SetQuery;
@@ -118,7 +119,7 @@ fn is_watched_name(scope: &Scope<'_>, name: &Name) -> bool
     ensures { result ≡ is_watched_here (scope_seen scope.now) (designators.Name name.now) }
 {
     let names = scope.names;
-    let watched = names.histories.get(name).is_some();
+    let watched = has_entry(&names.histories, name);
     let hidden = scope.locals.mode(name);
     watched && hidden.is_none()
 }

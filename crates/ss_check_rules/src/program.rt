@@ -82,12 +82,14 @@ fn sections_break(
 {
     let mut found = found;
     for (number, section) in sections.iter().enumerate() {
+        let own = &locals[number];
+        let uses = &all[number];
         let scope = Scope {
             names,
-            locals: &locals[number],
+            locals: own,
             sections: locals,
         };
-        found = section_breaks(&scope, is_main(section), &all[number], found);
+        found = section_breaks(&scope, is_main(section), uses, found);
     }
     found
 }

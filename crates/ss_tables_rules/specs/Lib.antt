@@ -4,3 +4,4 @@ pub mod Once
 pub mod Keyed
 pub mod Keys
 pub mod Broken
+pub mod Examples
