@@ -5,7 +5,7 @@ ghost use Rattle.std.specs.List.{fold};
 ghost use Rattle.ss_tree.specs.Names.{NameBytes};
 ghost use Rattle.ss_names_declarations.specs.Firsts.{entry_if, place_among, place_in, value_for, with_first};
 ghost use Rattle.ss_names.specs.declared.meaning.Meaning.TheVariants as m;
-ghost use Rattle.ss_names.specs.Entries.{class_variables, count_name, fields_by_class, is_notice, notice_number, owner_named, row_of, usual_of, with_number};
+ghost use Rattle.ss_names.specs.Entries.{class_variables, count_name, fields_by_class, is_notice, notice_number, number_if, owner_named, row_of, usual_of, with_number};
 ghost use Rattle.ss_names.specs.Table.{attribute_meaning, class_meaning, class_named, count_meaning, count_named, declared, derived_name, fold_of, same_of_set, set_meanings, sooner, subject_of, subjects_by, variable_meaning};
 ghost use Rattle.ss_names.specs.Filling.{HasRows, add_entities, add_meanings, add_names, add_variables, clash_after, enter, entities_pass, field_pushed, fields_added, fields_of, kept_mode, letter_of_member, letter_of_set, meanings_pass, merged_at, merged_with, mode_named, names_pass, no_names, no_set, pushed, row_pushed, variables_pass, with_field, with_fields, with_ranks, with_rows, with_set, with_sets, with_subjects, with_variables};
 
@@ -338,14 +338,22 @@ fn is_notice(names: &Names, class: &Name) -> bool
     matches!(names.classes.get(class).copied(), Some(ClassKind::Notice))
 }
 
+// The number of a class of notices.
+fn notice_number(names: &Names, class: &Name) -> Option<usize>
+    ensures { number_if result ≡ notice_number names.now.classes class.now }
+{
+    if is_notice(names, class) {
+        class_number(names, class)
+    } else {
+        None
+    }
+}
+
 // Enters a class in the order of rank, if it is one of notices.
 fn add_notice(names: &mut Names, class: &Name) -> Result<(), AllocError>
     ensures { OnOk result (names.new ≡ with_ranks names.old (fold with_number names.old.ranks (notice_number names.old.classes class.now))) }
 {
-    if !is_notice(names, class) {
-        return Ok(());
-    }
-    match class_number(names, class) {
+    match notice_number(names, class) {
         Some(number) => names.ranks.insert_new(number),
         None => Ok(()),
     }
