@@ -3,9 +3,8 @@ use Rattle.std.specs.Prelude.{ℕ, Bool, true, false, not, List, [], ◌∷◌, 
 use Rattle.std.specs.List.{flat_map, list_any}
 use Rattle.ss_base.specs.declared.line.Line.{Line}
 use Rattle.ss_tree.specs.Names.{NameBytes}
-use Rattle.ss_tree.specs.Tree.{PreambleTree, define_sets}
+use Rattle.ss_tree.specs.Tree.{OrderTree, ranked, PreambleTree, define_sets}
 use Rattle.ss_tree.specs.declared.preamble.Key.{Key}
-use Rattle.ss_names_declarations.specs.Declarations.{keys_of_order}
 use Rattle.ss_names_declarations.specs.Firsts.{value_for}
 use Rattle.ss_names.specs.declared.entry.Attribute.{Attribute}
 use Rattle.ss_names.specs.declared.entry.Set.{Set}
@@ -39,6 +38,11 @@ is_foreign_to_any t sets key = list_any (λ set. is_foreign key (member_named t 
 abbrev pub misranked_key : Table → Line → List NameBytes → Key → List TableError
 misranked_key t line sets key =
     if is_foreign_to_any t sets (class_of (value_for t.attributes key.name)) then RankKey line ∷ [] else []
+
+-- the keys of a DEFINE
+abbrev pub keys_of_order : OrderTree → List Key
+keys_of_order (ranked keys) = keys
+keys_of_order _ = []
 
 abbrev pub misranked_in : Table → PreambleTree → List TableError
 misranked_in t (define_sets line sets order) = flat_map (misranked_key t line sets) (keys_of_order order)
