@@ -1,2 +1,1 @@
-mod Firsts
-mod Naming
+mod Sections

@@ -1,5 +1,5 @@
 -- Rule 74: other counts of arguments than are taken.
-use Rattle.std.specs.Prelude.{ℕ, Bool, true, false, ◌==◌, Option, Some, None, length, get_or, [], nat_le}
+use Rattle.std.specs.Prelude.{ℕ, Bool, true, ◌==◌, Option, Some, None, length, get_or, [], nat_le}
 use Rattle.ss_tree.specs.declared.expression.Function.{Function}
 use Rattle.ss_tree.specs.declared.expression.Function.TheVariants.{Div, Mod, Abs, Min, Max}
 use Rattle.ss_names_declarations.specs.Firsts.{place_in, value_for}

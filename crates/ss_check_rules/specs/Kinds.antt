@@ -1,11 +1,10 @@
 -- What names may be in their places: kinds, subscripts, and what takes values.
-use Rattle.std.specs.Prelude.{ℕ, Bool, true, false, not, ◌&&◌, ◌==◌, Option, Some, None, is_some, nat_le, if◌then◌else◌}
+use Rattle.std.specs.Prelude.{ℕ, Bool, true, false, ◌&&◌, ◌==◌, Option, Some, None, is_none, is_some, nat_le}
 use Rattle.std.specs.Map.{lookup}
 use Rattle.ss_base.specs.declared.layout.ClassKind.{ClassKind}
 use Rattle.ss_base.specs.declared.layout.ClassKind.TheVariants as kinds
 use Rattle.ss_base.specs.declared.layout.Owner.{Owner}
 use Rattle.ss_base.specs.declared.layout.Owner.TheVariants as owners
-use Rattle.ss_tree.specs.Names.{NameBytes}
 use Rattle.ss_tree.specs.declared.expression.Designator.{Designator}
 use Rattle.ss_tree.specs.declared.expression.Designator.TheVariants as designators
 use Rattle.ss_names_declarations.specs.Firsts.{same_name, value_for}
@@ -61,7 +60,7 @@ suits_class _ need = false
 -- whether a TALLY or an ACCUMULATE is of what a name means here: a local variable that hides it has none
 abbrev pub is_watched_here : Scope → Designator → Bool
 is_watched_here s (designators.Name name) =
-    is_some (value_for s.table.histories name) && not (is_some (lookup (same_name name) s.locals))
+    is_some (value_for s.table.histories name) && is_none (lookup (same_name name) s.locals)
 is_watched_here s _ = false
 
 -- what a place means in its role; no local variable hides a set

@@ -3,3 +3,4 @@ pub mod Kinds
 pub mod Modes
 pub mod Counts
 pub mod Refusal
+pub mod Examples

@@ -1,5 +1,5 @@
 -- The first of the rules 71 to 79 that a program breaks, and the first line of the text where it does.
-use Rattle.std.specs.Prelude.{ℕ, Bool, true, false, not, ◌&&◌, ◌||◌, ◌==◌, List, [], ◌∷◌, ◌++◌, map, Option, Some, None, is_some, if◌then◌else◌, nat_lt}
+use Rattle.std.specs.Prelude.{ℕ, Bool, true, false, not, ◌&&◌, ◌||◌, List, [], ◌∷◌, ◌++◌, Option, Some, None, is_some, if◌then◌else◌}
 use Rattle.std.specs.List.{flat_map, list_any}
 use Rattle.ss_base.specs.declared.line.Line.{Line}
 use Rattle.ss_tree.specs.Names.{NameBytes}
@@ -77,8 +77,12 @@ is_main _ = false
 abbrev pub is_main_section : SectionTree → Bool
 is_main_section s = is_main s.kind
 
+-- a use that breaks a rule
+abbrev pub breaks : Scope → Bool → Use → List CheckError
+breaks s in_main u = as_list (use_breaks s in_main u)
+
 abbrev pub in_section : Table → List SectionTree → SectionTree → List CheckError
-in_section t sections s = flat_map (λ u. as_list (use_breaks (scope_of t sections s) (is_main s.kind) u)) (uses s)
+in_section t sections s = flat_map (breaks (scope_of t sections s) (is_main s.kind)) (uses s)
 
 -- ---- the preamble and the program
 
@@ -106,7 +110,7 @@ abbrev pub in_program : List SectionTree → List CheckError
 in_program sections = if list_any is_main_section sections then [] else e.NoMain (record { 0 = 0 }) ∷ []
 
 abbrev pub breaches : Table → ProgramTree → List CheckError
-breaches t p = flat_map (in_preamble t) p.preamble ++ in_program p.sections ++ flat_map (in_section t p.sections) p.sections
+breaches t p = flat_map (in_preamble t) p.preamble ++ (in_program p.sections ++ flat_map (in_section t p.sections) p.sections)
 
 -- the first rule that a program breaks, at the first line where it does; none where it breaks none
 abbrev pub refusal_of_uses : ProgramTree → Option CheckError

@@ -1,11 +1,12 @@
 //! The rule on counts of arguments.
 
-ghost use Rattle.ss_check_rules.specs.declared.error.CheckError.TheVariants as e;
-ghost use Rattle.ss_check_rules.specs.Refusal.{unless};
-ghost use Rattle.ss_check_rules.specs.Counts.{argument_count, suits_count};
 ghost use Rattle.std.specs.Prelude.{◌≡◌};
+ghost use Rattle.ss_names_declarations.specs.Firsts.{place_in, value_for};
+ghost use Rattle.ss_check_rules.specs.declared.error.CheckError.TheVariants as e;
+ghost use Rattle.ss_check_rules.specs.Counts.{argument_count, has_attributes, is_given, is_yielded, suits_count};
+ghost use Rattle.ss_check_rules.specs.Refusal.{unless};
 
-use crate::error::CheckError;
+use crate::error::{CheckError, unless};
 use ss_base::{Line, Name};
 use ss_names::{Names, RoutineSection};
 use ss_names_uses::CountNeed;
@@ -16,13 +17,18 @@ fn argument_count(function: Function) -> usize
     ensures { result ≡ argument_count function }
 {
     match function {
+        Function::Div => 2,
+        Function::Mod => 2,
         Function::Abs => 1,
-        Function::Div | Function::Mod | Function::Min | Function::Max => 2,
+        Function::Min => 2,
+        Function::Max => 2,
     }
 }
 
 // Whether a CALL gives so many values, where the name is that of a routine.
-fn is_given(routine: Option<&RoutineSection>, found: usize) -> bool {
+fn is_given(found: usize, routine: Option<RoutineSection>) -> bool
+    ensures { result ≡ is_given found routine }
+{
     match routine {
         Some(routine) => found == routine.given,
         None => true,
@@ -30,30 +36,45 @@ fn is_given(routine: Option<&RoutineSection>, found: usize) -> bool {
 }
 
 // Whether a CALL takes so many values, where the name is that of a routine.
-fn is_yielded(routine: Option<&RoutineSection>, found: usize) -> bool {
+fn is_yielded(found: usize, routine: Option<RoutineSection>) -> bool
+    ensures { result ≡ is_yielded found routine }
+{
     match routine {
         Some(routine) => found == routine.yielding,
         None => true,
     }
 }
 
-// Whether a class has so many attributes at least, where the name is that of a class.
-fn has_attributes(names: &Names, class: &Name, found: usize) -> bool {
-    match names.classes.place(class) {
+// Whether a class has so many attributes at least, where there is one.
+fn has_attributes(names: &Names, found: usize, class: Option<usize>) -> bool
+    ensures { result ≡ has_attributes names.now found class }
+{
+    match class {
         Some(class) => found <= names.attributes_of(class).len(),
         None => true,
     }
 }
 
+// Whether so many arguments are taken.
+fn suits_count(names: &Names, found: usize, wanted: &CountNeed) -> bool
+    ensures { result ≡ suits_count names.now found wanted.now }
+{
+    match wanted {
+        CountNeed::Arguments(function) => found == argument_count(*function),
+        CountNeed::Given(routine) => is_given(found, names.routines.get(routine).copied()),
+        CountNeed::Yielded(routine) => is_yielded(found, names.routines.get(routine).copied()),
+        CountNeed::Attributes(class) => has_attributes(names, found, names.classes.place(class)),
+    }
+}
+
 /// The breach of another count of arguments than is wanted.
-pub fn count_breaks(names: &Names, line: Line, found: usize, wanted: &CountNeed) -> Option<CheckError>
+pub fn count_breaks(
+    names: &Names,
+    line: Line,
+    found: usize,
+    wanted: &CountNeed,
+) -> Option<CheckError>
     ensures { result ≡ unless (suits_count names.now found wanted.now) (e.Arguments line) }
 {
-    let suits = match wanted {
-        CountNeed::Arguments(function) => found == argument_count(*function),
-        CountNeed::Given(routine) => is_given(names.routines.get(routine), found),
-        CountNeed::Yielded(routine) => is_yielded(names.routines.get(routine), found),
-        CountNeed::Attributes(class) => has_attributes(names, class, found),
-    };
-    if suits { None } else { Some(CheckError::Arguments(line)) }
+    unless(suits_count(names, found, wanted), CheckError::Arguments(line))
 }

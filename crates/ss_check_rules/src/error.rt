@@ -2,6 +2,7 @@
 
 ghost use Rattle.std.specs.Prelude.{◌≡◌};
 ghost use Rattle.ss_check_rules.specs.Order.{order_of};
+ghost use Rattle.ss_check_rules.specs.Refusal.{unless};
 ghost use Rattle.ss_check_rules.specs.declared.error.CheckError.TheVariants.{Memory};
 
 use ss_base::Line;
@@ -43,6 +44,13 @@ pub enum CheckError {
     /// Memory was refused.
     #[error("out of memory")]
     Memory,
+}
+
+/// The breach of a rule, if it is broken.
+pub(crate) fn unless(holds: bool, breach: CheckError) -> Option<CheckError>
+    ensures { result ≡ unless holds breach }
+{
+    if holds { None } else { Some(breach) }
 }
 
 impl From<AllocError> for CheckError {

@@ -1,61 +1,183 @@
 //! The kinds of names that places need, their subscripts, and what takes values.
 
-ghost use Rattle.ss_names_scopes.specs.Seen.{scope_seen};
 ghost use Rattle.std.specs.Prelude.{◌≡◌};
-ghost use Rattle.ss_check_rules.specs.Kinds.{has_value, is_mean, is_watched_here, suits, suits_class, suits_subscripts, takes_values};
+ghost use Rattle.ss_names_scopes.specs.Seen.{scope_seen};
+ghost use Rattle.ss_names_uses.specs.declared.used.Role.TheVariants as roles;
+ghost use Rattle.ss_tree.specs.declared.expression.Designator.TheVariants as designators;
+ghost use Rattle.ss_check_rules.specs.Kinds.{has_value, if_means, is_kind, is_mean, is_routine, is_set, is_variable, is_watched_here, may_be_watched, may_have, meaning_in_role, suits, suits_class, suits_subscripts, takes_values};
 
-use ss_base::{ClassKind, Owner};
+use ss_base::{ClassKind, Name, Owner};
 use ss_names::{Meaning, Names};
+use ss_names_declarations::has_entry;
 use ss_names_scopes::{Scope, variable_of};
 use ss_names_uses::{ClassNeed, Role};
+use ss_program::expression::SetQuery;
 use ss_tree::expression::Designator;
 
-/// Whether it may be a value or a target: all but sets and routines.
-pub fn has_value(meaning: Meaning) -> bool
+// ---- kinds
+
+// Whether it may be a value or a target: all but sets and routines.
+fn has_value(meaning: Meaning) -> bool
     ensures { result ≡ has_value meaning }
 {
-    !matches!(meaning, Meaning::Set { .. } | Meaning::Routine { .. })
+    match meaning {
+        Meaning::Set { .. } => false,
+        Meaning::Routine { .. } => false,
+        _ => true,
+    }
+}
+
+// Whether a name means what may be a value or a target.
+fn if_value(meaning: Option<Meaning>) -> bool
+    ensures { result ≡ if_means has_value meaning }
+{
+    match meaning {
+        Some(meaning) => has_value(meaning),
+        None => false,
+    }
+}
+
+// Whether a name means a variable.
+fn if_variable(meaning: Option<Meaning>) -> bool
+    ensures { result ≡ if_means is_variable meaning }
+{
+    match meaning {
+        Some(meaning) => variable_of(meaning).is_some(),
+        None => false,
+    }
+}
+
+// Whether a name means a set.
+fn if_set(meaning: Option<Meaning>) -> bool
+    ensures { result ≡ if_means is_set meaning }
+{
+    match meaning {
+        Some(Meaning::Set { .. }) => true,
+        Some(_) => false,
+        None => false,
+    }
+}
+
+/// Whether a name means a routine.
+pub fn if_routine(meaning: Option<Meaning>) -> bool
+    ensures { result ≡ if_means is_routine meaning }
+{
+    match meaning {
+        Some(Meaning::Routine { .. }) => true,
+        Some(_) => false,
+        None => false,
+    }
 }
 
 /// Whether it is a MEAN.
 pub fn is_mean(meaning: Meaning) -> bool
     ensures { result ≡ is_mean meaning }
 {
-    matches!(meaning, Meaning::Statistic { fold: None, .. })
-}
-
-// Whether a TALLY or an ACCUMULATE is of what is named here: a local variable that hides it has none.
-fn is_watched_here(scope: &Scope<'_>, place: Designator) -> bool
-    ensures { result ≡ is_watched_here (scope_seen scope.now) place }
-{
-    match place {
-        Designator::Name(name) => {
-            scope.names.histories.get(&name).is_some() && scope.locals.number(&name).is_none()
-        }
-        Designator::TimeV | Designator::TimeA => false,
+    match meaning {
+        Meaning::Statistic { fold: None, .. } => true,
+        _ => false,
     }
 }
 
-/// Whether what is named is of the kind that its role needs. No local variable hides a set.
-pub fn suits(scope: &Scope<'_>, role: Role, place: Designator) -> bool
-    ensures { result ≡ suits (scope_seen scope.now) role place }
+/// Whether a name means a MEAN.
+pub fn if_mean(meaning: Option<Meaning>) -> bool
+    ensures { result ≡ if_means is_mean meaning }
+{
+    match meaning {
+        Some(meaning) => is_mean(meaning),
+        None => false,
+    }
+}
+
+// Whether a TALLY or an ACCUMULATE is of it: a global variable of a DEFINE, an attribute or N. of a set.
+fn may_be_watched(meaning: Meaning) -> bool
+    ensures { result ≡ may_be_watched meaning }
+{
+    match meaning {
+        Meaning::Variable { .. } => true,
+        Meaning::Attribute { .. } => true,
+        Meaning::OfSet {
+            query: SetQuery::MemberCount,
+            ..
+        } => true,
+        _ => false,
+    }
+}
+
+/// Whether a TALLY or an ACCUMULATE may be of what a name means.
+pub fn if_watched(meaning: Option<Meaning>) -> bool
+    ensures { result ≡ if_means may_be_watched meaning }
+{
+    match meaning {
+        Some(meaning) => may_be_watched(meaning),
+        None => false,
+    }
+}
+
+// Whether a TALLY or an ACCUMULATE is of this name, and no local variable hides it.
+fn is_watched_name(scope: &Scope<'_>, name: &Name) -> bool
+    ensures { result ≡ is_watched_here (scope_seen scope.now) (designators.Name name.now) }
+{
+    let names = scope.names;
+    let watched = has_entry(&names.histories, name);
+    let hidden = scope.locals.mode(name);
+    watched && hidden.is_none()
+}
+
+// Whether a TALLY or an ACCUMULATE is of what is named here: a local variable that hides it has none.
+fn is_watched_here(scope: &Scope<'_>, place: &Designator) -> bool
+    ensures { result ≡ is_watched_here (scope_seen scope.now) place.now }
+{
+    match place {
+        Designator::Name(name) => is_watched_name(scope, name),
+        Designator::TimeV => false,
+        Designator::TimeA => false,
+    }
+}
+
+// What a place means as a set.
+fn meaning_as_set(scope: &Scope<'_>, place: &Designator) -> Option<Meaning>
+    ensures { result ≡ meaning_in_role (scope_seen scope.now) roles.Set place.now }
+{
+    match place {
+        Designator::Name(name) => scope.names.meaning(name),
+        Designator::TimeV => Some(Meaning::Clock),
+        Designator::TimeA => Some(Meaning::NoticeTime),
+    }
+}
+
+/// What a place means in its role. No local variable hides a set.
+pub fn meaning_in_role(scope: &Scope<'_>, role: Role, place: &Designator) -> Option<Meaning>
+    ensures { result ≡ meaning_in_role (scope_seen scope.now) role place.now }
+{
+    match role {
+        Role::Set => meaning_as_set(scope, place),
+        _ => scope.meaning(*place),
+    }
+}
+
+/// Whether what is named is of the kind that its role needs.
+pub fn suits(scope: &Scope<'_>, role: Role, place: &Designator) -> bool
+    ensures { result ≡ suits (scope_seen scope.now) role place.now }
 {
     match role {
         Role::Reset => is_watched_here(scope, place),
-        Role::Set => match place {
-            Designator::Name(name) => {
-                matches!(scope.names.meaning(&name), Some(Meaning::Set { .. }))
-            }
-            Designator::TimeV | Designator::TimeA => false,
-        },
-        Role::LoopVariable => match scope.meaning(place) {
-            Some(meaning) => variable_of(meaning).is_some(),
-            None => false,
-        },
-        Role::Value | Role::Item | Role::Target => match scope.meaning(place) {
-            Some(meaning) => has_value(meaning),
-            None => false,
-        },
+        Role::Set => if_set(meaning_as_set(scope, place)),
+        Role::LoopVariable => if_variable(scope.meaning(*place)),
+        Role::Value => if_value(scope.meaning(*place)),
+        Role::Item => if_value(scope.meaning(*place)),
+        Role::Target => if_value(scope.meaning(*place)),
+    }
+}
+
+// Whether a class is of the kind that its place needs.
+fn is_kind(need: ClassNeed, kind: ClassKind) -> bool
+    ensures { result ≡ is_kind need kind }
+{
+    match need {
+        ClassNeed::Permanent => matches!(kind, ClassKind::Permanent),
+        ClassNeed::Notice => matches!(kind, ClassKind::Notice),
+        ClassNeed::Single => !matches!(kind, ClassKind::Permanent),
     }
 }
 
@@ -64,12 +186,21 @@ pub fn suits_class(meaning: Option<Meaning>, need: ClassNeed) -> bool
     ensures { result ≡ suits_class meaning need }
 {
     match meaning {
-        Some(Meaning::Class { kind, .. }) => match need {
-            ClassNeed::Permanent => matches!(kind, ClassKind::Permanent),
-            ClassNeed::Notice => matches!(kind, ClassKind::Notice),
-            ClassNeed::Single => !matches!(kind, ClassKind::Permanent),
-        },
-        _ => false,
+        Some(Meaning::Class { kind, .. }) => is_kind(need, kind),
+        Some(_) => false,
+        None => false,
+    }
+}
+
+// ---- subscripts and targets
+
+// Whether so many subscripts may be written of what this owner has.
+fn may_have(owner: Owner, subscripts: usize) -> bool
+    ensures { result ≡ may_have owner subscripts }
+{
+    match owner {
+        Owner::System => subscripts == 0,
+        Owner::Class(_) => subscripts <= 1,
     }
 }
 
@@ -80,10 +211,7 @@ pub fn suits_subscripts(names: &Names, meaning: Meaning, subscripts: usize) -> b
 {
     match meaning {
         Meaning::NoticeTime => subscripts == 1,
-        _ => match names.owner_of(meaning) {
-            Owner::Class(_) => subscripts <= 1,
-            Owner::System => subscripts == 0,
-        },
+        _ => may_have(names.owner_of(meaning), subscripts),
     }
 }
 
@@ -92,16 +220,10 @@ pub fn takes_values(meaning: Meaning) -> bool
     ensures { result ≡ takes_values meaning }
 {
     match meaning {
-        Meaning::Variable { .. }
-        | Meaning::Class { .. }
-        | Meaning::Count { .. }
-        | Meaning::Attribute { .. } => true,
-        Meaning::Set { .. }
-        | Meaning::OfSet { .. }
-        | Meaning::OfMember { .. }
-        | Meaning::Statistic { .. }
-        | Meaning::Routine { .. }
-        | Meaning::Clock
-        | Meaning::NoticeTime => false,
+        Meaning::Variable { .. } => true,
+        Meaning::Class { .. } => true,
+        Meaning::Count { .. } => true,
+        Meaning::Attribute { .. } => true,
+        _ => false,
     }
 }

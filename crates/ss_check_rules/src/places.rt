@@ -1,96 +1,159 @@
 //! The rules on named places and on modes.
 
-ghost use Rattle.std.specs.Prelude.{not};
-ghost use Rattle.ss_check_rules.specs.Refusal.{class_breaks, place_breaks, unless};
-ghost use Rattle.ss_check_rules.specs.declared.error.CheckError.TheVariants as e;
-ghost use Rattle.ss_names_declarations.specs.Firsts.{place_in};
-ghost use Rattle.ss_check_rules.specs.Modes.{attribute_mode, differ, is_text, mixes_modes, mode_said};
-ghost use Rattle.ss_check_rules.specs.Kinds.{meaning_in_role};
+ghost use Rattle.std.specs.Prelude.{◌≡◌, ◌&&◌, ◌||◌, not, slice_get};
+ghost use Rattle.ss_names_declarations.specs.Firsts.{place_in, value_for};
 ghost use Rattle.ss_names_scopes.specs.Seen.{scope_seen};
-ghost use Rattle.std.specs.Prelude.{◌≡◌};
+ghost use Rattle.ss_check_rules.specs.declared.error.CheckError.TheVariants as e;
+ghost use Rattle.ss_check_rules.specs.Kinds.{if_means, is_mean, is_target, takes_values};
+ghost use Rattle.ss_check_rules.specs.Modes.{attribute_mode, differ, field_mode, given_mode, is_mean_as_value, is_text, mixes_modes, mode_meant, mode_of_attribute, mode_said, yielded_mode};
+ghost use Rattle.ss_check_rules.specs.Refusal.{class_breaks, meant_breaks, place_breaks, unless};
+ghost use Rattle.ss_names_scopes.specs.Scopes.{meaning};
 
-use crate::error::CheckError;
-use crate::kinds::{is_mean, suits, suits_class, suits_subscripts, takes_values};
+use crate::error::{CheckError, unless};
+use crate::kinds::{if_mean, is_mean, meaning_in_role, suits, suits_class, suits_subscripts, takes_values};
 use ss_base::{Line, Mode, Name};
-use ss_names::Meaning;
+use ss_names::{Attribute, Meaning, Names, RoutineSection};
 use ss_names_scopes::{Scope, mode_of};
 use ss_names_uses::{ClassNeed, ModeOf, Role};
 use ss_tree::expression::Designator;
 
-// The routine of a name.
-fn routine_section(scope: &Scope<'_>, routine: &Name) -> Option<(usize, usize)> {
-    match scope.names.routines.get(routine) {
-        Some(routine) => Some((routine.section, routine.given)),
+// ---- modes
+
+// The mode of what a name means, if it means anything.
+fn mode_meant(meaning: Option<Meaning>) -> Option<Mode>
+    ensures { result ≡ mode_meant meaning }
+{
+    match meaning {
+        Some(meaning) => mode_of(meaning),
         None => None,
     }
 }
 
-// The mode of the attribute of a class in a place.
-fn attribute_mode(scope: &Scope<'_>, class: &Name, place: usize) -> Option<Mode>
-    ensures { result ≡ attribute_mode (scope_seen scope.now).table (place_in (scope_seen scope.now).table.classes class.now) place }
+// The mode of what a routine is given in this place.
+fn given_mode(scope: &Scope<'_>, routine: Option<RoutineSection>, place: usize) -> Option<Mode>
+    ensures { result ≡ given_mode (scope_seen scope.now) routine place }
 {
-    let number = scope.names.classes.place(class)?;
-    let name = scope.names.attributes_of(number).get(place)?;
-    match scope.names.attributes.get(name) {
+    match routine {
+        Some(routine) => scope.parameter_mode(routine.section, place),
+        None => None,
+    }
+}
+
+// The mode of what a routine yields in this place.
+fn yielded_mode(scope: &Scope<'_>, routine: Option<RoutineSection>, place: usize) -> Option<Mode>
+    ensures { result ≡ yielded_mode (scope_seen scope.now) routine place }
+{
+    match routine {
+        Some(routine) => scope.yielded_mode(routine.section, routine.given, place),
+        None => None,
+    }
+}
+
+// The mode of an attribute.
+fn mode_of_attribute(attribute: Option<Attribute>) -> Option<Mode>
+    ensures { result ≡ mode_of_attribute attribute }
+{
+    match attribute {
         Some(attribute) => Some(attribute.mode),
         None => None,
     }
 }
 
-// The mode that a use says, if there is one.
-fn mode_said(scope: &Scope<'_>, mode: ModeOf) -> Option<Mode>
-    ensures { result ≡ mode_said (scope_seen scope.now) mode }
+// The mode of an attribute of this name.
+fn field_mode(names: &Names, attribute: &Option<Name>) -> Option<Mode>
+    ensures { result ≡ field_mode names.now attribute.now }
 {
+    match attribute {
+        Some(name) => mode_of_attribute(names.attributes.get(name).copied()),
+        None => None,
+    }
+}
+
+// The name in this place.
+fn name_at(row: &[Name], place: usize) -> Option<Name>
+    ensures { result ≡ slice_get row.now place }
+{
+    row.get(place).copied()
+}
+
+// The mode of the attribute of a class in a place.
+fn attribute_mode(names: &Names, class: Option<usize>, place: usize) -> Option<Mode>
+    ensures { result ≡ attribute_mode names.now class place }
+{
+    match class {
+        Some(class) => {
+            let name = name_at(names.attributes_of(class), place);
+            field_mode(names, &name)
+        }
+        None => None,
+    }
+}
+
+// The mode that a use says, if there is one.
+fn mode_said(scope: &Scope<'_>, mode: &ModeOf) -> Option<Mode>
+    ensures { result ≡ mode_said (scope_seen scope.now) mode.now }
+{
+    let names = scope.names;
     match mode {
         ModeOf::Integer => Some(Mode::Integer),
         ModeOf::Alpha => Some(Mode::Alpha),
-        ModeOf::Named(name) => mode_of(scope.meaning_of_name(&name)?),
+        ModeOf::Named(name) => mode_meant(scope.meaning_of_name(name)),
         ModeOf::Given { routine, place } => {
-            let (section, _) = routine_section(scope, &routine)?;
-            scope.parameter_mode(section, place)
+            given_mode(scope, names.routines.get(routine).copied(), *place)
         }
         ModeOf::Yielded { routine, place } => {
-            let (section, given) = routine_section(scope, &routine)?;
-            scope.parameter_mode(section, given.checked_add(place)?)
+            yielded_mode(scope, names.routines.get(routine).copied(), *place)
         }
-        ModeOf::Attribute { class, place } => attribute_mode(scope, &class, place),
+        ModeOf::Attribute { class, place } => {
+            attribute_mode(names, names.classes.place(class), *place)
+        }
     }
 }
 
 // Whether two modes are joined, where there are two.
-fn are_joined(a: Option<Mode>, b: Option<Mode>) -> bool
+fn differ(a: Option<Mode>, b: Option<Mode>) -> bool
     ensures { result ≡ differ a b }
 {
-    match (a, b) {
-        (Some(a), Some(b)) => a != b,
-        _ => false,
+    match a {
+        Some(Mode::Integer) => matches!(b, Some(Mode::Alpha)),
+        Some(Mode::Alpha) => matches!(b, Some(Mode::Integer)),
+        None => false,
     }
 }
 
 /// The breach of two modes that have to be the same.
-pub fn same_breaks(scope: &Scope<'_>, line: Line, found: ModeOf, wanted: ModeOf) -> Option<CheckError>
-    ensures { result ≡ unless (not (differ (mode_said (scope_seen scope.now) found) (mode_said (scope_seen scope.now) wanted))) (e.Mode line) }
+pub fn same_breaks(
+    scope: &Scope<'_>,
+    line: Line,
+    found: &ModeOf,
+    wanted: &ModeOf,
+) -> Option<CheckError>
+    ensures { result ≡ unless (not (differ (mode_said (scope_seen scope.now) found.now) (mode_said (scope_seen scope.now) wanted.now))) (e.Mode line) }
 {
-    if are_joined(mode_said(scope, found), mode_said(scope, wanted)) {
-        Some(CheckError::Mode(line))
-    } else {
-        None
-    }
+    let joined = differ(mode_said(scope, found), mode_said(scope, wanted));
+    unless(!joined, CheckError::Mode(line))
 }
 
-// Whether what a name means is a text.
-fn is_text(meaning: Option<Meaning>) -> bool
+/// Whether what a name means is a text.
+pub fn is_text(meaning: Option<Meaning>) -> bool
     ensures { result ≡ is_text meaning }
 {
-    match meaning {
-        Some(meaning) => matches!(mode_of(meaning), Some(Mode::Alpha)),
-        None => false,
+    differ(mode_meant(meaning), Some(Mode::Integer))
+}
+
+// Whether it is a MEAN as a value.
+fn is_mean_as_value(role: Role, meaning: Meaning) -> bool
+    ensures { result ≡ is_mean_as_value role meaning }
+{
+    match role {
+        Role::Value => is_mean(meaning),
+        _ => false,
     }
 }
 
 // Whether a place breaks the rule on modes: a text where a number has to be, a MEAN where a value has to be, or an entity that
 // is in a variable of texts.
-fn breaks_mode(
+fn mixes_modes(
     scope: &Scope<'_>,
     role: Role,
     meaning: Meaning,
@@ -99,19 +162,52 @@ fn breaks_mode(
 ) -> bool
     ensures { result ≡ mixes_modes (scope_seen scope.now) role meaning subscripts number }
 {
-    number && is_text(Some(meaning))
-        || matches!(role, Role::Value) && is_mean(meaning)
-        || subscripts == 0 && is_text(scope.implied(meaning))
+    let text = is_text(Some(meaning));
+    let mean = is_mean_as_value(role, meaning);
+    let implied = is_text(scope.implied(meaning));
+    (number && text) || mean || (subscripts == 0 && implied)
 }
 
-// What a place means in a role.
-fn meaning_in_role(scope: &Scope<'_>, role: Role, place: Designator) -> Option<Meaning>
-    ensures { result ≡ meaning_in_role (scope_seen scope.now) role place }
+// ---- places
+
+// Whether a place is a target.
+fn is_target(role: Role) -> bool
+    ensures { result ≡ is_target role }
 {
-    match (role, place) {
-        (Role::Set, Designator::Name(name)) => scope.names.meaning(&name),
-        _ => scope.meaning(place),
+    matches!(role, Role::Target)
+}
+
+// Whether a place is a target that takes no values.
+fn is_fixed(role: Role, meaning: Meaning) -> bool
+    ensures { result ≡ (is_target role && not (takes_values meaning)) }
+{
+    is_target(role) && !takes_values(meaning)
+}
+
+// The first of the rules after its kind that a place in a role breaks, which means this.
+fn meant_breaks(
+    scope: &Scope<'_>,
+    line: Line,
+    role: Role,
+    subscripts: usize,
+    number: bool,
+    meaning: Option<Meaning>,
+) -> Option<CheckError>
+    ensures { result ≡ meant_breaks (scope_seen scope.now) line role subscripts number meaning }
+{
+    let Some(meaning) = meaning else {
+        return None;
+    };
+    if !suits_subscripts(scope.names, meaning, subscripts) {
+        return Some(CheckError::Subscript(line));
     }
+    if is_fixed(role, meaning) {
+        return Some(CheckError::NotAssignable(line));
+    }
+    unless(
+        !mixes_modes(scope, role, meaning, subscripts, number),
+        CheckError::Mode(line),
+    )
 }
 
 /// The first of the rules that a place in a role breaks.
@@ -119,26 +215,25 @@ pub fn place_breaks(
     scope: &Scope<'_>,
     line: Line,
     role: Role,
-    place: Designator,
+    place: &Designator,
     subscripts: usize,
     number: bool,
 ) -> Option<CheckError>
-    ensures { result ≡ place_breaks (scope_seen scope.now) line role place subscripts number }
+    ensures { result ≡ place_breaks (scope_seen scope.now) line role place.now subscripts number }
 {
-    if !suits(scope, role, place) {
-        return Some(CheckError::Unknown(line));
+    if suits(scope, role, place) {
+        let meaning = meaning_in_role(scope, role, place);
+        meant_breaks(scope, line, role, subscripts, number, meaning)
+    } else {
+        Some(CheckError::Unknown(line))
     }
-    let meaning = meaning_in_role(scope, role, place)?;
-    if !suits_subscripts(scope.names, meaning, subscripts) {
-        return Some(CheckError::Subscript(line));
-    }
-    if matches!(role, Role::Target) && !takes_values(meaning) {
-        return Some(CheckError::NotAssignable(line));
-    }
-    if breaks_mode(scope, role, meaning, subscripts, number) {
-        return Some(CheckError::Mode(line));
-    }
-    None
+}
+
+// Whether an entity is named, or that in the variable of its class is a number.
+fn is_number(called: bool, meaning: Option<Meaning>) -> bool
+    ensures { result ≡ (called || not (is_text meaning)) }
+{
+    called || !is_text(meaning)
 }
 
 /// The first of the rules that a class breaks: it is of another kind, or its entity is in a variable of texts.
@@ -151,25 +246,17 @@ pub fn class_breaks(
 ) -> Option<CheckError>
     ensures { result ≡ class_breaks (scope_seen scope.now) line need class.now called }
 {
-    if !suits_class(scope.names.meaning(class), need) {
-        Some(CheckError::Unknown(line))
-    } else if !called && is_text(scope.meaning_of_name(class)) {
-        Some(CheckError::Mode(line))
+    if suits_class(scope.names.meaning(class), need) {
+        let meaning = scope.meaning_of_name(class);
+        unless(is_number(called, meaning), CheckError::Mode(line))
     } else {
-        None
+        Some(CheckError::Unknown(line))
     }
 }
 
 /// The breach of an item that has to be a MEAN.
-pub fn mean_breaks(scope: &Scope<'_>, line: Line, place: Designator) -> Option<CheckError> {
-    match scope.meaning(place) {
-        Some(meaning) => {
-            if is_mean(meaning) {
-                None
-            } else {
-                Some(CheckError::Fields(line))
-            }
-        }
-        None => Some(CheckError::Fields(line)),
-    }
+pub fn mean_breaks(scope: &Scope<'_>, line: Line, place: &Designator) -> Option<CheckError>
+    ensures { result ≡ unless (if_means is_mean (meaning (scope_seen scope.now) place.now)) (e.Fields line) }
+{
+    unless(if_mean(scope.meaning(*place)), CheckError::Fields(line))
 }

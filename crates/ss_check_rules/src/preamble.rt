@@ -1,84 +1,112 @@
 //! The rules on classes of notices and on subjects of statistics.
 
+ghost use Rattle.std.specs.Prelude.{◌≡◌, is_some, map};
+ghost use Rattle.std.specs.List.{flat_map, fold};
 ghost use Rattle.ss_tree.specs.View.{view_preamble};
-ghost use Rattle.std.specs.Prelude.{map};
-ghost use Rattle.std.specs.List.{flat_map};
+ghost use Rattle.ss_names_declarations.specs.Earliest.{earlier};
 ghost use Rattle.ss_names_declarations.specs.Firsts.{value_for};
-ghost use Rattle.ss_names_declarations.specs.Earliest.{earliest};
+ghost use Rattle.ss_check_rules.specs.declared.error.CheckError.TheVariants as e;
 ghost use Rattle.ss_check_rules.specs.Order.{order_of};
-ghost use Rattle.ss_check_rules.specs.Kinds.{may_be_watched};
-ghost use Rattle.ss_check_rules.specs.Refusal.{subject_breaks, in_preamble};
-ghost use Rattle.std.specs.Prelude.{◌≡◌};
+ghost use Rattle.ss_check_rules.specs.Refusal.{eventless, eventless_of, in_preamble, subject_breaks, unless};
 
-use crate::error::CheckError;
-use ss_base::{Line, Mode, Name};
+use crate::error::{CheckError, unless};
+use crate::kinds::if_watched;
+use crate::places::is_text;
+use ss_base::{Line, Name};
 use ss_names::{Meaning, Names};
-use ss_names_declarations::earlier_of;
-use ss_names_scopes::mode_of;
-use ss_program::expression::SetQuery;
+use ss_names_declarations::{earlier_of, has_entry};
 use ss_tree::preamble::{ClassKind, PreambleStatement};
 
 // The breach of a class of notices without an EVENT section.
-fn class_breaks(names: &Names, line: Line, class: &Name) -> Option<CheckError> {
-    if names.events.get(class).is_some() {
-        None
+fn eventless(names: &Names, line: Line, class: &Name) -> Option<CheckError>
+    ensures { result ≡ unless (is_some (value_for names.now.events class.now)) (e.NoEventRoutine line) }
+{
+    unless(
+        has_entry(&names.events, class),
+        CheckError::NoEventRoutine(line),
+    )
+}
+
+// What was found so far, or the first of these classes of notices that has no EVENT section.
+fn notices_break(
+    names: &Names,
+    line: Line,
+    classes: &[Name],
+    found: Option<CheckError>,
+) -> Option<CheckError>
+    ensures { result ≡ fold (earlier order_of) found (flat_map (eventless names.now line) classes.now) }
+{
+    let mut found = found;
+    for class in classes {
+        found = earlier_of(found, eventless(names, line, class));
+    }
+    found
+}
+
+// What was found so far, or a class of notices without an EVENT section.
+fn class_breaks(
+    names: &Names,
+    line: Line,
+    kind: ClassKind,
+    class: &Name,
+    found: Option<CheckError>,
+) -> Option<CheckError>
+    ensures { result ≡ fold (earlier order_of) found (eventless_of names.now line kind class.now) }
+{
+    match kind {
+        ClassKind::Notice => earlier_of(found, eventless(names, line, class)),
+        ClassKind::Permanent => found,
+        ClassKind::Temporary => found,
+    }
+}
+
+// The first of the rules that a subject breaks, which means this.
+fn subject_breaks(line: Line, meaning: Option<Meaning>) -> Option<CheckError>
+    ensures { result ≡ subject_breaks line meaning }
+{
+    if if_watched(meaning) {
+        unless(!is_text(meaning), CheckError::Mode(line))
     } else {
-        Some(CheckError::NoEventRoutine(line))
+        Some(CheckError::Unknown(line))
     }
 }
 
-// Whether a TALLY or an ACCUMULATE may be of it: a global variable of a DEFINE, an attribute or N. of a set.
-fn may_be_watched(meaning: Meaning) -> bool
-    ensures { result ≡ may_be_watched meaning }
+// What was found so far, or the first rule that a statement breaks.
+fn statement_breaks(
+    names: &Names,
+    statement: &PreambleStatement,
+    found: Option<CheckError>,
+) -> Option<CheckError>
+    ensures { result ≡ fold (earlier order_of) found (in_preamble names.now (view_preamble statement.now)) }
 {
-    match meaning {
-        Meaning::Variable { .. } | Meaning::Attribute { .. } => true,
-        Meaning::OfSet { query, .. } => matches!(query, SetQuery::MemberCount),
-        _ => false,
-    }
-}
-
-// The first of the rules that a subject breaks.
-fn subject_breaks(names: &Names, line: Line, subject: &Name) -> Option<CheckError>
-    ensures { result ≡ subject_breaks line (value_for names.now.meanings subject.now) }
-{
-    match names.meaning(subject) {
-        Some(meaning) => {
-            if !may_be_watched(meaning) {
-                Some(CheckError::Unknown(line))
-            } else if matches!(mode_of(meaning), Some(Mode::Alpha)) {
-                Some(CheckError::Mode(line))
-            } else {
-                None
-            }
+    match statement {
+        PreambleStatement::EventNotices { line, included } => {
+            notices_break(names, *line, included, found)
         }
-        None => Some(CheckError::Unknown(line)),
+        PreambleStatement::Every {
+            line,
+            kind,
+            class,
+            ..
+        } => class_breaks(names, *line, *kind, class, found),
+        PreambleStatement::Statistics { line, subject, .. } => {
+            earlier_of(found, subject_breaks(*line, names.meaning(subject)))
+        }
+        _ => found,
     }
 }
 
 /// What was found so far, or the first rule that a preamble breaks.
-pub fn preamble_breaks(names: &Names, preamble: &[PreambleStatement]) -> Option<CheckError>
-    ensures { result ≡ earliest order_of (flat_map (in_preamble names.now) (map view_preamble preamble.now)) }
+pub fn preamble_breaks(
+    names: &Names,
+    preamble: &[PreambleStatement],
+    found: Option<CheckError>,
+) -> Option<CheckError>
+    ensures { result ≡ fold (earlier order_of) found (flat_map (in_preamble names.now) (map view_preamble preamble.now)) }
 {
-    let mut found = None;
+    let mut found = found;
     for statement in preamble {
-        match statement {
-            PreambleStatement::EventNotices { line, included } => {
-                for class in included {
-                    found = earlier_of(found, class_breaks(names, *line, class));
-                }
-            }
-            PreambleStatement::Every {
-                line,
-                kind: ClassKind::Notice,
-                class,
-                ..
-            } => found = earlier_of(found, class_breaks(names, *line, class)),
-            PreambleStatement::Statistics { line, subject, .. } => {
-                found = earlier_of(found, subject_breaks(names, *line, subject));
-            }
-            _ => {}
-        }
+        found = statement_breaks(names, statement, found);
     }
     found
 }

@@ -1,60 +1,67 @@
 //! The rules on the uses of a section.
 
-ghost use Rattle.std.specs.List.{fold};
-ghost use Rattle.ss_names_declarations.specs.Earliest.{earlier_of};
-ghost use Rattle.ss_check_rules.specs.Order.{order_of};
-ghost use Rattle.ss_check_rules.specs.Refusal.{use_breaks};
-ghost use Rattle.ss_names_scopes.specs.Seen.{scope_seen};
 ghost use Rattle.std.specs.Prelude.{◌≡◌};
+ghost use Rattle.std.specs.List.{flat_map, fold};
+ghost use Rattle.ss_names_declarations.specs.Earliest.{earlier};
+ghost use Rattle.ss_names_declarations.specs.Firsts.{value_for};
+ghost use Rattle.ss_names_scopes.specs.Seen.{scope_seen};
+ghost use Rattle.ss_check_rules.specs.declared.error.CheckError.TheVariants as e;
+ghost use Rattle.ss_check_rules.specs.Kinds.{if_means, is_routine};
+ghost use Rattle.ss_check_rules.specs.Order.{order_of};
+ghost use Rattle.ss_check_rules.specs.Refusal.{breaks, unless, use_breaks, used_breaks};
 
 use crate::counts::count_breaks;
-use crate::error::CheckError;
+use crate::error::{CheckError, unless};
+use crate::kinds::if_routine;
 use crate::places::{class_breaks, mean_breaks, place_breaks, same_breaks};
 use ss_base::{Line, Name};
-use ss_names::{Meaning, Names};
+use ss_names::Names;
 use ss_names_declarations::earlier_of;
 use ss_names_scopes::Scope;
 use ss_names_uses::{Use, Used};
 
 // The breach of a CALL of what is no routine.
-fn routine_breaks(names: &Names, line: Line, routine: &Name) -> Option<CheckError> {
-    match names.meaning(routine) {
-        Some(Meaning::Routine { .. }) => None,
-        _ => Some(CheckError::Unknown(line)),
-    }
+fn routine_breaks(names: &Names, line: Line, routine: &Name) -> Option<CheckError>
+    ensures { result ≡ unless (if_means is_routine (value_for names.now.meanings routine.now)) (e.Unknown line) }
+{
+    unless(
+        if_routine(names.meaning(routine)),
+        CheckError::Unknown(line),
+    )
 }
 
-/// The first of the rules that a use breaks, in MAIN or in another section.
-pub fn use_breaks(scope: &Scope<'_>, in_main: bool, one: &Use) -> Option<CheckError>
-    ensures { result ≡ use_breaks (scope_seen scope.now) in_main one.now }
+// The first of the rules that what is used in this line breaks, in MAIN or in another section.
+fn used_breaks(scope: &Scope<'_>, in_main: bool, line: Line, used: &Used) -> Option<CheckError>
+    ensures { result ≡ used_breaks (scope_seen scope.now) in_main line used.now }
 {
-    let line = one.line;
-    match &one.what {
-        Used::Parameter { .. } | Used::Local { .. } => None,
+    match used {
+        Used::Parameter { .. } => None,
+        Used::Local { .. } => None,
         Used::Place {
             role,
             place,
             subscripts,
             number,
-        } => place_breaks(scope, line, *role, *place, *subscripts, *number),
+        } => place_breaks(scope, line, *role, place, *subscripts, *number),
         Used::Class {
             need,
             class,
             called,
         } => class_breaks(scope, line, *need, class, *called),
         Used::Routine { routine } => routine_breaks(scope.names, line, routine),
-        Used::Start => {
-            if in_main {
-                None
-            } else {
-                Some(CheckError::StartPlace(line))
-            }
-        }
-        Used::Same { found, wanted } => same_breaks(scope, line, *found, *wanted),
+        Used::Start => unless(in_main, CheckError::StartPlace(line)),
+        Used::Same { found, wanted } => same_breaks(scope, line, found, wanted),
         Used::Count { found, wanted } => count_breaks(scope.names, line, *found, wanted),
-        Used::Mean { place } => mean_breaks(scope, line, *place),
+        Used::Mean { place } => mean_breaks(scope, line, place),
         Used::Unfit => Some(CheckError::Fields(line)),
     }
+}
+
+// The first of the rules that a use breaks, in MAIN or in another section.
+fn use_breaks(scope: &Scope<'_>, in_main: bool, one: &Use) -> Option<CheckError>
+    ensures { result ≡ use_breaks (scope_seen scope.now) in_main one.now }
+{
+    used_breaks(scope, in_main, one.line, &one.what)
 }
 
 /// What was found so far, or the first rule that the uses of a section break.
@@ -64,7 +71,7 @@ pub fn section_breaks(
     uses: &[Use],
     found: Option<CheckError>,
 ) -> Option<CheckError>
-    ensures { result ≡ fold (λ so_far u. earlier_of order_of so_far (use_breaks (scope_seen scope.now) in_main u)) found uses.now }
+    ensures { result ≡ fold (earlier order_of) found (flat_map (breaks (scope_seen scope.now) in_main) uses.now) }
 {
     let mut found = found;
     for one in uses {

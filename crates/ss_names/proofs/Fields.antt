@@ -1,18 +1,23 @@
 -- Attributes and the rows of their classes, one more at a time.
-use Rattle.std.proofs.Common.{◌≡◌, ℕ, zero, suc, inl, inr, ◌+◌, ◌<◌, nat_eq, Bool, true, false, cond, List, [], ◌∷◌, ◌++◌, length, get_or, map, slice_set, take, Option, Some, None, is_some, refl, sym, ap, ◌∙◌, append_assoc, arith}
-use Rattle.std.specs.List.{filter, flat_map, fold, range_with_len}
+use Rattle.std.proofs.Common.{◌≡◌, ℕ, zero, suc, inl, inr, ◌+◌, ◌<◌, nat_eq, nat_lt, Bool, true, false, cond, List, [], ◌∷◌, ◌++◌, length, get_or, map, slice_set, Option, Some, None, is_some, refl, sym, ap, subst, ◌∙◌, append_assoc, arith}
+use Rattle.std.specs.List.{filter, fold, position_or_len, range_with_len}
 use Rattle.std.specs.Map.{keys_of}
 use Rattle.std.proofs.lemmas.Bool.{ne_eqb}
-use Rattle.std.proofs.lemmas.Bool.Decides.{eqb_tells}
-use Rattle.std.proofs.lemmas.Grind.{flat_map-append, fold-append}
-use Rattle.std.proofs.lemmas.List.{ext_get_or, get_or-set_same, get_or-set_other, length-set, map_push, take_more}
+use Rattle.std.proofs.lemmas.Bool.Decides.{eqb_tells, nat_tests}
+use Rattle.std.proofs.lemmas.List.{ext_get_or, get_or-set_same, get_or-set_other, length-set, map_push}
 use Rattle.std.proofs.lemmas.List.Elements.{filter-append}
 use Rattle.std.proofs.lemmas.List.FromFn.{length-map-range_with_len, get_or-map-range_with_len}
-use Rattle.ss_tree.specs.declared.preamble.Mode.{Mode}
+use Rattle.ss_base.specs.declared.layout.Mode.{Mode}
+use Rattle.ss_base.specs.declared.layout.ClassKind.{ClassKind}
 use Rattle.ss_tree.specs.Names.{NameBytes}
-use Rattle.ss_names.specs.Entities.{AreAttributes, AttributesSeen, attribute_after, attributes_after, attributes_of_class, fields_by_class}
-use Rattle.ss_names_declarations.specs.Firsts.{entry_beside, firsts, same_name, value_for, with_first}
+use Rattle.ss_names_declarations.specs.Firsts.{entry_beside, entry_if, firsts, place_among, place_in, same_name, value_for, with_first}
+use Rattle.ss_names_declarations.specs.declared.declaration.Declared.{Declared}
+use Rattle.ss_names_declarations.specs.declared.declaration.Declared.TheVariants as declared
+use Rattle.ss_names_declarations.specs.declared.declaration.Declaration.{Declaration}
 use Rattle.ss_names_declarations.proofs.Entries.{keys_append}
+use Rattle.ss_names.specs.declared.entry.Attribute.{Attribute}
+use Rattle.ss_names.specs.Entries.{attribute_after, attribute_by, attributes_after, attributes_of_class, fields_by_class, given_by}
+use Rattle.ss_names.specs.Filling.{Fields, field_pushed, with_field}
 
 -- ---- rows
 
@@ -87,87 +92,105 @@ row_length owned n c lc = ap length (get_or-map-range_with_len (attributes_of_cl
 -- ---- entries
 
 -- one more attribute comes after the others
-pub attributes_more : (usual : Option Mode) (defined : List (NameBytes × Mode)) (before es : List (NameBytes × ℕ)) (e : NameBytes × ℕ) → attributes_after usual defined before (es ++ e ∷ []) ≡ attributes_after usual defined before es ++ attribute_after usual defined (before ++ es) e ∷ []
-attributes_more usual defined before [] e = ap (λ b. attribute_after usual defined b e ∷ []) (sym (append_nil before))
-attributes_more usual defined before (f ∷ es) e =
-    ap (λ l. attribute_after usual defined before f ∷ l)
-    (attributes_more usual defined (before ++ f ∷ []) es e
-    ∙ ap (λ b. attributes_after usual defined (before ++ f ∷ []) es ++ attribute_after usual defined b e ∷ []) (append_assoc before (f ∷ []) es))
+attributes_more : (mode : NameBytes → Mode) (before es : List (NameBytes × ℕ)) (e : NameBytes × ℕ) → attributes_after mode before (es ++ e ∷ []) ≡ attributes_after mode before es ++ attribute_after mode (before ++ es) e ∷ []
+attributes_more mode before [] e = ap (λ b. attribute_after mode b e ∷ []) (sym (append_nil before))
+attributes_more mode before (f ∷ es) e =
+    ap (λ l. attribute_after mode before f ∷ l)
+    (attributes_more mode (before ++ f ∷ []) es e
+    ∙ ap (λ b. attributes_after mode (before ++ f ∷ []) es ++ attribute_after mode b e ∷ []) (append_assoc before (f ∷ []) es))
 
 some_if : {A B : Type 0} (b : Bool) (a : A) (c : B) (x : Option A) (y : Option B) → is_some x ≡ is_some y → is_some (cond b (Some a) x) ≡ is_some (cond b (Some c) y)
 some_if true a c x y h = refl
 some_if false a c x y h = h
 
 -- a name is among the attributes exactly if it is among their classes
-same_names_known : (usual : Option Mode) (defined : List (NameBytes × Mode)) (before es : List (NameBytes × ℕ)) (name : NameBytes) → is_some (value_for (attributes_after usual defined before es) name) ≡ is_some (value_for es name)
-same_names_known usual defined before [] name = refl
-same_names_known usual defined before (e ∷ es) name =
-    some_if (same_name name e.0) _ _ _ _ (same_names_known usual defined (before ++ e ∷ []) es name)
+same_names_known : (mode : NameBytes → Mode) (before es : List (NameBytes × ℕ)) (name : NameBytes) → is_some (value_for (attributes_after mode before es) name) ≡ is_some (value_for es name)
+same_names_known mode before [] name = refl
+same_names_known mode before (e ∷ es) name =
+    some_if (same_name name e.0) _ _ _ _ (same_names_known mode (before ++ e ∷ []) es name)
 
-beside_none : (owned : List (NameBytes × ℕ)) (e : NameBytes × ℕ) (known : Option ℕ) → is_some known ≡ false → entry_beside owned e known ≡ owned ++ e ∷ []
-beside_none owned e None h = refl
-beside_none owned e (Some k) h = absurd cc
+-- the attributes of so many classes
+abbrev pub fields_at : (NameBytes → Mode) → ℕ → List (NameBytes × ℕ) → Fields
+fields_at mode n owned = record { entries = attributes_after mode [] owned; rows = fields_by_class owned n }
 
-beside_some : (owned : List (NameBytes × ℕ)) (e : NameBytes × ℕ) (known : Option ℕ) → is_some known ≡ true → entry_beside owned e known ≡ owned
-beside_some owned e None h = absurd cc
-beside_some owned e (Some k) h = refl
+-- an attribute of this number in its class
+abbrev attribute_at : (NameBytes → Mode) → NameBytes × ℕ → ℕ → NameBytes × Attribute
+attribute_at mode e k = (e.0, record { class = e.1; field = k; mode = mode e.0 })
 
--- a name that has an attribute already
-pub attribute_known : (usual : Option Mode) (defined : List (NameBytes × Mode)) (n : ℕ) (owned : List (NameBytes × ℕ)) (a : AttributesSeen) (e : NameBytes × ℕ) → is_some (value_for a.entries e.0) ≡ true → AreAttributes usual defined n owned a → AreAttributes usual defined n (with_first owned e) a
-attribute_known usual defined n owned a e h are =
-    let known : is_some (value_for owned e.0) ≡ true = sym (same_names_known usual defined [] owned e.0) ∙ ap (λ l. is_some (value_for l e.0)) (sym are.entries) ∙ h in
-    let same : with_first owned e ≡ owned = beside_some owned e (value_for owned e.0) known in
-    rw same are
+pushed_at : (mode : NameBytes → Mode) (n : ℕ) (owned : List (NameBytes × ℕ)) (e : NameBytes × ℕ) → e.1 < n → field_pushed mode (fields_at mode n owned) e ≡ fields_at mode n (owned ++ e ∷ [])
+pushed_at mode n owned e lt =
+    λ i. record {
+      entries = (ap (λ k. attributes_after mode [] owned ++ attribute_at mode e k ∷ []) (row_length owned n e.1 lt) ∙ sym (attributes_more mode [] owned e)) i;
+      rows = rows_more owned e.0 n e.1 lt i;
+    }
 
--- a name that has no attribute yet
-pub attribute_new : (usual : Option Mode) (defined : List (NameBytes × Mode)) (n : ℕ) (owned : List (NameBytes × ℕ)) (a b : AttributesSeen) (e : NameBytes × ℕ) → e.1 < n → is_some (value_for a.entries e.0) ≡ false → AreAttributes usual defined n owned a
-    → b.entries ≡ a.entries ++ attribute_after usual defined owned e ∷ [] → b.fields ≡ slice_set a.fields e.1 (get_or a.fields e.1 [] ++ e.0 ∷ []) → AreAttributes usual defined n (with_first owned e) b
-attribute_new usual defined n owned a b e l h are entries rows =
-    let new : is_some (value_for owned e.0) ≡ false = sym (same_names_known usual defined [] owned e.0) ∙ ap (λ l. is_some (value_for l e.0)) (sym are.entries) ∙ h in
-    let same : with_first owned e ≡ owned ++ e ∷ [] = beside_none owned e (value_for owned e.0) new in
-    let is : AreAttributes usual defined n (owned ++ e ∷ []) b = record {
-      entries = entries ∙ ap (λ l. l ++ attribute_after usual defined owned e ∷ []) are.entries ∙ sym (attributes_more usual defined [] owned e);
-      fields = rows ∙ ap (λ r. slice_set r e.1 (get_or r e.1 [] ++ e.0 ∷ [])) are.fields ∙ rows_more owned e.0 n e.1 l;
-    } in
-    rw same is
+one_field : (mode : NameBytes → Mode) (n : ℕ) (owned : List (NameBytes × ℕ)) (e : NameBytes × ℕ) (known : Option ℕ) → e.1 < n → cond (is_some known) (fields_at mode n owned) (field_pushed mode (fields_at mode n owned) e) ≡ fields_at mode n (entry_beside owned e known)
+one_field mode n owned e None lt = pushed_at mode n owned e lt
+one_field mode n owned e (Some k) lt = refl
 
-pub none_of_not_some : {X : Type 0} (o : Option X) → is_some o ≡ false → o ≡ None
-none_of_not_some None h = refl
-none_of_not_some (Some x) h = absurd cc
+-- one more attribute, unless its name has an entry
+field_more : (mode : NameBytes → Mode) (n : ℕ) (owned : List (NameBytes × ℕ)) (e : NameBytes × ℕ) → e.1 < n → with_field mode (fields_at mode n owned) e ≡ fields_at mode n (with_first owned e)
+field_more mode n owned e lt =
+    ap (λ b. cond b (fields_at mode n owned) (field_pushed mode (fields_at mode n owned) e)) (same_names_known mode [] owned e.0)
+    ∙ one_field mode n owned e (value_for owned e.0) lt
 
--- ---- loops
+-- ---- attributes of classes that are declared
 
--- one more item
-next_one : {X : Type 0} (xs : List X) (i : ℕ) (x : X) → i < length xs → x ≡ get_or xs i x → take (i + 1) xs ≡ take i xs ++ x ∷ []
-next_one xs i x lt is = take_more xs i x lt ∙ ap (λ y. take i xs ++ y ∷ []) (sym is)
+abbrev pub AllBelow : ℕ → List (NameBytes × ℕ) → Type 0
+AllBelow n [] = Unit {0}
+AllBelow n (e ∷ es) = (e.1 < n) × AllBelow n es
 
--- the image of one more item comes last
-map_more : {X A : Type 0} (f : X → A) (xs : List X) (i : ℕ) (x : X) → i < length xs → x ≡ get_or xs i x → map f (take i xs) ++ f x ∷ [] ≡ map f (take (i + 1) xs)
-map_more f xs i x lt is = sym (ap (map f) (next_one xs i x lt is) ∙ map_push f (take i xs) x)
+below_append : (n : ℕ) (xs ys : List (NameBytes × ℕ)) → AllBelow n xs → AllBelow n ys → AllBelow n (xs ++ ys)
+below_append n [] ys h k = k
+below_append n (x ∷ xs) ys h k = (h.0, below_append n xs ys h.1 k)
 
--- the list of one more item comes last
-list_more : {X A : Type 0} (f : X → List A) (xs : List X) (i : ℕ) (x : X) → i < length xs → x ≡ get_or xs i x → flat_map f (take i xs) ++ f x ≡ flat_map f (take (i + 1) xs)
-list_more f xs i x lt is =
-    sym (ap (flat_map f) (next_one xs i x lt is) ∙ flat_map-append f (take i xs) (x ∷ []) ∙ ap (λ l. flat_map f (take i xs) ++ l) (append_nil (f x)))
+below_by : (b : Bool) (p n k : ℕ) → nat_lt p n ≡ b → cond b (Some p) None ≡ Some k → k < n
+below_by true p n k lt h =
+    let same : p ≡ k = cc in
+    grind (arith, nat_tests)
+below_by false p n k lt h = absurd cc
 
--- the entries of one more item come last, after some others
-firsts_folded_more : {X V : Type 0} (f : X → List (NameBytes × V)) (es : List (NameBytes × V)) (xs : List X) (i : ℕ) (x : X) → i < length xs → x ≡ get_or xs i x → fold with_first (fold with_first es (flat_map f (take i xs))) (f x) ≡ fold with_first es (flat_map f (take (i + 1) xs))
-firsts_folded_more f es xs i x lt is = sym (ap (fold with_first es) (sym (list_more f xs i x lt is)) ∙ fold-append with_first es (flat_map f (take i xs)) (f x))
+pub place_below : (names : List NameBytes) (name : NameBytes) (k : ℕ) → place_among names name ≡ Some k → k < length names
+place_below names name k h =
+    let p = position_or_len (same_name name) names in
+    below_by (nat_lt p (length names)) p (length names) k refl h
 
--- a list before one step of a loop, and after it
-pub listed_after : {X A : Type 0} (f : X → List A) (xs : List X) (i : ℕ) (x : X) (before after : List A) → i < length xs → x ≡ get_or xs i x → before ≡ flat_map f (take i xs) → after ≡ before ++ f x → after ≡ flat_map f (take (i + 1) xs)
-listed_after f xs i x before after lt is b a = a ∙ ap (λ l. l ++ f x) b ∙ list_more f xs i x lt is
+as_many_keys : {V : Type 0} (cs : List (NameBytes × V)) → length (keys_of cs) ≡ length cs
+as_many_keys [] = refl
+as_many_keys (c ∷ cs) = ap suc (as_many_keys cs)
 
-pub mapped_after : {X A : Type 0} (f : X → A) (xs : List X) (i : ℕ) (x : X) (y : A) (before after : List A) → i < length xs → x ≡ get_or xs i x → before ≡ map f (take i xs) → y ≡ f x → after ≡ before ++ y ∷ [] → after ≡ map f (take (i + 1) xs)
-mapped_after f xs i x y before after lt is b e a = a ∙ (λ k. b k ++ e k ∷ []) ∙ map_more f xs i x lt is
+pub class_below : {V : Type 0} (cs : List (NameBytes × V)) (class : NameBytes) (k : ℕ) → place_in cs class ≡ Some k → k < length cs
+class_below cs class k h = subst (λ n. k < n) (as_many_keys cs) (place_below (keys_of cs) class k h)
 
-pub firsts_folded_after : {X V : Type 0} (f : X → List (NameBytes × V)) (es : List (NameBytes × V)) (xs : List X) (i : ℕ) (x : X) (before after : List (NameBytes × V)) → i < length xs → x ≡ get_or xs i x → before ≡ fold with_first es (flat_map f (take i xs)) → after ≡ fold with_first before (f x) → after ≡ fold with_first es (flat_map f (take (i + 1) xs))
-firsts_folded_after f es xs i x before after lt is b a = a ∙ ap (λ l. fold with_first l (f x)) b ∙ firsts_folded_more f es xs i x lt is
+entry_below : {V : Type 0} (cs : List (NameBytes × V)) (name class : NameBytes) (o : Option ℕ) → place_in cs class ≡ o → AllBelow (length cs) (entry_if name o)
+entry_below cs name class None h = tt
+entry_below cs name class (Some k) h =
+    (class_below cs class k h, tt)
 
--- the entries of one more item come last
-pub firsts_more : {X V : Type 0} (f : X → List (NameBytes × V)) (xs : List X) (i : ℕ) (x : X) → i < length xs → x ≡ get_or xs i x → fold with_first (firsts (flat_map f (take i xs))) (f x) ≡ firsts (flat_map f (take (i + 1) xs))
-firsts_more f xs i x lt is = firsts_folded_more f [] xs i x lt is
+attribute_below : (cs : List (NameBytes × ClassKind)) (w : Declared) → AllBelow (length cs) (attribute_by cs w)
+attribute_below cs (declared.Attribute name class) = entry_below cs name class (place_in cs class) refl
+attribute_below cs _ = tt
 
--- how many rows there are
-pub row_count : (usual : Option Mode) (defined : List (NameBytes × Mode)) (n : ℕ) (owned : List (NameBytes × ℕ)) (a : AttributesSeen) → AreAttributes usual defined n owned a → length a.fields ≡ n
-row_count usual defined n owned a are = ap length are.fields ∙ length-map-range_with_len (attributes_of_class owned) 0 n
+pub attributes_below : (cs : List (NameBytes × ClassKind)) (ds : List Declaration) → AllBelow (length cs) (given_by (attribute_by cs) ds)
+attributes_below cs [] = tt
+attributes_below cs (x ∷ ds) =
+    below_append (length cs) (attribute_by cs x.what) (given_by (attribute_by cs) ds) (attribute_below cs x.what) (attributes_below cs ds)
+
+fields_folded : (mode : NameBytes → Mode) (n : ℕ) (owned es : List (NameBytes × ℕ)) → AllBelow n es → fold (with_field mode) (fields_at mode n owned) es ≡ fields_at mode n (fold with_first owned es)
+fields_folded mode n owned [] h = refl
+fields_folded mode n owned (e ∷ es) h =
+    ap (λ fs. fold (with_field mode) fs es) (field_more mode n owned e h.0) ∙ fields_folded mode n (with_first owned e) es h.1
+
+-- the attributes that the second pass enters
+pub attributes_filled : (mode : NameBytes → Mode) (n : ℕ) (es : List (NameBytes × ℕ)) → AllBelow n es → fold (with_field mode) (fields_at mode n []) es ≡ fields_at mode n (firsts es)
+attributes_filled mode n es h = fields_folded mode n [] es h
+
+-- ---- how many rows there are
+
+row_count : (mode : NameBytes → Mode) (fs : Fields) (e : NameBytes × ℕ) (b : Bool) → length (cond b fs (field_pushed mode fs e)).rows ≡ length fs.rows
+row_count mode fs e true = refl
+row_count mode fs e false = length-set fs.rows e.1 (get_or fs.rows e.1 [] ++ e.0 ∷ [])
+
+pub rows_kept : (mode : NameBytes → Mode) (fs : Fields) (es : List (NameBytes × ℕ)) → length (fold (with_field mode) fs es).rows ≡ length fs.rows
+rows_kept mode fs [] = refl
+rows_kept mode fs (e ∷ es) = rows_kept mode (with_field mode fs e) es ∙ row_count mode fs e (is_some (value_for fs.entries e.0))

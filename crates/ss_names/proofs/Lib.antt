@@ -1,5 +1,6 @@
-mod Fields
 mod Short
-mod Once
-mod Placed
-mod Pairs
+mod Fields
+mod Sets
+mod Clashes
+mod Passes
+mod Steps

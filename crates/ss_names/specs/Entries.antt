@@ -1,16 +1,17 @@
 -- The lists in which a program's things are numbered.
-use Rattle.std.specs.Prelude.{ℕ, ◌+◌, ◌++◌, Bool, true, false, List, [], ◌∷◌, map, filter, length, Option, Some, None, is_some, if◌then◌else◌, nat_eq, range_with_len}
+use Rattle.std.specs.Prelude.{ℕ, ◌++◌, Bool, true, false, List, [], ◌∷◌, map, filter, length, Option, Some, None, is_some, if◌then◌else◌, nat_eq}
 use Rattle.std.specs.Global.{Vec}
-use Rattle.std.specs.List.{flat_map}
-use Rattle.std.specs.Map.{keys_of, values_of}
+use Rattle.std.specs.List.{flat_map, fold, list_any, range_with_len}
+use Rattle.std.specs.Map.{keys_of}
 use Rattle.std.specs.Option.{option_map, option_or}
 use Rattle.ss_base.specs.declared.layout.Mode.{Mode}
-use Rattle.ss_base.specs.declared.layout.Mode.TheVariants.{Integer}
+use Rattle.ss_base.specs.declared.layout.Mode.TheVariants.{Integer, Alpha}
 use Rattle.ss_base.specs.declared.layout.ClassKind.{ClassKind}
 use Rattle.ss_base.specs.declared.layout.ClassKind.TheVariants as kinds
 use Rattle.ss_base.specs.declared.layout.Owner.{Owner}
 use Rattle.ss_base.specs.declared.layout.Owner.TheVariants as owners
 use Rattle.ss_tree.specs.Names.{NameBytes}
+use Rattle.ss_tree.specs.declared.preamble.Mode.{Mode as ModeWord}
 use Rattle.ss_tree.specs.declared.preamble.Mode.TheVariants as words
 use Rattle.ss_base.specs.declared.words.Weighting.{Weighting}
 use Rattle.ss_names_declarations.specs.Firsts.{each_once, entry_if, firsts, place_in, value_for}
@@ -39,15 +40,23 @@ row_of row = row.items
 
 -- ---- modes
 
-abbrev pub usual_by : Declared → Option Mode
-usual_by (d.Normally words.Integer) = Some Integer
-usual_by (d.Normally words.Alpha) = Some (value_mode words.Alpha)
-usual_by _ = None
+-- REAL gives none
+abbrev pub usual_of : ModeWord → List Mode
+usual_of words.Integer = Integer ∷ []
+usual_of words.Alpha = Alpha ∷ []
+usual_of words.Real = []
 
--- the mode that NORMALLY gives to every name that has none, wherever the NORMALLY is; REAL gives none
+abbrev pub usual_by : Declared → List Mode
+usual_by (d.Normally mode) = usual_of mode
+usual_by _ = []
+
+abbrev pub first_mode : List Mode → Option Mode
+first_mode [] = None
+first_mode (mode ∷ modes) = Some mode
+
+-- the mode that NORMALLY gives to every name that has none, wherever the NORMALLY is
 abbrev pub usual_mode : List Declaration → Option Mode
-usual_mode [] = None
-usual_mode (x ∷ xs) = option_or (usual_by x.what) (usual_mode xs)
+usual_mode ds = first_mode (given_by usual_by ds)
 
 abbrev pub mode_by : Declared → List (NameBytes × Mode)
 mode_by (d.Variable name mode) = (name, value_mode mode) ∷ []
@@ -87,18 +96,23 @@ abbrev pub attributes_of_class : List (NameBytes × ℕ) → ℕ → List NameBy
 attributes_of_class owned class = keys_of (filter (λ e. nat_eq e.1 class) owned)
 
 -- an attribute is numbered in its class: by how many attributes of the class come before it
-abbrev pub numbered : List Declaration → List (NameBytes × ℕ) → List (NameBytes × ℕ) → List (NameBytes × Attribute)
-numbered ds before [] = []
-numbered ds before (e ∷ es) =
-    (e.0, record { class = e.1; field = length (attributes_of_class before e.1); mode = mode_of_name ds e.0 })
-    ∷ numbered ds (before ++ e ∷ []) es
+abbrev pub attribute_after : (NameBytes → Mode) → List (NameBytes × ℕ) → NameBytes × ℕ → NameBytes × Attribute
+attribute_after mode before e =
+    (e.0, record { class = e.1; field = length (attributes_of_class before e.1); mode = mode e.0 })
+
+abbrev pub attributes_after : (NameBytes → Mode) → List (NameBytes × ℕ) → List (NameBytes × ℕ) → List (NameBytes × Attribute)
+attributes_after mode before [] = []
+attributes_after mode before (e ∷ es) = attribute_after mode before e ∷ attributes_after mode (before ++ e ∷ []) es
 
 abbrev pub attributes : List Declaration → List (NameBytes × Attribute)
-attributes ds = numbered ds [] (attribute_classes ds)
+attributes ds = attributes_after (mode_of_name ds) [] (attribute_classes ds)
 
--- the attributes of each class
+-- the attributes of each of so many classes
+abbrev pub fields_by_class : List (NameBytes × ℕ) → ℕ → List (List NameBytes)
+fields_by_class owned classes = map (attributes_of_class owned) (range_with_len 0 classes)
+
 abbrev pub fields : List Declaration → List (List NameBytes)
-fields ds = map (attributes_of_class (attribute_classes ds)) (range_with_len 0 (length (classes ds)))
+fields ds = fields_by_class (attribute_classes ds) (length (classes ds))
 
 -- ---- sets
 
@@ -111,9 +125,13 @@ set_by _ = []
 abbrev pub set_names : List Declaration → List NameBytes
 set_names ds = each_once (given_by set_by ds)
 
+-- THE SYSTEM, or the class of this name
+abbrev pub owner_named : List (NameBytes × ClassKind) → Option NameBytes → Option Owner
+owner_named cs None = Some owners.System
+owner_named cs (Some class) = option_map owners.Class (place_in cs class)
+
 abbrev pub owner_by : List (NameBytes × ClassKind) → Declared → List (NameBytes × Owner)
-owner_by cs (d.Owner set None) = (set, owners.System) ∷ []
-owner_by cs (d.Owner set (Some class)) = entry_if set (option_map owners.Class (place_in cs class))
+owner_by cs (d.Owner set class) = entry_if set (owner_named cs class)
 owner_by cs _ = []
 
 abbrev pub member_by : List (NameBytes × ClassKind) → Declared → List (NameBytes × ℕ)
@@ -125,16 +143,16 @@ order_by (d.Order set rule statement) = (set, record { rule = rule; statement = 
 order_by _ = []
 
 -- a set: its owner, the class of its members and its order, each by the first that is said of it
-abbrev pub set_of : List Declaration → NameBytes → Set
-set_of ds name =
+abbrev pub set_of : List (NameBytes × ClassKind) → List Declaration → NameBytes → Set
+set_of cs ds name =
     record {
-      owner = value_for (given_by (owner_by (classes ds)) ds) name;
-      member = value_for (given_by (member_by (classes ds)) ds) name;
+      owner = value_for (given_by (owner_by cs) ds) name;
+      member = value_for (given_by (member_by cs) ds) name;
       order = value_for (given_by order_by ds) name;
     }
 
 abbrev pub sets : List Declaration → List Set
-sets ds = map (set_of ds) (set_names ds)
+sets ds = map (set_of (classes ds) ds) (set_names ds)
 
 -- ---- global variables
 
@@ -189,22 +207,29 @@ abbrev pub is_notice : Option ClassKind → Bool
 is_notice (Some kinds.Notice) = true
 is_notice _ = false
 
--- a class of notices, by its number
-abbrev pub notice_entry : List (NameBytes × ClassKind) → NameBytes → List (NameBytes × ℕ)
-notice_entry cs name = if is_notice (value_for cs name) then entry_if name (place_in cs name) else []
+abbrev pub number_if : Option ℕ → List ℕ
+number_if None = []
+number_if (Some number) = number ∷ []
 
-abbrev pub priority_by : List (NameBytes × ClassKind) → Declared → List (NameBytes × ℕ)
-priority_by cs (d.Priority class) = notice_entry cs class
+-- the number of a class of notices
+abbrev pub notice_number : List (NameBytes × ClassKind) → NameBytes → List ℕ
+notice_number cs name = if is_notice (value_for cs name) then number_if (place_in cs name) else []
+
+abbrev pub priority_by : List (NameBytes × ClassKind) → Declared → List ℕ
+priority_by cs (d.Priority class) = notice_number cs class
 priority_by cs _ = []
 
-abbrev pub notice_by : List (NameBytes × ClassKind) → Declared → List (NameBytes × ℕ)
-notice_by cs (d.Class class kind) = notice_entry cs class
+abbrev pub notice_by : List (NameBytes × ClassKind) → Declared → List ℕ
+notice_by cs (d.Class class kind) = notice_number cs class
 notice_by cs _ = []
 
--- the classes of notices in the order of rank: those of PRIORITY ORDER in that order, then the others as declared
+-- the numbers and one more, unless it is among them
+abbrev pub with_number : List ℕ → ℕ → List ℕ
+with_number numbers number = if list_any (nat_eq number) numbers then numbers else numbers ++ number ∷ []
+
+-- the classes of notices in the order of rank, each once: those of PRIORITY ORDER in that order, then the others as declared
 abbrev pub ranks : List Declaration → List ℕ
-ranks ds =
-    values_of (firsts (given_by (priority_by (classes ds)) ds ++ given_by (notice_by (classes ds)) ds))
+ranks ds = fold with_number [] (given_by (priority_by (classes ds)) ds ++ given_by (notice_by (classes ds)) ds)
 
 abbrev pub rank_key_by : Declared → List RankedBy
 rank_key_by (d.RankKey attribute high statement) = record { statement = statement; attribute = attribute; high = high } ∷ []

@@ -1,3 +1,5 @@
 pub mod Modes
 pub mod Entries
 pub mod Table
+pub mod Filling
+pub mod View

@@ -1,7 +1,7 @@
 -- One table of what a program declares. Each thing is numbered by its place in a list.
-use Rattle.std.specs.Prelude.{ℕ, ◌+◌, ◌++◌, ◌==◌, ◌&&◌, Bool, true, false, not, List, [], ◌∷◌, map, length, Option, Some, None, is_some, if◌then◌else◌, slice_get, nat_lt}
+use Rattle.std.specs.Prelude.{ℕ, ◌++◌, Bool, true, false, not, List, [], ◌∷◌, map, Option, Some, None, is_some, if◌then◌else◌, slice_get, nat_lt}
 use Rattle.std.specs.List.{flat_map, fold}
-use Rattle.std.specs.Map.{keys_of, values_of}
+use Rattle.std.specs.Map.{keys_of}
 use Rattle.std.specs.Option.{option_map}
 use Rattle.ss_base.specs.declared.line.Line.{Line}
 use Rattle.ss_base.specs.Lines.{line_if}
@@ -65,6 +65,29 @@ pub record Table : Type 0 where
   pub rank_keys : List RankedBy
   pub tie_keys : List TiedBy
 
+-- ---- the table without what names mean
+
+abbrev pub numbered : List Declaration → Table
+numbered ds = record {
+  meanings = [];
+  clash = None;
+  usual = usual_mode ds;
+  modes = modes ds;
+  classes = classes ds;
+  attributes = attributes ds;
+  fields = fields ds;
+  set_names = set_names ds;
+  sets = sets ds;
+  variables = variables ds;
+  routines = routines ds;
+  events = events ds;
+  ranks = ranks ds;
+  histories = histories ds;
+  subjects = [];
+  rank_keys = given_by rank_key_by ds;
+  tie_keys = given_by tie_key_by ds;
+}
+
 -- ---- what is declared of names
 
 -- a derived name of a set: a letter, a period and its name
@@ -84,26 +107,31 @@ set_meanings name (Some set) =
     ∷ (derived_name 77 name, m.OfMember Membership set)
     ∷ []
 
--- N. of a permanent class
-abbrev pub count_meaning : ClassKind → NameBytes → ℕ → Option ℕ → List (NameBytes × Meaning)
-count_meaning Permanent name class (Some variable) =
-    (count_name name, m.Count (record { class = class; variable = variable })) ∷ []
-count_meaning _ name class _ = []
+-- a class, and the variable of its name
+abbrev pub class_meaning : Option ℕ → Option ClassKind → Option ℕ → Option Meaning
+class_meaning (Some class) (Some kind) (Some variable) = Some (m.Class class kind variable)
+class_meaning _ _ _ = None
 
--- a class and its variable, and N. of it where it is permanent
-abbrev pub class_meanings : List Declaration → NameBytes → Option ℕ → Option ClassKind → Option ℕ → List (NameBytes × Meaning)
-class_meanings ds name (Some class) (Some kind) (Some variable) =
-    (name, m.Class class kind variable) ∷ count_meaning kind name class (place_in (variables ds) (count_name name))
-class_meanings ds name _ _ _ = []
+-- N. of a permanent class
+abbrev pub count_meaning : Option ℕ → Option ClassKind → Option ℕ → Option Meaning
+count_meaning (Some class) (Some Permanent) (Some variable) = Some (m.Count (record { class = class; variable = variable }))
+count_meaning _ _ _ = None
+
+-- what the name of a class means, and N. of it
+abbrev pub class_named : Table → NameBytes → Option Meaning
+class_named t name = class_meaning (place_in t.classes name) (value_for t.classes name) (place_in t.variables name)
+
+abbrev pub count_named : Table → NameBytes → Option Meaning
+count_named t name = count_meaning (place_in t.classes name) (value_for t.classes name) (place_in t.variables (count_name name))
 
 abbrev pub attribute_meaning : Attribute → Meaning
 attribute_meaning a = m.Attribute a.class a.field a.mode
 
 -- a DEFINE of an attribute gives its mode and declares nothing
-abbrev pub variable_meaning : List Declaration → NameBytes → Mode → Option Meaning
-variable_meaning ds name mode =
-    if is_some (value_for (attributes ds) name) then None
-    else option_map (λ n. m.Variable (Global n) mode) (place_in (variables ds) name)
+abbrev pub variable_meaning : Table → NameBytes → Mode → Option Meaning
+variable_meaning t name mode =
+    if is_some (value_for t.attributes name) then None
+    else option_map (λ n. m.Variable (Global n) mode) (place_in t.variables name)
 
 -- the fold of a statistic; a MEAN has none
 abbrev pub fold_of : StatisticKind → Option Fold
@@ -114,21 +142,20 @@ fold_of kinds.Minimum = Some folds.Minimum
 fold_of kinds.Mean = None
 
 -- the names that a declaration declares, and what they mean; a set is declared by its owner and by its members
-abbrev pub declares : List Declaration → Declared → List (NameBytes × Meaning)
-declares ds (d.Class name kind) =
-    class_meanings ds name (place_in (classes ds) name) (value_for (classes ds) name) (place_in (variables ds) name)
-declares ds (d.Attribute name class) = entry_if name (option_map attribute_meaning (value_for (attributes ds) name))
-declares ds (d.Owner name class) = set_meanings name (place_among (set_names ds) name)
-declares ds (d.Member name class) = set_meanings name (place_among (set_names ds) name)
-declares ds (d.Variable name mode) = entry_if name (variable_meaning ds name (value_mode mode))
-declares ds (d.Statistic name kind subject) =
-    entry_if name (option_map (m.Statistic (fold_of kind)) (place_in (histories ds) subject))
-declares ds (d.Routine name section given yielding) = entry_if name (option_map m.Routine (place_in (routines ds) name))
-declares ds _ = []
+abbrev pub declares : Table → Declared → List (NameBytes × Meaning)
+declares t (d.Class name kind) = entry_if name (class_named t name) ++ entry_if (count_name name) (count_named t name)
+declares t (d.Attribute name class) = entry_if name (option_map attribute_meaning (value_for t.attributes name))
+declares t (d.Owner name class) = set_meanings name (place_among t.set_names name)
+declares t (d.Member name class) = set_meanings name (place_among t.set_names name)
+declares t (d.Variable name mode) = entry_if name (variable_meaning t name (value_mode mode))
+declares t (d.Statistic name kind subject) =
+    entry_if name (option_map (m.Statistic (fold_of kind)) (place_in t.histories subject))
+declares t (d.Routine name section given yielding) = entry_if name (option_map m.Routine (place_in t.routines name))
+declares t _ = []
 
 -- each global and derived name, with what it means by its first declaration
 abbrev pub meanings : List Declaration → List (NameBytes × Meaning)
-meanings ds = firsts (given_by (declares ds) ds)
+meanings ds = firsts (given_by (declares (numbered ds)) ds)
 
 -- ---- names that are declared twice
 
@@ -138,20 +165,23 @@ pub record Entered : Type 0 where
   pub name : NameBytes
   pub meaning : Meaning
 
-abbrev pub entered_by : List Declaration → Declaration → List Entered
-entered_by ds x = map (λ e. record { line = x.line; name = e.0; meaning = e.1 }) (declares ds x.what)
+abbrev pub entered_at : Line → NameBytes × Meaning → Entered
+entered_at line e = record { line = line; name = e.0; meaning = e.1 }
 
--- what a set's owner and its members' class both declare
-abbrev pub is_of_set : Meaning → Bool
-is_of_set (m.Set set) = true
-is_of_set (m.OfSet query set) = true
-is_of_set (m.OfMember query set) = true
-is_of_set _ = false
+abbrev pub entered_by : Table → Declaration → List Entered
+entered_by t x = map (entered_at x.line) (declares t x.what)
+
+-- a set's owner and its members' class both declare the set and its derived names; a spelling is a derived name of one set
+abbrev pub same_of_set : Meaning → Meaning → Bool
+same_of_set (m.Set first) (m.Set second) = true
+same_of_set (m.OfSet query first) (m.OfSet other second) = true
+same_of_set (m.OfMember query first) (m.OfMember other second) = true
+same_of_set _ _ = false
 
 -- whether a name that means the one is declared as another
 abbrev pub is_another : Option Meaning → Meaning → Bool
 is_another None new = false
-is_another (Some old) new = not (is_of_set new && old == new)
+is_another (Some known) new = not (same_of_set known new)
 
 -- the lines where a name is declared that means something by the declarations before it
 abbrev pub clashes_after : List (NameBytes × Meaning) → List Entered → List Line
@@ -161,7 +191,7 @@ clashes_after before (e ∷ es) =
     ++ clashes_after (before ++ (e.name, e.meaning) ∷ []) es
 
 abbrev pub clashes : List Declaration → List Line
-clashes ds = clashes_after [] (flat_map (entered_by ds) ds)
+clashes ds = clashes_after [] (flat_map (entered_by (numbered ds)) ds)
 
 -- the first in the text of what was found so far and a line
 abbrev pub sooner : Option Line → Line → Option Line
@@ -182,25 +212,15 @@ subject_of _ = None
 
 -- ---- the table
 
+-- the subjects of TALLY and ACCUMULATE, by what names mean
+abbrev pub subjects_by : List (NameBytes × Meaning) → List NameBytes → List (Option Subject)
+subjects_by ms names = map (λ name. subject_of (value_for ms name)) names
+
 abbrev pub declared : List Declaration → Table
-declared ds = record {
+declared ds = record (numbered ds) {
   meanings = meanings ds;
   clash = first_line (clashes ds);
-  usual = usual_mode ds;
-  modes = modes ds;
-  classes = classes ds;
-  attributes = attributes ds;
-  fields = fields ds;
-  set_names = set_names ds;
-  sets = sets ds;
-  variables = variables ds;
-  routines = routines ds;
-  events = events ds;
-  ranks = ranks ds;
-  histories = histories ds;
-  subjects = map (λ name. subject_of (value_for (meanings ds) name)) (keys_of (histories ds));
-  rank_keys = given_by rank_key_by ds;
-  tie_keys = given_by tie_key_by ds;
+  subjects = subjects_by (meanings ds) (keys_of (histories ds));
 }
 
 -- the table of a program
@@ -221,10 +241,14 @@ abbrev pub owner_of_member : Option Set → Owner
 owner_of_member None = owners.System
 owner_of_member (Some set) = owner_or_system (option_map owners.Class set.member)
 
-abbrev pub owner_of_subject : Table → Option (Option Subject) → Owner
-owner_of_subject t (Some (Some (subjects.OfAttribute class field))) = owners.Class class
-owner_of_subject t (Some (Some (subjects.OfCount set))) = owner_of_set (slice_get t.sets set)
+abbrev pub owner_of_subject : Table → Option Subject → Owner
+owner_of_subject t (Some (subjects.OfAttribute class field)) = owners.Class class
+owner_of_subject t (Some (subjects.OfCount set)) = owner_of_set (slice_get t.sets set)
 owner_of_subject t _ = owners.System
+
+abbrev pub owner_of_statistic : Table → Option (Option Subject) → Owner
+owner_of_statistic t None = owners.System
+owner_of_statistic t (Some subject) = owner_of_subject t subject
 
 -- who has what a name means: each entity of a class, or else THE SYSTEM. A statistic is its subject's.
 abbrev pub owner_of : Table → Meaning → Owner
@@ -232,5 +256,5 @@ owner_of t (m.Attribute class field mode) = owners.Class class
 owner_of t (m.Set set) = owner_of_set (slice_get t.sets set)
 owner_of t (m.OfSet query set) = owner_of_set (slice_get t.sets set)
 owner_of t (m.OfMember query set) = owner_of_member (slice_get t.sets set)
-owner_of t (m.Statistic fold statistic) = owner_of_subject t (slice_get t.subjects statistic)
+owner_of t (m.Statistic fold statistic) = owner_of_statistic t (slice_get t.subjects statistic)
 owner_of t _ = owners.System

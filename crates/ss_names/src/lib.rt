@@ -4,8 +4,10 @@
 mod entry;
 mod filling;
 mod meaning;
+mod meanings;
 mod names;
 
 pub use entry::{Attribute, EventSection, Order, RankedBy, RoutineSection, Set, TiedBy};
 pub use meaning::Meaning;
+pub use meanings::Meanings;
 pub use names::{NameId, Names, value_mode};

@@ -1,14 +1,16 @@
 //! The table of a program.
 
-ghost use Rattle.std.specs.Prelude.{◌≡◌, ◌<◌, length, slice_get, get_or, option_map, Some, [], IfOk};
+ghost use Rattle.std.specs.Prelude.{◌≡◌, ◌<◌, length, map, slice_get, get_or, option_map, Some, [], IfOk};
 ghost use Rattle.std.specs.Map.{keys_of};
 ghost use Rattle.ss_names_declarations.specs.Firsts.{place_in, value_for};
 ghost use Rattle.ss_names.specs.Modes.{value_mode};
-ghost use Rattle.ss_names.specs.Table.{declared, owner_of};
+ghost use Rattle.ss_names.specs.Entries.{row_of};
+ghost use Rattle.ss_names.specs.Table.{declared, owner_of, owner_of_member, owner_of_set, owner_of_statistic, owner_of_subject, owner_or_system};
 
 use crate::entry::{Attribute, EventSection, RankedBy, RoutineSection, Set, TiedBy};
-use crate::filling::{empty, fill_entities, fill_meanings, fill_names, fill_subjects, fill_variables};
+use crate::filling::{empty, fill};
 use crate::meaning::Meaning;
+use crate::meanings::Meanings;
 use ss_base::{ClassKind, Line, Mode, Name, Owner, Spelling};
 use ss_names_declarations::{Declaration, Keys, Seed, Table};
 use ss_program::sections::Subject;
@@ -25,8 +27,9 @@ pub fn value_mode(mode: ModeWord) -> Mode
     ensures { result ≡ value_mode mode }
 {
     match mode {
+        ModeWord::Integer => Mode::Integer,
         ModeWord::Alpha => Mode::Alpha,
-        ModeWord::Integer | ModeWord::Real => Mode::Integer,
+        ModeWord::Real => Mode::Integer,
     }
 }
 
@@ -37,7 +40,7 @@ pub fn value_mode(mode: ModeWord) -> Mode
 #[derive(Drop)]
 pub struct Names {
     /// Each global and derived name, with what it means.
-    pub meanings: Table<Spelling, Meaning>,
+    pub meanings: Meanings,
     /// The first line where a name is declared as two things.
     pub clash: Option<Line>,
     /// The mode that NORMALLY gives to every name that has none.
@@ -65,13 +68,33 @@ pub struct Names {
 }
 
 impl Model for Names {
-    ghost use Rattle.std.specs.Prelude.{map};
     ghost use Rattle.ss_names.specs.Table.{Table};
-    ghost use Rattle.ss_names.specs.Entries.{row_of};
 
     ghost Value = { Table };
 
-    ghost view = { λ n. record { meanings = n.meanings; clash = n.clash; usual = n.usual; modes = n.modes; classes = n.classes; attributes = n.attributes; fields = map row_of n.fields.items; set_names = n.set_names; sets = n.sets.items; variables = n.variables; routines = n.routines; events = n.events; ranks = n.ranks; histories = n.histories; subjects = n.subjects.items; rank_keys = n.rank_keys.items; tie_keys = n.tie_keys.items } };
+    ghost use Rattle.ss_names.specs.View.{table_seen};
+
+    ghost view = { table_seen };
+}
+
+// THE SYSTEM, where no owner is known.
+fn owner_or_system(owner: Option<Owner>) -> Owner
+    ensures { result ≡ owner_or_system owner }
+{
+    match owner {
+        None => Owner::System,
+        Some(owner) => owner,
+    }
+}
+
+// The row of this number, if there is one.
+fn row_at(rows: &[Vec<Name>], class: usize) -> &[Name]
+    ensures { result.now ≡ get_or (map row_of rows.now) class [] }
+{
+    match rows.get(class) {
+        Some(row) => row,
+        None => &[],
+    }
 }
 
 impl Names {
@@ -92,17 +115,7 @@ impl Names {
         ensures { IfOk result (λ n. n ≡ declared declarations.now) }
     {
         let mut names = empty(alloc, seed);
-        for declaration in declarations {
-            fill_names(&mut names, declaration)?;
-        }
-        fill_entities(alloc, &mut names, declarations)?;
-        for declaration in declarations {
-            fill_variables(&mut names, declaration)?;
-        }
-        for declaration in declarations {
-            fill_meanings(&mut names, declaration)?;
-        }
-        fill_subjects(&mut names)?;
+        fill(alloc, &mut names, declarations)?;
         Ok(names)
     }
 
@@ -110,10 +123,7 @@ impl Names {
     pub fn find(&self, spelling: &[u8]) -> Option<NameId>
         ensures { option_map (λ id. id.0) result ≡ place_in self.now.meanings spelling.now }
     {
-        match Spelling::of(spelling) {
-            Some(spelling) => self.meanings.place(&spelling).map(NameId),
-            None => None,
-        }
+        self.meanings.place(spelling).map(NameId)
     }
 
     /// How many global and derived names there are. Their places are the numbers below that.
@@ -128,43 +138,76 @@ impl Names {
         requires { id.0 < length self.now.meanings }
         ensures { slice_get (keys_of self.now.meanings) id.0 ≡ Some result.now }
     {
-        match self.meanings.keys().get(id.0) {
-            Some(name) => name.bytes(),
-            None => &[],
-        }
+        self.meanings.spelling(id.0)
     }
 
     /// What a name means in the whole program. None if it is no global or derived name.
     pub fn meaning(&self, name: &Name) -> Option<Meaning>
         ensures { result ≡ value_for self.now.meanings name.now }
     {
-        self.meanings.get(&Spelling::of_name(name)).copied()
+        self.meanings.meaning(&Spelling::of_name(name))
     }
 
     /// The attributes of a class, in the order of the text.
     pub fn attributes_of(&self, class: usize) -> &[Name]
         ensures { result.now ≡ get_or self.now.fields class [] }
     {
-        match self.fields.get(class) {
-            Some(row) => row,
-            None => &[],
-        }
+        row_at(&self.fields, class)
+    }
+
+    /// The set of this number. None if there are not so many.
+    pub fn set_at(&self, number: usize) -> Option<Set>
+        ensures { result ≡ slice_get self.now.sets number }
+    {
+        self.sets.get(number).copied()
+    }
+
+    // What the subject of this number is.
+    fn subject_at(&self, number: usize) -> Option<Option<Subject>>
+        ensures { result ≡ slice_get self.now.subjects number }
+    {
+        self.subjects.get(number).copied()
     }
 
     // The owner of a set.
-    fn owner_of_set(&self, set: usize) -> Owner {
-        match self.sets.get(set).copied() {
-            Some(set) => set.owner.unwrap_or(Owner::System),
+    fn owner_of_set(&self, set: usize) -> Owner
+        ensures { result ≡ owner_of_set (slice_get self.now.sets set) }
+    {
+        match self.set_at(set) {
             None => Owner::System,
+            Some(set) => owner_or_system(set.owner),
+        }
+    }
+
+    // The class of the members of a set.
+    fn owner_of_member(&self, set: usize) -> Owner
+        ensures { result ≡ owner_of_member (slice_get self.now.sets set) }
+    {
+        match self.set_at(set) {
+            None => Owner::System,
+            Some(set) => owner_or_system(set.member.map(Owner::Class)),
         }
     }
 
     // Who has a subject.
-    fn owner_of_subject(&self, statistic: usize) -> Owner {
-        match self.subjects.get(statistic).copied() {
-            Some(Some(Subject::OfAttribute { class, .. })) => Owner::Class(class),
-            Some(Some(Subject::OfCount { set })) => self.owner_of_set(set),
-            Some(Some(Subject::OfVariable { .. })) | Some(None) | None => Owner::System,
+    fn owner_of_subject(&self, subject: Option<Subject>) -> Owner
+        ensures { result ≡ owner_of_subject self.now subject }
+    {
+        match subject {
+            None => Owner::System,
+            Some(Subject::OfVariable { .. }) => Owner::System,
+            Some(Subject::OfAttribute { class, .. }) => Owner::Class(class),
+            Some(Subject::OfCount { set }) => self.owner_of_set(set),
+        }
+    }
+
+    // Who has a statistic.
+    fn owner_of_statistic(&self, statistic: usize) -> Owner
+        ensures { result ≡ owner_of_statistic self.now (slice_get self.now.subjects statistic) }
+    {
+        match self.subject_at(statistic) {
+            None => Owner::System,
+            Some(subject) => self.owner_of_subject(subject),
         }
     }
 
@@ -174,21 +217,11 @@ impl Names {
     {
         match meaning {
             Meaning::Attribute { class, .. } => Owner::Class(class),
-            Meaning::Set { set } | Meaning::OfSet { set, .. } => self.owner_of_set(set),
-            Meaning::OfMember { set, .. } => match self.sets.get(set).copied() {
-                Some(set) => match set.member {
-                    Some(class) => Owner::Class(class),
-                    None => Owner::System,
-                },
-                None => Owner::System,
-            },
-            Meaning::Statistic { statistic, .. } => self.owner_of_subject(statistic),
-            Meaning::Variable { .. }
-            | Meaning::Class { .. }
-            | Meaning::Count { .. }
-            | Meaning::Routine { .. }
-            | Meaning::Clock
-            | Meaning::NoticeTime => Owner::System,
+            Meaning::Set { set } => self.owner_of_set(set),
+            Meaning::OfSet { set, .. } => self.owner_of_set(set),
+            Meaning::OfMember { set, .. } => self.owner_of_member(set),
+            Meaning::Statistic { statistic, .. } => self.owner_of_statistic(statistic),
+            _ => Owner::System,
         }
     }
 }

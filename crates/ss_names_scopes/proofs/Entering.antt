@@ -1,19 +1,33 @@
--- Names that are entered one after another.
-use Rattle.std.proofs.Common.{◌≡◌, List, Option, ap, ◌∙◌}
-use Rattle.std.specs.Map.{lookup}
+-- Names that are entered one after another, with their modes.
+use Rattle.std.proofs.Common.{◌≡◌, ℕ, ◌+◌, ◌<◌, List, [], Option, length, get_or, map, take, sym, ap, ◌∙◌}
+use Rattle.std.specs.List.{flat_map, fold}
+use Rattle.std.specs.Option.{option_or}
 use Rattle.std.proofs.Math.Path.{fun_ext}
-use Rattle.ss_tree.specs.declared.preamble.Mode.{Mode}
-use Rattle.ss_tree.specs.Tree.{DefinitionTree}
+use Rattle.std.proofs.lemmas.List.{map-append}
+use Rattle.std.proofs.lemmas.List.Sums.{fold-append}
+use Rattle.ss_base.specs.declared.layout.Mode.{Mode}
 use Rattle.ss_tree.specs.Names.{NameBytes}
-use Rattle.ss_names_declarations.specs.Firsts.{firsts, same_name}
+use Rattle.ss_names_declarations.specs.Firsts.{firsts, with_first}
 use Rattle.ss_names_declarations.proofs.Entries.{value_in_firsts}
-use Rattle.ss_check_scopes.specs.Locals.{Moded, all_defined, or_usual, mode_of_local, moded, moded_in}
+use Rattle.ss_names_scopes.specs.Locals.{moded_in}
+use Rattle.ss_names_scopes.proofs.Finding.{list_more}
 
 -- the mode of a name is found among the first entries
-pub modes_found : (usual : Option Mode) (definitions : List DefinitionTree) (entries : Moded) → entries ≡ firsts (all_defined definitions) → (name : NameBytes) → or_usual usual (lookup (same_name name) entries) ≡ mode_of_local usual definitions name
-modes_found usual definitions entries is name =
-    ap (λ (l : Moded). or_usual usual (lookup (same_name name) l)) is ∙ ap (or_usual usual) (value_in_firsts (all_defined definitions) name)
+pub moded_found : (usual : Option Mode) (all modes : List (NameBytes × Mode)) → modes ≡ firsts all → moded_in usual modes ≡ moded_in usual all
+moded_found usual all modes is =
+    fun_ext (λ name.
+    ap (λ (l : List (NameBytes × Mode)). moded_in usual l name) is
+    ∙ ap (λ (mode : Option Mode). (name, option_or mode usual)) (value_in_firsts all name))
 
-pub moded_found : (usual : Option Mode) (definitions : List DefinitionTree) (entries : Moded) → entries ≡ firsts (all_defined definitions) → moded_in usual entries ≡ moded usual definitions
-moded_found usual definitions entries is =
-    fun_ext (λ name. ap (λ (mode : Option Mode). (name, mode)) (modes_found usual definitions entries is name))
+-- the entries of one more item come last
+pub firsts_after : {X V : Type 0} (f : X → List (NameBytes × V)) (xs : List X) (i : ℕ) (x : X) (before after : List (NameBytes × V)) → i < length xs → x ≡ get_or xs i x → before ≡ firsts (flat_map f (take i xs)) → after ≡ fold with_first before (f x) → after ≡ firsts (flat_map f (take (i + 1) xs))
+firsts_after f xs i x before after lt is b a =
+    a ∙ ap (λ l. fold with_first l (f x)) b ∙ sym (fold-append with_first [] (flat_map f (take i xs)) (f x)) ∙ ap firsts (list_more f xs i x lt is)
+
+-- the same, where each name is entered with what is known of it
+pub mapped_firsts_after : {X V : Type 0} (g : NameBytes → NameBytes × V) (f : X → List NameBytes) (xs : List X) (i : ℕ) (x : X) (before after : List (NameBytes × V)) → i < length xs → x ≡ get_or xs i x
+    → before ≡ firsts (map g (flat_map f (take i xs))) → after ≡ fold with_first before (map g (f x)) → after ≡ firsts (map g (flat_map f (take (i + 1) xs)))
+mapped_firsts_after g f xs i x before after lt is b a =
+    a ∙ ap (λ l. fold with_first l (map g (f x))) b
+    ∙ sym (fold-append with_first [] (map g (flat_map f (take i xs))) (map g (f x)))
+    ∙ ap firsts (sym (map-append g (flat_map f (take i xs)) (f x)) ∙ ap (map g) (list_more f xs i x lt is))

@@ -1,2 +1,4 @@
 mod Entering
+mod Found
 mod Placing
+pub mod Finding

@@ -1,3 +1,4 @@
 pub mod Locals
 pub mod Scopes
 pub mod Seen
+pub mod Examples

@@ -1,11 +1,11 @@
 -- The local variables of a section.
-use Rattle.std.specs.Prelude.{ℕ, zero, suc, Bool, true, false, not, ◌&&◌, List, [], ◌∷◌, map, Option, Some, None, is_some, if◌then◌else◌}
-use Rattle.std.specs.List.{flat_map, position}
+use Rattle.std.specs.Prelude.{ℕ, Bool, true, false, ◌&&◌, ◌==◌, List, [], ◌∷◌, map, Option, Some, None, is_none, if◌then◌else◌}
+use Rattle.std.specs.Global.{Vec}
+use Rattle.std.specs.List.{flat_map}
 use Rattle.std.specs.Option.{option_or}
-use Rattle.std.specs.Map.{keys_of, lookup}
 use Rattle.ss_base.specs.declared.layout.Mode.{Mode}
 use Rattle.ss_tree.specs.Names.{NameBytes}
-use Rattle.ss_tree.specs.Tree.{SectionTree, ProgramTree}
+use Rattle.ss_tree.specs.Tree.{SectionTree}
 use Rattle.ss_tree.specs.declared.expression.Designator.TheVariants as designators
 use Rattle.ss_tree.specs.declared.expression.Designator.{Designator}
 use Rattle.ss_names_declarations.specs.Firsts.{firsts, value_for}
@@ -27,11 +27,14 @@ abbrev pub is_variable : Role → Bool
 is_variable roles.Set = false
 is_variable _ = true
 
--- a name that is used without subscript as a variable and isn't global
+-- whether a name with so many subscripts is a local variable in this role: one without subscript that is used as a variable and
+-- isn't global
+abbrev pub is_local_place : Table → Role → NameBytes → ℕ → Bool
+is_local_place t role name subscripts = is_variable role && (subscripts == 0) && is_none (value_for t.meanings name)
+
 abbrev pub local_place : Table → Role → Designator → ℕ → Option NameBytes
-local_place t role (designators.Name name) zero =
-    if is_variable role && not (is_some (value_for t.meanings name)) then Some name else None
-local_place t role _ _ = None
+local_place t role (designators.Name name) subscripts = if is_local_place t role name subscripts then Some name else None
+local_place t role _ subscripts = None
 
 -- the local variable that a use names
 abbrev pub local_of : Table → Used → Option NameBytes
@@ -44,19 +47,28 @@ abbrev pub as_list : {A : Type 0} → Option A → List A
 as_list None = []
 as_list (Some x) = x ∷ []
 
+abbrev pub local_used : Table → Use → List NameBytes
+local_used t u = as_list (local_of t u.what)
+
 abbrev pub defined_by : Used → List (NameBytes × Mode)
 defined_by (Local name mode) = (name, value_mode mode) ∷ []
 defined_by _ = []
 
--- the mode of a local variable: that of its first DEFINE in the section, or else that of NORMALLY
-abbrev pub local_mode : Table → List Use → NameBytes → Option Mode
-local_mode t us name = option_or (value_for (flat_map (λ (u : Use). defined_by u.what) us) name) t.usual
+-- the modes that local DEFINEs give
+abbrev pub defined : List Use → List (NameBytes × Mode)
+defined us = flat_map (λ (u : Use). defined_by u.what) us
+
+-- a local variable with its mode: that of its first DEFINE in the section, or else that of NORMALLY
+abbrev pub moded_in : Option Mode → List (NameBytes × Mode) → NameBytes → NameBytes × Option Mode
+moded_in usual modes name = (name, option_or (value_for modes name) usual)
 
 -- the local variables of a section with these uses, in the order of their numbers: each once, by its first use. So parameters
 -- come first, given ones before yielded ones, then those of DEFINEs, then those that are only used.
 abbrev pub locals : Table → List Use → Moded
-locals t us =
-    firsts (map (λ name. (name, local_mode t us name)) (flat_map (λ (u : Use). as_list (local_of t u.what)) us))
+locals t us = firsts (map (moded_in t.usual (defined us)) (flat_map (local_used t) us))
+
+abbrev pub uses_seen : Vec Use → List Use
+uses_seen us = us.items
 
 abbrev pub locals_of : Table → SectionTree → Moded
 locals_of t s = locals t (uses s)

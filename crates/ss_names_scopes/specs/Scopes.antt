@@ -1,7 +1,6 @@
 -- What a name means in a section.
-use Rattle.std.specs.Prelude.{ℕ, ◌+◌, List, map, Option, Some, None, slice_get}
+use Rattle.std.specs.Prelude.{ℕ, List, map, Option, Some, None, slice_get}
 use Rattle.std.specs.List.{position}
-use Rattle.std.specs.Option.{option_map}
 use Rattle.std.specs.Map.{keys_of, values_of, lookup}
 use Rattle.ss_base.specs.declared.layout.Mode.{Mode}
 use Rattle.ss_base.specs.declared.layout.Mode.TheVariants.{Integer}
@@ -10,7 +9,7 @@ use Rattle.ss_base.specs.declared.layout.Owner.TheVariants as owners
 use Rattle.ss_program.specs.declared.expression.Variable.{Variable}
 use Rattle.ss_program.specs.declared.expression.Variable.TheVariants as variables
 use Rattle.ss_tree.specs.Names.{NameBytes}
-use Rattle.ss_tree.specs.Tree.{SectionTree, ProgramTree}
+use Rattle.ss_tree.specs.Tree.{SectionTree}
 use Rattle.ss_tree.specs.declared.expression.Designator.{Designator}
 use Rattle.ss_tree.specs.declared.expression.Designator.TheVariants as designators
 use Rattle.ss_names_declarations.specs.Firsts.{same_name, value_for}

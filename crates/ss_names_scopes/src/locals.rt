@@ -1,10 +1,11 @@
 //! Local variables.
 
-ghost use Rattle.std.specs.Prelude.{◌≡◌, ◌==◌, map, length, slice_get, IfOk};
-ghost use Rattle.std.specs.List.{position};
+ghost use Rattle.std.specs.Prelude.{◌≡◌, ◌==◌, map, length, slice_get, IfOk, OnOk};
+ghost use Rattle.std.specs.List.{flat_map, fold, position};
 ghost use Rattle.std.specs.Map.{keys_of, values_of, lookup};
-ghost use Rattle.ss_names_declarations.specs.Firsts.{same_name};
-ghost use Rattle.ss_names_scopes.specs.Locals.{local_of, locals};
+ghost use Rattle.std.specs.Option.{option_or};
+ghost use Rattle.ss_names_declarations.specs.Firsts.{firsts, same_name, value_for, with_first};
+ghost use Rattle.ss_names_scopes.specs.Locals.{defined, defined_by, is_local_place, is_variable, local_of, local_place, local_used, locals, moded_in, uses_seen};
 
 use ss_base::{Mode, Name};
 use ss_names::{Names, value_mode};
@@ -34,10 +35,36 @@ impl Model for Locals {
 }
 
 // Whether a name without subscript is a variable in this role.
-fn is_variable(role: Role) -> bool {
+fn is_variable(role: Role) -> bool
+    ensures { result ≡ is_variable role }
+{
     match role {
-        Role::Value | Role::Item | Role::Target | Role::Reset | Role::LoopVariable => true,
         Role::Set => false,
+        _ => true,
+    }
+}
+
+// Whether a name with so many subscripts is a local variable in this role.
+fn is_local_place(names: &Names, role: Role, name: &Name, subscripts: usize) -> bool
+    ensures { result ≡ is_local_place names.now role name.now subscripts }
+{
+    is_variable(role) && subscripts == 0 && names.meaning(name).is_none()
+}
+
+// The local variable that a place names.
+fn local_place(names: &Names, role: Role, place: &Designator, subscripts: usize) -> Option<Name>
+    ensures { result ≡ local_place names.now role place.now subscripts }
+{
+    match place {
+        Designator::Name(name) => {
+            if is_local_place(names, role, name, subscripts) {
+                Some(*name)
+            } else {
+                None
+            }
+        }
+        Designator::TimeV => None,
+        Designator::TimeA => None,
     }
 }
 
@@ -47,19 +74,14 @@ pub fn local_of(names: &Names, used: &Used) -> Option<Name>
     ensures { result ≡ local_of names.now used.now }
 {
     match used {
-        Used::Parameter { name } | Used::Local { name, .. } => Some(*name),
+        Used::Parameter { name } => Some(*name),
+        Used::Local { name, .. } => Some(*name),
         Used::Place {
             role,
-            place: Designator::Name(name),
+            place,
             subscripts,
             ..
-        } => {
-            if is_variable(*role) && *subscripts == 0 && names.meaning(name).is_none() {
-                Some(*name)
-            } else {
-                None
-            }
-        }
+        } => local_place(names, *role, place, *subscripts),
         _ => None,
     }
 }
@@ -80,15 +102,67 @@ fn seed_of(uses: &[Use]) -> Seed {
     Seed::of(&names)
 }
 
+// Adds the mode that a use gives, if it is a local DEFINE.
+fn add_mode(modes: &mut Table<Name, Mode>, used: &Used) -> Result<(), AllocError>
+    ensures { OnOk result (modes.new ≡ fold with_first modes.old (defined_by used.now)) }
+{
+    match used {
+        Used::Local { name, mode } => insert_first(modes, *name, value_mode(*mode)),
+        _ => Ok(()),
+    }
+}
+
 // The modes that local DEFINEs give.
-fn modes_of(alloc: Global, seed: Seed, uses: &[Use]) -> Result<Table<Name, Mode>, AllocError> {
+fn modes_of(alloc: Global, seed: Seed, uses: &[Use]) -> Result<Table<Name, Mode>, AllocError>
+    ensures { IfOk result (λ modes. modes ≡ firsts (defined uses.now)) }
+{
     let mut modes = Table::new(alloc, seed);
     for one in uses {
-        if let Used::Local { name, mode } = one.what {
-            insert_first(&mut modes, name, value_mode(mode))?;
-        }
+        add_mode(&mut modes, &one.what)?;
     }
     Ok(modes)
+}
+
+// The mode of a local variable: the first that DEFINEs give it, or else that of NORMALLY.
+fn mode_in(usual: Option<Mode>, modes: &Table<Name, Mode>, name: &Name) -> Option<Mode>
+    ensures { result ≡ option_or (value_for modes.now name.now) usual }
+{
+    modes.get(name).copied().or(usual)
+}
+
+// Adds the local variable that a use names.
+fn add_local(
+    entries: &mut Table<Name, Option<Mode>>,
+    names: &Names,
+    modes: &Table<Name, Mode>,
+    one: &Use,
+) -> Result<(), AllocError>
+    ensures { OnOk result (entries.new ≡ fold with_first entries.old (map (moded_in names.now.usual modes.now) (local_used names.now one.now))) }
+{
+    match local_of(names, &one.what) {
+        Some(name) => {
+            let mode = mode_in(names.usual, modes, &name);
+            insert_first(entries, name, mode)
+        }
+        None => Ok(()),
+    }
+}
+
+// The local variables that uses name.
+fn collect(
+    alloc: Global,
+    seed: Seed,
+    names: &Names,
+    modes: &Table<Name, Mode>,
+    uses: &[Use],
+) -> Result<Table<Name, Option<Mode>>, AllocError>
+    ensures { IfOk result (λ found. found ≡ firsts (map (moded_in names.now.usual modes.now) (flat_map (local_used names.now) uses.now))) }
+{
+    let mut entries = Table::new(alloc, seed);
+    for one in uses {
+        add_local(&mut entries, names, modes, one)?;
+    }
+    Ok(entries)
 }
 
 impl Locals {
@@ -101,13 +175,7 @@ impl Locals {
     {
         let seed = seed_of(uses);
         let modes = modes_of(alloc, seed, uses)?;
-        let mut entries = Table::new(alloc, seed);
-        for one in uses {
-            if let Some(name) = local_of(names, &one.what) {
-                let mode = modes.get(&name).copied().or(names.usual);
-                insert_first(&mut entries, name, mode)?;
-            }
-        }
+        let entries = collect(alloc, seed, names, &modes, uses)?;
         Ok(Locals { entries })
     }
 
@@ -147,7 +215,7 @@ impl Locals {
     }
 }
 
-/// The local variables of each section.
+/// The local variables of sections with these uses.
 ///
 /// # Errors
 /// `AllocError` where memory is refused.
@@ -155,10 +223,13 @@ pub fn all_locals(
     alloc: Global,
     names: &Names,
     all: &[Vec<Use>],
-) -> Result<Vec<Locals>, AllocError> {
+) -> Result<Vec<Locals>, AllocError>
+    ensures { IfOk result (λ found. found.items ≡ map (locals names.now) (map uses_seen all.now)) }
+{
     let mut found = Vec::new(alloc);
     for uses in all {
-        found.push(Locals::of(alloc, names, uses)?)?;
+        let locals = Locals::of(alloc, names, uses)?;
+        found.push(locals)?;
     }
     Ok(found)
 }

@@ -1,12 +1,14 @@
 //! What a name means in a section.
 
 ghost use Rattle.ss_names_scopes.specs.Seen.{scope_seen};
-ghost use Rattle.std.specs.Prelude.{◌≡◌};
-ghost use Rattle.ss_names_scopes.specs.Scopes.{implied, meaning, meaning_of_class, meaning_of_name, mode_of, parameter_mode, variable_of};
+ghost use Rattle.std.specs.Prelude.{◌≡◌, ◌+◌, slice_get};
+ghost use Rattle.std.specs.Map.{values_of};
+ghost use Rattle.ss_names_scopes.specs.Scopes.{implied, known_mode, meaning, meaning_of_class, meaning_of_name, mode_at, mode_given, mode_of, parameter_mode, variable_of};
 
 use crate::locals::Locals;
 use ss_base::{Mode, Name, Owner};
 use ss_names::{Meaning, Names};
+use ss_names_declarations::key_at;
 use ss_program::expression::Variable;
 use ss_tree::expression::Designator;
 
@@ -18,20 +20,76 @@ pub struct Scope<'a> {
     pub sections: &'a [Locals],
 }
 
+// The mode of a local variable. A name without any is refused, and counts as INTEGER.
+fn known_mode(mode: Option<Option<Mode>>) -> Mode
+    ensures { result ≡ known_mode mode }
+{
+    match mode {
+        Some(Some(mode)) => mode,
+        Some(None) => Mode::Integer,
+        None => Mode::Integer,
+    }
+}
+
+// The mode, where there are a variable and a mode of it.
+fn mode_given(mode: Option<Option<Mode>>) -> Option<Mode>
+    ensures { result ≡ mode_given mode }
+{
+    match mode {
+        Some(mode) => mode,
+        None => None,
+    }
+}
+
+// The mode of the local variable of a number in a section.
+fn mode_in_section(sections: &[Locals], section: usize, number: usize) -> Option<Mode>
+    ensures { result ≡ mode_at (slice_get sections.now section) number }
+{
+    match sections.get(section) {
+        Some(locals) => mode_given(locals.mode_at(number)),
+        None => None,
+    }
+}
+
+// The mode of the parameter of a section that comes so many places after those that it is given.
+fn mode_after(locals: &Locals, given: usize, place: usize) -> Option<Mode>
+    ensures { result ≡ mode_given (slice_get (values_of locals.now) (given + place)) }
+{
+    let count = locals.len();
+    if count <= place {
+        return None;
+    }
+    if count - place <= given {
+        return None;
+    }
+    mode_given(locals.mode_at(given + place))
+}
+
+// The mode of what the routine of a section yields in this place, after those that it is given.
+fn yielded_in_section(
+    sections: &[Locals],
+    section: usize,
+    given: usize,
+    place: usize,
+) -> Option<Mode>
+    ensures { result ≡ mode_at (slice_get sections.now section) (given + place) }
+{
+    match sections.get(section) {
+        Some(locals) => mode_after(locals, given, place),
+        None => None,
+    }
+}
+
 /// The mode of what a name means; a set and a routine have none.
 pub fn mode_of(meaning: Meaning) -> Option<Mode>
     ensures { result ≡ mode_of meaning }
 {
     match meaning {
-        Meaning::Variable { mode, .. } | Meaning::Attribute { mode, .. } => Some(mode),
-        Meaning::Set { .. } | Meaning::Routine { .. } => None,
-        Meaning::Class { .. }
-        | Meaning::Count { .. }
-        | Meaning::OfSet { .. }
-        | Meaning::OfMember { .. }
-        | Meaning::Statistic { .. }
-        | Meaning::Clock
-        | Meaning::NoticeTime => Some(Mode::Integer),
+        Meaning::Variable { mode, .. } => Some(mode),
+        Meaning::Attribute { mode, .. } => Some(mode),
+        Meaning::Set { .. } => None,
+        Meaning::Routine { .. } => None,
+        _ => Some(Mode::Integer),
     }
 }
 
@@ -53,10 +111,7 @@ impl<'a> Scope<'a> {
     {
         match self.locals.number(name) {
             Some(number) => {
-                let mode = match self.locals.mode_at(number) {
-                    Some(Some(mode)) => mode,
-                    Some(None) | None => Mode::Integer,
-                };
+                let mode = known_mode(self.locals.mode(name));
                 Some(Meaning::Variable {
                     variable: Variable::Local { number },
                     mode,
@@ -81,8 +136,9 @@ impl<'a> Scope<'a> {
     pub fn meaning_of_class(&self, class: usize) -> Option<Meaning>
         ensures { result ≡ meaning_of_class (scope_seen self.now) class }
     {
-        match self.names.classes.keys().get(class) {
-            Some(name) => self.meaning_of_name(name),
+        let names = self.names;
+        match key_at(&names.classes, class) {
+            Some(name) => self.meaning_of_name(&name),
             None => None,
         }
     }
@@ -101,12 +157,13 @@ impl<'a> Scope<'a> {
     pub fn parameter_mode(&self, section: usize, number: usize) -> Option<Mode>
         ensures { result ≡ parameter_mode (scope_seen self.now) section number }
     {
-        match self.sections.get(section) {
-            Some(locals) => match locals.mode_at(number) {
-                Some(Some(mode)) => Some(mode),
-                Some(None) | None => None,
-            },
-            None => None,
-        }
+        mode_in_section(self.sections, section, number)
+    }
+
+    /// The mode of what a routine yields in this place, after so many that it is given.
+    pub fn yielded_mode(&self, section: usize, given: usize, place: usize) -> Option<Mode>
+        ensures { result ≡ parameter_mode (scope_seen self.now) section (given + place) }
+    {
+        yielded_in_section(self.sections, section, given, place)
     }
 }

@@ -1,9 +1,3 @@
-pub mod Finding
-pub mod Keeping
-pub mod Declaring
-pub mod Classing
-pub mod Listing
-pub mod Ranking
-pub mod Reading
-pub mod Counting
-pub mod Ordering
+mod Finding
+mod Repeats
+mod Foreign

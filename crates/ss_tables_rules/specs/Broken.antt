@@ -1,7 +1,6 @@
 -- The first rule that a program breaks by what it declares, and the first line of the text where it does.
-use Rattle.std.specs.Prelude.{ℕ, Bool, List, [], ◌∷◌, ◌++◌, map, Option, Some, None, is_some, if◌then◌else◌, nat_lt, ◌||◌, ◌&&◌, ◌==◌}
+use Rattle.std.specs.Prelude.{List, [], ◌++◌, map, Option, is_some, if◌then◌else◌}
 use Rattle.std.specs.List.{flat_map}
-use Rattle.ss_base.specs.declared.line.Line.{Line}
 use Rattle.ss_tree.specs.Tree.{SectionTree, ProgramTree}
 use Rattle.ss_names_declarations.specs.Declarations.{declarations}
 use Rattle.ss_names_declarations.specs.Earliest.{earliest}
@@ -17,17 +16,19 @@ use Rattle.ss_tables_rules.specs.declared.error.TableError.TheVariants as e
 
 -- ---- the breaches of a program
 
-abbrev pub breaches : Table → List Declaration → List SectionTree → List TableError
-breaches t ds sections =
-    map e.Twice (clashes ds)
-    ++ repeats t ds
-    ++ flat_map (λ (x : Declaration). as_list (broken_by t x)) ds
-    ++ misranked t ds
-    ++ (if is_some t.usual then [] else flat_map (unmoded_in t) sections)
+-- a declaration that breaks a rule by the table
+abbrev pub breaks : Table → Declaration → List TableError
+breaks t x = as_list (broken_by t x)
 
-abbrev pub refusal_by : List Declaration → List SectionTree → Option TableError
-refusal_by ds sections = earliest order_of (breaches (declared ds) ds sections)
+-- the uses of local variables without a mode
+abbrev pub unmoded : Table → List SectionTree → List TableError
+unmoded t sections = if is_some t.usual then [] else flat_map (unmoded_in t) sections
+
+abbrev pub breaches : Table → List Declaration → ProgramTree → List TableError
+breaches t ds p =
+    map e.Twice (clashes ds)
+    ++ (repeats t ds ++ (flat_map (breaks t) ds ++ (misranked t p.preamble ++ unmoded t p.sections)))
 
 -- the first rule that a program breaks, at the first line where it does; none where it breaks none
 abbrev pub refusal_of_declarations : ProgramTree → Option TableError
-refusal_of_declarations p = refusal_by (declarations p) p.sections
+refusal_of_declarations p = earliest order_of (breaches (declared (declarations p)) (declarations p) p)

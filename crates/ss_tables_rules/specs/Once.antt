@@ -1,5 +1,5 @@
 -- Refusals 51 and 58: what may be said once is said once. The line is that of the later place.
-use Rattle.std.specs.Prelude.{ℕ, Bool, true, false, List, [], ◌∷◌, ◌++◌, Option, Some, None, is_some, if◌then◌else◌, nat_eq, ◌◌&&◌}&◌, ◌==◌}
+use Rattle.std.specs.Prelude.{Bool, true, false, ◌&&◌, List, [], ◌∷◌, ◌++◌, Option, Some, None, is_some, if◌then◌else◌, nat_eq}
 use Rattle.std.specs.List.{list_any}
 use Rattle.ss_base.specs.declared.line.Line.{Line}
 use Rattle.ss_tree.specs.Names.{NameBytes}
@@ -8,6 +8,7 @@ use Rattle.ss_names_declarations.specs.declared.declaration.Declared.{Declared}
 use Rattle.ss_names_declarations.specs.declared.declaration.Declared.TheVariants as d
 use Rattle.ss_names_declarations.specs.declared.declaration.Declaration.{Declaration}
 use Rattle.ss_names.specs.Table.{Table}
+use Rattle.ss_names_scopes.specs.Locals.{as_list}
 use Rattle.ss_tables_rules.specs.declared.once.Once.{Once}
 use Rattle.ss_tables_rules.specs.declared.once.Once.TheVariants as o
 use Rattle.ss_tables_rules.specs.declared.error.TableError.{TableError}
@@ -40,22 +41,39 @@ abbrev pub said_again : Line → Declared → TableError
 said_again line (d.Subject name weighting) = TallyTwice line
 said_again line _ = Twice line
 
-abbrev pub is_among : List Once → Once → Bool
-is_among said once = list_any (λ s. s == once) said
+-- whether both are the same
+abbrev pub same_once : Once → Once → Bool
+same_once o.Normally o.Normally = true
+same_once o.PriorityOrder o.PriorityOrder = true
+same_once o.Main o.Main = true
+same_once (o.Owner first) (o.Owner second) = same_name first second
+same_once (o.Member first) (o.Member second) = same_name first second
+same_once (o.Order first) (o.Order second) = same_name first second
+same_once (o.Mode first) (o.Mode second) = same_name first second
+same_once (o.Priority first) (o.Priority second) = same_name first second
+same_once (o.Ties first) (o.Ties second) = same_name first second
+same_once (o.Event first) (o.Event second) = same_name first second
+same_once (o.Subject first) (o.Subject second) = same_name first second
+same_once (o.Parameter first section) (o.Parameter second other) = nat_eq section other && same_name first second
+same_once (o.Local first section) (o.Local second other) = nat_eq section other && same_name first second
+same_once _ _ = false
 
-abbrev pub again : List Once → Line → Declared → Option Once → List TableError
-again said line what None = []
-again said line what (Some once) = if is_among said once then said_again line what ∷ [] else []
+abbrev pub is_among : List Once → Once → Bool
+is_among said once = list_any (same_once once) said
+
+abbrev pub again : List Once → Line → Declared → Option Once → Option TableError
+again said line what None = None
+again said line what (Some once) = if is_among said once then Some (said_again line what) else None
 
 abbrev pub with_said : List Once → Option Once → List Once
 with_said said None = said
-with_said said (Some once) = said ++ once ∷ []
+with_said said (Some once) = if is_among said once then said else said ++ once ∷ []
 
 -- the breaches of declarations that say again what was said before
 abbrev pub repeats_after : Table → List Once → List Declaration → List TableError
 repeats_after t said [] = []
 repeats_after t said (x ∷ xs) =
-    again said x.line x.what (once_of t x.what) ++ repeats_after t (with_said said (once_of t x.what)) xs
+    as_list (again said x.line x.what (once_of t x.what)) ++ repeats_after t (with_said said (once_of t x.what)) xs
 
 abbrev pub repeats : Table → List Declaration → List TableError
 repeats t ds = repeats_after t [] ds

@@ -1,7 +1,8 @@
 -- The rules 51 to 60 that one declaration and the table decide, and 52 on the uses of sections.
-use Rattle.std.specs.Prelude.{ℕ, Bool, true, false, not, ◌&&◌, ◌||◌, List, [], ◌∷◌, Option, Some, None, is_some, if◌then◌else◌, nat_le, nat_eq, slice_get}
+use Rattle.std.specs.Prelude.{ℕ, Bool, true, false, not, ◌||◌, List, [], ◌∷◌, Option, Some, None, is_some, if◌then◌else◌, nat_le, nat_eq, slice_get}
 use Rattle.std.specs.List.{flat_map}
 use Rattle.std.specs.Map.{lookup}
+use Rattle.std.specs.Option.{option_or}
 use Rattle.ss_base.specs.declared.line.Line.{Line}
 use Rattle.ss_base.specs.declared.layout.Mode.{Mode as ValueMode}
 use Rattle.ss_base.specs.declared.layout.ClassKind.{ClassKind}
@@ -29,10 +30,6 @@ use Rattle.ss_tables_rules.specs.declared.error.TableError.TheVariants as e
 abbrev pub unless : Bool → TableError → Option TableError
 unless true breach = None
 unless false breach = Some breach
-
-abbrev pub or_else : Option TableError → Option TableError → Option TableError
-or_else None next = next
-or_else (Some breach) next = Some breach
 
 -- ---- what the rules ask
 
@@ -91,13 +88,13 @@ is_attribute_of t class name = is_class_of (value_for t.attributes name) (place_
 abbrev pub broken_in : Table → Line → Declared → Option TableError
 broken_in t line (d.Class name kind) = unless (not (is_too_many (place_in t.classes name))) (e.TooMany line)
 broken_in t line (d.Attribute name class) =
-    or_else (unless (is_some t.usual || is_some (value_for t.modes name)) (e.RealMode line))
+    option_or (unless (is_some t.usual || is_some (value_for t.modes name)) (e.RealMode line))
     (unless (not (is_too_many (field_of (value_for t.attributes name)))) (e.TooMany line))
 broken_in t line (d.Owner set class) =
-    or_else (unless (has_member (set_named t set)) (e.NoMember line))
+    option_or (unless (has_member (set_named t set)) (e.NoMember line))
     (unless (not (is_too_many (place_among t.set_names set))) (e.TooMany line))
 broken_in t line (d.Member set class) =
-    or_else (unless (has_owner (set_named t set)) (e.NoOwner line))
+    option_or (unless (has_owner (set_named t set)) (e.NoOwner line))
     (unless (not (is_too_many (place_among t.set_names set))) (e.TooMany line))
 broken_in t line (d.Variable name mode) = unless (not (is_real mode)) (e.RealMode line)
 broken_in t line (d.Order set rule statement) = unless (is_one_of t.set_names set) (e.UnknownSet line)
@@ -106,7 +103,7 @@ broken_in t line (d.Ties class) = unless (is_notice (value_for t.classes class))
 broken_in t line (d.TieKey class attribute high) = unless (is_attribute_of t class attribute) (e.TieKey line)
 broken_in t line (d.Parameter name section) = unless (may_be_hidden (value_for t.meanings name)) (e.Twice line)
 broken_in t line (d.Local name section mode) =
-    or_else (unless (may_be_hidden (value_for t.meanings name)) (e.Twice line)) (unless (not (is_real mode)) (e.RealMode line))
+    option_or (unless (may_be_hidden (value_for t.meanings name)) (e.Twice line)) (unless (not (is_real mode)) (e.RealMode line))
 broken_in t line _ = None
 
 abbrev pub broken_by : Table → Declaration → Option TableError

@@ -1,19 +1,21 @@
 //! The first rule that a program breaks by what it declares.
 
-ghost use Rattle.std.specs.Prelude.{◌≡◌, map, IfOk};
-ghost use Rattle.ss_tree.specs.View.{view_section};
+ghost use Rattle.std.specs.Prelude.{◌≡◌, option_map, IfOk};
+ghost use Rattle.ss_tables_rules.specs.declared.error.TableError.TheVariants as e;
+ghost use Rattle.ss_tree.specs.View.{view_program};
 ghost use Rattle.ss_names.specs.Table.{declared};
-ghost use Rattle.ss_tables_rules.specs.Broken.{refusal_by};
+ghost use Rattle.ss_names_declarations.specs.Declarations.{declarations as declarations_seen};
+ghost use Rattle.ss_tables_rules.specs.Broken.{refusal_of_declarations};
 
-use crate::declarations::broken_by;
+use crate::declarations::declared_breaks;
 use crate::error::TableError;
 use crate::keys::misranked;
 use crate::modes::unmoded;
-use crate::once::{Once, once_of};
-use ss_base::Name;
+use crate::once::repeated;
+use ss_base::{Line, Name};
 use ss_names::Names;
-use ss_names_declarations::{Declaration, Declared, Keys, Seed, earlier_of};
-use ss_tree::program::Section;
+use ss_names_declarations::{Declaration, Declared, Seed};
+use ss_tree::program::Program;
 use std::alloc::{AllocError, Global};
 use std::hash::{DefaultHasher, Hash};
 
@@ -49,33 +51,18 @@ pub fn seed_of(declarations: &[Declaration]) -> Seed {
     Seed::of(&names)
 }
 
-// The breach of saying again what may be said once.
-fn repeated(declaration: &Declaration) -> TableError {
-    match declaration.what {
-        Declared::Subject { .. } => TableError::TallyTwice(declaration.line),
-        _ => TableError::Twice(declaration.line),
+// The breach of a name that is declared as two things.
+fn clash_breach(clash: Option<Line>) -> Option<TableError>
+    ensures { result ≡ option_map e.Twice clash }
+{
+    match clash {
+        Some(line) => Some(TableError::Twice(line)),
+        None => None,
     }
-}
-
-// The breach where a declaration says what one of the declarations before it says and may be said once.
-fn repeats(
-    names: &Names,
-    said: &mut Keys<Once>,
-    declaration: &Declaration,
-) -> Result<Option<TableError>, AllocError> {
-    let Some(once) = once_of(names, &declaration.what) else {
-        return Ok(None);
-    };
-    if said.contains(&once) {
-        return Ok(Some(repeated(declaration)));
-    }
-    said.insert_new(once)?;
-    Ok(None)
 }
 
 /// The first rule that a program breaks by what it declares, in the order of the rules' numbers, with the first line where
-/// it does; None where it breaks none. The declarations are those of the program, the table is made from them, and the sections
-/// are its sections.
+/// it does; None where it breaks none. The declarations are those of the program, and the table is made from them.
 ///
 /// # Errors
 /// `AllocError` where memory is refused.
@@ -84,17 +71,15 @@ pub fn refusal_of(
     seed: Seed,
     names: &Names,
     declarations: &[Declaration],
-    sections: &[Section],
+    program: &Program,
 ) -> Result<Option<TableError>, AllocError>
-    requires { names.now ≡ declared declarations.now }
-    ensures { IfOk result (λ b. b ≡ refusal_by declarations.now (map view_section sections.now)) }
+    requires declarations { declarations.now ≡ declarations_seen (view_program program.now) }
+    requires names { names.now ≡ declared declarations.now }
+    ensures { IfOk result (λ b. b ≡ refusal_of_declarations (view_program program.now)) }
 {
-    let mut said = Keys::new(alloc, seed);
-    let mut found = names.clash.map(TableError::Twice);
-    for declaration in declarations {
-        found = earlier_of(found, repeats(names, &mut said, declaration)?);
-        found = earlier_of(found, broken_by(names, declaration));
-    }
-    found = earlier_of(found, misranked(alloc, seed, names, declarations)?);
-    Ok(earlier_of(found, unmoded(alloc, names, sections)?))
+    let clash = clash_breach(names.clash);
+    let once = repeated(alloc, seed, names, declarations, clash)?;
+    let by_table = declared_breaks(names, declarations, once);
+    let by_keys = misranked(names, &program.preamble, by_table);
+    unmoded(alloc, names, &program.sections, by_keys)
 }

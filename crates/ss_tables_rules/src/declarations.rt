@@ -1,131 +1,209 @@
 //! The rules that one declaration and the table decide.
 
-ghost use Rattle.std.specs.Prelude.{◌≡◌};
-ghost use Rattle.ss_tables_rules.specs.Rules.{broken_by};
+ghost use Rattle.std.specs.Prelude.{◌≡◌, ◌||◌, not, is_some};
+ghost use Rattle.std.specs.List.{flat_map, fold};
+ghost use Rattle.std.specs.Option.{option_or};
+ghost use Rattle.ss_names_declarations.specs.Earliest.{earlier};
+ghost use Rattle.ss_names_declarations.specs.Firsts.{is_one_of, place_among, place_in, value_for};
+ghost use Rattle.ss_tables_rules.specs.declared.error.TableError.TheVariants as e;
+ghost use Rattle.ss_tables_rules.specs.Broken.{breaks};
+ghost use Rattle.ss_tables_rules.specs.Order.{order_of};
+ghost use Rattle.ss_tables_rules.specs.Rules.{broken_by, broken_in, field_of, has_member, has_owner, is_attribute_of, is_class_of, is_notice, is_real, is_too_many, may_be_hidden, set_named, unless};
 
 use crate::error::TableError;
 use ss_base::{ClassKind, Line, Name};
-use ss_names::{Meaning, Names};
-use ss_names_declarations::{Declaration, Declared};
+use ss_names::{Attribute, Meaning, Names, Set};
+use ss_names_declarations::{Declaration, Declared, earlier_of, has_entry};
 use ss_tree::preamble::Mode;
 
 // The most classes, the most sets, and the most attributes of a class.
 const MOST: usize = 64;
 
+// The breach of a rule, if it is broken.
+pub(crate) fn unless(holds: bool, breach: TableError) -> Option<TableError>
+    ensures { result ≡ unless holds breach }
+{
+    if holds { None } else { Some(breach) }
+}
+
 // Whether there is such a number, and it is one too many.
-fn is_too_many(number: Option<usize>) -> bool {
+fn is_too_many(number: Option<usize>) -> bool
+    ensures { result ≡ is_too_many number }
+{
     match number {
         Some(number) => MOST <= number,
         None => false,
     }
 }
 
-// Whether a name is that of a class of notices.
-fn is_notice(names: &Names, class: &Name) -> bool {
-    matches!(names.classes.get(class).copied(), Some(ClassKind::Notice))
+// The breach of one too many.
+fn too_many(line: Line, number: Option<usize>) -> Option<TableError>
+    ensures { result ≡ unless (not (is_too_many number)) (e.TooMany line) }
+{
+    unless(!is_too_many(number), TableError::TooMany(line))
 }
 
-// Whether a parameter or a local variable may have this name: it hides a variable, that of a class, or nothing.
-fn may_be_hidden(names: &Names, name: &Name) -> bool {
-    match names.meaning(name) {
-        None | Some(Meaning::Variable { .. }) | Some(Meaning::Class { .. }) => true,
+// Whether a mode is REAL.
+fn is_real(mode: Mode) -> bool
+    ensures { result ≡ is_real mode }
+{
+    matches!(mode, Mode::Real)
+}
+
+// The breach of REAL.
+fn real_breaks(line: Line, mode: Mode) -> Option<TableError>
+    ensures { result ≡ unless (not (is_real mode)) (e.RealMode line) }
+{
+    unless(!is_real(mode), TableError::RealMode(line))
+}
+
+// Whether a class of this kind is one of notices.
+fn is_notice(kind: Option<ClassKind>) -> bool
+    ensures { result ≡ is_notice kind }
+{
+    matches!(kind, Some(ClassKind::Notice))
+}
+
+// The breach of a class that is none of notices.
+fn class_breaks(names: &Names, line: Line, class: &Name) -> Option<TableError>
+    ensures { result ≡ unless (is_notice (value_for names.now.classes class.now)) (e.UnknownClass line) }
+{
+    unless(
+        is_notice(names.classes.get(class).copied()),
+        TableError::UnknownClass(line),
+    )
+}
+
+// Whether a parameter or a local variable may hide what means this: a variable, that of a class, or nothing.
+fn may_be_hidden(meaning: Option<Meaning>) -> bool
+    ensures { result ≡ may_be_hidden meaning }
+{
+    match meaning {
+        None => true,
+        Some(Meaning::Variable { .. }) => true,
+        Some(Meaning::Class { .. }) => true,
         Some(_) => false,
     }
 }
 
-// An attribute that has no mode, or is one too many of its class.
-fn attribute_breaks(names: &Names, line: Line, attribute: &Name) -> Option<TableError> {
-    let has_mode = names.usual.is_some() || names.modes.get(attribute).is_some();
-    if !has_mode {
-        return Some(TableError::RealMode(line));
-    }
-    let field = match names.attributes.get(attribute) {
-        Some(entry) => Some(entry.field),
+// The breach of a local name that hides what may not be hidden.
+fn hiding_breaks(names: &Names, line: Line, name: &Name) -> Option<TableError>
+    ensures { result ≡ unless (may_be_hidden (value_for names.now.meanings name.now)) (e.Twice line) }
+{
+    unless(may_be_hidden(names.meaning(name)), TableError::Twice(line))
+}
+
+// Whether a name has a mode.
+fn has_mode(names: &Names, name: &Name) -> bool
+    ensures { result ≡ (is_some names.now.usual || is_some (value_for names.now.modes name.now)) }
+{
+    names.usual.is_some() || has_entry(&names.modes, name)
+}
+
+// The number of an attribute in its class.
+fn field_of(attribute: Option<Attribute>) -> Option<usize>
+    ensures { result ≡ field_of attribute }
+{
+    match attribute {
+        Some(attribute) => Some(attribute.field),
         None => None,
-    };
-    if is_too_many(field) {
-        Some(TableError::TooMany(line))
-    } else {
-        None
     }
 }
 
-// A set of which nothing else is said, or that is one too many.
-fn set_breaks(
-    names: &Names,
-    line: Line,
-    set: &Name,
-    is_whole: bool,
-    lacking: TableError,
-) -> Option<TableError> {
-    if !is_whole {
-        Some(lacking)
-    } else if is_too_many(names.set_names.place(set)) {
-        Some(TableError::TooMany(line))
-    } else {
-        None
+// An attribute that has no mode, or is one too many of its class.
+fn attribute_breaks(names: &Names, line: Line, attribute: &Name) -> Option<TableError>
+    ensures { result ≡ option_or (unless (is_some names.now.usual || is_some (value_for names.now.modes attribute.now)) (e.RealMode line)) (unless (not (is_too_many (field_of (value_for names.now.attributes attribute.now)))) (e.TooMany line)) }
+{
+    let mode = unless(has_mode(names, attribute), TableError::RealMode(line));
+    let field = field_of(names.attributes.get(attribute).copied());
+    mode.or(too_many(line, field))
+}
+
+// A set of this name.
+pub(crate) fn set_named(names: &Names, set: &Name) -> Option<Set>
+    ensures { result ≡ set_named names.now set.now }
+{
+    match names.set_names.place(set) {
+        Some(number) => names.set_at(number),
+        None => None,
     }
 }
 
 // Whether a set has an owner.
-fn has_owner(names: &Names, set: &Name) -> bool {
-    match names.set_names.place(set) {
-        Some(number) => names.sets[number].owner.is_some(),
+fn has_owner(set: Option<Set>) -> bool
+    ensures { result ≡ has_owner set }
+{
+    match set {
+        Some(set) => set.owner.is_some(),
         None => false,
     }
 }
 
 // Whether a set has members.
-fn has_member(names: &Names, set: &Name) -> bool {
-    match names.set_names.place(set) {
-        Some(number) => names.sets[number].member.is_some(),
+fn has_member(set: Option<Set>) -> bool
+    ensures { result ≡ has_member set }
+{
+    match set {
+        Some(set) => set.member.is_some(),
         None => false,
     }
 }
 
-// Whether a key is an attribute of a class.
-fn is_attribute_of(names: &Names, class: &Name, attribute: &Name) -> bool {
-    match (names.attributes.get(attribute), names.classes.place(class)) {
-        (Some(entry), Some(class)) => entry.class == class,
-        _ => false,
+// A set that has an owner and no members, or that is one too many.
+fn owner_breaks(names: &Names, line: Line, set: &Name) -> Option<TableError>
+    ensures { result ≡ option_or (unless (has_member (set_named names.now set.now)) (e.NoMember line)) (unless (not (is_too_many (place_among names.now.set_names set.now))) (e.TooMany line)) }
+{
+    let lacking = unless(has_member(set_named(names, set)), TableError::NoMember(line));
+    lacking.or(too_many(line, names.set_names.place(set)))
+}
+
+// A set that has members and no owner, or that is one too many.
+fn member_breaks(names: &Names, line: Line, set: &Name) -> Option<TableError>
+    ensures { result ≡ option_or (unless (has_owner (set_named names.now set.now)) (e.NoOwner line)) (unless (not (is_too_many (place_among names.now.set_names set.now))) (e.TooMany line)) }
+{
+    let lacking = unless(has_owner(set_named(names, set)), TableError::NoOwner(line));
+    lacking.or(too_many(line, names.set_names.place(set)))
+}
+
+// Whether an attribute is of a class.
+fn is_class_of(attribute: Option<Attribute>, class: Option<usize>) -> bool
+    ensures { result ≡ is_class_of attribute class }
+{
+    match attribute {
+        Some(attribute) => match class {
+            Some(class) => attribute.class == class,
+            None => false,
+        },
+        None => false,
     }
 }
 
-// The breach of a rule, if it is broken.
-fn unless(holds: bool, breach: TableError) -> Option<TableError> {
-    if holds { None } else { Some(breach) }
+// Whether a name is that of an attribute of a class.
+fn is_attribute_of(names: &Names, class: &Name, attribute: &Name) -> bool
+    ensures { result ≡ is_attribute_of names.now class.now attribute.now }
+{
+    is_class_of(
+        names.attributes.get(attribute).copied(),
+        names.classes.place(class),
+    )
 }
 
-/// The first of the rules that a declaration breaks by the table. Rules on what is declared twice, on keys of ranked sets and
-/// on uses are looked at elsewhere.
-pub fn broken_by(names: &Names, declaration: &Declaration) -> Option<TableError>
-    ensures { result ≡ broken_by names.now declaration.now }
+// The first of the rules that what is declared in this line breaks by the table.
+fn broken_in(names: &Names, line: Line, what: &Declared) -> Option<TableError>
+    ensures { result ≡ broken_in names.now line what.now }
 {
-    let line = declaration.line;
-    match &declaration.what {
-        Declared::Class { class, .. } => unless(
-            !is_too_many(names.classes.place(class)),
-            TableError::TooMany(line),
-        ),
+    match what {
+        Declared::Class { class, .. } => too_many(line, names.classes.place(class)),
         Declared::Attribute { attribute, .. } => attribute_breaks(names, line, attribute),
-        Declared::Owner { set, .. } => {
-            set_breaks(names, line, set, has_member(names, set), TableError::NoMember(line))
-        }
-        Declared::Member { set, .. } => {
-            set_breaks(names, line, set, has_owner(names, set), TableError::NoOwner(line))
-        }
-        Declared::Variable { mode, .. } => unless(
-            !matches!(mode, Mode::Real),
-            TableError::RealMode(line),
-        ),
+        Declared::Owner { set, .. } => owner_breaks(names, line, set),
+        Declared::Member { set, .. } => member_breaks(names, line, set),
+        Declared::Variable { mode, .. } => real_breaks(line, *mode),
         Declared::Order { set, .. } => unless(
             names.set_names.contains(set),
             TableError::UnknownSet(line),
         ),
-        Declared::Priority { class } | Declared::Ties { class } => unless(
-            is_notice(names, class),
-            TableError::UnknownClass(line),
-        ),
+        Declared::Priority { class } => class_breaks(names, line, class),
+        Declared::Ties { class } => class_breaks(names, line, class),
         Declared::TieKey {
             class,
             attribute,
@@ -134,17 +212,33 @@ pub fn broken_by(names: &Names, declaration: &Declaration) -> Option<TableError>
             is_attribute_of(names, class, attribute),
             TableError::TieKey(line),
         ),
-        Declared::Parameter { parameter, .. } => unless(
-            may_be_hidden(names, parameter),
-            TableError::Twice(line),
-        ),
+        Declared::Parameter { parameter, .. } => hiding_breaks(names, line, parameter),
         Declared::Local { variable, mode, .. } => {
-            if !may_be_hidden(names, variable) {
-                Some(TableError::Twice(line))
-            } else {
-                unless(!matches!(mode, Mode::Real), TableError::RealMode(line))
-            }
+            hiding_breaks(names, line, variable).or(real_breaks(line, *mode))
         }
         _ => None,
     }
+}
+
+// The first of the rules that a declaration breaks by the table.
+fn broken_by(names: &Names, declaration: &Declaration) -> Option<TableError>
+    ensures { result ≡ broken_by names.now declaration.now }
+{
+    broken_in(names, declaration.line, &declaration.what)
+}
+
+/// What was found so far, or the first of the rules that a declaration breaks by the table. Rules on what is said twice, on keys
+/// of ranked sets and on uses are looked at elsewhere.
+pub fn declared_breaks(
+    names: &Names,
+    declarations: &[Declaration],
+    found: Option<TableError>,
+) -> Option<TableError>
+    ensures { result ≡ fold (earlier order_of) found (flat_map (breaks names.now) declarations.now) }
+{
+    let mut found = found;
+    for declaration in declarations {
+        found = earlier_of(found, broken_by(names, declaration));
+    }
+    found
 }

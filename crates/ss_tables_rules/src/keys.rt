@@ -1,105 +1,159 @@
 //! The keys of ranked sets.
 
-ghost use Rattle.std.specs.Prelude.{◌≡◌, IfOk};
-ghost use Rattle.ss_tables_rules.specs.Keys.{misranked};
+ghost use Rattle.std.specs.Prelude.{◌≡◌, ◌||◌, not, None, map};
+ghost use Rattle.std.specs.List.{flat_map, fold};
+ghost use Rattle.std.specs.Option.{option_or};
+ghost use Rattle.ss_tree.specs.View.{view_order, view_preamble};
+ghost use Rattle.ss_names_declarations.specs.Earliest.{earlier};
+ghost use Rattle.ss_names_declarations.specs.Firsts.{value_for};
+ghost use Rattle.ss_tables_rules.specs.Keys.{class_of, is_foreign, is_foreign_to_any, keys_of_order, member_named, member_of, misranked, misranked_in, misranked_key};
+ghost use Rattle.ss_tables_rules.specs.Order.{order_of};
+ghost use Rattle.ss_tables_rules.specs.Rules.{unless};
+ghost use Rattle.ss_tables_rules.specs.declared.error.TableError.TheVariants as e;
 
+use crate::declarations::{set_named, unless};
 use crate::error::TableError;
-use ss_base::Name;
-use ss_names::Names;
-use ss_names_declarations::{Declaration, Declared, Keys, Seed, Table, earlier};
-use std::alloc::{AllocError, Global};
+use ss_base::{Line, Name};
+use ss_names::{Attribute, Names, Set};
+use ss_names_declarations::earlier_of;
+use ss_tree::preamble::{Key, PreambleStatement, SetOrder};
 
 // The class of the members of a set.
-fn member_of(names: &Names, set: &Name) -> Option<usize> {
-    match names.set_names.place(set) {
-        Some(number) => names.sets[number].member,
+fn member_of(set: Option<Set>) -> Option<usize>
+    ensures { result ≡ member_of set }
+{
+    match set {
+        Some(set) => set.member,
         None => None,
     }
 }
 
-// What is known of the members of the sets of each DEFINE: the class of the first that have any, and the statements of
-// which sets have members of several classes.
-#[derive(Drop)]
-struct Ranked {
-    first: Table<usize, usize>,
-    several: Keys<usize>,
-}
-
-impl Ranked {
-    // Notes a set of the DEFINE of this number.
-    fn note(&mut self, statement: usize, member: Option<usize>) -> Result<(), AllocError> {
-        let Some(class) = member else {
-            return Ok(());
-        };
-        match self.first.get(&statement) {
-            None => self.first.insert_new(statement, class),
-            Some(first) => {
-                if *first == class {
-                    Ok(())
-                } else {
-                    self.several.insert_new(statement)
-                }
-            }
-        }
-    }
-
-    // Whether a key of this class isn't one of the members of all sets of the DEFINE of this number.
-    fn is_foreign(&self, statement: usize, class: Option<usize>) -> bool {
-        match self.first.get(&statement) {
-            None => false,
-            Some(first) => self.several.contains(&statement) || class != Some(*first),
-        }
-    }
-}
-
-// The members of the sets of each DEFINE.
-fn ranked_of(
-    alloc: Global,
-    seed: Seed,
-    names: &Names,
-    declarations: &[Declaration],
-) -> Result<Ranked, AllocError> {
-    let mut ranked = Ranked {
-        first: Table::new(alloc, seed),
-        several: Keys::new(alloc, seed),
-    };
-    for declaration in declarations {
-        if let Declared::Order { set, statement, .. } = &declaration.what {
-            ranked.note(*statement, member_of(names, set))?;
-        }
-    }
-    Ok(ranked)
-}
-
-/// The first DEFINE with a key that isn't an attribute of the class of a set's members.
-///
-/// # Errors
-/// `AllocError` where memory is refused.
-pub fn misranked(
-    alloc: Global,
-    seed: Seed,
-    names: &Names,
-    declarations: &[Declaration],
-) -> Result<Option<TableError>, AllocError>
-    ensures { IfOk result (λ found. found ≡ misranked names.now declarations.now) }
+// The class of the members of the set of this name.
+fn member_named(names: &Names, set: &Name) -> Option<usize>
+    ensures { result ≡ member_named names.now set.now }
 {
-    let ranked = ranked_of(alloc, seed, names, declarations)?;
-    let mut found = None;
-    for declaration in declarations {
-        if let Declared::RankKey {
-            attribute,
-            statement,
-            ..
-        } = &declaration.what
-        {
-            let class = match names.attributes.get(attribute) {
-                Some(entry) => Some(entry.class),
-                None => None,
-            };
-            if ranked.is_foreign(*statement, class) {
-                found = earlier(found, TableError::RankKey(declaration.line));
-            }
-        }
+    member_of(set_named(names, set))
+}
+
+// The class of an attribute.
+fn class_of(attribute: Option<Attribute>) -> Option<usize>
+    ensures { result ≡ class_of attribute }
+{
+    match attribute {
+        Some(attribute) => Some(attribute.class),
+        None => None,
     }
-    Ok(found)
+}
+
+// Whether a key of this class is none of the members' class, where there is one.
+fn is_foreign(key: Option<usize>, member: Option<usize>) -> bool
+    ensures { result ≡ is_foreign key member }
+{
+    match member {
+        None => false,
+        Some(class) => match key {
+            None => true,
+            Some(key) => key != class,
+        },
+    }
+}
+
+// The class of the members of the first of these sets that has any.
+fn first_member(names: &Names, sets: &[Name]) -> Option<usize>
+    ensures { result ≡ fold option_or None (map (member_named names.now) sets.now) }
+{
+    let mut first = None;
+    for set in sets {
+        first = first.or(member_named(names, set));
+    }
+    first
+}
+
+// Whether a key of this class is foreign to the members of one of these sets.
+fn is_foreign_to_any(names: &Names, sets: &[Name], key: Option<usize>) -> bool
+    ensures { result ≡ is_foreign_to_any names.now sets.now key }
+{
+    let mut any = false;
+    for set in sets {
+        any = any || is_foreign(key, member_named(names, set));
+    }
+    any
+}
+
+// A key that is foreign to members of this class, or to those of another set.
+fn key_breaks(
+    names: &Names,
+    line: Line,
+    key: &Key,
+    first: Option<usize>,
+    several: bool,
+) -> Option<TableError>
+    ensures { result ≡ unless (not (several || is_foreign (class_of (value_for names.now.attributes key.now.name)) first)) (e.RankKey line) }
+{
+    let class = class_of(names.attributes.get(&key.name).copied());
+    let foreign = is_foreign(class, first);
+    unless(!(several || foreign), TableError::RankKey(line))
+}
+
+// What was found so far, or the first key of a DEFINE that isn't an attribute of the class of its sets' members.
+fn keys_break(
+    names: &Names,
+    line: Line,
+    sets: &[Name],
+    keys: &[Key],
+    found: Option<TableError>,
+) -> Option<TableError>
+    ensures { result ≡ fold (earlier order_of) found (flat_map (misranked_key names.now line sets.now) keys.now) }
+{
+    let first = first_member(names, sets);
+    let several = is_foreign_to_any(names, sets, first);
+    let mut found = found;
+    for key in keys {
+        found = earlier_of(found, key_breaks(names, line, key, first, several));
+    }
+    found
+}
+
+// The keys of a DEFINE.
+fn keys_of_order(order: &SetOrder) -> &[Key]
+    ensures { result.now ≡ keys_of_order (view_order order.now) }
+{
+    match order {
+        SetOrder::Ranked(keys) => keys,
+        SetOrder::Fifo => &[],
+        SetOrder::Lifo => &[],
+    }
+}
+
+// What was found so far, or the first key of a statement that isn't an attribute of the class of its sets' members.
+fn statement_breaks(
+    names: &Names,
+    statement: &PreambleStatement,
+    found: Option<TableError>,
+) -> Option<TableError>
+    ensures { result ≡ fold (earlier order_of) found (misranked_in names.now (view_preamble statement.now)) }
+{
+    match statement {
+        PreambleStatement::DefineSets {
+            line,
+            names: sets,
+            order,
+        } => keys_break(names, *line, sets, keys_of_order(order), found),
+        _ => found,
+    }
+}
+
+/// What was found so far, or the first DEFINE with a key that isn't an attribute of the class of its sets' members.
+pub fn misranked(
+    names: &Names,
+    preamble: &[PreambleStatement],
+    found: Option<TableError>,
+) -> Option<TableError>
+    ensures { result ≡ fold (earlier order_of) found (misranked names.now (map view_preamble preamble.now)) }
+{
+    let mut found = found;
+    for statement in preamble {
+        found = statement_breaks(names, statement, found);
+    }
+    found
 }

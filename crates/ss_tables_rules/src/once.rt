@@ -1,14 +1,22 @@
 //! What may be said once.
 
-ghost use Rattle.std.specs.Prelude.{◌≡◌};
-ghost use Rattle.ss_tables_rules.specs.Once.{once_of};
+ghost use Rattle.std.specs.Prelude.{◌≡◌, Some, None, is_some, if◌then◌else◌, IfOk, OnOk};
+ghost use Rattle.std.specs.List.{fold};
+ghost use Rattle.ss_names_declarations.specs.Earliest.{earlier};
+ghost use Rattle.ss_names_declarations.specs.Firsts.{is_one_of, value_for};
+ghost use Rattle.ss_tables_rules.specs.declared.once.Once.TheVariants as o;
+ghost use Rattle.ss_tables_rules.specs.Once.{if_class, once_of, repeats, said_again};
+ghost use Rattle.ss_tables_rules.specs.Keyed.{again_by_key, key_if, key_of, with_key};
+ghost use Rattle.ss_tables_rules.specs.Order.{order_of};
 
-use ss_base::Name;
+use crate::error::TableError;
+use ss_base::{Line, Name};
 use ss_names::Names;
-use ss_names_declarations::Declared;
+use ss_names_declarations::{Declaration, Declared, Keys, Seed, earlier_of, has_entry};
+use std::alloc::{AllocError, Global};
 
 /// What may be said once.
-#[derive(Clone, Copy, PartialEq, Eq, Hash)]
+#[derive(Clone, Copy)]
 pub enum Once {
     Normally,
     PriorityOrder,
@@ -34,10 +42,60 @@ pub enum Once {
     Local { name: Name, section: usize },
 }
 
+// The key of what may be said once, in a table of what was said: the number of its kind, that of its section, and its name.
+type Key = (usize, (usize, Option<Name>));
+
+// The key of what may be said once.
+fn key_of(once: &Once) -> Key
+    ensures { result ≡ key_of once.now }
+{
+    match once {
+        Once::Normally => (0, (0, None)),
+        Once::PriorityOrder => (1, (0, None)),
+        Once::Main => (2, (0, None)),
+        Once::Owner { set } => (3, (0, Some(*set))),
+        Once::Member { set } => (4, (0, Some(*set))),
+        Once::Order { set } => (5, (0, Some(*set))),
+        Once::Mode { attribute } => (6, (0, Some(*attribute))),
+        Once::Priority { class } => (7, (0, Some(*class))),
+        Once::Ties { class } => (8, (0, Some(*class))),
+        Once::Event { class } => (9, (0, Some(*class))),
+        Once::Subject { subject } => (10, (0, Some(*subject))),
+        Once::Parameter { name, section } => (11, (*section, Some(*name))),
+        Once::Local { name, section } => (12, (*section, Some(*name))),
+    }
+}
+
 // The same, where the name is that of a class.
-fn if_class(names: &Names, class: &Name, once: Once) -> Option<Once> {
-    if names.classes.get(class).is_some() {
+fn if_class(names: &Names, class: &Name, once: Once) -> Option<Once>
+    ensures { result ≡ if_class names.now class.now once }
+{
+    if has_entry(&names.classes, class) {
         Some(once)
+    } else {
+        None
+    }
+}
+
+// The DEFINE of a set, where the name is that of a set.
+fn if_set(names: &Names, set: &Name) -> Option<Once>
+    ensures { result ≡ (if is_one_of names.now.set_names set.now then Some (o.Order set.now) else None) }
+{
+    if names.set_names.contains(set) {
+        Some(Once::Order { set: *set })
+    } else {
+        None
+    }
+}
+
+// The mode of an attribute, where the name is that of an attribute.
+fn if_attribute(names: &Names, attribute: &Name) -> Option<Once>
+    ensures { result ≡ (if is_some (value_for names.now.attributes attribute.now) then Some (o.Mode attribute.now) else None) }
+{
+    if has_entry(&names.attributes, attribute) {
+        Some(Once::Mode {
+            attribute: *attribute,
+        })
     } else {
         None
     }
@@ -48,44 +106,103 @@ fn if_class(names: &Names, class: &Name, once: Once) -> Option<Once> {
 pub fn once_of(names: &Names, what: &Declared) -> Option<Once>
     ensures { result ≡ once_of names.now what.now }
 {
-    match *what {
+    match what {
         Declared::Normally { .. } => Some(Once::Normally),
         Declared::PriorityOrder => Some(Once::PriorityOrder),
         Declared::Main => Some(Once::Main),
-        Declared::Owner { set, .. } => Some(Once::Owner { set }),
-        Declared::Member { set, .. } => Some(Once::Member { set }),
-        Declared::Order { set, .. } => {
-            if names.set_names.contains(&set) {
-                Some(Once::Order { set })
-            } else {
-                None
-            }
-        }
-        Declared::Variable { variable, .. } => {
-            if names.attributes.get(&variable).is_some() {
-                Some(Once::Mode {
-                    attribute: variable,
-                })
-            } else {
-                None
-            }
-        }
-        Declared::Priority { class } => if_class(names, &class, Once::Priority { class }),
-        Declared::Ties { class } => if_class(names, &class, Once::Ties { class }),
-        Declared::Event { class, .. } => if_class(names, &class, Once::Event { class }),
-        Declared::Subject { subject, .. } => Some(Once::Subject { subject }),
+        Declared::Owner { set, .. } => Some(Once::Owner { set: *set }),
+        Declared::Member { set, .. } => Some(Once::Member { set: *set }),
+        Declared::Order { set, .. } => if_set(names, set),
+        Declared::Variable { variable, .. } => if_attribute(names, variable),
+        Declared::Priority { class } => if_class(names, class, Once::Priority { class: *class }),
+        Declared::Ties { class } => if_class(names, class, Once::Ties { class: *class }),
+        Declared::Event { class, .. } => if_class(names, class, Once::Event { class: *class }),
+        Declared::Subject { subject, .. } => Some(Once::Subject { subject: *subject }),
         Declared::Parameter { parameter, section } => Some(Once::Parameter {
-            name: parameter,
-            section,
+            name: *parameter,
+            section: *section,
         }),
         Declared::Local {
             variable,
             section,
             ..
         } => Some(Once::Local {
-            name: variable,
-            section,
+            name: *variable,
+            section: *section,
         }),
         _ => None,
     }
+}
+
+// The key of what a declaration says that may be said once.
+fn key_said(names: &Names, what: &Declared) -> Option<Key>
+    ensures { result ≡ key_if (once_of names.now what.now) }
+{
+    match once_of(names, what) {
+        Some(once) => Some(key_of(&once)),
+        None => None,
+    }
+}
+
+// The breach of saying it again.
+fn said_again(line: Line, what: &Declared) -> TableError
+    ensures { result ≡ said_again line what.now }
+{
+    match what {
+        Declared::Subject { .. } => TableError::TallyTwice(line),
+        _ => TableError::Twice(line),
+    }
+}
+
+// The breach of a declaration with this key, after what was said.
+fn again_by_key(
+    said: &Keys<Key>,
+    key: &Option<Key>,
+    declaration: &Declaration,
+) -> Option<TableError>
+    ensures { result ≡ again_by_key said.now declaration.now.line declaration.now.what key.now }
+{
+    match key {
+        Some(key) => {
+            if said.contains(key) {
+                Some(said_again(declaration.line, &declaration.what))
+            } else {
+                None
+            }
+        }
+        None => None,
+    }
+}
+
+// Notes a key.
+fn note_key(said: &mut Keys<Key>, key: Option<Key>) -> Result<(), AllocError>
+    ensures { OnOk result (said.new ≡ with_key said.old key) }
+{
+    match key {
+        Some(key) => said.insert_new(key),
+        None => Ok(()),
+    }
+}
+
+/// What was found so far, or the first breach of saying again what may be said once.
+///
+/// # Errors
+/// `AllocError` where memory is refused.
+pub fn repeated(
+    alloc: Global,
+    seed: Seed,
+    names: &Names,
+    declarations: &[Declaration],
+    found: Option<TableError>,
+) -> Result<Option<TableError>, AllocError>
+    ensures { IfOk result (λ b. b ≡ fold (earlier order_of) found (repeats names.now declarations.now)) }
+{
+    let mut said = Keys::new(alloc, seed);
+    let mut found = found;
+    for declaration in declarations {
+        let key = key_said(names, &declaration.what);
+        found = earlier_of(found, again_by_key(&said, &key, declaration));
+        note_key(&mut said, key)?;
+    }
+    Ok(found)
 }
