@@ -1,3 +1,3 @@
 mod Rows
-pub mod Earliest
+pub mod EarliestBreach
 pub mod Entries

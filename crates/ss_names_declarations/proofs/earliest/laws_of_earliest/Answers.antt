@@ -1,4 +1,4 @@
-use Rattle.ss_names_declarations.proofs.Earliest.{earliest_is_first, earliest_is_least, earliest_of_parts}
+use Rattle.ss_names_declarations.proofs.EarliestBreach.{earliest_is_first, earliest_is_least, earliest_of_parts}
 use Rattle.ss_names_declarations.proofs.earliest.laws_of_earliest.Goals as goal
 
 pub returns : goal.returns
