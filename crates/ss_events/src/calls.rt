@@ -34,9 +34,7 @@ pub enum Answer {
 }
 
 impl Pending {
-    ghost use Rattle.std.specs.Result.{result_unwrap_or};
-    ghost use Rattle.ss_world.specs.PendingList.{FitsClass, scheduled, cancelled};
-    ghost use Rattle.ss_events.specs.Calls.{FitsCall, done_or_fault, answer_of, after_call, answers_of, after_calls};
+    ghost use Rattle.ss_events.specs.Calls.{FitsCall, answer_of, after_call, answers_of, after_calls};
 
     /// Whether each key under which one of these calls schedules fits its class.
     pub fn fit(&self, calls: &[Call]) -> bool
@@ -83,34 +81,18 @@ impl Pending {
                 notice,
             } => {
                 let key = Key::of(alloc, *time, *rank, ties)?;
-                self.make_schedule(key, *notice)
+                match self.schedule(key, *notice) {
+                    Ok(()) => Ok(Answer::Done),
+                    Err(Refused::Fault(kind)) => Ok(Answer::Faulted(kind)),
+                    Err(Refused::Memory) => Err(AllocError),
+                }
             }
-            Call::Cancel(notice) => Ok(self.make_cancel(*notice)),
+            Call::Cancel(notice) => match self.cancel(*notice) {
+                Ok(()) => Ok(Answer::Done),
+                Err(kind) => Ok(Answer::Faulted(kind)),
+            },
             Call::Least => Ok(Answer::Next(self.least())),
             Call::Take => Ok(Answer::Next(self.take())),
-        }
-    }
-
-    fn make_schedule(&mut self, key: Key, notice: i64) -> Result<Answer, AllocError>
-        requires { FitsClass self.old.list.classes key }
-        ensures answer { IfOk result (λ answer. answer ≡ done_or_fault (scheduled key notice self.old.list)) }
-        ensures ok { OnOk result (self.new.list ≡ result_unwrap_or (scheduled key notice self.old.list) self.old.list) }
-        ensures err { OnErr result (self.new.list ≡ self.old.list) }
-    {
-        match self.schedule(key, notice) {
-            Ok(()) => Ok(Answer::Done),
-            Err(Refused::Fault(kind)) => Ok(Answer::Faulted(kind)),
-            Err(Refused::Memory) => Err(AllocError),
-        }
-    }
-
-    fn make_cancel(&mut self, notice: i64) -> Answer
-        ensures answer { result ≡ done_or_fault (cancelled notice self.old.list) }
-        ensures list { self.new.list ≡ result_unwrap_or (cancelled notice self.old.list) self.old.list }
-    {
-        match self.cancel(notice) {
-            Ok(()) => Answer::Done,
-            Err(kind) => Answer::Faulted(kind),
         }
     }
 }

@@ -87,27 +87,6 @@ impl Key {
         }
         Some((self.time, self.rank))
     }
-
-    #[inline(always)]
-    fn time(&self) -> i64
-        ensures { result ≡ self.now.time }
-    {
-        self.time
-    }
-
-    #[inline(always)]
-    fn rank(&self) -> usize
-        ensures { result ≡ self.now.rank }
-    {
-        self.rank
-    }
-
-    #[inline(always)]
-    fn ties(&self) -> &[Tie]
-        ensures { result.now ≡ self.now.ties }
-    {
-        &self.ties
-    }
 }
 
 // A pending notice with its key and its place in the order of scheduling.
@@ -160,13 +139,10 @@ impl Mark {
 fn order_of(entry: &Entry) -> u64
     ensures { result ≡ order_of entry.now }
 {
-    if is_tied(entry.key.ties())
-        || entry.key.rank() >= PLAIN_RANKS
-        || entry.number >= PLAIN_NUMBERS
-    {
+    if is_tied(&entry.key.ties) || entry.key.rank >= PLAIN_RANKS || entry.number >= PLAIN_NUMBERS {
         return NOT_PLAIN;
     }
-    entry.key.rank() as u64 * PLAIN_NUMBERS + entry.number
+    entry.key.rank as u64 * PLAIN_NUMBERS + entry.number
 }
 
 #[inline(always)]
@@ -174,7 +150,7 @@ fn mark_of(entry: &Entry) -> Mark
     ensures { result ≡ mark_of entry.now }
 {
     Mark {
-        time: entry.key.time(),
+        time: entry.key.time,
         order: order_of(entry),
     }
 }

@@ -1,3 +1,4 @@
+pub mod Commands
 pub use Rattle.ss_records_entities.specs.Added
 pub use Rattle.ss_records_entities.specs.Classed
 pub use Rattle.ss_records_entities.specs.Passing

@@ -1,7 +1,6 @@
 use crate::base::{ClassRow, laid_out};
 use ss_base::{Alpha, ClassKind, FaultKind, Layout, Mode, Owner, Refused, SetLayout, Value};
-use ss_records::Heap;
-use ss_records_laws::{Command, CommandAnswer};
+use ss_records::{Command, CommandAnswer, Heap};
 use std::alloc::{AllocError, Global};
 use std::rt::HostRuntime;
 
@@ -547,10 +546,10 @@ fn a_million_linked_records_are_let_go(rt: HostRuntime) {
 
 // Whether calls fit a heap and answer this.
 fn answers(alloc: Global, heap: &mut Heap, commands: &[Command], wanted: &[CommandAnswer]) -> bool {
-    if !ss_records_laws::fit(heap, commands) {
+    if !ss_records::fit(heap, commands) {
         return false;
     }
-    match ss_records_laws::run(heap, alloc, commands) {
+    match ss_records::run(heap, alloc, commands) {
         Ok(answers) => answers.as_slice() == wanted,
         Err(_) => false,
     }
@@ -619,7 +618,7 @@ fn commands_go_on_after_faults(rt: HostRuntime) {
 // Whether calls fit a heap.
 fn fit(alloc: Global, commands: &[Command]) -> Option<bool> {
     match yard(alloc) {
-        Some(heap) => Some(ss_records_laws::fit(&heap, commands)),
+        Some(heap) => Some(ss_records::fit(&heap, commands)),
         None => None,
     }
 }

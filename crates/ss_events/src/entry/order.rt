@@ -41,10 +41,10 @@ fn ties_order(a: &[Tie], b: &[Tie]) -> Ordering
 fn key_order(a: &Key, b: &Key) -> Ordering
     ensures { result ≡ key_order a.now b.now }
 {
-    a.time()
-        .cmp(&b.time())
-        .then_with(|| a.rank().cmp(&b.rank()))
-        .then_with(|| ties_order(a.ties(), b.ties()))
+    a.time
+        .cmp(&b.time)
+        .then_with(|| a.rank.cmp(&b.rank))
+        .then_with(|| ties_order(&a.ties, &b.ties))
 }
 
 // Whether `a` comes out before `b`.

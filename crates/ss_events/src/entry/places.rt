@@ -580,19 +580,8 @@ fn is_last_before(
     if it.next != NO_SLOT {
         return false;
     }
-    is_before_at_its_time(it.mark, mark, counter)
-}
-
-// Whether one entry comes before another one and at the same time, by their marks. Counts a comparison.
-#[inline(always)]
-fn is_before_at_its_time(early: Mark, late: Mark, counter: &mut WorkCounter) -> bool
-    requires { counter.old.comparisons + 1 < 2 ^ 64 }
-    ensures time { result ≡ true → early.time ≡ late.time }
-    ensures order { result ≡ true → early.order < late.order }
-    ensures counted { counter.new ≡ record counter.old { comparisons = counter.old.comparisons + 1 } }
-{
     counter.count_comparisons(1);
-    early.time == late.time && early.order < late.order
+    it.mark.time == mark.time && it.mark.order < mark.order
 }
 
 // Puts a new entry into a slot, after that of another. Counts a move.

@@ -8,9 +8,9 @@ use Rattle.ss_base.specs.declared.layout.ClassKind.{ClassKind}
 use Rattle.ss_base.specs.declared.layout.ClassKind.TheVariants.{Permanent, Temporary, Notice}
 use Rattle.ss_world.specs.State.{State, Record, members_of, with_members, and_then, number_in, entity_in, notice, kind_of, is_filed, contains, with_entity, with_entity_of_kind, with_value, with_time, created, created_all, made_many, destroyed, let_go, assigned, timed, is_made, with_made, with_created, in_a_set, owns_members, LAST_NUMBER, MOST_ENTITIES}
 use Rattle.ss_world.specs.Sets.{owner, joiner, with_list_of, put_in, put_beside, taken_out, put_before, put_after, less, filed_first, filed_last, filed_before, filed_after, removed}
-use Rattle.ss_records_laws.specs.Commands.{LeavesOthers, KeepsLists}
-use Rattle.ss_records_laws.proofs.Same.{differs, by_same}
-use Rattle.ss_records_laws.proofs.Lists.{members_with, members_other}
+use Rattle.ss_records.specs.Commands.{LeavesOthers, KeepsLists}
+use Rattle.ss_records.proofs.Same.{differs, by_same}
+use Rattle.ss_records.proofs.Lists.{members_with, members_other}
 
 err_is_not_ok : {A : Type 0} {e : FaultKind} {a : A} → Err e ≡ Ok a → ⊥
 err_is_not_ok h = cc

@@ -1,6 +1,6 @@
 use Rattle.std.proofs.Common.{◌≡◌, ◌++◌, drop, take}
-use Rattle.ss_records_laws.specs.Commands.{command_answers, after_commands}
-use Rattle.ss_records_laws.proofs.commands.run.Given as goal
+use Rattle.ss_records.specs.Commands.{command_answers, after_commands}
+use Rattle.ss_records.proofs.commands.run.Given as goal
 
 -- the answers so far and those to what is left are those to all, and the calls so far are made
 abbrev pub invariant-loop-command : goal.invariant-loop-command

@@ -1,5 +1,5 @@
-use Rattle.ss_records_laws.proofs.Relisted.{created_keeps, created_all_keeps, destroyed_keeps, assigned_keeps, timed_keeps}
-use Rattle.ss_records_laws.proofs.commands.other_calls_leave_the_sets.Goals as goal
+use Rattle.ss_records.proofs.Relisted.{created_keeps, created_all_keeps, destroyed_keeps, assigned_keeps, timed_keeps}
+use Rattle.ss_records.proofs.commands.other_calls_leave_the_sets.Goals as goal
 
 pub returns-clause-create : goal.returns-clause-create
 returns-clause-create c = created_keeps

@@ -1,13 +1,14 @@
 // Lists of calls of a heap, and what calls do to the lists of the sets.
 ghost use Rattle.std.specs.Prelude.{◌≡◌, ℕ, ℤ, List, [], ◌∷◌, ◌++◌, Ok, IfOk, OnOk, OnErr, All, IsTrue, ◌↔◌};
 ghost use Rattle.ss_base.specs.declared.value.Value.{Value};
-ghost use Rattle.ss_records_laws.specs.declared.commands.Command.{Command};
+ghost use Rattle.ss_records.specs.declared.commands.Command.{Command};
 ghost use Rattle.ss_world.specs.State.{State, members_of, created, created_all, destroyed, assigned, timed};
 ghost use Rattle.ss_world.specs.Sets.{filed_first, filed_last, filed_before, filed_after, removed, put_before, put_after, less};
-ghost use Rattle.ss_records_laws.specs.Commands.{ChangesMembers, ChangesBeside, LeavesOthers, KeepsRecords, KeepsLists, IsMadeSingly, IsMadeTogether, HasField, IsOnOthers, after_commands, answer_without_value, FitsCommand, command_answer, after_command, command_answers, IsAfterSome};
+ghost use Rattle.ss_records.specs.Commands.{ChangesMembers, ChangesBeside, LeavesOthers, KeepsRecords, KeepsLists, IsMadeSingly, IsMadeTogether, HasField, IsOnOthers, after_commands, answer_without_value, FitsCommand, command_answer, after_command, command_answers, IsAfterSome};
 
+use crate::heap::Heap;
 use ss_base::{ClassKind, FaultKind, Layout, Mode, Refused, Value};
-use ss_records::{Heap, kind};
+use ss_records_words::shape::kind;
 use std::alloc::{AllocError, Global};
 
 /// A call on the set of an owner leaves the members of every other set: those of other names, and those of this name

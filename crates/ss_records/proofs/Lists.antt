@@ -3,7 +3,7 @@ use Rattle.std.proofs.Common.{◌≡◌, ℕ, Bool, true, false, cond, ◌==◌,
 use Rattle.std.specs.Prelude.{◌&&◌}
 use Rattle.ss_world.specs.State.{Members, members_of, with_members}
 use Rattle.ss_world.specs.Lists.{with_list}
-use Rattle.ss_records_laws.proofs.Same.{same, differs, by_same}
+use Rattle.ss_records.proofs.Same.{same, differs, by_same}
 
 both : (b c : Bool) → b ≡ true → c ≡ true → (b && c) ≡ true
 both b c e f = (λ i. e i && f i)

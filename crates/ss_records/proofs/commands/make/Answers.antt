@@ -1,12 +1,12 @@
 use Rattle.std.proofs.Common.{rules, ◌≡◌, sym, ap, subst, ◌∙◌, w64, to_z, of_z}
 use Rattle.std.specs.Prelude.{IfOk, OnOk}
-use Rattle.ss_records_laws.specs.declared.commands.Command.TheVariants.{CreateAll}
+use Rattle.ss_records.specs.declared.commands.Command.TheVariants.{CreateAll}
 use Rattle.ss_world.specs.State.{destroyed, assigned, timed}
 use Rattle.ss_world.specs.Sets.{filed_first, filed_last, filed_before, filed_after, removed}
-use Rattle.ss_records_laws.specs.Commands.{FitsCommand, done_with_state, answer_or_fault, state_in, command_answer, after_command}
-use Rattle.ss_records_laws.proofs.Outcomes.{outcome_is, is_left}
-use Rattle.ss_records_laws.proofs.commands.make.Goals as goal
-use Rattle.ss_records_laws.proofs.commands.make.Goals.{After-make_all, After-answer_without_value, After-answer_without_value-in-SetValue, After-answer_without_value-in-SetTime, After-answer_without_value-in-FileFirst, After-answer_without_value-in-FileLast, After-answer_without_value-in-FileBefore, After-answer_without_value-in-FileAfter, After-answer_without_value-in-Remove}
+use Rattle.ss_records.specs.Commands.{FitsCommand, done_with_state, answer_or_fault, state_in, command_answer, after_command}
+use Rattle.ss_records.proofs.Outcomes.{outcome_is, is_left}
+use Rattle.ss_records.proofs.commands.make.Goals as goal
+use Rattle.ss_records.proofs.commands.make.Goals.{After-make_all, After-answer_without_value, After-answer_without_value-in-SetValue, After-answer_without_value-in-SetTime, After-answer_without_value-in-FileFirst, After-answer_without_value-in-FileLast, After-answer_without_value-in-FileBefore, After-answer_without_value-in-FileAfter, After-answer_without_value-in-Remove}
 
 pub make_one-requires : goal.make_one-requires
 make_one-requires c = subst (FitsCommand c.args.heap.now.state.layout) c.in-Create.is c.requires

@@ -4,14 +4,14 @@ use Rattle.std.specs.Prelude.{All}
 use Rattle.std.proofs.lemmas.List.Elements.{recursion_from_All}
 use Rattle.std.specs.List.{AllByRecursion}
 use Rattle.ss_base.specs.declared.fault.FaultKind.{FaultKind}
-use Rattle.ss_records_laws.specs.declared.commands.Command.{Command}
-use Rattle.ss_records_laws.specs.declared.commands.Command.TheVariants.{Create, CreateAll, Destroy, SetValue, SetTime, FileFirst, FileLast, FileBefore, FileAfter, Remove}
-use Rattle.ss_records_laws.specs.declared.commands.CommandAnswer.{CommandAnswer}
-use Rattle.ss_records_laws.specs.declared.commands.CommandAnswer.TheVariants.{Number}
+use Rattle.ss_records.specs.declared.commands.Command.{Command}
+use Rattle.ss_records.specs.declared.commands.Command.TheVariants.{Create, CreateAll, Destroy, SetValue, SetTime, FileFirst, FileLast, FileBefore, FileAfter, Remove}
+use Rattle.ss_records.specs.declared.commands.CommandAnswer.{CommandAnswer}
+use Rattle.ss_records.specs.declared.commands.CommandAnswer.TheVariants.{Number}
 use Rattle.ss_world.specs.State.{State, members_of, and_then, created, created_all, destroyed, assigned, timed}
 use Rattle.ss_world.specs.Sets.{filed_first, filed_last, filed_before, filed_after, removed}
-use Rattle.ss_records_laws.specs.Commands.{LeavesOthers, done_with_state, state_in, after_command, after_commands, IsOnOthers}
-use Rattle.ss_records_laws.proofs.Relisted.{first_leaves, last_leaves, before_leaves, after_leaves, removed_leaves, created_keeps, created_all_keeps, destroyed_keeps, assigned_keeps, timed_keeps}
+use Rattle.ss_records.specs.Commands.{LeavesOthers, done_with_state, state_in, after_command, after_commands, IsOnOthers}
+use Rattle.ss_records.proofs.Relisted.{first_leaves, last_leaves, before_leaves, after_leaves, removed_leaves, created_keeps, created_all_keeps, destroyed_keeps, assigned_keeps, timed_keeps}
 
 made : (s : State) (n o : ℕ) (r : Result (ℤ × State) FaultKind) → ((i : ℤ) (t : State) → r ≡ Ok (i, t) → t.lists ≡ s.lists) → members_of (state_in s (and_then {A = ℤ × State} {B = CommandAnswer × State} r (λ p. Ok (Number p.0, p.1)))).lists n o ≡ members_of s.lists n o
 made s n o (Ok p) h = λ i. members_of (h p.0 p.1 refl i) n o

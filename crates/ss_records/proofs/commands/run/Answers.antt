@@ -1,9 +1,9 @@
 use Rattle.std.proofs.Common.{◌∷◌, [], ◌++◌, drop, ◌+◌, ap, ◌∙◌}
 use Rattle.ss_world.specs.State.{State}
-use Rattle.ss_records_laws.specs.Commands.{command_answers, after_commands}
-use Rattle.ss_records_laws.proofs.SameLayout.{same_layout}
-use Rattle.ss_records_laws.proofs.Running.{given_next, rest_next, made_next, on_err}
-use Rattle.ss_records_laws.proofs.commands.run.Goals as goal
+use Rattle.ss_records.specs.Commands.{command_answers, after_commands}
+use Rattle.ss_records.proofs.SameLayout.{same_layout}
+use Rattle.ss_records.proofs.Running.{given_next, rest_next, made_next, on_err}
+use Rattle.ss_records.proofs.commands.run.Goals as goal
 
 pub loop-command-preserved : goal.loop-command-preserved
 loop-command-preserved c =

@@ -1,5 +1,5 @@
-use Rattle.ss_records_laws.proofs.Relisted.{first_leaves, last_leaves, before_leaves, after_leaves, removed_leaves}
-use Rattle.ss_records_laws.proofs.commands.filing_leaves_other_sets.Goals as goal
+use Rattle.ss_records.proofs.Relisted.{first_leaves, last_leaves, before_leaves, after_leaves, removed_leaves}
+use Rattle.ss_records.proofs.commands.filing_leaves_other_sets.Goals as goal
 
 pub returns-clause-first : goal.returns-clause-first
 returns-clause-first c = first_leaves

@@ -5,13 +5,13 @@ use Rattle.ss_base.specs.declared.fault.FaultKind.TheVariants.{Overflow, Created
 use Rattle.ss_base.specs.declared.fault.FaultKind.{FaultKind}
 use Rattle.ss_base.specs.declared.layout.ClassKind.{ClassKind}
 use Rattle.ss_base.specs.declared.layout.ClassKind.TheVariants.{Permanent, Temporary, Notice}
-use Rattle.ss_records_laws.specs.declared.commands.Command.{Command}
-use Rattle.ss_records_laws.specs.declared.commands.Command.TheVariants.{Create, CreateAll, Destroy, SetValue, SetTime, FileFirst, FileLast, FileBefore, FileAfter, Remove}
+use Rattle.ss_records.specs.declared.commands.Command.{Command}
+use Rattle.ss_records.specs.declared.commands.Command.TheVariants.{Create, CreateAll, Destroy, SetValue, SetTime, FileFirst, FileLast, FileBefore, FileAfter, Remove}
 use Rattle.ss_world.specs.State.{State, Record, and_then, number_in, entity_in, notice, kind_of, is_made, is_filed, contains, members_of, in_a_set, owns_members, with_entity_of_kind, with_entity, with_value, with_time, with_created, with_made, LAST_NUMBER, MOST_ENTITIES, created_all, made_many, destroyed, let_go, assigned, timed}
 use Rattle.ss_world.specs.Sets.{joiner, owner, with_list_of, put_in, put_beside, taken_out, put_before, put_after, less, filed_first, filed_last, filed_before, filed_after, removed}
-use Rattle.ss_records_laws.specs.Commands.{done_with_state, state_in, after_command}
-use Rattle.ss_records_laws.specs.declared.commands.CommandAnswer.{CommandAnswer}
-use Rattle.ss_records_laws.specs.declared.commands.CommandAnswer.TheVariants.{Number}
+use Rattle.ss_records.specs.Commands.{done_with_state, state_in, after_command}
+use Rattle.ss_records.specs.declared.commands.CommandAnswer.{CommandAnswer}
+use Rattle.ss_records.specs.declared.commands.CommandAnswer.TheVariants.{Number}
 
 -- where a call makes a state, its layout is that of s
 abbrev pub Keeps : State → Result State FaultKind → Type 0

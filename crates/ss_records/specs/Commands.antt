@@ -4,11 +4,11 @@ use Rattle.ss_base.specs.declared.fault.FaultKind.{FaultKind}
 use Rattle.ss_base.specs.declared.layout.Layout.{Layout}
 use Rattle.ss_base.specs.declared.layout.Mode.{Mode}
 use Rattle.ss_base.specs.Layout.{mode_of}
-use Rattle.ss_records_laws.specs.declared.commands.Command.{Command}
-use Rattle.ss_records_laws.specs.declared.commands.Command.TheVariants.{Create, CreateAll, Destroy, SetValue, SetTime, FileFirst, FileLast, FileBefore, FileAfter, Remove}
-use Rattle.ss_records_laws.specs.declared.commands.CommandAnswer.{CommandAnswer}
-use Rattle.ss_records_laws.specs.declared.commands.CommandAnswer.TheVariants.{Done, Number, Faulted}
-use Rattle.ss_records.specs.Kept.{IsPermanent}
+use Rattle.ss_records.specs.declared.commands.Command.{Command}
+use Rattle.ss_records.specs.declared.commands.Command.TheVariants.{Create, CreateAll, Destroy, SetValue, SetTime, FileFirst, FileLast, FileBefore, FileAfter, Remove}
+use Rattle.ss_records.specs.declared.commands.CommandAnswer.{CommandAnswer}
+use Rattle.ss_records.specs.declared.commands.CommandAnswer.TheVariants.{Done, Number, Faulted}
+use Rattle.ss_records_words.specs.Kept.{IsPermanent}
 use Rattle.ss_world.specs.State.{State, members_of, kind_of, modes_of, and_then, created, created_all, destroyed, assigned, timed}
 use Rattle.ss_world.specs.Sets.{joiner, owner, filed_first, filed_last, filed_before, filed_after, removed}
 

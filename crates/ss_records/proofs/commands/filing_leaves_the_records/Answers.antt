@@ -1,5 +1,5 @@
-use Rattle.ss_records_laws.proofs.Changed.{first_keeps, last_keeps, before_keeps, after_keeps, removed_keeps}
-use Rattle.ss_records_laws.proofs.commands.filing_leaves_the_records.Goals as goal
+use Rattle.ss_records.proofs.Changed.{first_keeps, last_keeps, before_keeps, after_keeps, removed_keeps}
+use Rattle.ss_records.proofs.commands.filing_leaves_the_records.Goals as goal
 
 pub returns-clause-first : goal.returns-clause-first
 returns-clause-first c = first_keeps

@@ -3,7 +3,7 @@ use Rattle.std.proofs.Common.{◌≡◌, Result, Ok, Err, sym, ap, ◌∙◌}
 use Rattle.std.specs.Prelude.{MatchResult}
 use Rattle.ss_base.specs.declared.fault.FaultKind.{FaultKind}
 use Rattle.ss_world.specs.State.{State}
-use Rattle.ss_records_laws.specs.Commands.{answer_without_value, done_with_state, answer_or_fault, state_in}
+use Rattle.ss_records.specs.Commands.{answer_without_value, done_with_state, answer_or_fault, state_in}
 
 pub outcome_is : (r : Result (Unit {0}) FaultKind) (f : Result State FaultKind) (s t : State) → MatchResult r (λ _. f ≡ Ok t) (λ e. (f ≡ Err e) × (t ≡ s)) → answer_without_value r ≡ answer_or_fault (done_with_state f)
 outcome_is (Ok u) f s t h = ap (λ z. answer_or_fault (done_with_state z)) (sym h)

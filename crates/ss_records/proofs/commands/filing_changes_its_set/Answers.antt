@@ -1,5 +1,5 @@
-use Rattle.ss_records_laws.proofs.Changed.{first_changes, last_changes, before_changes, after_changes, removed_changes}
-use Rattle.ss_records_laws.proofs.commands.filing_changes_its_set.Goals as goal
+use Rattle.ss_records.proofs.Changed.{first_changes, last_changes, before_changes, after_changes, removed_changes}
+use Rattle.ss_records.proofs.commands.filing_changes_its_set.Goals as goal
 
 pub returns-clause-first : goal.returns-clause-first
 returns-clause-first c = first_changes

@@ -1,5 +1,0 @@
-use Rattle.ss_records_laws.proofs.OtherSets.{commands_leave}
-use Rattle.ss_records_laws.proofs.commands.commands_leave_other_sets.Goals as goal
-
-pub returns : goal.returns
-returns c = commands_leave
