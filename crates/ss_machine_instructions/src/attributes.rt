@@ -1,11 +1,14 @@
 //! Attributes of entities, and times.
 
-ghost use Rattle.std.specs.Prelude.{◌≡◌, ◌<◌, length, slice_get, Some, Err, MatchResult};
-ghost use Rattle.ss_base.specs.declared.layout.Mode.TheVariants.{Integer};
+ghost use Rattle.std.specs.Prelude.{◌≡◌, ◌<◌, ℕ, List, length, slice_get, Some, Err, MatchResult};
+ghost use Rattle.ss_base.specs.declared.layout.Mode.TheVariants.{Integer, Alpha};
+ghost use Rattle.ss_base.specs.declared.value.Value.TheVariants.{Text};
 ghost use Rattle.ss_meaning.specs.Values.{computed, operator_of};
 ghost use Rattle.ss_records.specs.Attributes.{changed_number, IsChanged};
 ghost use Rattle.ss_world.specs.State.{modes_of, value_in};
 ghost use Rattle.ss_machine_instructions.specs.Doing.{Can, Does};
+ghost use Rattle.ss_machine_instructions.specs.Giving.{IsSet};
+ghost use Rattle.ss_machine_instructions.specs.Beginning.{IsReadTo};
 
 use crate::flow::Here;
 use crate::state::State;
@@ -13,6 +16,8 @@ use ss_base::FaultKind;
 use ss_code_instructions::address::Address;
 use ss_code_instructions::instruction::Instruction;
 use ss_machine_entities::population::Population;
+use ss_machine_frames::rows::{Rows, place_of};
+use ss_machine_world::scene::Scene;
 use ss_program::expression::Sign;
 
 // An attribute is increased or reduced by a number. Faults: 1 to 5, then 14.
@@ -34,6 +39,49 @@ fn change_whole(
         Sign::Plus => population.add_whole(class, field, entity, by),
         Sign::Minus => population.subtract_whole(class, field, entity, by),
     }
+}
+
+// An attribute that is a text goes to a place, unless there was a fault. The text lies in memory here alone.
+#[inline(always)]
+fn text_to(
+    scene: &Scene,
+    rows: &mut Rows,
+    class: usize,
+    field: usize,
+    entity: i64,
+    at: usize,
+) -> Result<(), FaultKind>
+    requires class { class < length scene.now.heap.layout.classes }
+    requires mode { slice_get (modes_of scene.now.heap.layout class) field ≡ Some Alpha }
+    requires place { at < length rows.old.numbers }
+    ensures { IsReadTo scene.now.heap class field entity Alpha at rows.old rows.new result }
+{
+    match scene.population.text(class, field, entity) {
+        Err(kind) => Err(kind),
+        Ok(text) => {
+            rows.set_text_at(at, text);
+            Ok(())
+        }
+    }
+}
+
+// An attribute is assigned the text at a place.
+#[inline(always)]
+fn text_from(
+    scene: &mut Scene,
+    rows: &Rows,
+    class: usize,
+    field: usize,
+    entity: i64,
+    at: usize,
+) -> Result<(), FaultKind>
+    requires class { class < length scene.old.heap.layout.classes }
+    requires mode { slice_get (modes_of scene.old.heap.layout class) field ≡ Some Alpha }
+    requires place { at < length rows.now.numbers }
+    ensures { (text : List ℕ) → slice_get rows.now.texts at ≡ Some text → IsSet class field entity (Text text) scene.old scene.new result }
+{
+    let text = rows.text_at(at);
+    scene.population.set_text(class, field, entity, text)
 }
 
 impl State {
@@ -71,12 +119,11 @@ impl State {
         requires { Can here self.old (Instruction.TextAttribute class field entity.now to.now) }
         ensures { Does here self.old self.new result (Instruction.TextAttribute class field entity.now to.now) }
     {
+        let (class, field) = (class as usize, field as usize);
         let entity = self.number(here, entity);
-        let answer = self
-            .scene
-            .population
-            .text(class as usize, field as usize, entity);
-        self.put_text(here, to, answer)
+        let at = place_of(here.frame, to);
+        let answer = text_to(&self.scene, &mut self.rows, class, field, entity, at);
+        self.done(here, answer)
     }
 
     /// SetAttribute.
@@ -115,11 +162,10 @@ impl State {
         requires { Can here self.old (Instruction.SetTextAttribute class field entity.now from.now) }
         ensures { Does here self.old self.new result (Instruction.SetTextAttribute class field entity.now from.now) }
     {
-        let (entity, text) = (self.number(here, entity), self.text(here, from));
-        let answer = self
-            .scene
-            .population
-            .set_text(class as usize, field as usize, entity, text);
+        let (class, field) = (class as usize, field as usize);
+        let entity = self.number(here, entity);
+        let at = place_of(here.frame, from);
+        let answer = text_from(&mut self.scene, &self.rows, class, field, entity, at);
         self.done(here, answer)
     }
 

@@ -62,7 +62,8 @@ impl State {
             None => self.stop(Ending::Ended),
             Some(frame) => {
                 if frame.yielding > 0 {
-                    self.yield_values(here.frame as usize, frame);
+                    let to = here.frame as usize;
+                    self.yield_values(to, frame.given as usize, frame.yielding as usize);
                 }
                 here.to(frame.back, frame.caller)
             }
@@ -79,12 +80,11 @@ impl State {
 
     // What is yielded goes where the frame begins, the first on top.
     #[inline(never)]
-    fn yield_values(&mut self, to: usize, frame: Frame)
-        requires { to + frame.given + frame.yielding ≤ length self.old.rows.numbers }
-        ensures rows { Yielded self.old.rows self.new.rows (to + frame.given) to frame.yielding }
+    fn yield_values(&mut self, to: usize, given: usize, yielding: usize)
+        requires { to + given + yielding ≤ length self.old.rows.numbers }
+        ensures rows { Yielded self.old.rows self.new.rows (to + given) to yielding }
         ensures same { self.new ≡ record self.old { rows = self.new.rows } }
     {
-        let from = to + frame.given as usize;
-        self.rows.yield_down(from, to, frame.yielding as usize);
+        self.rows.yield_down(to + given, to, yielding);
     }
 }

@@ -270,7 +270,7 @@ fn prepare_and_file(
 
 // A notice that there is gets its first attributes and its time, and is filed.
 #[inline(never)]
-fn schedule_again(
+fn schedule_again_apart(
     scene: &mut Scene,
     rows: &Rows,
     alloc: Global,
@@ -284,6 +284,26 @@ fn schedule_again(
     match look_unpended(scene, what.class, what.notice) {
         Err(kind) => Err(Refused::Fault(kind)),
         Ok(()) => prepare_and_file(scene, rows, alloc, what, given, time),
+    }
+}
+
+// The same. The answer goes on by its parts, so that it lies in memory here alone.
+#[inline(always)]
+fn schedule_again(
+    scene: &mut Scene,
+    rows: &Rows,
+    alloc: Global,
+    what: Giving,
+    given: usize,
+    time: i64,
+) -> Result<(), Refused>
+    requires { Gives what.class what.noted what.from given rows.now scene.old }
+    ensures { (g : Gives what.class what.noted what.from given rows.now scene.old) → SettledInWithMemory g.store (rescheduled what.class (Whole what.notice) g.values time) scene.old scene.new result }
+{
+    match schedule_again_apart(scene, rows, alloc, what, given, time) {
+        Ok(()) => Ok(()),
+        Err(Refused::Fault(kind)) => Err(Refused::Fault(kind)),
+        Err(Refused::Memory) => Err(Refused::Memory),
     }
 }
 
@@ -587,18 +607,21 @@ impl State {
     // There is no memory for the frame of an event: the fault that is due as it begins, or out of memory where none is.
     #[cold]
     #[inline(never)]
-    fn unbegun(&mut self, rank: usize, class: usize, notice: i64) -> Option<Here>
+    fn unbegun(&mut self, rank: usize, class: usize, notice: i64)
         requires rank { rank < length self.old.scene.notices }
         requires class { class < length self.old.scene.heap.layout.classes }
         requires single { is_single (slice_get self.old.scene.heap.layout.classes class) ≡ true }
         requires saved { (said : Notices) → slice_get self.old.scene.notices rank ≡ Some said → IfSome said.saved (λ k. k < length self.old.rows.numbers) }
         requires ticks { self.old.ticks + 1 < 2 ^ 64 }
-        ensures none { result ≡ None }
         ensures state { (said : Notices) → slice_get self.old.scene.notices rank ≡ Some said → IsUnbegun said class notice self.old self.new }
     {
         match self.let_go(rank, class, notice) {
-            Ok(()) => self.give_tick_back(),
-            Err(kind) => self.fault_of_event(kind, rank),
+            Ok(()) => {
+                let _none = self.give_tick_back();
+            }
+            Err(kind) => {
+                let _none = self.fault_of_event(kind, rank);
+            }
         }
     }
 
@@ -640,7 +663,8 @@ impl State {
         let rank = self.scene.rank(class);
         let entry = &events[rank];
         let Ok(frame) = self.enter(here, entry, cell) else {
-            return self.unbegun(rank, class, notice);
+            self.unbegun(rank, class, notice);
+            return None;
         };
         let what = Giving {
             class,

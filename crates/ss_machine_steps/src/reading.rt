@@ -1,6 +1,6 @@
 //! What the machine reads of its input.
 
-ghost use Rattle.std.specs.Prelude.{◌≡◌, ℕ, ℤ, Bool, true, List, is_some, Ok, Err, None};
+ghost use Rattle.std.specs.Prelude.{◌≡◌, ◌<◌, ℕ, ℤ, Bool, true, List, length, is_some, Ok, Err, None, OnErr};
 ghost use Rattle.ss_base.specs.declared.fault.FaultKind.{FaultKind as FaultSeen};
 ghost use Rattle.ss_base.specs.declared.layout.Mode.TheVariants.{Integer, Alpha as AlphaMode};
 ghost use Rattle.ss_base.specs.declared.value.Value.TheVariants.{Whole, Text};
@@ -8,6 +8,7 @@ ghost use Rattle.ss_base.specs.Failures.{HasRisen, HasRisenBy};
 ghost use Rattle.ss_input.specs.Blocks.{KnowsEnd};
 ghost use Rattle.ss_input.specs.Inputs.{source_block, source_missed, source_reader, Reads, Finds, missed_of};
 ghost use Rattle.ss_input.specs.Words.{value_given, is_ended};
+ghost use Rattle.ss_machine_frames.specs.Rows.{place_at, with_text};
 ghost use Rattle.ss_machine_instructions.specs.Doing.{Can};
 ghost use Rattle.ss_machine_steps.specs.Reading.{missed_by, DidRead, IsQuiet};
 
@@ -30,9 +31,9 @@ fn unread(state: &mut State, missed: Missed) -> Option<Here>
     }
 }
 
-// The next number. Out of line, as the next two are: so the source takes no register of the loop.
+// The next number. Out of line, as the others that work so apart: so the source takes no register of the loop.
 #[inline(never)]
-fn next_number<R: FaultyRead>(source: &mut Source<R>) -> Result<i64, Missed>
+fn next_number_apart<R: FaultyRead>(source: &mut Source<R>) -> Result<i64, Missed>
     requires { source_missed source.old ≡ None }
     ensures read { (number : ℤ) → result ≡ Ok number → Reads R.remaining source.old source.new (λ input rest. value_given Integer input ≡ Ok (record { value = Whole number; rest = rest })) }
     ensures fault { (kind : FaultSeen) → result ≡ Err (Missed.Fault kind) → Finds R.remaining source.old source.new (λ input. value_given Integer input ≡ Err kind) }
@@ -43,6 +44,25 @@ fn next_number<R: FaultyRead>(source: &mut Source<R>) -> Result<i64, Missed>
     ensures end { KnowsEnd R.remaining (source_block source.old) → KnowsEnd R.remaining (source_block source.new) }
 {
     source.integer()
+}
+
+// The same. The answer goes on by its parts, so that it lies in memory here alone.
+#[inline(always)]
+fn next_number<R: FaultyRead>(source: &mut Source<R>) -> Result<i64, Missed>
+    requires { source_missed source.old ≡ None }
+    ensures read { (number : ℤ) → result ≡ Ok number → Reads R.remaining source.old source.new (λ input rest. value_given Integer input ≡ Ok (record { value = Whole number; rest = rest })) }
+    ensures fault { (kind : FaultSeen) → result ≡ Err (Missed.Fault kind) → Finds R.remaining source.old source.new (λ input. value_given Integer input ≡ Err kind) }
+    ensures lost { result ≡ Err Missed.Input → Finds R.remaining source.old source.new (λ input. Unit {0}) }
+    ensures input { result ≡ Err Missed.Input → HasRisen (R.faults (source_reader source.old)) (R.faults (source_reader source.new)) }
+    ensures missed { source_missed source.new ≡ missed_of result }
+    ensures never_falls { HasRisenBy 0 (R.faults (source_reader source.old)) (R.faults (source_reader source.new)) }
+    ensures end { KnowsEnd R.remaining (source_block source.old) → KnowsEnd R.remaining (source_block source.new) }
+{
+    match next_number_apart(source) {
+        Ok(number) => Ok(number),
+        Err(Missed::Fault(kind)) => Err(Missed::Fault(kind)),
+        Err(Missed::Input) => Err(Missed::Input),
+    }
 }
 
 // The next text.
@@ -60,9 +80,38 @@ fn next_text<R: FaultyRead>(source: &mut Source<R>) -> Result<Alpha, Missed>
     source.alpha()
 }
 
+// The next text goes to an address.
+#[inline(always)]
+fn text_to<R: FaultyRead>(
+    state: &mut State,
+    here: Here,
+    to: &Address,
+    source: &mut Source<R>,
+) -> Result<(), Missed>
+    requires place { place_at here.frame to.now < length state.old.rows.numbers }
+    requires unmissed { source_missed source.old ≡ None }
+    ensures read { result ≡ Ok tt → (text : List ℕ) × Reads R.remaining source.old source.new (λ input rest. value_given AlphaMode input ≡ Ok (record { value = Text text; rest = rest })) × (state.new ≡ record state.old { rows = with_text state.old.rows (place_at here.frame to.now) text }) }
+    ensures fault { (kind : FaultSeen) → result ≡ Err (Missed.Fault kind) → Finds R.remaining source.old source.new (λ input. value_given AlphaMode input ≡ Err kind) }
+    ensures lost { result ≡ Err Missed.Input → Finds R.remaining source.old source.new (λ input. Unit {0}) }
+    ensures input { result ≡ Err Missed.Input → HasRisen (R.faults (source_reader source.old)) (R.faults (source_reader source.new)) }
+    ensures missed { source_missed source.new ≡ missed_of result }
+    ensures stays { OnErr result (state.new ≡ state.old) }
+    ensures never_falls { HasRisenBy 0 (R.faults (source_reader source.old)) (R.faults (source_reader source.new)) }
+    ensures end { KnowsEnd R.remaining (source_block source.old) → KnowsEnd R.remaining (source_block source.new) }
+{
+    match next_text(source) {
+        Ok(text) => {
+            state.set_text(here, to, text);
+            Ok(())
+        }
+        Err(Missed::Fault(kind)) => Err(Missed::Fault(kind)),
+        Err(Missed::Input) => Err(Missed::Input),
+    }
+}
+
 // Whether no word is left.
 #[inline(never)]
-fn is_ended<R: FaultyRead>(source: &mut Source<R>) -> Result<bool, Missed>
+fn is_ended_apart<R: FaultyRead>(source: &mut Source<R>) -> Result<bool, Missed>
     requires { source_missed source.old ≡ None }
     ensures read { (ended : Bool) → result ≡ Ok ended → Reads R.remaining source.old source.new (λ input rest. (rest ≡ input) × (is_ended input ≡ Ok ended)) }
     ensures fault { (kind : FaultSeen) → result ≡ Err (Missed.Fault kind) → Finds R.remaining source.old source.new (λ input. is_ended input ≡ Err kind) }
@@ -73,6 +122,25 @@ fn is_ended<R: FaultyRead>(source: &mut Source<R>) -> Result<bool, Missed>
     ensures end { KnowsEnd R.remaining (source_block source.old) → KnowsEnd R.remaining (source_block source.new) }
 {
     source.ended()
+}
+
+// The same. The answer goes on by its parts.
+#[inline(always)]
+fn is_ended<R: FaultyRead>(source: &mut Source<R>) -> Result<bool, Missed>
+    requires { source_missed source.old ≡ None }
+    ensures read { (ended : Bool) → result ≡ Ok ended → Reads R.remaining source.old source.new (λ input rest. (rest ≡ input) × (is_ended input ≡ Ok ended)) }
+    ensures fault { (kind : FaultSeen) → result ≡ Err (Missed.Fault kind) → Finds R.remaining source.old source.new (λ input. is_ended input ≡ Err kind) }
+    ensures lost { result ≡ Err Missed.Input → Finds R.remaining source.old source.new (λ input. Unit {0}) }
+    ensures input { result ≡ Err Missed.Input → HasRisen (R.faults (source_reader source.old)) (R.faults (source_reader source.new)) }
+    ensures missed { source_missed source.new ≡ missed_of result }
+    ensures never_falls { HasRisenBy 0 (R.faults (source_reader source.old)) (R.faults (source_reader source.new)) }
+    ensures end { KnowsEnd R.remaining (source_block source.old) → KnowsEnd R.remaining (source_block source.new) }
+{
+    match is_ended_apart(source) {
+        Ok(ended) => Ok(ended),
+        Err(Missed::Fault(kind)) => Err(Missed::Fault(kind)),
+        Err(Missed::Input) => Err(Missed::Input),
+    }
 }
 
 /// Read.
@@ -118,12 +186,9 @@ pub(crate) fn read_text<R: FaultyRead>(
     ensures never_falls { HasRisenBy 0 (R.faults (source_reader source.old)) (R.faults (source_reader source.new)) }
     ensures end { KnowsEnd R.remaining (source_block source.old) → KnowsEnd R.remaining (source_block source.new) }
 {
-    match next_text(source) {
+    match text_to(state, here, to, source) {
         Err(missed) => unread(state, missed),
-        Ok(text) => {
-            state.set_text(here, to, text);
-            here.on()
-        }
+        Ok(()) => here.on(),
     }
 }
 

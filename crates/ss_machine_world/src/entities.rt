@@ -73,8 +73,23 @@ impl Scene {
     }
 
     /// All entities of a permanent class, so many, whose histories start. Faults: 18 where they are made, then 22 for a bad count.
-    /// It is out of memory only where neither is due.
+    /// It is out of memory only where neither is due. The answer goes on by its parts, as that of `figure`.
+    #[inline(always)]
     pub fn create_all(&mut self, class: usize, count: i64) -> Result<(), Refused>
+        requires class { class < length self.old.heap.layout.classes }
+        requires permanent { is_permanent (slice_get self.old.heap.layout.classes class) ≡ true }
+        ensures { ChangesWithMemory (created_all_known class count) self.old self.new result }
+    {
+        match self.create_all_apart(class, count) {
+            Ok(()) => Ok(()),
+            Err(Refused::Fault(kind)) => Err(Refused::Fault(kind)),
+            Err(Refused::Memory) => Err(Refused::Memory),
+        }
+    }
+
+    // Does the work of `create_all`.
+    #[inline(never)]
+    fn create_all_apart(&mut self, class: usize, count: i64) -> Result<(), Refused>
         requires class { class < length self.old.heap.layout.classes }
         requires permanent { is_permanent (slice_get self.old.heap.layout.classes class) ≡ true }
         ensures { ChangesWithMemory (created_all_known class count) self.old self.new result }

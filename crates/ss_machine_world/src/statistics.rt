@@ -86,9 +86,22 @@ impl Scene {
         }
     }
 
-    /// What a statistic says of an entity: NUMBER, SUM, MAXIMUM or MINIMUM. Faults: 1 to 5, then 14 for a sum of more than 64 bits.
-    #[inline(never)]
+    /// What a statistic says of an entity: NUMBER, SUM, MAXIMUM or MINIMUM. Faults: 1 to 5, then 14 for a sum of more than 64 bits. The
+    /// answer of the call out of line goes on by its parts, so that it lies in memory here alone.
+    #[inline(always)]
     pub fn figure(&self, fold: Fold, statistic: usize, entity: i64) -> Result<i64, FaultKind>
+        requires subject { HasSubject self.now statistic }
+        ensures { (o : Option ValueSeen) → RefersToSubject self.now statistic o entity → Looks (figure fold statistic o) self.now (as_value result) }
+    {
+        match self.figure_apart(fold, statistic, entity) {
+            Ok(number) => Ok(number),
+            Err(kind) => Err(kind),
+        }
+    }
+
+    // Does the work of `figure`.
+    #[inline(never)]
+    fn figure_apart(&self, fold: Fold, statistic: usize, entity: i64) -> Result<i64, FaultKind>
         requires subject { HasSubject self.now statistic }
         ensures { (o : Option ValueSeen) → RefersToSubject self.now statistic o entity → Looks (figure fold statistic o) self.now (as_value result) }
     {
