@@ -1,13 +1,17 @@
 //! Attributes of entities, and times.
 
-ghost use Rattle.std.specs.Prelude.{◌≡◌, ◌<◌, ℕ, List, length, slice_get, Some, Err, MatchResult};
+ghost use Rattle.std.specs.Prelude.{◌≡◌, ◌<◌, ℕ, List, Result, length, slice_get, Some, Err, MatchResult};
 ghost use Rattle.ss_base.specs.declared.layout.Mode.TheVariants.{Integer, Alpha};
-ghost use Rattle.ss_base.specs.declared.value.Value.TheVariants.{Text};
+ghost use Rattle.ss_base.specs.declared.value.Value.TheVariants.{Whole, Text};
+ghost use Rattle.ss_base.specs.declared.fault.FaultKind.{FaultKind as FaultSeen};
 ghost use Rattle.ss_meaning.specs.Values.{computed, operator_of};
 ghost use Rattle.ss_records.specs.Attributes.{changed_number, IsChanged};
 ghost use Rattle.ss_world.specs.State.{modes_of, value_in};
 ghost use Rattle.ss_machine_instructions.specs.Doing.{Can, Does};
+ghost use Rattle.ss_machine_world.specs.Numbers.{attribute_noted};
+ghost use Rattle.ss_machine_world.specs.Seen.{Seen};
 ghost use Rattle.ss_machine_instructions.specs.Giving.{IsSet};
+ghost use Rattle.ss_machine_instructions.specs.Noted.{NotedAfter};
 ghost use Rattle.ss_machine_instructions.specs.Beginning.{IsReadTo};
 
 use crate::flow::Here;
@@ -38,6 +42,25 @@ fn change_whole(
     match sign {
         Sign::Plus => population.add_whole(class, field, entity, by),
         Sign::Minus => population.subtract_whole(class, field, entity, by),
+    }
+}
+
+// An attribute is assigned a number, which is noted. Out of line, so that nothing is kept for a note where none is made.
+#[inline(never)]
+fn set_noted(
+    scene: &mut Scene,
+    class: usize,
+    field: usize,
+    entity: i64,
+    number: i64,
+) -> Result<(), FaultKind>
+    requires class { class < length scene.old.heap.layout.classes }
+    requires mode { slice_get (modes_of scene.old.heap.layout class) field ≡ Some Integer }
+    ensures { (middle : Seen) × (answer : Result (Unit {0}) FaultSeen) × IsSet class field entity (Whole number) scene.old middle answer × NotedAfter answer true (attribute_noted class field entity) middle scene.new result }
+{
+    match scene.population.set_whole(class, field, entity, number) {
+        Err(kind) => Err(kind),
+        Ok(()) => scene.note_attribute(class, field, entity),
     }
 }
 
@@ -142,11 +165,15 @@ impl State {
     {
         let (entity, number) = (self.number(here, entity), self.number(here, from));
         let (class, field) = (class as usize, field as usize);
+        if noted {
+            let answer = set_noted(&mut self.scene, class, field, entity, number);
+            return self.done(here, answer);
+        }
         let answer = self
             .scene
             .population
             .set_whole(class, field, entity, number);
-        self.assigned(here, answer, class, field, entity, noted)
+        self.done(here, answer)
     }
 
     /// SetTextAttribute.

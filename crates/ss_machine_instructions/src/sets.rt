@@ -1,6 +1,8 @@
 //! Sets: what is asked of them, filing and removing.
 
-ghost use Rattle.std.specs.Prelude.{◌≡◌, ◌<◌, length, true, false};
+ghost use Rattle.std.specs.Prelude.{◌≡◌, ◌<◌, ℤ, Result, length, true, false, Ok, Err, MatchResult};
+ghost use Rattle.ss_base.specs.declared.fault.FaultKind.{FaultKind as FaultSeen};
+ghost use Rattle.ss_machine_frames.specs.Rows.{with_number};
 ghost use Rattle.ss_program.specs.declared.expression.SetQuery.TheVariants.{FirstMember, LastMember, MemberCount};
 ghost use Rattle.ss_program.specs.declared.expression.MemberQuery.TheVariants.{Predecessor, Successor, Membership};
 ghost use Rattle.ss_program.specs.declared.statement.End.TheVariants as ends;
@@ -16,6 +18,7 @@ use crate::state::State;
 use ss_base::FaultKind;
 use ss_code_instructions::address::Address;
 use ss_code_instructions::instruction::Instruction;
+use ss_machine_frames::rows::{Rows, place_of};
 use ss_machine_world::scene::Scene;
 
 // The first member of the set of an owner, 0 for none.
@@ -182,6 +185,20 @@ fn put_last(
     counted(scene, changed, set, owner, noted)
 }
 
+// The same where it is noted. Out of line, so that nothing is kept for a note where none is made.
+#[inline(never)]
+fn put_last_noted(
+    scene: &mut Scene,
+    set: usize,
+    owner: i64,
+    member: i64,
+) -> Result<(), FaultKind>
+    requires set { set < length scene.old.heap.layout.sets }
+    ensures { Files Hindmost set true scene.old scene.new result owner member }
+{
+    put_last(scene, set, owner, member, true)
+}
+
 // .. or where its rank is.
 #[inline(always)]
 fn put_ranked(
@@ -277,6 +294,50 @@ fn take_last(
 {
     let taken = scene.population.remove_last(set, owner);
     counted_out(scene, taken, set, owner, noted)
+}
+
+// The first member is removed, which is noted, and goes to a place. Out of line as well.
+#[inline(never)]
+fn take_first_noted(
+    scene: &mut Scene,
+    rows: &mut Rows,
+    set: usize,
+    owner: i64,
+    at: usize,
+) -> Result<(), FaultKind>
+    requires set { set < length scene.old.heap.layout.sets }
+    requires place { at < length rows.old.numbers }
+    ensures { (taken : Result ℤ FaultSeen) × Takes ends.First set true scene.old scene.new taken owner × MatchResult taken (λ member. (result ≡ Ok tt) × (rows.new ≡ with_number rows.old at member)) (λ kind. (result ≡ Err kind) × (rows.new ≡ rows.old)) }
+{
+    match take_first(scene, set, owner, true) {
+        Err(kind) => Err(kind),
+        Ok(member) => {
+            rows.set_number_at(at, member);
+            Ok(())
+        }
+    }
+}
+
+// The last member is removed, which is noted, and goes to a place. Out of line as well.
+#[inline(never)]
+fn take_last_noted(
+    scene: &mut Scene,
+    rows: &mut Rows,
+    set: usize,
+    owner: i64,
+    at: usize,
+) -> Result<(), FaultKind>
+    requires set { set < length scene.old.heap.layout.sets }
+    requires place { at < length rows.old.numbers }
+    ensures { (taken : Result ℤ FaultSeen) × Takes ends.Last set true scene.old scene.new taken owner × MatchResult taken (λ member. (result ≡ Ok tt) × (rows.new ≡ with_number rows.old at member)) (λ kind. (result ≡ Err kind) × (rows.new ≡ rows.old)) }
+{
+    match take_last(scene, set, owner, true) {
+        Err(kind) => Err(kind),
+        Ok(member) => {
+            rows.set_number_at(at, member);
+            Ok(())
+        }
+    }
 }
 
 impl State {
@@ -416,7 +477,11 @@ impl State {
     {
         let member = self.number(here, member);
         let owner = self.number(here, owner);
-        let answer = put_last(&mut self.scene, set as usize, owner, member, noted);
+        if noted {
+            let answer = put_last_noted(&mut self.scene, set as usize, owner, member);
+            return self.done(here, answer);
+        }
+        let answer = put_last(&mut self.scene, set as usize, owner, member, false);
         self.done(here, answer)
     }
 
@@ -514,7 +579,12 @@ impl State {
         ensures { Does here self.old self.new result (Instruction.RemoveFirst set owner.now to.now noted) }
     {
         let owner = self.number(here, owner);
-        match take_first(&mut self.scene, set as usize, owner, noted) {
+        if noted {
+            let at = place_of(here.frame, to);
+            let answer = take_first_noted(&mut self.scene, &mut self.rows, set as usize, owner, at);
+            return self.done(here, answer);
+        }
+        match take_first(&mut self.scene, set as usize, owner, false) {
             Ok(member) => self.put(here, to, Ok(member)),
             Err(kind) => self.fault(kind),
         }
@@ -534,7 +604,12 @@ impl State {
         ensures { Does here self.old self.new result (Instruction.RemoveLast set owner.now to.now noted) }
     {
         let owner = self.number(here, owner);
-        match take_last(&mut self.scene, set as usize, owner, noted) {
+        if noted {
+            let at = place_of(here.frame, to);
+            let answer = take_last_noted(&mut self.scene, &mut self.rows, set as usize, owner, at);
+            return self.done(here, answer);
+        }
+        match take_last(&mut self.scene, set as usize, owner, false) {
             Ok(member) => self.put(here, to, Ok(member)),
             Err(kind) => self.fault(kind),
         }
