@@ -391,7 +391,7 @@ impl Records {
         };
         match self.directory.push(place) {
             Ok(()) => {
-                let number = i as u64 + 1;
+                let number = self.directory.len() as u64;
                 laying::lay(
                     &mut self.blocks,
                     &self.layout,
