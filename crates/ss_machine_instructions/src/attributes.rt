@@ -94,7 +94,7 @@ fn assign_text(
 
 impl State {
     /// Attribute.
-    #[inline(always)]
+    #[inline]
     pub fn attribute(
         &mut self,
         here: Here,
@@ -115,7 +115,7 @@ impl State {
     }
 
     /// TextAttribute.
-    #[inline(always)]
+    #[inline]
     pub fn text_attribute(
         &mut self,
         here: Here,
@@ -136,7 +136,7 @@ impl State {
     }
 
     /// SetAttribute.
-    #[inline(always)]
+    #[inline]
     pub fn set_attribute(
         &mut self,
         here: Here,
@@ -156,7 +156,7 @@ impl State {
     }
 
     /// SetTextAttribute.
-    #[inline(always)]
+    #[inline]
     pub fn set_text_attribute(
         &mut self,
         here: Here,
@@ -180,7 +180,7 @@ impl State {
     }
 
     /// ChangeAttribute. The attribute is a class and a field of it.
-    #[inline(always)]
+    #[inline]
     pub fn change_attribute(
         &mut self,
         here: Here,
@@ -200,7 +200,7 @@ impl State {
     }
 
     /// Clock.
-    #[inline(always)]
+    #[inline]
     pub fn clock(&mut self, here: Here, to: &Address) -> Option<Here>
         requires { Can here self.old (Instruction.Clock to.now) }
         ensures { Does here self.old self.new result (Instruction.Clock to.now) }
@@ -210,7 +210,7 @@ impl State {
     }
 
     /// TimeOf.
-    #[inline(always)]
+    #[inline]
     pub fn time_of(&mut self, here: Here, notice: &Address, to: &Address) -> Option<Here>
         requires { Can here self.old (Instruction.TimeOf notice.now to.now) }
         ensures { Does here self.old self.new result (Instruction.TimeOf notice.now to.now) }

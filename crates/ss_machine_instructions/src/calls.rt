@@ -38,7 +38,7 @@ impl State {
     }
 
     /// Call.
-    #[inline(always)]
+    #[inline]
     pub fn call(&mut self, here: Here, entry: &Entry, cell: u32) -> Option<Here>
         requires { (routine : ℕ) × CanWhere (λ w. slice_get w.run.routines routine ≡ Some entry.now) here self.old (Instruction.Call routine cell) }
         ensures { (routine : ℕ) → DoesWhere (λ w. slice_get w.run.routines routine ≡ Some entry.now) here self.old self.new result (Instruction.Call routine cell) }

@@ -9,7 +9,7 @@ use ss_code_instructions::instruction::Instruction;
 
 impl State {
     /// Create.
-    #[inline(always)]
+    #[inline]
     pub fn create(&mut self, here: Here, class: u32, to: &Address) -> Option<Here>
         requires { Can here self.old (Instruction.Create class to.now) }
         ensures { Does here self.old self.new result (Instruction.Create class to.now) }
@@ -21,7 +21,7 @@ impl State {
     }
 
     /// CreateAll.
-    #[inline(always)]
+    #[inline]
     pub fn create_all(&mut self, here: Here, class: u32, variable: u32) -> Option<Here>
         requires { Can here self.old (Instruction.CreateAll class variable) }
         ensures { Does here self.old self.new result (Instruction.CreateAll class variable) }
@@ -34,7 +34,7 @@ impl State {
     }
 
     /// Destroy.
-    #[inline(always)]
+    #[inline]
     pub fn destroy(&mut self, here: Here, class: u32, entity: &Address) -> Option<Here>
         requires { Can here self.old (Instruction.Destroy class entity.now) }
         ensures { Does here self.old self.new result (Instruction.Destroy class entity.now) }

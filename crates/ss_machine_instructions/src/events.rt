@@ -324,7 +324,7 @@ fn text_of(scene: &Scene, class: usize, field: usize, notice: i64) -> Result<Alp
 }
 
 // An attribute of a notice that is a number goes to its place.
-#[inline(always)]
+#[inline]
 fn read_number(scene: &Scene, rows: &mut Rows, what: Giving, field: usize) -> Result<(), FaultKind>
     requires class { what.class < length scene.now.heap.layout.classes }
     requires mode { slice_get (modes_of scene.now.heap.layout what.class) field ≡ Some Integer }
@@ -342,7 +342,7 @@ fn read_number(scene: &Scene, rows: &mut Rows, what: Giving, field: usize) -> Re
 }
 
 // One that is a text.
-#[inline(always)]
+#[inline]
 fn read_text(scene: &Scene, rows: &mut Rows, what: Giving, field: usize) -> Result<(), FaultKind>
     requires class { what.class < length scene.now.heap.layout.classes }
     requires mode { slice_get (modes_of scene.now.heap.layout what.class) field ≡ Some AlphaMode }
@@ -423,7 +423,7 @@ impl State {
     }
 
     /// At.
-    #[inline(always)]
+    #[inline]
     pub fn time_at(&mut self, here: Here, time: &Address, to: &Address) -> Option<Here>
         requires { Can here self.old (Instruction.At time.now to.now) }
         ensures { Does here self.old self.new result (Instruction.At time.now to.now) }
@@ -434,7 +434,7 @@ impl State {
     }
 
     /// In.
-    #[inline(always)]
+    #[inline]
     pub fn time_in(&mut self, here: Here, units: &Address, to: &Address) -> Option<Here>
         requires { Can here self.old (Instruction.In units.now to.now) }
         ensures { Does here self.old self.new result (Instruction.In units.now to.now) }
@@ -445,7 +445,7 @@ impl State {
     }
 
     /// MakeNotice.
-    #[inline(always)]
+    #[inline]
     pub fn make_notice(
         &mut self,
         here: Here,
@@ -476,7 +476,7 @@ impl State {
     }
 
     /// FileNotice.
-    #[inline(always)]
+    #[inline]
     pub fn file_notice(
         &mut self,
         here: Here,
@@ -500,7 +500,7 @@ impl State {
     }
 
     /// Reschedule.
-    #[inline(always)]
+    #[inline]
     pub fn reschedule(
         &mut self,
         here: Here,
@@ -534,7 +534,7 @@ impl State {
     }
 
     /// Cancel.
-    #[inline(always)]
+    #[inline]
     pub fn cancel(&mut self, here: Here, class: u32, notice: &Address) -> Option<Here>
         requires { Can here self.old (Instruction.Cancel class notice.now) }
         ensures { Does here self.old self.new result (Instruction.Cancel class notice.now) }
@@ -640,7 +640,7 @@ impl State {
     }
 
     /// TakeEvent.
-    #[inline(always)]
+    #[inline]
     pub fn take_event(&mut self, here: Here, events: &[Entry], cell: u32) -> Option<Here>
         requires { CanWhere (λ w. events.now ≡ w.run.events) here self.old (Instruction.TakeEvent cell) }
         ensures { DoesWhere (λ w. events.now ≡ w.run.events) here self.old self.new result (Instruction.TakeEvent cell) }

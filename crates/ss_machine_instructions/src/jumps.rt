@@ -139,7 +139,7 @@ fn is_at_least(left: i64, right: i64) -> bool
 
 impl State {
     /// UnlessEqual.
-    #[inline(always)]
+    #[inline]
     pub fn unless_equal(
         &self,
         here: Here,
@@ -155,7 +155,7 @@ impl State {
     }
 
     /// UnlessNotEqual.
-    #[inline(always)]
+    #[inline]
     pub fn unless_not_equal(
         &self,
         here: Here,
@@ -171,7 +171,7 @@ impl State {
     }
 
     /// UnlessLess.
-    #[inline(always)]
+    #[inline]
     pub fn unless_less(
         &self,
         here: Here,
@@ -187,7 +187,7 @@ impl State {
     }
 
     /// UnlessGreater.
-    #[inline(always)]
+    #[inline]
     pub fn unless_greater(
         &self,
         here: Here,
@@ -203,7 +203,7 @@ impl State {
     }
 
     /// UnlessLessOrEqual.
-    #[inline(always)]
+    #[inline]
     pub fn unless_less_or_equal(
         &self,
         here: Here,
@@ -219,7 +219,7 @@ impl State {
     }
 
     /// UnlessGreaterOrEqual.
-    #[inline(always)]
+    #[inline]
     pub fn unless_greater_or_equal(
         &self,
         here: Here,
@@ -235,7 +235,7 @@ impl State {
     }
 
     /// UnlessTexts.
-    #[inline(always)]
+    #[inline]
     pub fn unless_texts(
         &self,
         here: Here,
@@ -252,7 +252,7 @@ impl State {
     }
 
     /// UnlessEmpty.
-    #[inline(always)]
+    #[inline]
     pub fn unless_empty(
         &mut self,
         here: Here,
@@ -270,7 +270,7 @@ impl State {
     }
 
     /// UnlessMember.
-    #[inline(always)]
+    #[inline]
     pub fn unless_member(
         &mut self,
         here: Here,
@@ -288,7 +288,7 @@ impl State {
     }
 
     /// Await.
-    #[inline(always)]
+    #[inline]
     pub fn await_event(&mut self, here: Here, skip: u32) -> Option<Here>
         requires { Can here self.old (Instruction.Await skip) }
         ensures { Does here self.old self.new result (Instruction.Await skip) }
@@ -298,7 +298,7 @@ impl State {
     }
 
     /// NextEvent.
-    #[inline(always)]
+    #[inline]
     pub fn next_event(&mut self, here: Here, back: u32) -> Option<Here>
         requires { Can here self.old (Instruction.NextEvent back) }
         ensures { Does here self.old self.new result (Instruction.NextEvent back) }

@@ -9,7 +9,7 @@ use ss_code_instructions::instruction::Instruction;
 
 impl State {
     /// LookEntity.
-    #[inline(always)]
+    #[inline]
     pub fn look_entity(&mut self, here: Here, class: u32, entity: &Address) -> Option<Here>
         requires { Can here self.old (Instruction.LookEntity class entity.now) }
         ensures { Does here self.old self.new result (Instruction.LookEntity class entity.now) }
@@ -20,7 +20,7 @@ impl State {
     }
 
     /// LookMember.
-    #[inline(always)]
+    #[inline]
     pub fn look_member(&mut self, here: Here, set: u32, member: &Address) -> Option<Here>
         requires { Can here self.old (Instruction.LookMember set member.now) }
         ensures { Does here self.old self.new result (Instruction.LookMember set member.now) }
@@ -31,7 +31,7 @@ impl State {
     }
 
     /// LookOwner.
-    #[inline(always)]
+    #[inline]
     pub fn look_owner(&mut self, here: Here, set: u32, owner: &Address) -> Option<Here>
         requires { Can here self.old (Instruction.LookOwner set owner.now) }
         ensures { Does here self.old self.new result (Instruction.LookOwner set owner.now) }
@@ -42,7 +42,7 @@ impl State {
     }
 
     /// LookMean.
-    #[inline(always)]
+    #[inline]
     pub fn look_mean(&mut self, here: Here, statistic: u32, entity: &Address) -> Option<Here>
         requires { Can here self.old (Instruction.LookMean statistic entity.now) }
         ensures { Does here self.old self.new result (Instruction.LookMean statistic entity.now) }

@@ -50,7 +50,7 @@ fn rises(step: i64) -> bool
 
 impl State {
     /// Begin.
-    #[inline(always)]
+    #[inline]
     pub fn begin(&mut self, here: Here, cell: u32, skip: u32) -> Option<Here>
         requires { Can here self.old (Instruction.Begin cell skip) }
         ensures { Does here self.old self.new result (Instruction.Begin cell skip) }
@@ -66,7 +66,7 @@ impl State {
     }
 
     /// BeginClass.
-    #[inline(always)]
+    #[inline]
     pub fn begin_class(&mut self, here: Here, class: u32, cell: u32, skip: u32) -> Option<Here>
         requires { Can here self.old (Instruction.BeginClass class cell skip) }
         ensures { Does here self.old self.new result (Instruction.BeginClass class cell skip) }
@@ -92,7 +92,7 @@ impl State {
     }
 
     /// Take.
-    #[inline(always)]
+    #[inline]
     pub fn take(&mut self, here: Here, cell: u32, to: &Address) -> Option<Here>
         requires { Can here self.old (Instruction.Take cell to.now) }
         ensures { Does here self.old self.new result (Instruction.Take cell to.now) }
@@ -106,7 +106,7 @@ impl State {
     }
 
     /// Next.
-    #[inline(always)]
+    #[inline]
     pub fn next(&mut self, here: Here, cell: u32, back: u32) -> Option<Here>
         requires { Can here self.old (Instruction.Next cell back) }
         ensures { Does here self.old self.new result (Instruction.Next cell back) }

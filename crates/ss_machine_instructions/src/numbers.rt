@@ -58,7 +58,7 @@ impl State {
     }
 
     /// Move.
-    #[inline(always)]
+    #[inline]
     pub fn move_number(&mut self, here: Here, from: &Address, to: &Address) -> Option<Here>
         requires { Can here self.old (Instruction.Move from.now to.now) }
         ensures { Does here self.old self.new result (Instruction.Move from.now to.now) }
@@ -68,7 +68,7 @@ impl State {
     }
 
     /// MoveText.
-    #[inline(always)]
+    #[inline]
     pub fn move_text(&mut self, here: Here, from: &Address, to: &Address) -> Option<Here>
         requires { Can here self.old (Instruction.MoveText from.now to.now) }
         ensures { Does here self.old self.new result (Instruction.MoveText from.now to.now) }
@@ -78,7 +78,7 @@ impl State {
     }
 
     /// Add.
-    #[inline(always)]
+    #[inline]
     pub fn add(&mut self, here: Here, left: &Address, right: &Address, to: &Address) -> Option<Here>
         requires { Can here self.old (Instruction.Add left.now right.now to.now) }
         ensures { Does here self.old self.new result (Instruction.Add left.now right.now to.now) }
@@ -88,7 +88,7 @@ impl State {
     }
 
     /// Subtract.
-    #[inline(always)]
+    #[inline]
     pub fn subtract(
         &mut self,
         here: Here,
@@ -104,7 +104,7 @@ impl State {
     }
 
     /// Multiply.
-    #[inline(always)]
+    #[inline]
     pub fn multiply(
         &mut self,
         here: Here,
@@ -120,7 +120,7 @@ impl State {
     }
 
     /// Quotient.
-    #[inline(always)]
+    #[inline]
     pub fn quotient(
         &mut self,
         here: Here,
@@ -136,7 +136,7 @@ impl State {
     }
 
     /// Remainder.
-    #[inline(always)]
+    #[inline]
     pub fn remainder(
         &mut self,
         here: Here,
@@ -152,7 +152,7 @@ impl State {
     }
 
     /// Least.
-    #[inline(always)]
+    #[inline]
     pub fn least(
         &mut self,
         here: Here,
@@ -168,7 +168,7 @@ impl State {
     }
 
     /// Greatest.
-    #[inline(always)]
+    #[inline]
     pub fn greatest(
         &mut self,
         here: Here,
@@ -184,7 +184,7 @@ impl State {
     }
 
     /// Absolute.
-    #[inline(always)]
+    #[inline]
     pub fn absolute(&mut self, here: Here, of: &Address, to: &Address) -> Option<Here>
         requires { Can here self.old (Instruction.Absolute of.now to.now) }
         ensures { Does here self.old self.new result (Instruction.Absolute of.now to.now) }

@@ -271,7 +271,7 @@ fn take_last(scene: &mut Scene, set: usize, owner: i64, noted: bool) -> Result<i
 
 impl State {
     /// FirstMember.
-    #[inline(always)]
+    #[inline]
     pub fn first_member(
         &mut self,
         here: Here,
@@ -288,7 +288,7 @@ impl State {
     }
 
     /// LastMember.
-    #[inline(always)]
+    #[inline]
     pub fn last_member(
         &mut self,
         here: Here,
@@ -305,7 +305,7 @@ impl State {
     }
 
     /// MemberCount.
-    #[inline(always)]
+    #[inline]
     pub fn member_count(
         &mut self,
         here: Here,
@@ -322,7 +322,7 @@ impl State {
     }
 
     /// Predecessor.
-    #[inline(always)]
+    #[inline]
     pub fn predecessor(
         &mut self,
         here: Here,
@@ -339,7 +339,7 @@ impl State {
     }
 
     /// Successor.
-    #[inline(always)]
+    #[inline]
     pub fn successor(
         &mut self,
         here: Here,
@@ -356,7 +356,7 @@ impl State {
     }
 
     /// Membership.
-    #[inline(always)]
+    #[inline]
     pub fn membership(
         &mut self,
         here: Here,
@@ -373,7 +373,7 @@ impl State {
     }
 
     /// FileFirst.
-    #[inline(always)]
+    #[inline]
     pub fn file_first(
         &mut self,
         here: Here,
@@ -392,7 +392,7 @@ impl State {
     }
 
     /// FileLast.
-    #[inline(always)]
+    #[inline]
     pub fn file_last(
         &mut self,
         here: Here,
@@ -411,7 +411,7 @@ impl State {
     }
 
     /// FileRanked.
-    #[inline(always)]
+    #[inline]
     pub fn file_ranked(
         &mut self,
         here: Here,
@@ -430,7 +430,7 @@ impl State {
     }
 
     /// FileBeside, before a member.
-    #[inline(always)]
+    #[inline]
     pub fn file_before(
         &mut self,
         here: Here,
@@ -451,7 +451,7 @@ impl State {
     }
 
     /// FileBeside, after a member.
-    #[inline(always)]
+    #[inline]
     pub fn file_after(
         &mut self,
         here: Here,
@@ -472,7 +472,7 @@ impl State {
     }
 
     /// Remove.
-    #[inline(always)]
+    #[inline]
     pub fn remove(
         &mut self,
         here: Here,
@@ -491,7 +491,7 @@ impl State {
     }
 
     /// RemoveFirst.
-    #[inline(always)]
+    #[inline]
     pub fn remove_first(
         &mut self,
         here: Here,
@@ -511,7 +511,7 @@ impl State {
     }
 
     /// RemoveLast.
-    #[inline(always)]
+    #[inline]
     pub fn remove_last(
         &mut self,
         here: Here,

@@ -17,7 +17,7 @@ use ss_program::expression::Fold;
 
 impl State {
     /// Figure.
-    #[inline(always)]
+    #[inline]
     pub fn figure(
         &mut self,
         here: Here,
@@ -35,7 +35,7 @@ impl State {
     }
 
     /// Keep.
-    #[inline(always)]
+    #[inline]
     pub fn keep(&mut self, here: Here, from: &Address, variable: u32) -> Option<Here>
         requires { Can here self.old (Instruction.Keep from.now variable) }
         ensures { Does here self.old self.new result (Instruction.Keep from.now variable) }
@@ -88,7 +88,7 @@ impl State {
     }
 
     /// Reset.
-    #[inline(always)]
+    #[inline]
     pub fn reset(&mut self, here: Here, statistic: u32, entity: &Address) -> Option<Here>
         requires { Can here self.old (Instruction.Reset statistic entity.now) }
         ensures { Does here self.old self.new result (Instruction.Reset statistic entity.now) }

@@ -158,7 +158,7 @@ fn lines_in(count: i64) -> usize
 }
 
 /// Skip.
-#[inline(always)]
+#[inline]
 pub(crate) fn skip<W: FaultyWrite>(
     state: &mut State,
     here: Here,

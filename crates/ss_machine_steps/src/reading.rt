@@ -76,7 +76,7 @@ fn is_ended<R: FaultyRead>(source: &mut Source<R>) -> Result<bool, Missed>
 }
 
 /// Read.
-#[inline(always)]
+#[inline]
 pub(crate) fn read_number<R: FaultyRead>(
     state: &mut State,
     here: Here,
@@ -102,7 +102,7 @@ pub(crate) fn read_number<R: FaultyRead>(
 }
 
 /// ReadText.
-#[inline(always)]
+#[inline]
 pub(crate) fn read_text<R: FaultyRead>(
     state: &mut State,
     here: Here,
@@ -128,7 +128,7 @@ pub(crate) fn read_text<R: FaultyRead>(
 }
 
 /// UnlessEnded.
-#[inline(always)]
+#[inline]
 pub(crate) fn unless_ended<R: FaultyRead>(
     state: &mut State,
     here: Here,
