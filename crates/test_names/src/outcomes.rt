@@ -96,39 +96,6 @@ fn the_listing_of_the_manual(rt: HostRuntime) {
     assert!(rt; is_listed(rt.alloc(), BELL, BELL_LISTING));
 }
 
-static OUTCOMES: [(Outcome, u8, &[u8]); 10] = [
-    (Outcome::Stopped(Stop::Ended, 0), 0, b""),
-    (
-        Outcome::Refused(Refusal::Lexed(LexError::PictureCut(Line(2)))),
-        1,
-        b"refused 36 PictureCut at line 2\n",
-    ),
-    (
-        Outcome::Refused(Refusal::CodeTooLong),
-        1,
-        b"refused 81 CodeTooLong at line 0\n",
-    ),
-    (
-        Outcome::Stopped(Stop::Fault(FaultKind::DestroyedEntity, Line(19)), 8),
-        3,
-        b"fault 3 DESTROYED ENTITY at line 19\n",
-    ),
-    (
-        Outcome::Stopped(Stop::Paused, 2),
-        4,
-        b"paused after 2 ticks\n",
-    ),
-    (Outcome::Stopped(Stop::Memory, 0), 5, b"out of memory\n"),
-    (Outcome::Refused(Refusal::Memory), 5, b"out of memory\n"),
-    (
-        Outcome::Stopped(Stop::Output, 0),
-        6,
-        b"cannot write report\n",
-    ),
-    (Outcome::Stopped(Stop::Input, 0), 6, b"cannot read input\n"),
-    (Outcome::Stopped(Stop::Failed, 0), 6, b"failed before\n"),
-];
-
 // Whether this line reports an outcome.
 fn is_line(alloc: Global, outcome: &Outcome, line: &[u8]) -> bool {
     match outcome_line(alloc, outcome) {
@@ -137,187 +104,313 @@ fn is_line(alloc: Global, outcome: &Outcome, line: &[u8]) -> bool {
     }
 }
 
-// Whether outcomes have these statuses and lines.
-fn are_lines(alloc: Global, outcomes: &[(Outcome, u8, &[u8])]) -> bool {
-    for (outcome, status, line) in outcomes {
-        if outcome_status(outcome) != *status || !is_line(alloc, outcome, line) {
-            return false;
-        }
-    }
-    true
+// Whether an outcome has this status and this line.
+fn is_reported(alloc: Global, outcome: &Outcome, status: u8, line: &[u8]) -> bool {
+    outcome_status(outcome) == status && is_line(alloc, outcome, line)
 }
 
 #[test]
 fn statuses_and_lines(rt: HostRuntime) {
-    assert!(rt; are_lines(rt.alloc(), &OUTCOMES));
+    let alloc = rt.alloc();
+    assert!(rt; is_reported(alloc, &Outcome::Stopped(Stop::Ended, 0), 0, b""));
+    assert!(rt;
+        is_reported(
+            alloc,
+            &Outcome::Refused(Refusal::Lexed(LexError::PictureCut(Line(2)))),
+            1,
+            b"refused 36 PictureCut at line 2\n"
+        )
+    );
+    assert!(rt;
+        is_reported(
+            alloc,
+            &Outcome::Refused(Refusal::CodeTooLong),
+            1,
+            b"refused 81 CodeTooLong at line 0\n"
+        )
+    );
+    assert!(rt;
+        is_reported(
+            alloc,
+            &Outcome::Stopped(Stop::Fault(FaultKind::DestroyedEntity, Line(19)), 8),
+            3,
+            b"fault 3 DESTROYED ENTITY at line 19\n"
+        )
+    );
+    assert!(rt;
+        is_reported(
+            alloc,
+            &Outcome::Stopped(Stop::Paused, 2),
+            4,
+            b"paused after 2 ticks\n"
+        )
+    );
+    assert!(rt;
+        is_reported(
+            alloc,
+            &Outcome::Stopped(Stop::Memory, 0),
+            5,
+            b"out of memory\n"
+        )
+    );
+    assert!(rt;
+        is_reported(
+            alloc,
+            &Outcome::Refused(Refusal::Memory),
+            5,
+            b"out of memory\n"
+        )
+    );
+    assert!(rt;
+        is_reported(
+            alloc,
+            &Outcome::Stopped(Stop::Output, 0),
+            6,
+            b"cannot write report\n"
+        )
+    );
+    assert!(rt;
+        is_reported(
+            alloc,
+            &Outcome::Stopped(Stop::Input, 0),
+            6,
+            b"cannot read input\n"
+        )
+    );
+    assert!(rt;
+        is_reported(
+            alloc,
+            &Outcome::Stopped(Stop::Failed, 0),
+            6,
+            b"failed before\n"
+        )
+    );
 }
 
-static REFUSALS: [(Refusal, u32, &str, u32); 30] = [
-    (Refusal::Lexed(LexError::TooLong(Line(0))), 31, "TooLong", 0),
-    (
-        Refusal::Lexed(LexError::NotAscii(Line(1))),
-        32,
-        "NotAscii",
-        1,
-    ),
-    (
-        Refusal::Lexed(LexError::BadNumber(Line(2))),
-        33,
-        "BadNumber",
-        2,
-    ),
-    (
-        Refusal::Lexed(LexError::OpenText(Line(3))),
-        34,
-        "OpenText",
-        3,
-    ),
-    (
-        Refusal::Lexed(LexError::AlphaTooLong(Line(4))),
-        35,
-        "AlphaTooLong",
-        4,
-    ),
-    (
-        Refusal::Lexed(LexError::PictureCut(Line(5))),
-        36,
-        "PictureCut",
-        5,
-    ),
-    (
-        Refusal::Lexed(LexError::NameTooLong(Line(6))),
-        37,
-        "NameTooLong",
-        6,
-    ),
-    (
-        Refusal::Parsed(ParseError::Syntax(Line(2))),
-        41,
-        "Syntax",
-        2,
-    ),
-    (
-        Refusal::Parsed(ParseError::TooDeep(Line(3))),
-        42,
-        "TooDeep",
-        3,
-    ),
-    (
-        Refusal::Declared(TableError::Twice(Line(1))),
-        51,
-        "Twice",
-        1,
-    ),
-    (
-        Refusal::Declared(TableError::RealMode(Line(7))),
-        52,
-        "RealMode",
-        7,
-    ),
-    (
-        Refusal::Declared(TableError::UnknownClass(Line(2))),
-        53,
-        "UnknownClass",
-        2,
-    ),
-    (
-        Refusal::Declared(TableError::UnknownSet(Line(3))),
-        54,
-        "UnknownSet",
-        3,
-    ),
-    (
-        Refusal::Declared(TableError::NoOwner(Line(4))),
-        55,
-        "NoOwner",
-        4,
-    ),
-    (
-        Refusal::Declared(TableError::NoMember(Line(5))),
-        56,
-        "NoMember",
-        5,
-    ),
-    (
-        Refusal::Declared(TableError::RankKey(Line(6))),
-        57,
-        "RankKey",
-        6,
-    ),
-    (
-        Refusal::Declared(TableError::TallyTwice(Line(7))),
-        58,
-        "TallyTwice",
-        7,
-    ),
-    (
-        Refusal::Declared(TableError::TooMany(Line(8))),
-        59,
-        "TooMany",
-        8,
-    ),
-    (
-        Refusal::Declared(TableError::TieKey(Line(9))),
-        60,
-        "TieKey",
-        9,
-    ),
-    (Refusal::Used(CheckError::NoMain(Line(0))), 71, "NoMain", 0),
-    (
-        Refusal::Used(CheckError::NoEventRoutine(Line(5))),
-        72,
-        "NoEventRoutine",
-        5,
-    ),
-    (Refusal::Used(CheckError::Mode(Line(1))), 73, "Mode", 1),
-    (
-        Refusal::Used(CheckError::Arguments(Line(2))),
-        74,
-        "Arguments",
-        2,
-    ),
-    (
-        Refusal::Used(CheckError::Subscript(Line(3))),
-        75,
-        "Subscript",
-        3,
-    ),
-    (
-        Refusal::Used(CheckError::NotAssignable(Line(4))),
-        76,
-        "NotAssignable",
-        4,
-    ),
-    (Refusal::Used(CheckError::Fields(Line(8))), 77, "Fields", 8),
-    (
-        Refusal::Used(CheckError::StartPlace(Line(5))),
-        78,
-        "StartPlace",
-        5,
-    ),
-    (
-        Refusal::Used(CheckError::Unknown(Line(6))),
-        79,
-        "Unknown",
-        6,
-    ),
-    (Refusal::CodeTooLong, 81, "CodeTooLong", 0),
-    (Refusal::Memory, 0, "Memory", 0),
-];
-
-// Whether refusals have these numbers, names and lines.
-fn are_refusals(refusals: &[(Refusal, u32, &str, u32)]) -> bool {
-    for (refusal, number, name, line) in refusals {
-        if refusal.number() != *number || refusal.name() != *name || refusal.line() != *line {
-            return false;
-        }
-    }
-    true
+// Whether a refusal has this number, this name and this line.
+fn is_named(refusal: &Refusal, number: u32, name: &str, line: u32) -> bool {
+    refusal.number() == number && refusal.name() == name && refusal.line() == line
 }
 
 #[test]
-fn refusals_have_their_numbers_names_and_lines(rt: HostRuntime) {
-    assert!(rt; are_refusals(&REFUSALS));
+fn refusals_of_texts_and_grammar(rt: HostRuntime) {
+    assert!(rt;
+        is_named(
+            &Refusal::Lexed(LexError::TooLong(Line(0))),
+            31,
+            "TooLong",
+            0
+        )
+    );
+    assert!(rt;
+        is_named(
+            &Refusal::Lexed(LexError::NotAscii(Line(1))),
+            32,
+            "NotAscii",
+            1
+        )
+    );
+    assert!(rt;
+        is_named(
+            &Refusal::Lexed(LexError::BadNumber(Line(2))),
+            33,
+            "BadNumber",
+            2
+        )
+    );
+    assert!(rt;
+        is_named(
+            &Refusal::Lexed(LexError::OpenText(Line(3))),
+            34,
+            "OpenText",
+            3
+        )
+    );
+    assert!(rt;
+        is_named(
+            &Refusal::Lexed(LexError::AlphaTooLong(Line(4))),
+            35,
+            "AlphaTooLong",
+            4
+        )
+    );
+    assert!(rt;
+        is_named(
+            &Refusal::Lexed(LexError::PictureCut(Line(5))),
+            36,
+            "PictureCut",
+            5
+        )
+    );
+    assert!(rt;
+        is_named(
+            &Refusal::Lexed(LexError::NameTooLong(Line(6))),
+            37,
+            "NameTooLong",
+            6
+        )
+    );
+    assert!(rt;
+        is_named(
+            &Refusal::Parsed(ParseError::Syntax(Line(2))),
+            41,
+            "Syntax",
+            2
+        )
+    );
+    assert!(rt;
+        is_named(
+            &Refusal::Parsed(ParseError::TooDeep(Line(3))),
+            42,
+            "TooDeep",
+            3
+        )
+    );
+}
+
+#[test]
+fn refusals_of_declarations(rt: HostRuntime) {
+    assert!(rt;
+        is_named(
+            &Refusal::Declared(TableError::Twice(Line(1))),
+            51,
+            "Twice",
+            1
+        )
+    );
+    assert!(rt;
+        is_named(
+            &Refusal::Declared(TableError::RealMode(Line(7))),
+            52,
+            "RealMode",
+            7
+        )
+    );
+    assert!(rt;
+        is_named(
+            &Refusal::Declared(TableError::UnknownClass(Line(2))),
+            53,
+            "UnknownClass",
+            2
+        )
+    );
+    assert!(rt;
+        is_named(
+            &Refusal::Declared(TableError::UnknownSet(Line(3))),
+            54,
+            "UnknownSet",
+            3
+        )
+    );
+    assert!(rt;
+        is_named(
+            &Refusal::Declared(TableError::NoOwner(Line(4))),
+            55,
+            "NoOwner",
+            4
+        )
+    );
+    assert!(rt;
+        is_named(
+            &Refusal::Declared(TableError::NoMember(Line(5))),
+            56,
+            "NoMember",
+            5
+        )
+    );
+    assert!(rt;
+        is_named(
+            &Refusal::Declared(TableError::RankKey(Line(6))),
+            57,
+            "RankKey",
+            6
+        )
+    );
+    assert!(rt;
+        is_named(
+            &Refusal::Declared(TableError::TallyTwice(Line(7))),
+            58,
+            "TallyTwice",
+            7
+        )
+    );
+    assert!(rt;
+        is_named(
+            &Refusal::Declared(TableError::TooMany(Line(8))),
+            59,
+            "TooMany",
+            8
+        )
+    );
+    assert!(rt;
+        is_named(
+            &Refusal::Declared(TableError::TieKey(Line(9))),
+            60,
+            "TieKey",
+            9
+        )
+    );
+}
+
+#[test]
+fn refusals_of_uses(rt: HostRuntime) {
+    assert!(rt; is_named(&Refusal::Used(CheckError::NoMain(Line(0))), 71, "NoMain", 0));
+    assert!(rt;
+        is_named(
+            &Refusal::Used(CheckError::NoEventRoutine(Line(5))),
+            72,
+            "NoEventRoutine",
+            5
+        )
+    );
+    assert!(rt; is_named(&Refusal::Used(CheckError::Mode(Line(1))), 73, "Mode", 1));
+    assert!(rt;
+        is_named(
+            &Refusal::Used(CheckError::Arguments(Line(2))),
+            74,
+            "Arguments",
+            2
+        )
+    );
+    assert!(rt;
+        is_named(
+            &Refusal::Used(CheckError::Subscript(Line(3))),
+            75,
+            "Subscript",
+            3
+        )
+    );
+    assert!(rt;
+        is_named(
+            &Refusal::Used(CheckError::NotAssignable(Line(4))),
+            76,
+            "NotAssignable",
+            4
+        )
+    );
+    assert!(rt; is_named(&Refusal::Used(CheckError::Fields(Line(8))), 77, "Fields", 8));
+    assert!(rt;
+        is_named(
+            &Refusal::Used(CheckError::StartPlace(Line(5))),
+            78,
+            "StartPlace",
+            5
+        )
+    );
+    assert!(rt;
+        is_named(
+            &Refusal::Used(CheckError::Unknown(Line(6))),
+            79,
+            "Unknown",
+            6
+        )
+    );
+}
+
+#[test]
+fn refusals_of_size_and_memory(rt: HostRuntime) {
+    assert!(rt; is_named(&Refusal::CodeTooLong, 81, "CodeTooLong", 0));
+    assert!(rt; is_named(&Refusal::Memory, 0, "Memory", 0));
 }
 
 // Whether a run of that text ended as it should, or out of memory with the first of its report.
