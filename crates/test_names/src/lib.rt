@@ -9,5 +9,3 @@ mod layers;
 mod outcomes;
 #[cfg(test)]
 mod texts;
-#[cfg(test)]
-mod trees;
