@@ -28,21 +28,30 @@ enum Refused {
     Generator(CodeError),
 }
 
-// The code of a text, by each layer in turn.
-fn code_of(alloc: Global, text: &[u8]) -> Result<Code, Refused> {
+// The tree of a text.
+fn tree_of(alloc: Global, text: &[u8]) -> Result<Program, Refused> {
     let tokens = tokens(alloc, text).map_err(Refused::Lexer)?;
-    let program: Program = parse(alloc, &tokens).map_err(Refused::Parser)?;
-    let tables = match Tables::of(alloc, &program) {
-        Ok(tables) => tables,
+    parse(alloc, &tokens).map_err(Refused::Parser)
+}
+
+// A tree with its tables, resolved.
+fn checked_of(alloc: Global, program: Program) -> Result<Checked, Refused> {
+    match Tables::of(alloc, &program) {
+        Ok(tables) => check(alloc, program, tables).map_err(Refused::Checker),
         Err(error) => {
             release_tree(program);
-            return Err(Refused::Tables(error));
+            Err(Refused::Tables(error))
         }
-    };
-    let checked: Checked = check(alloc, program, tables).map_err(Refused::Checker)?;
-    let code = generate(alloc, &checked);
+    }
+}
+
+// The code of a text, by each layer in turn.
+fn code_of(alloc: Global, text: &[u8]) -> Result<Code, Refused> {
+    let program = tree_of(alloc, text)?;
+    let checked = checked_of(alloc, program)?;
+    let code = generate(alloc, &checked).map_err(Refused::Generator);
     release_checked(checked);
-    code.map_err(Refused::Generator)
+    code
 }
 
 // Why a text is refused.
