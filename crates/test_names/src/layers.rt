@@ -1,11 +1,10 @@
-//! Single layers, each by a call or two.
+//! Values, sets, notices, statistics and pictures, each by a call or two.
 
 use ss_base::{
-    Alpha, ClassKind, ClassLayout, Discipline, FaultKind, Layout, MemoryRead, Mode, Owner, Plan,
-    RankKey, RankKeys, Refused, SetLayout, Value, div_f, minus, mod_f, plus, times,
+    Alpha, ClassKind, ClassLayout, Discipline, FaultKind, Layout, Mode, Owner, RankKey, RankKeys,
+    Refused, SetLayout, Value, div_f, minus, mod_f, plus, times,
 };
 use ss_events::{Key, Pending, Tie, TieShape};
-use ss_machine::{Missed, Source};
 use ss_picture::{FieldValue, Picture};
 use ss_records::Heap;
 use ss_sets::{file, fits, is_in, remove_first, remove_last};
@@ -27,6 +26,26 @@ fn texts_are_short(rt: HostRuntime) {
     assert_eq!(rt; Alpha::of(b"BOX  "), Alpha::of(b"BOX"));
     assert_eq!(rt; Alpha::of(b"A\tB"), None);
     assert_eq!(rt; Value::Whole(0).mode(), Mode::Integer);
+    assert_eq!(rt; Value::Text(Alpha::empty()).mode(), Mode::Alpha);
+}
+
+// Whether these bytes are a text, and it has them but for the blanks at their end.
+fn is_kept(bytes: &[u8], kept: &[u8]) -> bool {
+    match Alpha::of(bytes) {
+        Some(text) => text.bytes() == kept,
+        None => false,
+    }
+}
+
+#[test]
+fn a_text_loses_the_blanks_at_its_end(rt: HostRuntime) {
+    assert!(rt; is_kept(b" BOX  ", b" BOX"));
+}
+
+#[test]
+fn faults_have_numbers_and_words(rt: HostRuntime) {
+    assert_eq!(rt; FaultKind::BadCount.number(), 22);
+    assert_eq!(rt; FaultKind::BadCount.text(), "BAD COUNT");
 }
 
 const BY_RANK: RankKey = RankKey {
@@ -161,20 +180,47 @@ fn schedule(alloc: Global, pending: &mut Pending, time: i64, notice: i64) -> Res
     pending.schedule(key, notice)
 }
 
-#[test]
-fn the_earliest_notice_is_next(rt: HostRuntime) -> Result<(), Fail> {
+// A list of one class of notices, with one tie.
+fn of_one_class(alloc: Global) -> Result<Pending, AllocError> {
     let shape = TieShape {
         mode: Mode::Integer,
         high: true,
     };
-    let shapes = Vec::from_array(rt.alloc(), [shape])?;
-    let classes = Vec::from_array(rt.alloc(), [shapes])?;
-    let mut pending = Pending::new(rt.alloc(), &classes)?;
+    let shapes = Vec::from_array(alloc, [shape])?;
+    let classes = Vec::from_array(alloc, [shapes])?;
+    Pending::new(alloc, &classes)
+}
+
+#[test]
+fn the_earliest_notice_is_next(rt: HostRuntime) -> Result<(), Fail> {
+    let mut pending = of_one_class(rt.alloc())?;
     assert_eq!(rt; (pending.least(), pending.take()), (None, None));
     assert_eq!(rt; pending.cancel(1), Err(FaultKind::NotScheduled));
     assert_eq!(rt; schedule(rt.alloc(), &mut pending, 9, 1), Ok(()));
     assert_eq!(rt; schedule(rt.alloc(), &mut pending, 5, 2), Ok(()));
     assert_eq!(rt; pending.take(), Some((5, 2)));
+    Ok(())
+}
+
+// The first notice is compared with none, and put into a place; the second is compared with the first, and stays after it.
+#[test]
+fn comparisons_and_moves_are_counted(rt: HostRuntime) -> Result<(), Fail> {
+    let mut pending = of_one_class(rt.alloc())?;
+    assert_eq!(rt; schedule(rt.alloc(), &mut pending, 5, 1), Ok(()));
+    assert_eq!(rt; (pending.comparisons(), pending.moves()), (0, 1));
+    assert_eq!(rt; schedule(rt.alloc(), &mut pending, 9, 2), Ok(()));
+    assert_eq!(rt; (pending.comparisons(), pending.moves()), (1, 1));
+    Ok(())
+}
+
+#[test]
+fn a_notice_is_scheduled_once(rt: HostRuntime) -> Result<(), Fail> {
+    let mut pending = of_one_class(rt.alloc())?;
+    assert_eq!(rt; pending.is_scheduled(1), false);
+    assert_eq!(rt; schedule(rt.alloc(), &mut pending, 5, 1), Ok(()));
+    assert_eq!(rt; pending.is_scheduled(1), true);
+    let twice = Refused::Fault(FaultKind::AlreadyScheduled);
+    assert_eq!(rt; schedule(rt.alloc(), &mut pending, 5, 1), Err(twice));
     Ok(())
 }
 
@@ -186,6 +232,22 @@ fn a_tally_counts_and_sums(rt: HostRuntime) {
     assert_eq!(rt; totals.note(0, 7), Ok(()));
     assert_eq!(rt; (totals.number(0), totals.sum(0)), (3, Ok(9)));
     assert_eq!(rt; (totals.maximum(), totals.minimum()), (7, -2));
+}
+
+// 2 for 5 units of time, and 4 for 5 more.
+#[test]
+fn an_accumulation_goes_by_time(rt: HostRuntime) {
+    let mut totals = Totals::accumulate(0, 2);
+    assert_eq!(rt; totals.note(5, 4), Ok(()));
+    assert_eq!(rt; (totals.number(10), totals.sum(10)), (10, Ok(30)));
+}
+
+// 3 for 4 units of time.
+#[test]
+fn a_reset_begins_anew(rt: HostRuntime) {
+    let mut totals = Totals::accumulate(0, 2);
+    totals.reset(6, 3);
+    assert_eq!(rt; (totals.number(10), totals.sum(10)), (4, Ok(12)));
 }
 
 // A picture with these items, one for each of its fields.
@@ -206,14 +268,5 @@ fn a_number_goes_to_the_right(rt: HostRuntime) -> Result<(), Fail> {
         filled(rt.alloc(), &picture, 7)?.as_slice(),
         b"A 7".as_slice()
     );
-    Ok(())
-}
-
-#[test]
-fn a_word_is_read(rt: HostRuntime) -> Result<(), Fail> {
-    let mut source = Source::new(MemoryRead::new(rt.alloc(), b"BOX 5", Plan::smooth(2))?);
-    assert_eq!(rt; source.alpha().ok(), Alpha::of(b"BOX"));
-    assert_eq!(rt; source.integer(), Ok(5));
-    assert_eq!(rt; source.integer(), Err(Missed::Fault(FaultKind::EndOfData)));
     Ok(())
 }
