@@ -1,5 +1,6 @@
 //! Values, sets, notices, statistics and pictures, each by a call or two.
 
+use crate::records::with_jobs;
 use ss_base::{
     Alpha, ClassKind, ClassLayout, Discipline, FaultKind, Layout, Mode, Owner, RankKey, RankKeys,
     Refused, SetLayout, Value, div_f, minus, mod_f, plus, times,
@@ -69,56 +70,29 @@ pub(crate) fn jobs(alloc: Global) -> Result<Layout, AllocError> {
     Layout::new(classes, sets).ok_or(AllocError)
 }
 
+// Whether a layout is that one.
+pub(crate) fn is_of_jobs(alloc: Global, layout: &Layout) -> bool {
+    match jobs(alloc) {
+        Ok(jobs) => *layout == jobs,
+        Err(_) => false,
+    }
+}
+
 #[test]
 fn layouts_are_equal_where_they_say_the_same(rt: HostRuntime) -> Result<(), Fail> {
-    assert_eq!(rt; jobs(rt.alloc())?, jobs(rt.alloc())?);
+    let layout = jobs(rt.alloc())?;
+    assert!(rt; is_of_jobs(rt.alloc(), &layout));
+    Ok(())
+}
+
+#[test]
+fn disciplines_differ(rt: HostRuntime) -> Result<(), Fail> {
     let keys = Vec::from_array(rt.alloc(), [BY_RANK])?;
     assert_ne!(rt; Discipline::Ranked(RankKeys::new(keys)), Discipline::Fifo);
     Ok(())
 }
 
-// A new JOB.
-fn create(heap: &mut Heap) -> Option<i64> {
-    let layout = heap.layout();
-    let found = layout.classes.get(0)?;
-    let kind = found.kind;
-    match kind {
-        ClassKind::Permanent => None,
-        ClassKind::Temporary | ClassKind::Notice => heap.create(0).ok(),
-    }
-}
-
-// Destroys a JOB.
-fn destroy(heap: &mut Heap, job: i64) -> Option<Result<(), FaultKind>> {
-    let layout = heap.layout();
-    let found = layout.classes.get(0)?;
-    let kind = found.kind;
-    match kind {
-        ClassKind::Permanent => None,
-        ClassKind::Temporary | ClassKind::Notice => Some(heap.destroy(0, job)),
-    }
-}
-
-// The RANK of a JOB.
-fn rank(heap: &Heap, job: i64) -> Option<Result<Value, FaultKind>> {
-    let layout = heap.layout();
-    let found = layout.classes.get(0)?;
-    let _mode = found.fields.get(0)?;
-    Some(heap.value(0, 0, job))
-}
-
-#[test]
-fn a_number_is_never_used_again(rt: HostRuntime) -> Result<(), Fail> {
-    let layout = jobs(rt.alloc())?;
-    let mut heap = Heap::new(rt.alloc(), layout)?;
-    assert_eq!(rt; create(&mut heap), Some(1));
-    assert_eq!(rt; destroy(&mut heap, 1), Some(Ok(())));
-    assert_eq!(rt; create(&mut heap), Some(2));
-    assert_eq!(rt; rank(&heap, 1), Some(Err(FaultKind::DestroyedEntity)));
-    Ok(())
-}
-
-// Files a JOB in the POOL, in front of all others.
+// Files a job of `records.rt` in the pool there, in front of all others.
 fn put(heap: &mut Heap, job: i64) -> Option<Result<(), FaultKind>> {
     let layout = heap.layout();
     if layout.sets.is_empty() || !fits(layout, 0, &Discipline::Lifo) {
@@ -127,7 +101,7 @@ fn put(heap: &mut Heap, job: i64) -> Option<Result<(), FaultKind>> {
     Some(file(heap, &Discipline::Lifo, 0, 0, job))
 }
 
-// Whether a JOB is in the POOL.
+// Whether a job is in the pool.
 fn is_there(heap: &mut Heap, job: i64) -> Option<Result<bool, FaultKind>> {
     let layout = heap.layout();
     if layout.sets.is_empty() {
@@ -136,7 +110,7 @@ fn is_there(heap: &mut Heap, job: i64) -> Option<Result<bool, FaultKind>> {
     Some(is_in(heap, 0, 0, job))
 }
 
-// Takes the first JOB out of the POOL, or the last.
+// Takes the first job out of the pool, or the last.
 fn take(heap: &mut Heap, first: bool) -> Option<Result<i64, FaultKind>> {
     let layout = heap.layout();
     if layout.sets.is_empty() {
@@ -151,19 +125,19 @@ fn take(heap: &mut Heap, first: bool) -> Option<Result<i64, FaultKind>> {
 
 #[test]
 fn the_last_filed_comes_first(rt: HostRuntime) -> Result<(), Fail> {
-    let layout = jobs(rt.alloc())?;
-    let mut heap = Heap::new(rt.alloc(), layout)?;
-    assert_eq!(rt; (create(&mut heap), create(&mut heap)), (Some(1), Some(2)));
-    assert_eq!(rt;
-        (put(&mut heap, 1), put(&mut heap, 2)),
-        (Some(Ok(())), Some(Ok(())))
-    );
-    assert_eq!(rt; is_there(&mut heap, 2), Some(Ok(true)));
-    assert_eq!(rt;
-        (take(&mut heap, true), take(&mut heap, false)),
-        (Some(Ok(2)), Some(Ok(1)))
-    );
+    let mut heap = with_jobs(rt.alloc()).ok_or("no heap")?;
+    assert_eq!(rt; put(&mut heap, 1), Some(Ok(())));
+    assert_eq!(rt; put(&mut heap, 2), Some(Ok(())));
+    assert_eq!(rt; take(&mut heap, true), Some(Ok(2)));
+    assert_eq!(rt; take(&mut heap, false), Some(Ok(1)));
+    Ok(())
+}
+
+#[test]
+fn a_member_is_looked_for(rt: HostRuntime) -> Result<(), Fail> {
+    let mut heap = with_jobs(rt.alloc()).ok_or("no heap")?;
     assert_eq!(rt; take(&mut heap, true), Some(Err(FaultKind::EmptySet)));
+    assert_eq!(rt; is_there(&mut heap, 1), Some(Ok(false)));
     Ok(())
 }
 

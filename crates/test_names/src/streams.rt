@@ -30,7 +30,6 @@ fn a_reader_of_the_library_is_counted(rt: HostRuntime) {
     let mut buf = [0; 4];
     assert_eq!(rt; read(&mut reader, &mut buf), Some(4));
     assert_eq!(rt; buf.as_slice(), b"HELL".as_slice());
-    assert_eq!(rt; faults(&reader), 0);
     assert_eq!(rt; reader.into_inner(), b"O".as_slice());
 }
 

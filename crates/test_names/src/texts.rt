@@ -1,7 +1,7 @@
 //! From a text to its report, layer by layer.
 
-use crate::layers::jobs;
-use ss_base::{Counted, Layout, Line, MemoryWrite, Plan, WriteFailure};
+use crate::layers::is_of_jobs;
+use ss_base::{Counted, Line, MemoryWrite, Plan, WriteFailure};
 use ss_check::{CheckError, Checked, check};
 use ss_code::{Code, CodeError, generate};
 use ss_lex::{LexError, Span, Token, TokenKind, Tokens, Word, tokens};
@@ -115,15 +115,7 @@ fn is_found(tables: &Tables, spelling: &[u8]) -> bool {
     }
 }
 
-// Whether a layout is that of `layers.rt`.
-fn is_of_jobs(alloc: Global, layout: &Layout) -> bool {
-    match jobs(alloc) {
-        Ok(jobs) => *layout == jobs,
-        Err(_) => false,
-    }
-}
-
-// Whether tables have that layout.
+// Whether tables have the layout of `layers.rt`.
 fn are_of_jobs(alloc: Global, tables: &Tables) -> bool {
     match tables.layout(alloc) {
         Ok(layout) => is_of_jobs(alloc, &layout),
