@@ -39,16 +39,16 @@ impl State {
 
     /// Call.
     #[inline]
-    pub fn call(&mut self, here: Here, entry: &Entry, cell: u32) -> Option<Here>
+    pub fn call(&mut self, here: Here, entry: &Entry, cell: u32) -> Option<u32>
         requires { (routine : ℕ) × CanWhere (λ w. slice_get w.run.routines routine ≡ Some entry.now) here self.old (Instruction.Call routine cell) }
-        ensures { (routine : ℕ) → DoesWhere (λ w. slice_get w.run.routines routine ≡ Some entry.now) here self.old self.new result (Instruction.Call routine cell) }
+        ensures { (routine : ℕ) → DoesWhere (λ w. slice_get w.run.routines routine ≡ Some entry.now) here self.old self.new (entered_at entry.now result) (Instruction.Call routine cell) }
     {
         if !self.has_taken_tick() {
             return self.stop(Ending::Paused);
         }
         match self.enter(here, entry, cell) {
             Err(_) => self.give_tick_back(),
-            Ok(frame) => here.to(entry.place, frame),
+            Ok(frame) => Some(frame),
         }
     }
 

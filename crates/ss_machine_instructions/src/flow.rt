@@ -30,7 +30,7 @@ pub struct Here {
 
 impl Here {
     // In the same frame, at a place.
-    #[inline(always)]
+    #[inline]
     fn at(self, place: usize) -> Option<Here>
         ensures { result ≡ at_place self place }
     {
@@ -41,7 +41,7 @@ impl Here {
     }
 
     /// On to the next instruction.
-    #[inline(always)]
+    #[inline]
     pub fn on(self) -> Option<Here>
         requires { self.place + 1 < 2 ^ 64 }
         ensures { result ≡ on_at self }
@@ -50,7 +50,7 @@ impl Here {
     }
 
     /// Past so many instructions after this.
-    #[inline(always)]
+    #[inline]
     pub fn past(self, skip: u32) -> Option<Here>
         requires { self.place + 1 + skip < 2 ^ 64 }
         ensures { result ≡ past_at self skip }
@@ -59,7 +59,7 @@ impl Here {
     }
 
     /// On where something holds, and else past so many instructions.
-    #[inline(always)]
+    #[inline]
     pub fn on_if(self, holds: bool, skip: u32) -> Option<Here>
         requires { self.place + 1 + skip < 2 ^ 64 }
         ensures { result ≡ on_if_at self holds skip }
@@ -67,8 +67,77 @@ impl Here {
         if holds { self.on() } else { self.past(skip) }
     }
 
+    /// On to the next instruction, unless the run stopped.
+    #[inline]
+    pub fn on_after(self, went: Option<()>) -> Option<Here>
+        requires { self.place + 1 < 2 ^ 64 }
+        ensures { result ≡ on_after self went }
+    {
+        match went {
+            Some(()) => self.on(),
+            None => None,
+        }
+    }
+
+    /// On where a test holds, and else past so many instructions, unless the run stopped.
+    #[inline]
+    pub fn on_tested(self, holds: Option<bool>, skip: u32) -> Option<Here>
+        requires { self.place + 1 + skip < 2 ^ 64 }
+        ensures { result ≡ on_tested self holds skip }
+    {
+        match holds {
+            Some(holds) => self.on_if(holds, skip),
+            None => None,
+        }
+    }
+
+    /// Back by so many instructions where there is a further turn, and else on.
+    #[inline]
+    pub fn back_if(self, turns: bool, back: u32) -> Option<Here>
+        requires small { self.place + 1 < 2 ^ 64 }
+        requires within { back ≤ self.place }
+        ensures { result ≡ back_if_at self turns back }
+    {
+        if turns { self.back(back) } else { self.on() }
+    }
+
+    /// Back by so many instructions where there is a further turn, and else on, unless the run stopped.
+    #[inline]
+    pub fn back_tested(self, turns: Option<bool>, back: u32) -> Option<Here>
+        requires small { self.place + 1 < 2 ^ 64 }
+        requires within { back ≤ self.place }
+        ensures { result ≡ back_tested self turns back }
+    {
+        match turns {
+            Some(turns) => self.back_if(turns, back),
+            None => None,
+        }
+    }
+
+    /// To a place in the frame that was entered, unless the run stopped.
+    #[inline]
+    pub fn to_entered(self, place: usize, frame: Option<u32>) -> Option<Here>
+        ensures { result ≡ entered_at place frame }
+    {
+        match frame {
+            Some(frame) => self.to(place, frame),
+            None => None,
+        }
+    }
+
+    /// To a place in a frame, unless the run stopped.
+    #[inline]
+    pub fn to_begun(self, place: Option<usize>, frame: u32) -> Option<Here>
+        ensures { result ≡ begun_at place frame }
+    {
+        match place {
+            Some(place) => self.to(place, frame),
+            None => None,
+        }
+    }
+
     /// Back by so many instructions.
-    #[inline(always)]
+    #[inline]
     pub fn back(self, back: u32) -> Option<Here>
         requires { back ≤ self.place }
         ensures { result ≡ back_at self back }
@@ -77,7 +146,7 @@ impl Here {
     }
 
     /// To a place in another frame.
-    #[inline(always)]
+    #[inline]
     pub fn to(self, place: usize, frame: u32) -> Option<Here>
         ensures { result ≡ Some (record { place = place; frame = frame }) }
     {

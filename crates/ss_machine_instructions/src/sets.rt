@@ -333,9 +333,9 @@ impl State {
         set: u32,
         owner: &Address,
         to: &Address,
-    ) -> Option<Here>
+    ) -> Option<()>
         requires { Can here self.old (asking_set query set owner.now to.now) }
-        ensures { Does here self.old self.new result (asking_set query set owner.now to.now) }
+        ensures { Does here self.old self.new (on_after here result) (asking_set query set owner.now to.now) }
     {
         let owner = self.number(here, owner);
         let answer = ask_set(&mut self.scene, query, set as usize, owner);
@@ -351,9 +351,9 @@ impl State {
         set: u32,
         member: &Address,
         to: &Address,
-    ) -> Option<Here>
+    ) -> Option<()>
         requires { Can here self.old (asking_member query set member.now to.now) }
-        ensures { Does here self.old self.new result (asking_member query set member.now to.now) }
+        ensures { Does here self.old self.new (on_after here result) (asking_member query set member.now to.now) }
     {
         let member = self.number(here, member);
         let answer = ask_member(&mut self.scene, query, set as usize, member);
@@ -369,14 +369,14 @@ impl State {
         member: &Address,
         owner: &Address,
         noted: bool,
-    ) -> Option<Here>
+    ) -> Option<()>
         requires { Can here self.old (Instruction.FileFirst set member.now owner.now noted) }
-        ensures { Does here self.old self.new result (Instruction.FileFirst set member.now owner.now noted) }
+        ensures { Does here self.old self.new (on_after here result) (Instruction.FileFirst set member.now owner.now noted) }
     {
         let member = self.number(here, member);
         let owner = self.number(here, owner);
         let answer = put_first(&mut self.scene, set as usize, owner, member, noted);
-        self.done(here, answer)
+        self.done(answer)
     }
 
     /// FileLast.
@@ -388,14 +388,14 @@ impl State {
         member: &Address,
         owner: &Address,
         noted: bool,
-    ) -> Option<Here>
+    ) -> Option<()>
         requires { Can here self.old (Instruction.FileLast set member.now owner.now noted) }
-        ensures { Does here self.old self.new result (Instruction.FileLast set member.now owner.now noted) }
+        ensures { Does here self.old self.new (on_after here result) (Instruction.FileLast set member.now owner.now noted) }
     {
         let member = self.number(here, member);
         let owner = self.number(here, owner);
         let answer = put_last(&mut self.scene, set as usize, owner, member, noted);
-        self.done(here, answer)
+        self.done(answer)
     }
 
     /// FileRanked.
@@ -407,14 +407,14 @@ impl State {
         member: &Address,
         owner: &Address,
         noted: bool,
-    ) -> Option<Here>
+    ) -> Option<()>
         requires { Can here self.old (Instruction.FileRanked set member.now owner.now noted) }
-        ensures { Does here self.old self.new result (Instruction.FileRanked set member.now owner.now noted) }
+        ensures { Does here self.old self.new (on_after here result) (Instruction.FileRanked set member.now owner.now noted) }
     {
         let member = self.number(here, member);
         let owner = self.number(here, owner);
         let answer = put_ranked(&mut self.scene, set as usize, owner, member, noted);
-        self.done(here, answer)
+        self.done(answer)
     }
 
     /// FileBeside, before a member.
@@ -427,15 +427,15 @@ impl State {
         beside: &Address,
         owner: &Address,
         noted: bool,
-    ) -> Option<Here>
+    ) -> Option<()>
         requires { Can here self.old (Instruction.FileBeside noted false set member.now beside.now owner.now) }
-        ensures { Does here self.old self.new result (Instruction.FileBeside noted false set member.now beside.now owner.now) }
+        ensures { Does here self.old self.new (on_after here result) (Instruction.FileBeside noted false set member.now beside.now owner.now) }
     {
         let member = self.number(here, member);
         let beside = self.number(here, beside);
         let owner = self.number(here, owner);
         let answer = put_before(&mut self.scene, set as usize, owner, member, beside, noted);
-        self.done(here, answer)
+        self.done(answer)
     }
 
     /// FileBeside, after a member.
@@ -448,15 +448,15 @@ impl State {
         beside: &Address,
         owner: &Address,
         noted: bool,
-    ) -> Option<Here>
+    ) -> Option<()>
         requires { Can here self.old (Instruction.FileBeside noted true set member.now beside.now owner.now) }
-        ensures { Does here self.old self.new result (Instruction.FileBeside noted true set member.now beside.now owner.now) }
+        ensures { Does here self.old self.new (on_after here result) (Instruction.FileBeside noted true set member.now beside.now owner.now) }
     {
         let member = self.number(here, member);
         let beside = self.number(here, beside);
         let owner = self.number(here, owner);
         let answer = put_after(&mut self.scene, set as usize, owner, member, beside, noted);
-        self.done(here, answer)
+        self.done(answer)
     }
 
     /// Remove.
@@ -468,14 +468,14 @@ impl State {
         member: &Address,
         owner: &Address,
         noted: bool,
-    ) -> Option<Here>
+    ) -> Option<()>
         requires { Can here self.old (Instruction.Remove set member.now owner.now noted) }
-        ensures { Does here self.old self.new result (Instruction.Remove set member.now owner.now noted) }
+        ensures { Does here self.old self.new (on_after here result) (Instruction.Remove set member.now owner.now noted) }
     {
         let member = self.number(here, member);
         let owner = self.number(here, owner);
         let answer = take_out(&mut self.scene, set as usize, owner, member, noted);
-        self.done(here, answer)
+        self.done(answer)
     }
 
     /// RemoveFirst and RemoveLast.
@@ -488,9 +488,9 @@ impl State {
         owner: &Address,
         to: &Address,
         noted: bool,
-    ) -> Option<Here>
+    ) -> Option<()>
         requires { Can here self.old (removing end set owner.now to.now noted) }
-        ensures { Does here self.old self.new result (removing end set owner.now to.now noted) }
+        ensures { Does here self.old self.new (on_after here result) (removing end set owner.now to.now noted) }
     {
         let owner = self.number(here, owner);
         match take_end(&mut self.scene, end, set as usize, owner, noted) {
