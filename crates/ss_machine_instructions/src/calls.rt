@@ -7,7 +7,7 @@ ghost use Rattle.ss_machine_instructions.specs.Doing.{Can, Does, CanWhere, DoesW
 ghost use Rattle.ss_machine_instructions.specs.Entered.{Enters, IsRefused};
 ghost use Rattle.ss_machine_instructions.specs.declared.flow.Here.{Here as HereSeen};
 
-use crate::flow::{Ending, Here};
+use crate::flow::{Ending, Here, Next};
 use crate::state::State;
 use ss_code_instructions::entry::Entry;
 use ss_code_instructions::instruction::Instruction;
@@ -54,12 +54,12 @@ impl State {
 
     /// Leave.
     #[inline(always)]
-    pub fn leave(&mut self, here: Here) -> Option<Here>
+    pub fn leave(&mut self, here: Here) -> Next
         requires { Can here self.old Instruction.Leave }
-        ensures { Does here self.old self.new result Instruction.Leave }
+        ensures { Does here self.old self.new (led result) Instruction.Leave }
     {
         match self.frames.pop() {
-            None => self.stop(Ending::Ended),
+            None => self.ended(here),
             Some(frame) => {
                 if frame.yielding == 0 {
                     return here.to(frame.back, frame.caller);
@@ -72,10 +72,18 @@ impl State {
 
     /// Halt.
     #[inline(always)]
-    pub fn halt(&mut self) -> Option<Here>
-        ensures { (here : HereSeen) → Does here self.old self.new result Instruction.Halt }
+    pub fn halt(&mut self, here: Here) -> Next
+        ensures { Does here self.old self.new (led result) Instruction.Halt }
     {
-        self.stop(Ending::Ended)
+        self.ended(here)
+    }
+
+    // The program comes to its end.
+    #[inline]
+    fn ended(&mut self, here: Here) -> Next
+    {
+        self.ending = Ending::Ended;
+        here.stopped()
     }
 
     // What is yielded goes where the frame begins, the first on top.

@@ -27,7 +27,7 @@ use ss_code_instructions::instruction::Instruction;
 use ss_machine_events::coming::next_event;
 use ss_machine_events::scheduling;
 use ss_machine_frames::rows::Rows;
-use ss_machine_instructions::flow::{Ending, Here};
+use ss_machine_instructions::flow::{Ending, Here, Next};
 use ss_machine_instructions::state::State;
 use ss_machine_world::scene::Scene;
 use std::alloc::Global;
@@ -634,12 +634,13 @@ fn begin_event(
 
 /// TakeEvent.
 #[inline(always)]
-pub fn take_event(state: &mut State, here: Here, events: &[Entry], cell: u32) -> Option<Here>
+pub fn take_event(state: &mut State, here: Here, events: &[Entry], cell: u32) -> Next
     requires { CanWhere (λ w. events.now ≡ w.run.events) here state.old (Instruction.TakeEvent cell) }
-    ensures { DoesWhere (λ w. events.now ≡ w.run.events) here state.old state.new result (Instruction.TakeEvent cell) }
+    ensures { DoesWhere (λ w. events.now ≡ w.run.events) here state.old state.new (led result) (Instruction.TakeEvent cell) }
 {
     if !state.has_taken_tick() {
-        return state.stop(Ending::Paused);
+        state.ending = Ending::Paused;
+        return here.stopped();
     }
     let Some(notice) = next_event(&mut state.scene) else {
         return here.on();
