@@ -62,10 +62,10 @@ impl State {
             None => self.ended(here),
             Some(frame) => {
                 if frame.yielding == 0 {
-                    return here.to(frame.back, frame.caller);
+                    return Next::to(frame.back, frame.caller);
                 }
                 self.yield_values(here.frame, frame);
-                here.to(frame.back, frame.caller)
+                Next::to(frame.back, frame.caller)
             }
         }
     }
@@ -83,7 +83,7 @@ impl State {
     fn ended(&mut self, here: Here) -> Next
     {
         self.ending = Ending::Ended;
-        here.stopped()
+        here.on().stopped()
     }
 
     // What is yielded goes where the frame begins, the first on top.

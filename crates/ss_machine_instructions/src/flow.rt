@@ -36,110 +36,42 @@ pub struct Next {
 }
 
 impl Here {
-    // In the same frame, at a place, unless the run stops.
+    /// At a place of the same frame.
     #[inline]
-    fn at(self, place: usize, goes: bool) -> Next
+    fn at(self, place: usize) -> Next
         ensures { led result ≡ at_place self place }
     {
         Next {
             place,
             frame: self.frame,
-            goes,
+            goes: true,
         }
-    }
-
-    /// It does not go on.
-    #[inline]
-    pub fn stopped(self) -> Next
-        ensures { led result ≡ None }
-    {
-        self.at(self.place, false)
     }
 
     /// On to the next instruction.
     #[inline]
     pub fn on(self) -> Next
         requires { self.place + 1 < 2 ^ 64 }
-        ensures { led result ≡ on_at self }
+        ensures { result ≡ on_at self }
     {
-        self.at(self.place + 1, true)
-    }
-
-    /// Past so many instructions after this.
-    #[inline]
-    pub fn past(self, skip: u32) -> Next
-        requires { self.place + 1 + skip < 2 ^ 64 }
-        ensures { led result ≡ past_at self skip }
-    {
-        self.at(self.place + 1 + skip as usize, true)
-    }
-
-    /// On to the next instruction, unless the run stops.
-    #[inline]
-    pub fn on_after(self, went: Option<()>) -> Next
-        requires { self.place + 1 < 2 ^ 64 }
-        ensures { led result ≡ on_after self went }
-    {
-        self.at(self.place + 1, went.is_some())
-    }
-
-    /// On where something holds, and else past so many instructions.
-    #[inline]
-    pub fn on_if(self, holds: bool, skip: u32) -> Next
-        requires { self.place + 1 + skip < 2 ^ 64 }
-        ensures { led result ≡ on_if_at self holds skip }
-    {
-        if holds { self.on() } else { self.past(skip) }
-    }
-
-    /// On where a test holds, and else past so many instructions, unless the run stops.
-    #[inline]
-    pub fn on_tested(self, holds: Option<bool>, skip: u32) -> Next
-        requires { self.place + 1 + skip < 2 ^ 64 }
-        ensures { led result ≡ on_tested self holds skip }
-    {
-        match holds {
-            Some(holds) => self.on_if(holds, skip),
-            None => self.stopped(),
-        }
+        self.at(self.place + 1)
     }
 
     /// Back by so many instructions.
     #[inline]
     pub fn back(self, back: u32) -> Next
         requires { back ≤ self.place }
-        ensures { led result ≡ back_at self back }
+        ensures { result ≡ back_at self back }
     {
-        self.at(self.place - back as usize, true)
+        self.at(self.place - back as usize)
     }
+}
 
-    /// Back by so many instructions where there is a further turn, and else on.
+impl Next {
+    /// To a place in a frame.
     #[inline]
-    pub fn back_if(self, turns: bool, back: u32) -> Next
-        requires small { self.place + 1 < 2 ^ 64 }
-        requires within { back ≤ self.place }
-        ensures { led result ≡ back_if_at self turns back }
-    {
-        if turns { self.back(back) } else { self.on() }
-    }
-
-    /// Back by so many instructions where there is a further turn, and else on, unless the run stops.
-    #[inline]
-    pub fn back_tested(self, turns: Option<bool>, back: u32) -> Next
-        requires small { self.place + 1 < 2 ^ 64 }
-        requires within { back ≤ self.place }
-        ensures { led result ≡ back_tested self turns back }
-    {
-        match turns {
-            Some(turns) => self.back_if(turns, back),
-            None => self.stopped(),
-        }
-    }
-
-    /// To a place in another frame.
-    #[inline]
-    pub fn to(self, place: usize, frame: u32) -> Next
-        ensures { led result ≡ Some (record { place = place; frame = frame }) }
+    pub fn to(place: usize, frame: u32) -> Next
+        ensures { result ≡ record { place = place; frame = frame; goes = true } }
     {
         Next {
             place,
@@ -148,24 +80,97 @@ impl Here {
         }
     }
 
-    /// To a place in the frame that was entered, unless the run stops.
+    /// There, where the run goes on.
     #[inline]
-    pub fn to_entered(self, place: usize, frame: Option<u32>) -> Next
-        ensures { led result ≡ entered_at place frame }
+    pub fn after(self, went: Option<()>) -> Next
+        ensures { result ≡ after self went }
     {
-        match frame {
-            Some(frame) => self.to(place, frame),
+        Next {
+            place: self.place,
+            frame: self.frame,
+            goes: went.is_some(),
+        }
+    }
+
+    /// It does not go on.
+    #[inline]
+    pub fn stopped(self) -> Next
+        ensures { led result ≡ None }
+    {
+        self.after(None)
+    }
+
+    /// Past so many instructions from there.
+    #[inline]
+    pub fn past(self, skip: u32) -> Next
+        requires { self.place + skip < 2 ^ 64 }
+        ensures { result ≡ past self skip }
+    {
+        Next {
+            place: self.place + skip as usize,
+            frame: self.frame,
+            goes: self.goes,
+        }
+    }
+
+    /// There where something holds, and else past so many instructions.
+    #[inline]
+    pub fn if_holds(self, holds: bool, skip: u32) -> Next
+        requires { self.place + skip < 2 ^ 64 }
+        ensures { result ≡ if_holds self holds skip }
+    {
+        if holds { self } else { self.past(skip) }
+    }
+
+    /// There where a test holds, and else past so many instructions, where the run goes on.
+    #[inline]
+    pub fn if_tested(self, holds: Option<bool>, skip: u32) -> Next
+        requires { self.place + skip < 2 ^ 64 }
+        ensures { led result ≡ if_tested self holds skip }
+    {
+        match holds {
+            Some(holds) => self.if_holds(holds, skip),
             None => self.stopped(),
         }
     }
 
-    /// To a place in a frame, unless the run stops.
+    /// To another place where there is a further turn, and else there.
     #[inline]
-    pub fn to_begun(self, place: Option<usize>, frame: u32) -> Next
+    pub fn or(self, turns: bool, other: Next) -> Next
+        ensures { result ≡ turn_or turns other self }
+    {
+        if turns { other } else { self }
+    }
+
+    /// To another place where there is a further turn, and else there, where the run goes on.
+    #[inline]
+    pub fn or_turn(self, turns: Option<bool>, other: Next) -> Next
+        ensures { led result ≡ turn_tested turns other self }
+    {
+        match turns {
+            Some(turns) => self.or(turns, other),
+            None => self.stopped(),
+        }
+    }
+
+    /// To a place in the frame that was entered, where the run goes on.
+    #[inline]
+    pub fn entered(self, place: usize, frame: Option<u32>) -> Next
+        ensures { led result ≡ entered_at place frame }
+    {
+        match frame {
+            Some(frame) => Next::to(place, frame),
+            None => self.stopped(),
+        }
+    }
+
+    /// To a place in a frame, where the run goes on.
+    #[inline]
+    pub fn begun(self, place: Option<usize>, frame: u32) -> Next
         ensures { led result ≡ begun_at place frame }
     {
         match place {
-            Some(place) => self.to(place, frame),
+            Some(place) => Next::to(place, frame),
             None => self.stopped(),
         }
     }

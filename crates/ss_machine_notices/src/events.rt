@@ -638,18 +638,19 @@ pub fn take_event(state: &mut State, here: Here, events: &[Entry], cell: u32) ->
     requires { CanWhere (λ w. events.now ≡ w.run.events) here state.old (Instruction.TakeEvent cell) }
     ensures { DoesWhere (λ w. events.now ≡ w.run.events) here state.old state.new (led result) (Instruction.TakeEvent cell) }
 {
+    let on = here.on();
     if !state.has_taken_tick() {
         state.ending = Ending::Paused;
-        return here.stopped();
+        return on.stopped();
     }
     let Some(notice) = next_event(&mut state.scene) else {
-        return here.on();
+        return on;
     };
     match class_of(&state.scene, notice) {
-        None => here.on(),
+        None => on,
         Some(class) => {
             let place = begin_event(state, here, notice, class, events, cell);
-            here.to_begun(place, state.cell(here, cell) as u32)
+            on.begun(place, state.cell(here, cell) as u32)
         }
     }
 }
