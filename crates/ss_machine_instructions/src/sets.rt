@@ -8,7 +8,7 @@ ghost use Rattle.ss_base.specs.declared.value.Value.TheVariants.{Whole};
 ghost use Rattle.ss_meaning.specs.Sets.{set_answer, Foremost, Hindmost, ByRule, JustBefore, JustAfter};
 ghost use Rattle.ss_machine_world.specs.Numbers.{count_noted};
 ghost use Rattle.ss_machine_world.specs.Seen.{number_if};
-ghost use Rattle.ss_code_instructions.specs.Forms.{asking_member, asking_set, removing};
+ghost use Rattle.ss_code_instructions.specs.Forms.{asking_member, asking_set};
 ghost use Rattle.ss_machine_instructions.specs.Doing.{Can, Does};
 ghost use Rattle.ss_machine_instructions.specs.Worldly.{ChangesIf, Counted, CountedOut, IsRuled, Files, Removes, Takes, one_of, member_answer};
 
@@ -19,7 +19,6 @@ use ss_code_instructions::address::Address;
 use ss_code_instructions::instruction::Instruction;
 use ss_machine_world::scene::Scene;
 use ss_program::expression::{MemberQuery, SetQuery};
-use ss_program::statement::End;
 
 // The first member of the set of an owner, 0 for none.
 #[inline(always)]
@@ -305,24 +304,6 @@ fn take_last(scene: &mut Scene, set: usize, owner: i64, noted: bool) -> Result<i
     counted_out(scene, taken, set, owner, noted)
 }
 
-// The member at an end is removed, which is the answer.
-#[inline(always)]
-fn take_end(
-    scene: &mut Scene,
-    end: End,
-    set: usize,
-    owner: i64,
-    noted: bool,
-) -> Result<i64, FaultKind>
-    requires set { set < length scene.old.heap.layout.sets }
-    ensures { Takes end set noted scene.old scene.new result owner }
-{
-    match end {
-        End::First => take_first(scene, set, owner, noted),
-        End::Last => take_last(scene, set, owner, noted),
-    }
-}
-
 impl State {
     /// FirstMember, LastMember and MemberCount.
     #[inline]
@@ -478,22 +459,41 @@ impl State {
         self.done(answer)
     }
 
-    /// RemoveFirst and RemoveLast.
+    /// RemoveFirst.
     #[inline]
-    pub fn remove_end(
+    pub fn remove_first(
         &mut self,
         here: Here,
-        end: End,
         set: u32,
         owner: &Address,
         to: &Address,
         noted: bool,
     ) -> Option<()>
-        requires { Can here self.old (removing end set owner.now to.now noted) }
-        ensures { Does here self.old self.new (on_after here result) (removing end set owner.now to.now noted) }
+        requires { Can here self.old (Instruction.RemoveFirst set owner.now to.now noted) }
+        ensures { Does here self.old self.new (on_after here result) (Instruction.RemoveFirst set owner.now to.now noted) }
     {
         let owner = self.number(here, owner);
-        match take_end(&mut self.scene, end, set as usize, owner, noted) {
+        match take_first(&mut self.scene, set as usize, owner, noted) {
+            Ok(member) => self.put(here, to, Ok(member)),
+            Err(kind) => self.fault(kind),
+        }
+    }
+
+    /// RemoveLast.
+    #[inline]
+    pub fn remove_last(
+        &mut self,
+        here: Here,
+        set: u32,
+        owner: &Address,
+        to: &Address,
+        noted: bool,
+    ) -> Option<()>
+        requires { Can here self.old (Instruction.RemoveLast set owner.now to.now noted) }
+        ensures { Does here self.old self.new (on_after here result) (Instruction.RemoveLast set owner.now to.now noted) }
+    {
+        let owner = self.number(here, owner);
+        match take_last(&mut self.scene, set as usize, owner, noted) {
             Ok(member) => self.put(here, to, Ok(member)),
             Err(kind) => self.fault(kind),
         }
