@@ -4,8 +4,8 @@ ghost use Rattle.ss_engine.specs.Outcomes.{status_of};
 ghost use Rattle.simscript_commands.specs.Statuses.{ended_status};
 
 use simscript_order::{
-    Data, FileStore, Order, ProgramFailure, Retrying, Streams, explain, open, read_file, read_source,
-    report_trouble, write_whole,
+    Data, FileStore, Order, ProgramFailure, Retrying, Streams, explain, open, read_file,
+    read_source, report_trouble, write_whole,
 };
 use ss_base::Counted;
 use ss_engine::{Outcome, Stop, compile, outcome_line, outcome_status, simulate};

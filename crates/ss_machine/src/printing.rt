@@ -13,6 +13,7 @@ ghost use Rattle.ss_machine.specs.Reading.{IsQuiet};
 ghost use Rattle.ss_machine.specs.Sent.{TookPart};
 ghost use Rattle.ss_machine.specs.Shown.{CanShow, TakeAll, SentAll, SentPart};
 ghost use Rattle.ss_machine.specs.Writing.{IsUnsent, DidWrite};
+ghost use Rattle.ss_machine_instructions.specs.Ways.{on_after};
 
 use crate::showing::{Buffers, show};
 use ss_base::{FaultKind, FaultyWrite};

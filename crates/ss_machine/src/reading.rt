@@ -10,6 +10,7 @@ ghost use Rattle.ss_input.specs.Inputs.{source_block, source_missed, source_read
 ghost use Rattle.ss_input.specs.Words.{value_given, is_ended};
 ghost use Rattle.ss_machine_instructions.specs.Doing.{Can};
 ghost use Rattle.ss_machine.specs.Reading.{missed_by, DidRead, IsQuiet};
+ghost use Rattle.ss_machine_instructions.specs.Ways.{on_after, tested_at};
 
 use ss_base::{Alpha, FaultyRead};
 use ss_code_instructions::address::Address;

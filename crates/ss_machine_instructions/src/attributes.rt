@@ -7,6 +7,7 @@ ghost use Rattle.ss_meaning.specs.Values.{computed, operator_of};
 ghost use Rattle.ss_records.specs.Attributes.{changed_number, IsAssigned, IsChanged};
 ghost use Rattle.ss_world.specs.State.{modes_of, value_in, assigned};
 ghost use Rattle.ss_machine_instructions.specs.Doing.{Can, Does};
+ghost use Rattle.ss_machine_instructions.specs.Ways.{on_after};
 
 use crate::flow::Here;
 use crate::state::State;
@@ -152,7 +153,7 @@ impl State {
         let (entity, number) = (self.number(here, entity), self.number(here, from));
         let (class, field) = (class as usize, field as usize);
         let answer = assign_number(&mut self.scene, class, field, entity, number);
-        self.assigned(here, answer, class, field, entity, noted)
+        self.assigned(answer, class, field, entity, noted)
     }
 
     /// SetTextAttribute.
@@ -196,7 +197,7 @@ impl State {
         let (entity, number) = (self.number(here, entity), self.number(here, by));
         let (class, field) = (attribute.0 as usize, attribute.1 as usize);
         let answer = change(&mut self.scene, sign, class, field, entity, number);
-        self.assigned(here, answer, class, field, entity, noted)
+        self.assigned(answer, class, field, entity, noted)
     }
 
     /// Clock.

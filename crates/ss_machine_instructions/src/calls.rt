@@ -6,6 +6,7 @@ ghost use Rattle.ss_machine_frames.specs.Rows.{Yielded};
 ghost use Rattle.ss_machine_instructions.specs.Doing.{Can, Does, CanWhere, DoesWhere};
 ghost use Rattle.ss_machine_instructions.specs.Entered.{Enters, IsRefused};
 ghost use Rattle.ss_machine_instructions.specs.declared.flow.Here.{Here as HereSeen};
+ghost use Rattle.ss_machine_instructions.specs.Ways.{entered_at, led, on_after};
 
 use crate::flow::{Ending, Here, Next};
 use crate::state::State;
@@ -59,7 +60,7 @@ impl State {
         ensures { Does here self.old self.new (led result) Instruction.Leave }
     {
         match self.frames.pop() {
-            None => self.ended(here),
+            None => here.on().after(self.stop(Ending::Ended)),
             Some(frame) => {
                 if frame.yielding == 0 {
                     return Next::to(frame.back, frame.caller);
@@ -72,18 +73,10 @@ impl State {
 
     /// Halt.
     #[inline(always)]
-    pub fn halt(&mut self, here: Here) -> Next
-        ensures { Does here self.old self.new (led result) Instruction.Halt }
+    pub fn halt(&mut self) -> Option<()>
+        ensures { (here : HereSeen) → Does here self.old self.new (on_after here result) Instruction.Halt }
     {
-        self.ended(here)
-    }
-
-    // The program comes to its end.
-    #[inline]
-    fn ended(&mut self, here: Here) -> Next
-    {
-        self.ending = Ending::Ended;
-        here.on().stopped()
+        self.stop(Ending::Ended)
     }
 
     // What is yielded goes where the frame begins, the first on top.

@@ -1,7 +1,7 @@
 //! Where a run is, and where instructions lead.
 
-ghost use Rattle.std.specs.Prelude.{◌≡◌, ◌+◌, ◌<◌, ◌≤◌, ◌^◌, Some};
-ghost use Rattle.ss_machine_instructions.specs.Ways.{at_place, on_at, past_at, on_if_at, back_at};
+ghost use Rattle.std.specs.Prelude.{◌≡◌, ◌+◌, ◌-◌, ◌<◌, ◌≤◌, ◌^◌, true, false, is_some, if◌then◌else◌};
+ghost use Rattle.ss_machine_instructions.specs.Ways.{led, led_if, led_back, led_in, led_to};
 
 /// Why a run does not go on after an instruction.
 #[derive(Clone, Copy, Debug, PartialEq, Eq)]
@@ -20,7 +20,7 @@ pub enum Ending {
     NoInput,
 }
 
-/// Where a run is: the place of the instruction, and where the frame of the section begins. 
+/// Where a run is: the place of the instruction, and where the frame of the section begins.
 #[derive(Clone, Copy, Debug, PartialEq, Eq)]
 pub struct Here {
     pub place: usize,
@@ -36,23 +36,19 @@ pub struct Next {
 }
 
 impl Here {
-    /// At a place of the same frame.
+    // At a place of the same frame.
     #[inline]
     fn at(self, place: usize) -> Next
-        ensures { led result ≡ at_place self place }
+        ensures { result ≡ record { place = place; frame = self.frame; goes = true } }
     {
-        Next {
-            place,
-            frame: self.frame,
-            goes: true,
-        }
+        Next::to(place, self.frame)
     }
 
     /// On to the next instruction.
     #[inline]
     pub fn on(self) -> Next
         requires { self.place + 1 < 2 ^ 64 }
-        ensures { result ≡ on_at self }
+        ensures { result ≡ record { place = self.place + 1; frame = self.frame; goes = true } }
     {
         self.at(self.place + 1)
     }
@@ -61,7 +57,7 @@ impl Here {
     #[inline]
     pub fn back(self, back: u32) -> Next
         requires { back ≤ self.place }
-        ensures { result ≡ back_at self back }
+        ensures { result ≡ record { place = self.place - back; frame = self.frame; goes = true } }
     {
         self.at(self.place - back as usize)
     }
@@ -80,10 +76,10 @@ impl Next {
         }
     }
 
-    /// There, where the run goes on.
+    /// There, unless the run stopped.
     #[inline]
     pub fn after(self, went: Option<()>) -> Next
-        ensures { result ≡ after self went }
+        ensures { result ≡ record self { goes = is_some went } }
     {
         Next {
             place: self.place,
@@ -92,10 +88,10 @@ impl Next {
         }
     }
 
-    /// It does not go on.
+    /// The run stopped.
     #[inline]
     pub fn stopped(self) -> Next
-        ensures { led result ≡ None }
+        ensures { result ≡ record self { goes = false } }
     {
         self.after(None)
     }
@@ -104,7 +100,7 @@ impl Next {
     #[inline]
     pub fn past(self, skip: u32) -> Next
         requires { self.place + skip < 2 ^ 64 }
-        ensures { result ≡ past self skip }
+        ensures { result ≡ record self { place = self.place + skip } }
     {
         Next {
             place: self.place + skip as usize,
@@ -117,16 +113,16 @@ impl Next {
     #[inline]
     pub fn if_holds(self, holds: bool, skip: u32) -> Next
         requires { self.place + skip < 2 ^ 64 }
-        ensures { result ≡ if_holds self holds skip }
+        ensures { result ≡ (if holds then self else record self { place = self.place + skip }) }
     {
         if holds { self } else { self.past(skip) }
     }
 
-    /// There where a test holds, and else past so many instructions, where the run goes on.
+    /// There where a test holds, and else past so many instructions, unless the run stopped.
     #[inline]
     pub fn if_tested(self, holds: Option<bool>, skip: u32) -> Next
         requires { self.place + skip < 2 ^ 64 }
-        ensures { led result ≡ if_tested self holds skip }
+        ensures { led result ≡ led_if self holds skip }
     {
         match holds {
             Some(holds) => self.if_holds(holds, skip),
@@ -134,29 +130,29 @@ impl Next {
         }
     }
 
-    /// To another place where there is a further turn, and else there.
+    /// Back where there is a further turn, and else there.
     #[inline]
-    pub fn or(self, turns: bool, other: Next) -> Next
-        ensures { result ≡ turn_or turns other self }
+    pub fn or_back(self, turns: bool, back: Next) -> Next
+        ensures { result ≡ (if turns then back else self) }
     {
-        if turns { other } else { self }
+        if turns { back } else { self }
     }
 
-    /// To another place where there is a further turn, and else there, where the run goes on.
+    /// Back where there is a further turn, and else there, unless the run stopped.
     #[inline]
-    pub fn or_turn(self, turns: Option<bool>, other: Next) -> Next
-        ensures { led result ≡ turn_tested turns other self }
+    pub fn or_back_tested(self, turns: Option<bool>, back: Next) -> Next
+        ensures { led result ≡ led_back self turns back }
     {
         match turns {
-            Some(turns) => self.or(turns, other),
+            Some(turns) => self.or_back(turns, back),
             None => self.stopped(),
         }
     }
 
-    /// To a place in the frame that was entered, where the run goes on.
+    /// To a place in the frame that was entered, unless the run stopped.
     #[inline]
     pub fn entered(self, place: usize, frame: Option<u32>) -> Next
-        ensures { led result ≡ entered_at place frame }
+        ensures { led result ≡ led_in place frame }
     {
         match frame {
             Some(frame) => Next::to(place, frame),
@@ -164,10 +160,10 @@ impl Next {
         }
     }
 
-    /// To a place in a frame, where the run goes on.
+    /// To a place in a frame, unless the run stopped.
     #[inline]
     pub fn begun(self, place: Option<usize>, frame: u32) -> Next
-        ensures { led result ≡ begun_at place frame }
+        ensures { led result ≡ led_to place frame }
     {
         match place {
             Some(place) => Next::to(place, frame),

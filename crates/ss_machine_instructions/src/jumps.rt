@@ -9,7 +9,7 @@ ghost use Rattle.ss_meaning.specs.Values.{allows, related};
 ghost use Rattle.ss_meaning.specs.Sets.{is_none};
 ghost use Rattle.ss_code_instructions.specs.Forms.{comparing_numbers};
 ghost use Rattle.ss_machine_instructions.specs.Doing.{Can, Does};
-ghost use Rattle.ss_machine_instructions.specs.Ways.{none_of};
+ghost use Rattle.ss_machine_instructions.specs.Ways.{none_of, back_if_at, on_if_at, tested_at};
 
 use crate::flow::Here;
 use crate::state::State;
@@ -118,11 +118,7 @@ impl State {
         requires { (skip : ℕ) × Can here self.now (comparing_numbers relation left.now right.now skip) }
         ensures { (skip : ℕ) → Does here self.now self.now (on_if_at here result skip) (comparing_numbers relation left.now right.now skip) }
     {
-        are_numbers_related(
-            relation,
-            self.number(here, left),
-            self.number(here, right),
-        )
+        are_numbers_related(relation, self.number(here, left), self.number(here, right))
     }
 
     /// UnlessTexts.

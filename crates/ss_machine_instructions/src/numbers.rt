@@ -4,6 +4,7 @@ ghost use Rattle.std.specs.Prelude.{◌≡◌};
 ghost use Rattle.ss_meaning.specs.Values.{computed, computed_alone, distance};
 ghost use Rattle.ss_code_instructions.specs.Forms.{calculating};
 ghost use Rattle.ss_machine_instructions.specs.Doing.{Can, Does, CanDeliver, IsDelivered, as_value, as_text};
+ghost use Rattle.ss_machine_instructions.specs.Ways.{on_after};
 
 use crate::flow::Here;
 use crate::state::State;
@@ -54,7 +55,7 @@ impl State {
     #[inline(always)]
     pub fn put(&mut self, here: Here, to: &Address, answer: Result<i64, FaultKind>) -> Option<()>
         requires { CanDeliver here self.old to.now (as_value answer) }
-        ensures { IsDelivered here self.old self.new (on_after here result) to.now (as_value answer) }
+        ensures { IsDelivered here self.old self.new result to.now (as_value answer) }
     {
         match answer {
             Ok(number) => {
@@ -74,7 +75,7 @@ impl State {
         answer: Result<Alpha, FaultKind>,
     ) -> Option<()>
         requires { CanDeliver here self.old to.now (as_text answer) }
-        ensures { IsDelivered here self.old self.new (on_after here result) to.now (as_text answer) }
+        ensures { IsDelivered here self.old self.new result to.now (as_text answer) }
     {
         match answer {
             Ok(text) => {

@@ -11,6 +11,7 @@ ghost use Rattle.ss_machine_world.specs.Seen.{number_if};
 ghost use Rattle.ss_code_instructions.specs.Forms.{asking_member, asking_set};
 ghost use Rattle.ss_machine_instructions.specs.Doing.{Can, Does};
 ghost use Rattle.ss_machine_instructions.specs.Worldly.{ChangesIf, Counted, CountedOut, IsRuled, Files, Removes, Takes, one_of, member_answer};
+ghost use Rattle.ss_machine_instructions.specs.Ways.{on_after};
 
 use crate::flow::Here;
 use crate::state::State;

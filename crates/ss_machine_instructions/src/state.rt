@@ -2,7 +2,7 @@
 
 ghost use Rattle.std.specs.Prelude.{◌≡◌, ◌+◌, ◌<◌, ◌^◌, ℕ, suc, true, false, length, slice_get, Some, None};
 ghost use Rattle.ss_machine_frames.specs.Rows.{place_at, with_number, with_text};
-ghost use Rattle.ss_machine_instructions.specs.Ways.{stopped, faulted, on_unless, faulted_by, branched, faulted_test, refused_by};
+ghost use Rattle.ss_machine_instructions.specs.Ways.{stopped, faulted, faulted_by, faulted_test, refused_by, test_of, unless_fault};
 
 use crate::flow::{Ending, Here};
 use ss_base::{Alpha, FaultKind, Line, Refused};

@@ -7,6 +7,7 @@ ghost use Rattle.ss_machine_time.specs.Figures.{variable_of};
 ghost use Rattle.ss_machine_world.specs.Numbers.{attribute_noted};
 ghost use Rattle.ss_machine_instructions.specs.Doing.{Can, Does};
 ghost use Rattle.ss_machine_instructions.specs.Noted.{Notes};
+ghost use Rattle.ss_machine_instructions.specs.Ways.{on_after};
 
 use crate::flow::Here;
 use crate::state::State;
@@ -51,17 +52,15 @@ impl State {
     #[inline(always)]
     pub(crate) fn assigned(
         &mut self,
-        here: Here,
         answer: Result<(), FaultKind>,
         class: usize,
         field: usize,
         entity: i64,
         noted: bool,
     ) -> Option<()>
-        requires place { here.place + 1 < 2 ^ 64 }
         requires class { class < length self.old.scene.heap.layout.classes }
         requires mode { slice_get (modes_of self.old.scene.heap.layout class) field ≡ Some Integer }
-        ensures { Notes noted (attribute_noted class field entity) here answer self.old self.new (on_after here result) }
+        ensures { Notes noted (attribute_noted class field entity) answer self.old self.new result }
     {
         match answer {
             Err(kind) => self.fault(kind),

@@ -15,8 +15,8 @@ ghost use Rattle.ss_machine_world.specs.Seen.{Rearranges};
 ghost use Rattle.ss_code_instructions.specs.States.{Core};
 ghost use Rattle.ss_code_instructions.specs.Machine.{act};
 ghost use Rattle.ss_machine_instructions.specs.Doing.{Compiled, OneTick, Can, Does, CanWhere, DoesWhere};
-ghost use Rattle.ss_machine_instructions.specs.Ways.{faulted};
-ghost use Rattle.ss_machine_instructions.specs.Worldly.{ChangesIf, on_where, refused_where};
+ghost use Rattle.ss_machine_instructions.specs.Ways.{faulted, begun_at, led, on_after};
+ghost use Rattle.ss_machine_instructions.specs.Worldly.{ChangesIf, unless_refused, refused_where};
 ghost use Rattle.ss_machine_notices.specs.Giving.{SettledIn, SettledInWithMemory, MadeIn, IsSet, IsRead, Suiting, GivesOne, Gives, number_or, unpended, refiled};
 ghost use Rattle.ss_machine_notices.specs.Beginning.{IsReadTo, ReceivedIf, LetsGo, IsUnbegun, Receives, ComesNext};
 
@@ -568,7 +568,7 @@ fn let_go(state: &mut State, rank: usize, class: usize, notice: i64) -> Result<(
 // There is no memory for the frame of an event: the fault that is due as it begins, or out of memory where none is.
 #[cold]
 #[inline(never)]
-fn unbegun(state: &mut State, rank: usize, class: usize, notice: i64) -> Option<()>
+fn unbegun(state: &mut State, rank: usize, class: usize, notice: i64) -> Option<usize>
     requires rank { rank < length state.old.scene.notices }
     requires class { class < length state.old.scene.heap.layout.classes }
     requires single { is_single (slice_get state.old.scene.heap.layout.classes class) ≡ true }
@@ -612,13 +612,12 @@ fn begin_event(
     cell: u32,
 ) -> Option<usize>
     requires { (w : Compiled) × (c : Core) × (events.now ≡ w.run.events) × ComesNext w c here state.old cell notice class }
-    ensures { (w : Compiled) (c : Core) → events.now ≡ w.run.events → (n : ComesNext w c here state.old cell notice class) → OneTick state.old.ticks w n.ready.placed.line (act w.code n.ready.placed.line n.ready.placed.instruction c) n.before state.new result }
+    ensures { (w : Compiled) (c : Core) → events.now ≡ w.run.events → (n : ComesNext w c here state.old cell notice class) → OneTick state.old.ticks w n.ready.placed.line (act w.code n.ready.placed.line n.ready.placed.instruction c) n.before state.new (begun_at here cell result) }
 {
     let rank = state.scene.rank(class);
     let entry = &events[rank];
     let Ok(frame) = state.enter(here, entry, cell) else {
-        unbegun(state, rank, class, notice);
-        return None;
+        return unbegun(state, rank, class, notice);
     };
     let what = Giving {
         class,
@@ -640,8 +639,7 @@ pub fn take_event(state: &mut State, here: Here, events: &[Entry], cell: u32) ->
 {
     let on = here.on();
     if !state.has_taken_tick() {
-        state.ending = Ending::Paused;
-        return on.stopped();
+        return on.after(state.stop(Ending::Paused));
     }
     let Some(notice) = next_event(&mut state.scene) else {
         return on;
