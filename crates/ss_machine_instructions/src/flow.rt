@@ -27,39 +27,36 @@ pub struct Here {
     pub frame: u32,
 }
 
-/// Where an instruction leads: whether the run goes on, and then where. Where it does not, the state says why.
+/// Where an instruction leads: so many instructions past a place, in a frame, if the run goes on. Where it does not, the state says why.
 #[derive(Clone, Copy, Debug, PartialEq, Eq)]
 pub struct Next {
     pub place: usize,
+    pub past: usize,
     pub frame: u32,
     pub goes: bool,
 }
 
 impl Here {
-    // At a place of the same frame.
-    #[inline]
-    fn at(self, place: usize) -> Next
-        ensures { result ≡ record { place = place; frame = self.frame; goes = true } }
-    {
-        Next::to(place, self.frame)
-    }
-
     /// On to the next instruction.
     #[inline]
     pub fn on(self) -> Next
-        requires { self.place + 1 < 2 ^ 64 }
-        ensures { result ≡ record { place = self.place + 1; frame = self.frame; goes = true } }
+        ensures { result ≡ record { place = self.place; past = 1; frame = self.frame; goes = true } }
     {
-        self.at(self.place + 1)
+        Next {
+            place: self.place,
+            past: 1,
+            frame: self.frame,
+            goes: true,
+        }
     }
 
     /// Back by so many instructions.
     #[inline]
     pub fn back(self, back: u32) -> Next
         requires { back ≤ self.place }
-        ensures { result ≡ record { place = self.place - back; frame = self.frame; goes = true } }
+        ensures { result ≡ record { place = self.place - back; past = 0; frame = self.frame; goes = true } }
     {
-        self.at(self.place - back as usize)
+        Next::to(self.place - back as usize, self.frame)
     }
 }
 
@@ -67,10 +64,11 @@ impl Next {
     /// To a place in a frame.
     #[inline]
     pub fn to(place: usize, frame: u32) -> Next
-        ensures { result ≡ record { place = place; frame = frame; goes = true } }
+        ensures { result ≡ record { place = place; past = 0; frame = frame; goes = true } }
     {
         Next {
             place,
+            past: 0,
             frame,
             goes: true,
         }
@@ -83,6 +81,7 @@ impl Next {
     {
         Next {
             place: self.place,
+            past: self.past,
             frame: self.frame,
             goes: went.is_some(),
         }
@@ -96,14 +95,15 @@ impl Next {
         self.after(None)
     }
 
-    /// Past so many instructions from there.
+    /// Past so many instructions more.
     #[inline]
     pub fn past(self, skip: u32) -> Next
-        requires { self.place + skip < 2 ^ 64 }
-        ensures { result ≡ record self { place = self.place + skip } }
+        requires { self.past + skip < 2 ^ 64 }
+        ensures { result ≡ record self { past = self.past + skip } }
     {
         Next {
-            place: self.place + skip as usize,
+            place: self.place,
+            past: self.past + skip as usize,
             frame: self.frame,
             goes: self.goes,
         }
@@ -112,8 +112,8 @@ impl Next {
     /// There where something holds, and else past so many instructions.
     #[inline]
     pub fn if_holds(self, holds: bool, skip: u32) -> Next
-        requires { self.place + skip < 2 ^ 64 }
-        ensures { result ≡ (if holds then self else record self { place = self.place + skip }) }
+        requires { self.past + skip < 2 ^ 64 }
+        ensures { result ≡ (if holds then self else record self { past = self.past + skip }) }
     {
         if holds { self } else { self.past(skip) }
     }
@@ -121,7 +121,7 @@ impl Next {
     /// There where a test holds, and else past so many instructions, unless the run stopped.
     #[inline]
     pub fn if_tested(self, holds: Option<bool>, skip: u32) -> Next
-        requires { self.place + skip < 2 ^ 64 }
+        requires { self.past + skip < 2 ^ 64 }
         ensures { led result ≡ led_if self holds skip }
     {
         match holds {
