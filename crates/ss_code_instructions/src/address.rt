@@ -11,8 +11,8 @@ ghost use Rattle.std.specs.Prelude.{◌≡◌};
 /// `(frame & mask) + number`.
 #[derive(Clone, Copy, Debug, PartialEq, Eq)]
 pub struct Address {
-    pub number: u32,
-    pub mask: u32,
+    pub number: usize,
+    pub mask: usize,
 }
 
 impl Address {
@@ -20,7 +20,7 @@ impl Address {
     pub fn fixed(number: u32) -> Address
         ensures { result ≡ record { number = number; mask = 0 } }
     {
-        Address { number, mask: 0 }
+        Address { number: number as usize, mask: 0 }
     }
 
     /// A local variable or a cell, counted from where the frame begins.
@@ -28,8 +28,8 @@ impl Address {
         ensures { result ≡ record { number = number; mask = 4294967295 } }
     {
         Address {
-            number,
-            mask: u32::MAX,
+            number: number as usize,
+            mask: usize::MAX,
         }
     }
 }

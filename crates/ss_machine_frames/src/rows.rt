@@ -30,10 +30,10 @@ impl Model for Rows {
 
 /// The place of an address, where the frame begins here.
 #[inline(always)]
-pub fn place_of(frame: u32, address: &Address) -> usize
+pub fn place_of(frame: usize, address: &Address) -> usize
     ensures { result ≡ place_at frame address.now }
 {
-    (frame & address.mask) as usize + address.number as usize
+    (frame & address.mask) + address.number
 }
 
 // So many numbers from a place on change their order.
@@ -207,7 +207,7 @@ impl Rows {
 
     /// The number at an address.
     #[inline(always)]
-    pub fn number(&self, frame: u32, address: &Address) -> i64
+    pub fn number(&self, frame: usize, address: &Address) -> i64
         requires { place_at frame address.now < length self.now.numbers }
         ensures { slice_get self.now.numbers (place_at frame address.now) ≡ Some result }
     {
@@ -216,7 +216,7 @@ impl Rows {
 
     /// A number goes to an address.
     #[inline(always)]
-    pub fn set_number(&mut self, frame: u32, address: &Address, number: i64)
+    pub fn set_number(&mut self, frame: usize, address: &Address, number: i64)
         requires { place_at frame address.now < length self.old.numbers }
         ensures { self.new ≡ with_number self.old (place_at frame address.now) number }
     {
@@ -225,7 +225,7 @@ impl Rows {
 
     /// The text at an address.
     #[inline(always)]
-    pub fn text(&self, frame: u32, address: &Address) -> Alpha
+    pub fn text(&self, frame: usize, address: &Address) -> Alpha
         requires { place_at frame address.now < length self.now.numbers }
         ensures { slice_get self.now.texts (place_at frame address.now) ≡ Some result }
     {
@@ -234,7 +234,7 @@ impl Rows {
 
     /// A text goes to an address.
     #[inline(always)]
-    pub fn set_text(&mut self, frame: u32, address: &Address, text: Alpha)
+    pub fn set_text(&mut self, frame: usize, address: &Address, text: Alpha)
         requires { place_at frame address.now < length self.old.numbers }
         ensures { self.new ≡ with_text self.old (place_at frame address.now) text }
     {

@@ -19,7 +19,7 @@ impl State {
     /// A section begins, whose frame begins at a cell: what it is given lies there already, its other variables hold their
     /// first values, and there is room for its cells. It answers where the frame begins.
     #[inline(always)]
-    pub fn enter(&mut self, here: Here, entry: &Entry, cell: u32) -> Result<u32, AllocError>
+    pub fn enter(&mut self, here: Here, entry: &Entry, cell: u32) -> Result<usize, AllocError>
         requires sized { IsSized entry.now }
         requires small { length self.old.rows.numbers < 2 ^ 32 }
         requires place { here.place + 1 < 2 ^ 64 }
@@ -35,12 +35,12 @@ impl State {
             given: entry.given.len() as u32,
             yielding: entry.yielding as u32,
         })?;
-        Ok(frame as u32)
+        Ok(frame)
     }
 
     /// Call.
     #[inline]
-    pub fn call(&mut self, here: Here, entry: &Entry, cell: u32) -> Option<u32>
+    pub fn call(&mut self, here: Here, entry: &Entry, cell: u32) -> Option<usize>
         requires { (routine : ℕ) × CanWhere (λ w. slice_get w.run.routines routine ≡ Some entry.now) here self.old (Instruction.Call routine cell) }
         ensures { (routine : ℕ) → DoesWhere (λ w. slice_get w.run.routines routine ≡ Some entry.now) here self.old self.new (entered_at entry.now result) (Instruction.Call routine cell) }
     {
@@ -81,7 +81,7 @@ impl State {
 
     // What is yielded goes where the frame begins, the first on top.
     #[inline(never)]
-    fn yield_values(&mut self, to: u32, frame: Frame)
+    fn yield_values(&mut self, to: usize, frame: Frame)
         requires { to + frame.given + frame.yielding ≤ length self.old.rows.numbers }
         ensures rows { Yielded self.old.rows self.new.rows (to + frame.given) to frame.yielding }
         ensures same { self.new ≡ record self.old { rows = self.new.rows } }

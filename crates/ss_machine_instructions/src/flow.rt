@@ -24,7 +24,7 @@ pub enum Ending {
 #[derive(Clone, Copy, Debug, PartialEq, Eq)]
 pub struct Here {
     pub place: usize,
-    pub frame: u32,
+    pub frame: usize,
 }
 
 /// Where an instruction leads: so many instructions past a place, in a frame, if the run goes on. Where it does not, the state says why.
@@ -32,7 +32,7 @@ pub struct Here {
 pub struct Next {
     pub place: usize,
     pub past: usize,
-    pub frame: u32,
+    pub frame: usize,
     pub goes: bool,
 }
 
@@ -63,7 +63,7 @@ impl Here {
 impl Next {
     /// To a place in a frame.
     #[inline]
-    pub fn to(place: usize, frame: u32) -> Next
+    pub fn to(place: usize, frame: usize) -> Next
         ensures { result ≡ record { place = place; past = 0; frame = frame; goes = true } }
     {
         Next {
@@ -151,7 +151,7 @@ impl Next {
 
     /// To a place in the frame that was entered, unless the run stopped.
     #[inline]
-    pub fn entered(self, place: usize, frame: Option<u32>) -> Next
+    pub fn entered(self, place: usize, frame: Option<usize>) -> Next
         ensures { led result ≡ led_in place frame }
     {
         match frame {
@@ -162,7 +162,7 @@ impl Next {
 
     /// To a place in a frame, unless the run stopped.
     #[inline]
-    pub fn begun(self, place: Option<usize>, frame: u32) -> Next
+    pub fn begun(self, place: Option<usize>, frame: usize) -> Next
         ensures { led result ≡ led_to place frame }
     {
         match place {

@@ -71,7 +71,7 @@ impl State {
     pub fn cell(&self, here: Here, cell: u32) -> usize
         ensures { result ≡ here.frame + cell }
     {
-        here.frame as usize + cell as usize
+        here.frame + cell as usize
     }
 
     /// It does not go on.

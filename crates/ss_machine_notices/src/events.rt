@@ -648,7 +648,7 @@ pub fn take_event(state: &mut State, here: Here, events: &[Entry], cell: u32) ->
         None => on,
         Some(class) => {
             let place = begin_event(state, here, notice, class, events, cell);
-            on.begun(place, state.cell(here, cell) as u32)
+            on.begun(place, state.cell(here, cell))
         }
     }
 }
