@@ -1,6 +1,6 @@
 //! Tests and jumps.
 
-ghost use Rattle.std.specs.Prelude.{◌≡◌, ◌<◌, length, Some, is_some};
+ghost use Rattle.std.specs.Prelude.{◌≡◌, ◌<◌, ℕ, length, Some, is_some};
 ghost use Rattle.ss_base.specs.declared.value.Value.TheVariants.{Whole, Text};
 ghost use Rattle.ss_world.specs.PendingList.{next};
 ghost use Rattle.ss_world.specs.Sets.{count_in};
@@ -9,6 +9,7 @@ ghost use Rattle.ss_meaning.specs.Values.{allows, related};
 ghost use Rattle.ss_meaning.specs.Sets.{is_none};
 ghost use Rattle.ss_code_instructions.specs.Forms.{comparing_numbers};
 ghost use Rattle.ss_machine_instructions.specs.Doing.{Can, Does};
+ghost use Rattle.ss_machine_instructions.specs.declared.flow.Here.{Here as HereSeen};
 ghost use Rattle.ss_machine_instructions.specs.Ways.{none_of, back_if_at, on_if_at, tested_at};
 
 use crate::flow::Here;

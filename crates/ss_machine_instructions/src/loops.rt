@@ -1,6 +1,6 @@
 //! FOR over numbers.
 
-ghost use Rattle.std.specs.Prelude.{◌≡◌, not, pos, int_lt};
+ghost use Rattle.std.specs.Prelude.{◌≡◌, ℕ, not, pos, int_lt};
 ghost use Rattle.ss_code_instructions.specs.Machine.{has_item};
 ghost use Rattle.ss_machine_instructions.specs.Doing.{Can, Does};
 ghost use Rattle.ss_machine_instructions.specs.Ways.{next_in, back_if_at, on_after, on_if_at, tested_at};
