@@ -1,9 +1,9 @@
 -- Where a step leads that ends, or goes to a place in a frame.
-use Rattle.std.proofs.Common.{◌≡◌, ℕ, ◌+◌, true, Option, Some, None, ap, ◌∙◌, arith}
+use Rattle.std.proofs.Common.{◌≡◌, ℕ, ◌+◌, true, Option, Some, None, refl, ap, ◌∙◌, arith}
 use Rattle.std.specs.Prelude.{is_some, if◌then◌else◌}
 use Rattle.ss_machine_instructions.specs.declared.flow.Here.{Here}
 use Rattle.ss_machine_instructions.specs.declared.flow.Next.{Next}
-use Rattle.ss_machine_instructions.specs.Ways.{led}
+use Rattle.ss_machine_instructions.specs.Ways.{led, led_to, begun_at}
 
 -- the run stopped
 pub led_stopped : (n m : Next) (o : Option (Unit {0})) → m ≡ record n { goes = is_some o } → o ≡ None → led m ≡ None
@@ -14,3 +14,8 @@ pub led_there : (place frame : ℕ) (m : Next) → m ≡ record { place = place;
 led_there place frame m e =
     let same : place + 0 ≡ place = omega arith in
     ap led e ∙ ap (λ (p : ℕ). let h : Here = record { place = p; frame = frame } in Some h) same
+
+-- to the place where an event begins, in the frame that begins at a cell
+pub begun_is : (here : Here) (cell : ℕ) (place : Option ℕ) → led_to place (here.frame + cell) ≡ begun_at here cell place
+begun_is here cell (Some place) = refl
+begun_is here cell None = refl
