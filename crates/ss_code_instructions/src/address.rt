@@ -25,7 +25,7 @@ impl Address {
 
     /// A local variable or a cell, counted from where the frame begins.
     pub fn in_frame(number: u32) -> Address
-        ensures { result ≡ record { number = number; mask = 4294967295 } }
+        ensures { result ≡ record { number = number; mask = 18446744073709551615 } }
     {
         Address {
             number: number as usize,

@@ -107,8 +107,9 @@ impl Rows {
     pub fn len(&self) -> usize
         ensures numbers { result ≡ length self.now.numbers }
         ensures texts { result ≡ length self.now.texts }
+        ensures small { result < 2 ^ 63 }
     {
-        self.numbers.len()
+        self.numbers.as_slice().len()
     }
 
     // One place more, which holds this number and this text.
@@ -134,20 +135,15 @@ impl Rows {
         }
     }
 
-    /// At least so many places. The error comes where memory was refused, and where a place would have no number. Then there may
-    /// be more places than before.
+    /// At least so many places. The error comes where memory was refused. Then there may be more places than before.
     #[inline(never)]
     pub fn lengthen(&mut self, count: usize) -> Result<(), AllocError>
         ensures grown { Grown self.old self.new }
         ensures even { length self.new.texts ≡ length self.new.numbers }
         ensures room { OnOk result (count ≤ length self.new.numbers) }
-        ensures small { OnOk result (count < 2 ^ 32) }
+        ensures small { OnOk result (count < 2 ^ 63) }
         ensures most { OnOk result (length self.old.numbers ≤ count → length self.new.numbers ≡ count) }
     {
-        let _ = &self.numbers;
-        if count > u32::MAX as usize {
-            return Err(AllocError);
-        }
         while self.len() < count {
             self.push_both(0, Alpha::empty())?;
         }
@@ -157,11 +153,10 @@ impl Rows {
     /// At least so many places, as `lengthen`. Where there are as many, nothing changes.
     #[inline(always)]
     pub fn reach(&mut self, count: usize) -> Result<(), AllocError>
-        requires { length self.old.numbers < 2 ^ 32 }
         ensures grown { Grown self.old self.new }
         ensures even { length self.new.texts ≡ length self.new.numbers }
         ensures room { OnOk result (count ≤ length self.new.numbers) }
-        ensures small { OnOk result (length self.new.numbers < 2 ^ 32) }
+        ensures small { OnOk result (length self.new.numbers < 2 ^ 63) }
     {
         if self.len() < count {
             self.lengthen(count)?;
