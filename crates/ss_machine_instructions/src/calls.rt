@@ -21,7 +21,7 @@ impl State {
     #[inline(always)]
     pub fn enter(&mut self, here: Here, entry: &Entry, cell: u32) -> Result<usize, AllocError>
         requires sized { IsSized entry.now }
-        requires small { length self.old.rows.numbers < 2 ^ 32 }
+        requires small { here.frame < 2 ^ 63 }
         requires place { here.place + 1 < 2 ^ 64 }
         ensures ok { IfOk result (λ frame. Enters here self.old self.new entry.now cell frame) }
         ensures err { OnErr result (IsRefused self.old self.new) }

@@ -69,6 +69,7 @@ impl State {
     /// The place of a cell of the frame.
     #[inline(always)]
     pub fn cell(&self, here: Here, cell: u32) -> usize
+        requires { here.frame < 2 ^ 63 }
         ensures { result ≡ here.frame + cell }
     {
         here.frame + cell as usize

@@ -17,7 +17,7 @@ use Rattle.ss_machine_instructions.specs.declared.state.State.{State}
 use Rattle.ss_machine_instructions.proofs.Placing.{small}
 use Rattle.ss_machine_instructions.proofs.Filing.{one}
 use Rattle.ss_machine_notices.proofs.Beginning.{saved_within, receives_not}
-use Rattle.ss_machine_notices.proofs.Begun.{begun_class, begun_single, begun_rank, begun_said, begun_saved, begun_modes, begun_entry_within, held_small, frame_within}
+use Rattle.ss_machine_notices.proofs.Begun.{begun_class, begun_single, begun_rank, begun_said, begun_saved, begun_modes, begun_entry_within, begun_frame, frame_within}
 use Rattle.ss_machine_notices.proofs.Started.{entry_is, begins, begins_fault, unbegun_as}
 use Rattle.ss_machine_notices.proofs.events.begin_event.Goals as goal
 
@@ -46,7 +46,7 @@ enter-requires-clause-sized c =
     (entry_is z.0 z.1 c.args.here c.args.state.now c.args.cell c.args.notice c.args.class z.3 d at).sized
 
 pub enter-requires-clause-small : goal.enter-requires-clause-small
-enter-requires-clause-small c = let z = c.requires in held_small z.0 z.1 c.args.here c.args.state.now c.args.cell c.args.notice c.args.class z.3
+enter-requires-clause-small c = let z = c.requires in begun_frame z.0 z.1 c.args.here c.args.state.now c.args.cell c.args.notice c.args.class z.3
 
 pub enter-requires-clause-place : goal.enter-requires-clause-place
 enter-requires-clause-place c = let z = c.requires in let lt = small z.0 z.1 c.args.here z.3.before (TakeEvent c.args.cell) z.3.ready in omega (arith, lt)

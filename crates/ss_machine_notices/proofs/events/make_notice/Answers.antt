@@ -7,7 +7,11 @@ use Rattle.ss_machine_frames.specs.Rows.{TwoRows, with_number}
 use Rattle.ss_machine_instructions.specs.Doing.{Delivers, as_value}
 use Rattle.ss_machine_notices.specs.Giving.{MadeIn, Gives}
 use Rattle.ss_machine_notices.proofs.Notices.{makes_in, make_gives, make_core, make_delivers, makes, makes_not}
+use Rattle.ss_machine_instructions.proofs.Placing.{frame_small}
 use Rattle.ss_machine_notices.proofs.events.make_notice.Goals as goal
+
+pub cell-from-requires : goal.cell-from-requires
+cell-from-requires c = let z = c.requires in frame_small z.0 z.1 c.args.here c.args.state.now (Runs c.args.values.class c.args.values.cell c.args.values.count c.args.to.now c.args.values.noted) z.2
 
 pub number_at-time-requires : goal.number_at-time-requires
 number_at-time-requires c =

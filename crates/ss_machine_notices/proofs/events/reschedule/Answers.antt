@@ -6,10 +6,14 @@ use Rattle.ss_code_instructions.specs.declared.instruction.Instruction.TheVarian
 use Rattle.ss_machine_instructions.specs.Ways.{on_after}
 use Rattle.ss_machine_notices.specs.Giving.{SettledInWithMemory, Gives}
 use Rattle.ss_machine_notices.proofs.Notices.{again_in, again_gives, reschedules}
+use Rattle.ss_machine_instructions.proofs.Placing.{frame_small}
 use Rattle.ss_machine_notices.proofs.events.reschedule.Goals as goal
 
 pub number-notice-requires : goal.number-notice-requires
 number-notice-requires c = let z = c.requires in (again_in z.0 z.1 c.args.here c.args.state.now (Runs c.args.values.class c.args.notice.now c.args.values.cell c.args.values.count c.args.values.noted) z.2 c.args.values.class c.args.notice.now c.args.values.cell c.args.values.count z.2.runs.carries.1).0
+
+pub cell-from-requires : goal.cell-from-requires
+cell-from-requires c = let z = c.requires in frame_small z.0 z.1 c.args.here c.args.state.now (Runs c.args.values.class c.args.notice.now c.args.values.cell c.args.values.count c.args.values.noted) z.2
 
 pub number_at-time-requires : goal.number_at-time-requires
 number_at-time-requires c =

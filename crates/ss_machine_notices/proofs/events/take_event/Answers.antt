@@ -13,6 +13,7 @@ use Rattle.ss_machine_notices.specs.Beginning.{ComesNext}
 use Rattle.ss_machine_instructions.proofs.Leading.{led_stopped, begun_is}
 use Rattle.ss_machine_instructions.proofs.Ticking.{pauses, ticks}
 use Rattle.ss_machine_notices.proofs.Beginning.{goes_past, lives_as, next_taken}
+use Rattle.ss_machine_instructions.proofs.Placing.{frame_small}
 use Rattle.ss_machine_notices.proofs.events.take_event.Goals as goal
 
 pub returns-then-not-has_taken_tick : goal.returns-then-not-has_taken_tick
@@ -60,6 +61,9 @@ begin_event-place-requires c =
       subst (λ (y : ℤ). ComesNext z.0 z.1 c.args.here (record c.has_taken_tick.new.self { scene = e }) c.args.cell y class) (sym same)
           (subst (λ (t : State). ComesNext z.0 z.1 c.args.here t c.args.cell x class) (sym taken) n),
     )
+
+pub cell-requires : goal.cell-requires
+cell-requires c = let z = c.requires in frame_small z.0 z.1 c.args.here c.args.state.now (Runs c.args.cell) z.3
 
 pub returns-in-Some-class_of : goal.returns-in-Some-class_of
 returns-in-Some-class_of c = λ w core all r.

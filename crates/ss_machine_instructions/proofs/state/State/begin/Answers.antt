@@ -4,9 +4,12 @@ use Rattle.ss_code_instructions.specs.declared.instruction.Instruction.TheVarian
 use Rattle.ss_code_instructions.specs.Machine.{has_item}
 use Rattle.ss_code_instructions.specs.Shape.{Suits}
 use Rattle.ss_machine_instructions.specs.Ways.{on_if_at, tested_at}
-use Rattle.ss_machine_instructions.proofs.Placing.{suits}
+use Rattle.ss_machine_instructions.proofs.Placing.{suits, frame_small}
 use Rattle.ss_machine_instructions.proofs.Looping.{loop_within, loop_at, begins_not, begins}
 use Rattle.ss_machine_instructions.proofs.state.State.begin.Goals as goal
+
+pub cell-at-requires : goal.cell-at-requires
+cell-at-requires c = let z = c.requires in frame_small z.1.0 z.1.1 c.args.here c.args.self.now (Runs c.args.cell z.0) z.1.2
 
 pub number_at-step-requires : goal.number_at-step-requires
 number_at-step-requires c =

@@ -6,9 +6,12 @@ use Rattle.ss_code_instructions.specs.Machine.{has_item}
 use Rattle.ss_code_instructions.specs.Shape.{Suits}
 use Rattle.ss_machine_frames.proofs.Reading.{hold_length}
 use Rattle.ss_machine_instructions.specs.Ways.{on_if_at}
-use Rattle.ss_machine_instructions.proofs.Placing.{suits}
+use Rattle.ss_machine_instructions.proofs.Placing.{suits, frame_small}
 use Rattle.ss_machine_instructions.proofs.Looping.{class_within, class_count, begins_class}
 use Rattle.ss_machine_instructions.proofs.state.State.begin_class.Goals as goal
+
+pub cell-at-requires : goal.cell-at-requires
+cell-at-requires c = let z = c.requires in frame_small z.1.0 z.1.1 c.args.here c.args.self.now (Runs c.args.class c.args.cell z.0) z.1.2
 
 pub set_number_at-requires : goal.set_number_at-requires
 set_number_at-requires c =

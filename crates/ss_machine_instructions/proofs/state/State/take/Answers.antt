@@ -5,6 +5,7 @@ use Rattle.ss_code_instructions.specs.Machine.{is_due}
 use Rattle.ss_machine_instructions.specs.Ways.{on_after, on_at}
 use Rattle.ss_machine_instructions.proofs.Delivering.{put_within}
 use Rattle.ss_machine_instructions.proofs.Ticking.{pauses, takes_in, take_delivers, takes}
+use Rattle.ss_machine_instructions.proofs.Placing.{frame_small}
 use Rattle.ss_machine_instructions.proofs.state.State.take.Goals as goal
 
 pub returns-then-not-has_taken_tick : goal.returns-then-not-has_taken_tick
@@ -12,6 +13,9 @@ returns-then-not-has_taken_tick c = λ w core r.
     let none : c.has_taken_tick.result ≡ false = search rules in
     let kept = c.has_taken_tick.ensures.none none in
     pauses w core c.args.here c.args.self.now (Runs c.args.cell c.args.to.now) r c.stop.new.self (on_after c.args.here c.stop.result) (ap is_due r.runs.carries.2.2) kept.0 (search rules) (ap (on_after c.args.here) c.stop.ensures.none)
+
+pub cell-requires : goal.cell-requires
+cell-requires c = let z = c.requires in frame_small z.0 z.1 c.args.here c.args.self.now (Runs c.args.cell c.args.to.now) z.2
 
 pub number_at-item-requires : goal.number_at-item-requires
 number_at-item-requires c =
