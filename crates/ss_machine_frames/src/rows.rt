@@ -31,6 +31,7 @@ impl Model for Rows {
 /// The place of an address, where the frame begins here.
 #[inline(always)]
 pub fn place_of(frame: usize, address: &Address) -> usize
+    requires { place_at frame address.now < 2 ^ 64 }
     ensures { result ≡ place_at frame address.now }
 {
     (frame & address.mask) + address.number
@@ -144,6 +145,7 @@ impl Rows {
         ensures small { OnOk result (count < 2 ^ 63) }
         ensures most { OnOk result (length self.old.numbers ≤ count → length self.new.numbers ≡ count) }
     {
+        let _ = &self.numbers;
         while self.len() < count {
             self.push_both(0, Alpha::empty())?;
         }
