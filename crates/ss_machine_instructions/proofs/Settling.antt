@@ -1,5 +1,5 @@
 -- An operation of the world is done, and the machine goes on, or there is a fault.
-use Rattle.std.proofs.Common.{◌≡◌, ℕ, ◌+◌, ◌<◌, ◌^◌, Bool, false, List, length, Option, None, Ok, Err, refl, sym, ap, ◌∙◌, subst, arith}
+use Rattle.std.proofs.Common.{◌≡◌, ℕ, ◌+◌, Bool, false, List, length, Option, None, Ok, Err, refl, sym, ap, ◌∙◌, subst}
 use Rattle.std.specs.Prelude.{Result as OkOr}
 use Rattle.ss_base.specs.declared.fault.FaultKind.{FaultKind}
 use Rattle.ss_base.specs.declared.value.Value.{Value}
@@ -20,7 +20,7 @@ use Rattle.ss_machine_instructions.specs.declared.state.State.{State}
 use Rattle.ss_machine_instructions.specs.Doing.{Compiled, Holds, Ready, NoTick, Comes}
 use Rattle.ss_machine_instructions.specs.Ways.{on_at, on_after, unless_fault, faulted, faulted_by}
 use Rattle.ss_machine_instructions.specs.Worldly.{Settled, Settles, IsTold}
-use Rattle.ss_machine_instructions.proofs.Placing.{site, located, small, calm}
+use Rattle.ss_machine_instructions.proofs.Placing.{site, located, calm}
 use Rattle.ss_machine_instructions.proofs.Delivering.{faults}
 
 -- ## Operations that do not go wrong
@@ -60,10 +60,6 @@ module _ (w : Compiled) (c : Core) (here : Here) (s : State) (run : Running) (r 
   -- what the running instruction does not note no statistic watches
   pub is_told : (notes : Bool) (subject : Subject) → (notes ≡ false → watch w.code.setting.statistics subject ≡ false) → IsTold notes subject s.scene
   is_told notes subject reported none = ap (λ (ss : List Statistic). watch ss subject) statistics_seen ∙ reported none
-
-  -- there is a next place
-  pub next_small : here.place + 1 < 2 ^ 64
-  next_small = let lt = small w c here s run r in omega (arith, lt)
 
   -- ## What is held once more is seen
 
