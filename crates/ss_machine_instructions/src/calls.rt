@@ -86,7 +86,6 @@ impl State {
         ensures rows { Yielded self.old.rows self.new.rows (to + frame.given) to frame.yielding }
         ensures same { self.new ≡ record self.old { rows = self.new.rows } }
     {
-        let to = to as usize;
         let from = to + frame.given as usize;
         self.rows.yield_down(from, to, frame.yielding as usize);
     }

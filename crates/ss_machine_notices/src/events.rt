@@ -622,7 +622,7 @@ fn begin_event(
     let what = Giving {
         class,
         notice,
-        from: frame as usize,
+        from: frame,
         noted: false,
     };
     match receive(state, what, rank, &entry.given) {
