@@ -82,7 +82,8 @@ impl State {
     // What is yielded goes where the frame begins, the first on top.
     #[inline(never)]
     fn yield_values(&mut self, to: usize, frame: Frame)
-        requires { to + frame.given + frame.yielding ≤ length self.old.rows.numbers }
+        requires within { to + frame.given + frame.yielding ≤ length self.old.rows.numbers }
+        requires small { length self.old.rows.numbers < 2 ^ 63 }
         ensures rows { Yielded self.old.rows self.new.rows (to + frame.given) to frame.yielding }
         ensures same { self.new ≡ record self.old { rows = self.new.rows } }
     {

@@ -9,12 +9,15 @@ pub returns-in-None : goal.returns-in-None
 returns-in-None c = λ w core r.
     leaves_end w core c.args.here c.args.self.now Runs r c.stop.new.self (led c.after.result) r.runs.carries (search rules) (search rules) (led_stopped c.on.result c.after.result c.stop.result c.after.ensures c.stop.ensures.none)
 
-pub yield_values-requires : goal.yield_values-requires
-yield_values-requires c =
+pub yield_values-requires-clause-within : goal.yield_values-requires-clause-within
+yield_values-requires-clause-within c =
     let z = c.requires in
     let e : c.args.self.now.frames ≡ c.in-Some.frame ∷ c.pop.new.self = search rules in
     let v = leaves z.0 z.1 c.args.here c.args.self.now Runs z.2 c.in-Some.frame c.pop.new.self z.2.runs.carries e in
     yields_within z.0 z.1 c.args.here c.args.self.now Runs z.2 c.in-Some.frame c.pop.new.self v
+
+pub yield_values-requires-clause-small : goal.yield_values-requires-clause-small
+yield_values-requires-clause-small c = let z = c.requires in z.2.holds.held.small
 
 pub returns-then-frame-eq0 : goal.returns-then-frame-eq0
 returns-then-frame-eq0 c = λ w core r.
