@@ -31,7 +31,7 @@ pub struct Machine {
     code: Code,
     state: State,
     place: usize,
-    frame: u32,
+    frame: usize,
     buffers: Buffers,
     used: u64,
     stopped: Option<Stop>,
