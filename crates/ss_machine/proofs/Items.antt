@@ -92,7 +92,7 @@ mean_is (Err found) (Err (Fails kind)) h x e = let is : Mean (pos 0) (pos 0) ≡
 mean_is answer (Err Misfit) h x e = absurd cc
 
 -- the place after the cells of an item is one
-pub place_small : (e : Seen) (r : TwoRows) (at : ℕ) (k : ItemKind) → CanShowOne e r at k → length r.numbers < 2 ^ 32 → at < 2 ^ 64 → at + cells_of k < 2 ^ 64
+pub place_small : (e : Seen) (r : TwoRows) (at : ℕ) (k : ItemKind) → CanShowOne e r at k → length r.numbers < 2 ^ 63 → at < 2 ^ 64 → at + cells_of k < 2 ^ 64
 place_small e r at shows.Number h few low = omega (arith, h, few)
 place_small e r at shows.Text h few low = omega (arith, h, few)
 place_small e r at (shows.Mean j) h few low = omega (arith, low)
@@ -154,7 +154,7 @@ module _ (e : Seen) (r : TwoRows) (from : ℕ) (all : List ItemKind) where
       can_then h = subst (λ n. CanShow e r (at + n) (drop (i + 1) all)) (sym cells) (can_both h).1
 
       -- the place after its cells is one
-      pub small_then : CanShow e r at (drop i all) → length r.numbers < 2 ^ 32 → at < 2 ^ 64 → at + n < 2 ^ 64
+      pub small_then : CanShow e r at (drop i all) → length r.numbers < 2 ^ 63 → at < 2 ^ 64 → at + n < 2 ^ 64
       small_then h few low = subst (λ n. at + n < 2 ^ 64) (sym cells) (place_small e r at kind (can_both h).0 few low)
 
       -- one more

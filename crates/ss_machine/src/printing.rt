@@ -86,7 +86,7 @@ fn print_from<W: FaultyWrite>(
     sink: &mut Sink<W>,
 ) -> Result<(), Ending>
     requires can { CanShow state.now.scene state.now.rows from lines.now.items }
-    requires small { length state.now.rows.numbers < 2 ^ 32 }
+    requires small { length state.now.rows.numbers < 2 ^ 63 }
     requires fields { TakeAll state.now.scene state.now.rows from lines.now }
     ensures ok { OnOk result (SentAll state.now.scene state.now.rows from lines.now (W.contents sink.old.writer) (W.contents sink.new.writer)) }
     ensures err { OnErr result (SentPart state.now.scene state.now.rows from lines.now (W.contents sink.old.writer) (W.contents sink.new.writer)) }

@@ -82,7 +82,7 @@ pub(crate) fn show(
     from: usize,
 ) -> Result<(), AllocError>
     requires can { CanShow state.now.scene state.now.rows from kinds.now }
-    requires small { length state.now.rows.numbers < 2 ^ 32 }
+    requires small { length state.now.rows.numbers < 2 ^ 63 }
     ensures shown { OnOk result (AreShown state.now.scene state.now.rows from kinds.now items.new.items) }
     ensures printable { OnOk result (AllByRecursion IsPrintable items.new.items) }
 {
