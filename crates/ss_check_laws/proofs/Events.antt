@@ -30,14 +30,14 @@ use Rattle.ss_names.specs.declared.meaning.Meaning.TheVariants as m
 use Rattle.ss_names.specs.Entries.{event_by, given_by}
 use Rattle.ss_names.specs.Table.{Table, table}
 use Rattle.ss_names_scopes.specs.Locals.{defined, local_used, locals_of, moded_in}
-use Rattle.ss_names_scopes.specs.Scopes.{Scope, hidden_by, known_mode, scope_of}
+use Rattle.ss_names_scopes.specs.Scopes.{Scope, hidden_by, is_main, known_mode, scope_of}
 use Rattle.ss_program.specs.declared.expression.Variable.TheVariants.{Global}
 use Rattle.ss_program.specs.declared.statement.CountedClass.{CountedClass}
 use Rattle.ss_program.specs.Program.{Done, Event, Program}
 use Rattle.ss_program.specs.WellTyped.{GoodBlock, GoodEvent, GoodKeys, IsPlain}
 use Rattle.ss_check_rules.specs.Counts.{has_attributes, suits_count}
 use Rattle.ss_check_rules.specs.Modes.{attribute_mode, field_mode as mode_of_field, mode_meant, mode_of_attribute, mode_said}
-use Rattle.ss_check_rules.specs.Refusal.{eventless, eventless_of, in_preamble, is_main, use_breaks}
+use Rattle.ss_check_rules.specs.Refusal.{eventless, eventless_of, in_preamble, use_breaks}
 use Rattle.ss_check_rules.specs.declared.error.CheckError.TheVariants as errors
 use Rattle.ss_names_meaning.specs.Answers.{◌>>=◌, each, upto}
 use Rattle.ss_names_meaning.specs.Layouts.{ResolvedLayout, class_laid, disciplines, field_mode, layout, set_laid, statistics, tie_keys}
@@ -105,7 +105,7 @@ module _ (p : tree.ProgramTree) (x : ResolvedLayout) (k : IsUnbroken p x) where
       let same : plain ≡ x.layout = made.1 ∙ ap (λ (r : ResolvedLayout). r.layout) (same_Some _ x s.2) in
       (cs.1 ∙ ap (λ (z : PlainLayout). Some z.classes) same, subst (λ z. is_sound z ≡ true) same (and_parts (is_sound plain) _ made.0).0)
 
-  class_there : (class : ℕ) (name : NameBytes) (kind : ClassKind) → slice_get t.classes class ≡ Some (name, kind) → (c : PlainClass) × (slice_get x.layout.classes class ≡ Some c) × (c.kind ≡ kind)
+  pub class_there : (class : ℕ) (name : NameBytes) (kind : ClassKind) → slice_get t.classes class ≡ Some (name, kind) → (c : PlainClass) × (slice_get x.layout.classes class ≡ Some c) × (c.kind ≡ kind)
   class_there class name kind e =
       let at = numbers_at (class_laid t) (length t.classes) x.layout.classes class laid_classes.0 (slice_get_within t.classes class (name, kind) e) in
       (at.0, at.1, same_Some at.0.kind kind (sym (class_parts t class at.0 at.2).0 ∙ value_at t.classes class name kind e))

@@ -27,8 +27,8 @@ use Rattle.ss_check_rules.specs.Kinds.{if_means, is_target, may_have, meaning_in
 use Rattle.ss_check_rules.specs.Modes.{is_mean_as_value, is_text, mixes_modes, mode_meant, mode_said}
 use Rattle.ss_check_rules.specs.Refusal.{meant_breaks, place_breaks, unless}
 use Rattle.ss_check_rules.specs.declared.error.CheckError.TheVariants as errors
-use Rattle.ss_names_meaning.specs.Answers.{◌>>=◌}
-use Rattle.ss_names_meaning.specs.Expressions.{entity_of, expression, fetched, of_owner, owner_named, place_named, subscript, with_entity}
+use Rattle.ss_names_meaning.specs.Answers.{◌>>=◌, of_one}
+use Rattle.ss_names_meaning.specs.Expressions.{entity_of, expression, of_owner, owner_named, place_named, subscript, with_entity}
 use Rattle.ss_check_laws.specs.Links.{IsLinked}
 use Rattle.ss_check_laws.proofs.Steps.{alike, first_fails, first_holds, goes, holds_unless, meant}
 use Rattle.ss_check_laws.proofs.Linked.{IsHere, IsOwner, IsSetHere, IsStatisticHere, IsSubjectHere, implied_here, meaning_here, owner_here}
@@ -54,7 +54,7 @@ place_kept s line role d n b h = first_holds (suits s role d) (meant_breaks s li
 
 -- the entity in a variable that a class's name means
 entity_fetched : (o : Option Meaning) (m : Meaning) (v : Variable) → o ≡ Some m → variable_of m ≡ Some v →
-    ((o >>= λ n. fetched (variable_of n)) >>= λ e. Some (Some e)) ≡ Some (Some (Fetch v))
+    ((o >>= λ n. of_one (variable_of n) Fetch) >>= λ e. Some (Some e)) ≡ Some (Some (Fetch v))
 entity_fetched o m v h e = rw (h, e) refl
 
 at_most_one : (o : Owner) (n : ℕ) → may_have o n ≡ true → n ≤ 1

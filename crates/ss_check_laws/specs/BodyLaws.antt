@@ -11,8 +11,7 @@ use Rattle.ss_tree.specs.Tree.{ExpressionTree, NamedTree, ConditionTree, HeadTre
 use Rattle.ss_names_uses.specs.declared.used.ClassNeed.{ClassNeed}
 use Rattle.ss_names_uses.specs.declared.used.Role.TheVariants as roles
 use Rattle.ss_names_uses.specs.Uses as uses
-use Rattle.ss_names_scopes.specs.Scopes.{Scope}
-use Rattle.ss_check_rules.specs.Kinds.{is_kind}
+use Rattle.ss_names_scopes.specs.Scopes.{Scope, is_kind}
 use Rattle.ss_check_rules.specs.Modes.{mode_said}
 use Rattle.ss_program.specs.Program.{Expression, Item, SetOwner, Condition, Place as Target, ToVariable, Restart, Head, Phrase, Guard, Block}
 use Rattle.ss_program.specs.WellTyped.{Scope as Place, HasMode, TakesMode, TakesItem, OwnerFits, GoodCondition, GoodHead, GoodPhrase, GoodRestart, GoodBlock, kind_of_class}

@@ -3,7 +3,7 @@ use Rattle.std.specs.Prelude.{ℕ, Bool, true, false, not, ◌&&◌, ◌||◌, L
 use Rattle.std.specs.List.{flat_map, list_any}
 use Rattle.ss_base.specs.declared.line.Line.{Line}
 use Rattle.ss_tree.specs.Names.{NameBytes}
-use Rattle.ss_tree.specs.Tree.{PreambleTree, event_notices, every, statistics, SectionKindTree, main, SectionTree, ProgramTree}
+use Rattle.ss_tree.specs.Tree.{PreambleTree, event_notices, every, statistics, SectionTree, ProgramTree}
 use Rattle.ss_tree.specs.declared.expression.Designator.{Designator}
 use Rattle.ss_base.specs.declared.layout.ClassKind.{ClassKind}
 use Rattle.ss_base.specs.declared.layout.ClassKind.TheVariants.{Notice}
@@ -18,7 +18,7 @@ use Rattle.ss_names_uses.specs.Uses.{uses}
 use Rattle.ss_names.specs.declared.meaning.Meaning.{Meaning}
 use Rattle.ss_names.specs.Table.{Table, table}
 use Rattle.ss_names_scopes.specs.Locals.{as_list}
-use Rattle.ss_names_scopes.specs.Scopes.{Scope, meaning, meaning_of_name, scope_of}
+use Rattle.ss_names_scopes.specs.Scopes.{Scope, is_main, is_main_section, meaning, meaning_of_name, scope_of}
 use Rattle.ss_check_rules.specs.Counts.{suits_count}
 use Rattle.ss_check_rules.specs.Kinds.{if_means, is_mean, is_routine, is_target, may_be_watched, meaning_in_role, suits, suits_class, suits_subscripts, takes_values}
 use Rattle.ss_check_rules.specs.Modes.{differ, is_text, mixes_modes, mode_said}
@@ -69,13 +69,6 @@ used_breaks s in_main line Unfit = Some (e.Fields line)
 
 abbrev pub use_breaks : Scope → Bool → Use → Option CheckError
 use_breaks s in_main u = used_breaks s in_main u.line u.what
-
-abbrev pub is_main : SectionKindTree → Bool
-is_main main = true
-is_main _ = false
-
-abbrev pub is_main_section : SectionTree → Bool
-is_main_section s = is_main s.kind
 
 -- a use that breaks a rule
 abbrev pub breaks : Scope → Bool → Use → List CheckError

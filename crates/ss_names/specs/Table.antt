@@ -1,6 +1,6 @@
 -- One table of what a program declares. Each thing is numbered by its place in a list.
-use Rattle.std.specs.Prelude.{ℕ, ◌++◌, Bool, true, false, not, List, [], ◌∷◌, map, Option, Some, None, is_some, if◌then◌else◌, slice_get, nat_lt}
-use Rattle.std.specs.List.{flat_map, fold}
+use Rattle.std.specs.Prelude.{ℕ, ◌++◌, Bool, true, false, not, List, [], ◌∷◌, map, Option, Some, None, is_some, if◌then◌else◌, slice_get}
+use Rattle.std.specs.List.{flat_map}
 use Rattle.std.specs.Map.{keys_of}
 use Rattle.std.specs.Option.{option_map}
 use Rattle.ss_base.specs.declared.line.Line.{Line}
@@ -41,8 +41,6 @@ use Rattle.ss_names.specs.Modes.{value_mode}
 pub record Table : Type 0 where
   -- each global and derived name, with what it means
   pub meanings : List (NameBytes × Meaning)
-  -- the first line where a name is declared as two things
-  pub clash : Option Line
   -- the mode that NORMALLY gives
   pub usual : Option Mode
   -- the modes that DEFINEs give
@@ -70,7 +68,6 @@ pub record Table : Type 0 where
 abbrev pub numbered : List Declaration → Table
 numbered ds = record {
   meanings = [];
-  clash = None;
   usual = usual_mode ds;
   modes = modes ds;
   classes = classes ds;
@@ -193,14 +190,6 @@ clashes_after before (e ∷ es) =
 abbrev pub clashes : List Declaration → List Line
 clashes ds = clashes_after [] (flat_map (entered_by (numbered ds)) ds)
 
--- the first in the text of what was found so far and a line
-abbrev pub sooner : Option Line → Line → Option Line
-sooner None line = Some line
-sooner (Some found) line = if nat_lt line.0 found.0 then Some line else Some found
-
-abbrev pub first_line : List Line → Option Line
-first_line lines = fold sooner None lines
-
 -- ---- subjects of statistics
 
 -- what may have a history: a variable of a DEFINE, an attribute, or N. of a set
@@ -219,7 +208,6 @@ subjects_by ms names = map (λ name. subject_of (value_for ms name)) names
 abbrev pub declared : List Declaration → Table
 declared ds = record (numbered ds) {
   meanings = meanings ds;
-  clash = first_line (clashes ds);
   subjects = subjects_by (meanings ds) (keys_of (histories ds));
 }
 

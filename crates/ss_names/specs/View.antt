@@ -7,7 +7,6 @@ use Rattle.ss_names.specs.Table.{Table}
 abbrev pub table_seen : Inside → Table
 table_seen n = record {
   meanings = n.meanings;
-  clash = n.clash;
   usual = n.usual;
   modes = n.modes;
   classes = n.classes;

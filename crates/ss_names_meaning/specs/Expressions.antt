@@ -3,7 +3,6 @@ use Rattle.std.specs.Prelude.{ℕ, option_map, Option, Some, None}
 use Rattle.ss_base.specs.declared.value.Value.TheVariants.{Whole, Text}
 use Rattle.ss_tree.specs.declared.expression.Function.TheVariants.{One, Two}
 use Rattle.ss_tree.specs.Tree.{ExpressionTree, number, text, named, call, parenthesised, product, signed, sum, ExpressionRow, no_expression, and_expression, TermRow, no_term, and_term, NamedTree}
-use Rattle.ss_program.specs.declared.expression.Variable.{Variable}
 use Rattle.ss_program.specs.declared.expression.Variable.TheVariants.{Global}
 use Rattle.ss_base.specs.declared.words.Sign.{Sign}
 use Rattle.ss_base.specs.declared.words.Sign.TheVariants.{Plus, Minus}
@@ -19,7 +18,7 @@ use Rattle.ss_names.specs.declared.meaning.Meaning.{Meaning}
 use Rattle.ss_names.specs.declared.meaning.Meaning.TheVariants as meanings
 use Rattle.ss_names.specs.Table.{owner_of}
 use Rattle.ss_names_scopes.specs.Scopes.{Scope, meaning, meaning_of_class, variable_of}
-use Rattle.ss_names_meaning.specs.Answers.{◌>>=◌}
+use Rattle.ss_names_meaning.specs.Answers.{◌>>=◌, of_one}
 
 -- ---- words
 
@@ -30,23 +29,16 @@ resolved_operator Minus = Subtract
 
 -- ---- names by what they mean
 
--- the entity in a variable
-abbrev pub fetched : Option Variable → Option Expression
-fetched None = None
-fetched (Some x) = Some (Fetch x)
-
 -- the entity in the variable of a class
 abbrev pub entity_implied : Scope → ℕ → Option Expression
 entity_implied s class = do
   m ← meaning_of_class s class
-  fetched (variable_of m)
+  of_one (variable_of m) Fetch
 
 -- of each entity of a class: the one in the subscript, or else the one in the variable of the class
 abbrev pub of_class : Scope → ℕ → Option Expression → Option (Option Expression)
 of_class s class (Some e) = Some (Some e)
-of_class s class None = do
-  e ← entity_implied s class
-  Some (Some e)
+of_class s class None = of_one (entity_implied s class) Some
 
 -- of THE SYSTEM: none, and no subscript
 abbrev pub of_system : Option Expression → Option (Option Expression)
@@ -134,19 +126,13 @@ module _ (s : Scope) where
       e ← subscript subscripts
       p ← with_entity s designator e
       resolved_value p.0 p.1
-    expression (call (One op) arguments) = do
-      e ← one arguments
-      Some (Unary op e)
-    expression (call (Two op) arguments) = do
-      p ← two arguments
-      Some (Calculate op p.0 p.1)
+    expression (call (One op) arguments) = of_one (one arguments) (Unary op)
+    expression (call (Two op) arguments) = of_one (two arguments) (λ p. Calculate op p.0 p.1)
     expression (parenthesised e) = expression e
     expression (product first further) = do
       left ← expression first
       factors left further
-    expression (signed sign term) = do
-      e ← expression term
-      Some (Signed sign e)
+    expression (signed sign term) = of_one (expression term) (Signed sign)
     expression (sum first further) = do
       left ← expression first
       terms left further
@@ -154,9 +140,7 @@ module _ (s : Scope) where
     -- the subscript, if there is one; None if there are more
     pub subscript : ExpressionRow → Option (Option Expression)
     subscript no_expression = Some None
-    subscript (and_expression e no_expression) = do
-      x ← expression e
-      Some (Some x)
+    subscript (and_expression e no_expression) = of_one (expression e) Some
     subscript _ = None
 
     -- one argument

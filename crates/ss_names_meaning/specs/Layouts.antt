@@ -13,6 +13,7 @@ use Rattle.ss_tree.specs.Names.{NameBytes}
 use Rattle.ss_names_declarations.specs.declared.declaration.SetRule.{SetRule}
 use Rattle.ss_names_declarations.specs.declared.declaration.SetRule.TheVariants as rules
 use Rattle.ss_names_declarations.specs.Firsts.{same_name, value_for}
+use Rattle.ss_names.specs.declared.entry.Attribute.{Attribute}
 use Rattle.ss_names.specs.declared.entry.Order.{Order}
 use Rattle.ss_names.specs.declared.entry.Set.{Set}
 use Rattle.ss_names.specs.declared.entry.RankedBy.{RankedBy}
@@ -22,15 +23,13 @@ use Rattle.ss_names.specs.declared.meaning.Meaning.TheVariants as meanings
 use Rattle.ss_names.specs.Table.{Table}
 use Rattle.ss_program.specs.declared.sections.Statistic.{Statistic}
 use Rattle.ss_program.specs.declared.statement.CountedClass.{CountedClass}
-use Rattle.ss_names_meaning.specs.Answers.{◌>>=◌, each, upto, where_holds}
+use Rattle.ss_names_meaning.specs.Answers.{◌>>=◌, each, of_one, upto, where_holds}
 
 -- ---- classes and sets
 
 -- the mode of an attribute by its name
 abbrev pub field_mode : Table → NameBytes → Option Mode
-field_mode t name = do
-  attribute ← value_for t.attributes name
-  Some attribute.mode
+field_mode t name = of_one (value_for t.attributes name) (λ (a : Attribute). a.mode)
 
 -- the class of this number, with the modes of its attributes
 abbrev pub class_laid : Table → ℕ → Option PlainClass
@@ -79,8 +78,7 @@ ruled t member statement rules.Fifo = Some orders.Fifo
 ruled t member statement rules.Lifo = Some orders.Lifo
 ruled t member statement rules.Ranked = do
   class ← member
-  keys ← rank_keys t class statement
-  Some (orders.Ranked keys)
+  of_one (rank_keys t class statement) orders.Ranked
 
 -- a set without a DEFINE is FIFO
 abbrev pub ordered : Table → Option ℕ → Option Order → Option Discipline

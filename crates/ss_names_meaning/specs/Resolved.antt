@@ -1,21 +1,23 @@
 -- A resolved program: each name is replaced by what it means.
-use Rattle.std.specs.Prelude.{ℕ, map, nat_eq, nat_le, Bool, true, false, List, [], length, take, drop, slice_get, get_or, Option, Some, None}
-use Rattle.std.specs.List.{list_all, list_any, position}
+use Rattle.std.specs.Prelude.{ℕ, map, nat_le, Bool, true, false, List, [], length, take, drop, slice_get, get_or, Option, Some, None}
+use Rattle.std.specs.List.{list_all, position}
 use Rattle.std.specs.Map.{keys_of, values_of}
 use Rattle.ss_base.specs.declared.layout.Mode.{Mode}
 use Rattle.ss_base.specs.declared.layout.RankKey.{RankKey}
 use Rattle.ss_base.specs.declared.line.Line.{Line}
-use Rattle.ss_tree.specs.Tree.{SectionKindTree, main, routine, event, SectionTree, statement_row}
+use Rattle.ss_tree.specs.Tree.{SectionKindTree, event, SectionTree, statement_row}
 use Rattle.ss_tree.specs.Names.{NameBytes}
 use Rattle.ss_names.specs.declared.entry.EventSection.{EventSection}
-use Rattle.ss_names_declarations.specs.Firsts.{place_in, value_for}
+use Rattle.ss_names_declarations.specs.Firsts.{value_for}
 use Rattle.ss_names.specs.declared.entry.RoutineSection.{RoutineSection}
 use Rattle.ss_names.specs.declared.meaning.Meaning.{Meaning}
 use Rattle.ss_names.specs.declared.meaning.Meaning.TheVariants as meanings
+use Rattle.ss_names.specs.Entries.{is_notice}
 use Rattle.ss_names.specs.Table.{Table}
 use Rattle.ss_names_scopes.specs.Locals.{Moded, locals_of}
+use Rattle.ss_names_scopes.specs.Scopes.{is_main_section}
 use Rattle.ss_program.specs.Program.{Block, Routine, Event, Program}
-use Rattle.ss_names_meaning.specs.Answers.{◌>>=◌, each, upto, where_holds}
+use Rattle.ss_names_meaning.specs.Answers.{◌>>=◌, each, of_one, of_three, upto, where_holds}
 use Rattle.ss_names_meaning.specs.Layouts.{ResolvedLayout, laid_out, tie_keys}
 use Rattle.ss_names_meaning.specs.Statements.{statements}
 
@@ -68,9 +70,7 @@ routine_of given yielding parts = record {
 
 -- the routine of this number, by a function that resolves each section
 abbrev pub routine_from : (ℕ → Option Parts) → RoutineSection → Option Routine
-routine_from section known = do
-  parts ← section known.section
-  Some (routine_of known.given known.yielding parts)
+routine_from section known = of_one (section known.section) (routine_of known.given known.yielding)
 
 -- ---- event routines
 
@@ -102,10 +102,8 @@ event_of_class class keys given variable parts = record {
 abbrev pub class_event_from : Table → (ℕ → Option Parts) → ℕ → NameBytes → EventSection → Option Event
 class_event_from t section class name known = do
   given ← where_holds (nat_le known.given (length (get_or t.fields class []))) known.given
-  keys ← tie_keys t class name
-  variable ← saved t name known.saving
-  parts ← section known.section
-  Some (event_of_class class keys given variable parts)
+  of_three (tie_keys t class name) (saved t name known.saving) (section known.section)
+      (λ keys variable parts. event_of_class class keys given variable parts)
 
 -- the notice class of this number, by a function that resolves each section
 abbrev pub event_from : Table → (ℕ → Option Parts) → ℕ → Option Event
@@ -114,33 +112,20 @@ event_from t section class = do
   known ← value_for t.events name
   class_event_from t section class name known
 
-abbrev pub is_ranked : Table → Option ℕ → Bool
-is_ranked t None = false
-is_ranked t (Some class) = list_any (nat_eq class) t.ranks
-
 -- whether the class of an EVENT section is a notice class
 abbrev pub is_known_kind : Table → SectionKindTree → Bool
-is_known_kind t main = true
-is_known_kind t (routine name given yielding) = true
-is_known_kind t (event name given saving) = is_ranked t (place_in t.classes name)
+is_known_kind t (event name given saving) = is_notice (value_for t.classes name)
+is_known_kind t _ = true
 
 abbrev pub is_known : Table → SectionTree → Bool
 is_known t s = is_known_kind t s.kind
 
 -- ---- the program
 
-abbrev pub is_main_kind : SectionKindTree → Bool
-is_main_kind main = true
-is_main_kind (routine name given yielding) = false
-is_main_kind (event name given saving) = false
-
-abbrev pub has_main_kind : SectionTree → Bool
-has_main_kind s = is_main_kind s.kind
-
 -- MAIN, the first if there are several, by a function that resolves each section
 abbrev pub main_from : (ℕ → Option Parts) → List SectionTree → Option Parts
 main_from section sections = do
-  n ← position has_main_kind sections
+  n ← position is_main_section sections
   section n
 
 -- the program with this layout, by a function that resolves each section, and MAIN

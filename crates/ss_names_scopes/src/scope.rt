@@ -3,14 +3,17 @@
 ghost use Rattle.ss_names_scopes.specs.Seen.{scope_seen};
 ghost use Rattle.std.specs.Prelude.{◌≡◌, ◌+◌, slice_get};
 ghost use Rattle.std.specs.Map.{values_of};
-ghost use Rattle.ss_names_scopes.specs.Scopes.{implied, known_mode, meaning, meaning_of_class, meaning_of_name, mode_at, mode_given, mode_of, parameter_mode, variable_of};
+ghost use Rattle.ss_tree.specs.View.{view_section};
+ghost use Rattle.ss_names_scopes.specs.Scopes.{history_of, implied, is_kind, is_main_section, known_mode, meaning, meaning_of_class, meaning_of_name, mode_at, mode_given, mode_of, parameter_mode, variable_of};
 
 use crate::locals::Locals;
-use ss_base::{Mode, Name, Owner};
+use ss_base::{ClassKind, Mode, Name, Owner};
 use ss_names::{Meaning, Names};
 use ss_names_declarations::key_at;
+use ss_names_uses::ClassNeed;
 use ss_program::expression::Variable;
 use ss_tree::expression::Designator;
+use ss_tree::program::{Section, SectionKind};
 
 /// A section of a program: the table, the local variables of the section, and those of all sections.
 #[derive(Clone, Copy)]
@@ -77,6 +80,27 @@ fn yielded_in_section(
     match sections.get(section) {
         Some(locals) => mode_after(locals, given, place),
         None => None,
+    }
+}
+
+/// Whether a section is MAIN.
+pub fn is_main(section: &Section) -> bool
+    ensures { result ≡ is_main_section (view_section section.now) }
+{
+    match &section.kind {
+        SectionKind::Main => true,
+        _ => false,
+    }
+}
+
+/// Whether a class is of the kind that a place needs.
+pub fn is_kind(need: ClassNeed, kind: ClassKind) -> bool
+    ensures { result ≡ is_kind need kind }
+{
+    match need {
+        ClassNeed::Permanent => matches!(kind, ClassKind::Permanent),
+        ClassNeed::Notice => matches!(kind, ClassKind::Notice),
+        ClassNeed::Single => !matches!(kind, ClassKind::Permanent),
     }
 }
 
@@ -150,6 +174,21 @@ impl<'a> Scope<'a> {
         match self.names.owner_of(meaning) {
             Owner::Class(class) => self.meaning_of_class(class),
             Owner::System => None,
+        }
+    }
+
+    /// The number of the history of what is named. A name that a local variable hides has none.
+    pub fn history_of(&self, place: &Designator) -> Option<usize>
+        ensures { result ≡ history_of (scope_seen self.now) place.now }
+    {
+        let names = self.names;
+        match place {
+            Designator::Name(name) => match self.locals.number(name) {
+                Some(_) => None,
+                None => names.histories.place(name),
+            },
+            Designator::TimeV => None,
+            Designator::TimeA => None,
         }
     }
 

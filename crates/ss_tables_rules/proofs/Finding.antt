@@ -3,7 +3,7 @@ use Rattle.std.proofs.Common.{◌≡◌, not, nat_lt, Bool, true, false, cond, L
 use Rattle.std.specs.List.{fold}
 use Rattle.ss_base.specs.declared.line.Line.{Line}
 use Rattle.ss_names_declarations.specs.Earliest.{earlier, earlier_of}
-use Rattle.ss_names.specs.Table.{sooner}
+use Rattle.ss_names.specs.Filling.{sooner}
 use Rattle.ss_tables_rules.specs.Order.{order_of}
 use Rattle.ss_tables_rules.specs.Rules.{unless}
 use Rattle.ss_tables_rules.specs.declared.error.TableError.{TableError}

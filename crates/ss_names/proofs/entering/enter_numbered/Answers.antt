@@ -5,16 +5,16 @@ use Rattle.ss_program.specs.declared.expression.MemberQuery.TheVariants.{Predece
 use Rattle.ss_tree.specs.Names.{NameBytes}
 use Rattle.ss_names.specs.declared.meaning.Meaning.TheVariants as m
 use Rattle.ss_names.specs.Table.{derived_name}
-use Rattle.ss_names.specs.Filling.{enter}
+use Rattle.ss_names.specs.Filling.{enter, entered}
 use Rattle.ss_names.proofs.Steps.{one_further}
-use Rattle.ss_names.proofs.filling.enter_numbered.Goals as goal
+use Rattle.ss_names.proofs.entering.enter_numbered.Goals as goal
 
 pub returns : goal.returns
 returns c =
     let step = enter c.args.line in
     let name = c.args.name.now in
     let set = c.args.set in
-    let one = c.in_ok-enter.ensures ∙ ap (λ (n : NameBytes). step c.args.names.now (n, m.Set set)) c.of_name.ensures in
+    let one = c.in_ok-enter.ensures ∙ ap (λ (n : NameBytes). step (entered c.args.meanings.now c.args.clash.now) (n, m.Set set)) c.of_name-spelling.ensures in
     let two = one_further step (derived_name 70 name, m.OfSet FirstMember set) one c.in_ok-enter_of_set.ensures in
     let three = one_further step (derived_name 76 name, m.OfSet LastMember set) two c.in_ok-enter_of_set-2.ensures in
     let four = one_further step (derived_name 78 name, m.OfSet MemberCount set) three c.in_ok-enter_of_set-3.ensures in

@@ -4,7 +4,7 @@ use Rattle.ss_program.specs.declared.sections.Subject.{Subject}
 use Rattle.ss_names_declarations.specs.Firsts.{value_for}
 use Rattle.ss_names.specs.Table.{subject_of}
 use Rattle.ss_names.proofs.Steps.{mapped_after}
-use Rattle.ss_names.proofs.filling.subjects_of.Goals as goal
+use Rattle.ss_names.proofs.entering.subjects_of.Goals as goal
 
 pub loop-name-preserved : goal.loop-name-preserved
 loop-name-preserved c =

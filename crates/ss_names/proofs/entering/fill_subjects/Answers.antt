@@ -2,7 +2,7 @@ use Rattle.std.proofs.Common.{ap, ◌∙◌}
 use Rattle.ss_names.specs.Table.{subjects_by}
 use Rattle.ss_names.specs.Filling.{with_subjects}
 use Rattle.ss_names.specs.View.{table_seen}
-use Rattle.ss_names.proofs.filling.fill_subjects.Goals as goal
+use Rattle.ss_names.proofs.entering.fill_subjects.Goals as goal
 
 pub returns : goal.returns
 returns c =
