@@ -99,7 +99,7 @@ module _ (s : Scope) (g : Place) (linked : IsLinked s g) (line : Line) where
       let c = classes_resolve s g linked line needs.Single name (is_some called) (k.0, tt) in
       after (Good g) _ _ c.0 c.2 (after_one (Good g) _ _ (old_resolves needs.Single name called c k.1) (λ x h. (ap is_created_singly c.3 ∙ single_kind c.1 c.4, h)))
 
-  counted_there : (name : NameBytes) → use_breaks s g.is_main (uses.create_all line name) ≡ None → GoesWell (Contains g.program.counts) (counted s name)
+  counted_there : (name : NameBytes) → use_breaks s g.is_main (uses.class_used line needs.Permanent name true) ≡ None → GoesWell (Contains g.program.counts) (counted s name)
   counted_there name k =
       let c = classes_resolve s g linked line needs.Permanent name true (k, tt) in
       let m = class_is s needs.Permanent name c.0 c.2 in
@@ -109,13 +109,13 @@ module _ (s : Scope) (g : Place) (linked : IsLinked s g) (line : Line) where
       let meant = linked.table.meanings (count_name name) (meanings.Count count.0) count.1 in
       (count.0, ap count_of count.1, subst (λ (all : List CountedClass). Contains all count.0) (sym linked.counts) meant.0)
 
-  all_counted : (names : List NameBytes) → Kept s g.is_main (map (uses.create_all line) names) → GoesWell (Every (Contains g.program.counts)) (each (counted s) names)
+  all_counted : (names : List NameBytes) → Kept s g.is_main (map (λ (name : NameBytes). uses.class_used line needs.Permanent name true) names) → GoesWell (Every (Contains g.program.counts)) (each (counted s) names)
   unfolding each
   all_counted [] k = ([], refl, tt)
   all_counted (name ∷ names) k =
       after_two (Every (Contains g.program.counts)) _ _ _ (counted_there name k.0) (all_counted names k.1) (λ y ys h hs. (h, hs))
 
-  pub create_every_resolves : (names : List NameBytes) → Kept s g.is_main (map (uses.create_all line) names) → GoesWell (Good g) (simple_statement s (create_every line names))
+  pub create_every_resolves : (names : List NameBytes) → Kept s g.is_main (map (λ (name : NameBytes). uses.class_used line needs.Permanent name true) names) → GoesWell (Good g) (simple_statement s (create_every line names))
   unfolding simple_statement
   create_every_resolves names k = after_one (Good g) _ _ (all_counted names k) (λ ys h. h)
 

@@ -82,7 +82,7 @@ module _ (s : Scope) (g : Place) (linked : IsLinked s g) (line : Line) where
       let few : length given ≤ length names =
       leb-true (length given) (length names) (holds_unless (nat_le (length given) (length names)) (errors.Arguments line)
       (subst (λ (o : Option ℕ). unless (has_attributes s.table (length given) o) (errors.Arguments line) ≡ None) place k.0)) in
-      let xs = in_order s g.is_main (expression s) (uses.for_attribute line name) (HasMode g) given laid.0.fields
+      let xs = in_order s g.is_main (expression s) (λ (i : ℕ). uses.in_value line (modes.Attribute name i)) (HasMode g) given laid.0.fields
       (λ i e w f h. value_resolves s g linked line (modes.Attribute name i) w e
       (ap (λ (o : Option ℕ). attribute_mode s.table o i) place ∙ field_there s.table names laid.0.fields i w fields f) h)
       (omega (arith, few, each_length (field_mode s.table) names laid.0.fields fields)) k.1 in (

@@ -45,7 +45,7 @@ module _ (s : Scope) (g : Place) (linked : IsLinked s g) (line : Line) where
       (omega (arith, long)) p.1 in
       (xs.0, xs.1, turned Shown xs.0 fields (subst (AllZip Shown xs.0) (take_all (length items) fields (omega (arith, long))) xs.2.1))
 
-  pub print_resolves : (items : List ExpressionTree) (pictures : List (List ℕ)) → Kept s g.is_main (uses.in_print line items pictures) → GoesWell (Good g) (simple_statement s (print_statement line items pictures))
+  pub print_resolves : (items : List ExpressionTree) (pictures : List (List ℕ)) → Kept s g.is_main (uses.in_items line items (uses.fields_of pictures)) → GoesWell (Good g) (simple_statement s (print_statement line items pictures))
   unfolding simple_statement
   print_resolves items pictures k =
       after_one (Good g) _ _ (items_shown items (uses.fields_of pictures) k) (λ xs h. h)

@@ -93,7 +93,7 @@ module _ (s : Scope) (g : Place) (linked : IsLinked s g) (line : Line) where
 
   -- ---- statements
 
-  pub let_resolves : (n : NamedTree) (e : ExpressionTree) → Kept s g.is_main (uses.in_let line n e) → GoesWell (Good g) (simple_statement s (let_statement line n e))
+  pub let_resolves : (n : NamedTree) (e : ExpressionTree) → Kept s g.is_main (uses.in_target line (uses.mode_of e) n ++ uses.in_expression line false e) → GoesWell (Good g) (simple_statement s (let_statement line n e))
   unfolding simple_statement
   let_resolves n e k =
       let p = two_parts s g.is_main (uses.in_target line (uses.mode_of e) n) (uses.in_expression line false e) k in
@@ -130,11 +130,11 @@ module _ (s : Scope) (g : Place) (linked : IsLinked s g) (line : Line) where
       as_many (length given) known.given (errors.Arguments line) (subst (λ (o : Option RoutineSection). unless (is_given (length given) o) (errors.Arguments line) ≡ None) entry.2 k.1.0) in
       let more : length yielding ≡ known.yielding =
       as_many (length yielding) known.yielding (errors.Arguments line) (subst (λ (o : Option RoutineSection). unless (is_yielded (length yielding) o) (errors.Arguments line) ≡ None) entry.2 k.1.1.0) in
-      let p = two_parts s g.is_main (uses.in_places (uses.for_given line name) 0 given) (uses.in_places (uses.for_yielded line name) 0 yielding) k.1.1.1 in
-      let xs = in_order s g.is_main (expression s) (uses.for_given line name) (HasMode g) given r.modes
+      let p = two_parts s g.is_main (uses.in_places (λ (i : ℕ). uses.in_value line (modes.Given name i)) 0 given) (uses.in_places (λ (i : ℕ). uses.in_target line (modes.Yielded name i)) 0 yielding) k.1.1.1 in
+      let xs = in_order s g.is_main (expression s) (λ (i : ℕ). uses.in_value line (modes.Given name i)) (HasMode g) given r.modes
       (λ i e m f h. value_resolves (modes.Given name i) m e (ap (λ (o : Option RoutineSection). given_mode s o i) entry.2 ∙ parameter_there s g meant.0 known r i m f) h)
       (omega (arith, some, r.enough)) p.0 in
-      let ys = in_order s g.is_main (target s) (uses.for_yielded line name) (TakesMode g) yielding (drop known.given r.modes)
+      let ys = in_order s g.is_main (target s) (λ (i : ℕ). uses.in_target line (modes.Yielded name i)) (TakesMode g) yielding (drop known.given r.modes)
       (λ i n m f h. takes_value (modes.Yielded name i) m n
       (ap (λ (o : Option RoutineSection). yielded_mode s o i) entry.2 ∙ parameter_there s g meant.0 known r (known.given + i) m (sym (after_first known.given i r.modes) ∙ f)) h)
       (omega (arith, more, r.enough, length-drop known.given r.modes)) p.1 in

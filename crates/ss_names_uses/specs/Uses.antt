@@ -2,7 +2,6 @@
 use Rattle.std.specs.Prelude.{ℕ, zero, suc, ◌+◌, ◌==◌, nat_le, Bool, true, false, is_some, List, [], ◌∷◌, ◌++◌, map, length, slice_get, Option, Some, None, if◌then◌else◌}
 use Rattle.std.specs.List.{flat_map}
 use Rattle.ss_base.specs.declared.line.Line.{Line}
-use Rattle.ss_base.specs.declared.words.Sign.{Sign}
 use Rattle.ss_picture.specs.declared.field.Field.{Field}
 use Rattle.ss_picture.specs.Pictures.{picture_fields}
 use Rattle.ss_tree.specs.Names.{NameBytes}
@@ -95,14 +94,6 @@ abbrev mutual
   in_terms line no_term = []
   in_terms line (and_term sign e es) = in_expression line true e ++ in_terms line es
 
--- a term after its sign
-abbrev pub in_term : Line → Sign × ExpressionTree → List Use
-in_term line t = in_expression line true t.1
-
--- several expressions that have to be numbers
-abbrev pub in_all_numbers : Line → List ExpressionTree → List Use
-in_all_numbers line es = flat_map (in_expression line true) es
-
 -- a named place in a role, and its subscripts
 abbrev pub in_named : Line → Role → Bool → NamedTree → List Use
 in_named line role is_number n =
@@ -187,10 +178,6 @@ abbrev pub in_old : Line → ClassNeed → NameBytes → Option ExpressionTree �
 in_old line need class called =
     class_used line need class (is_some called) ∷ in_option (in_expression line true) called
 
--- a class of CREATE EVERY
-abbrev pub create_all : Line → NameBytes → Use
-create_all line class = class_used line Permanent class true
-
 -- a value that has this mode
 abbrev pub in_value : Line → ModeOf → ExpressionTree → List Use
 in_value line wanted e = same line (mode_of e) wanted ∷ in_expression line false e
@@ -199,32 +186,18 @@ in_value line wanted e = same line (mode_of e) wanted ∷ in_expression line fal
 abbrev pub in_target : Line → ModeOf → NamedTree → List Use
 in_target line wanted n = same line (designated n.designator) wanted ∷ in_named line roles.Target false n
 
--- a value for the attribute of a class in this place
-abbrev pub for_attribute : Line → NameBytes → ℕ → ExpressionTree → List Use
-for_attribute line class i e = in_value line (modes.Attribute class i) e
-
--- a value that a routine is given in this place
-abbrev pub for_given : Line → NameBytes → ℕ → ExpressionTree → List Use
-for_given line name i e = in_value line (modes.Given name i) e
-
--- a target of what a routine yields in this place
-abbrev pub for_yielded : Line → NameBytes → ℕ → NamedTree → List Use
-for_yielded line name i n = in_target line (modes.Yielded name i) n
-
 -- the values that SCHEDULE gives to the attributes of a class
 abbrev pub in_given : Line → NameBytes → List ExpressionTree → List Use
-in_given line class given = count line (length given) (counts.Attributes class) ∷ in_places (for_attribute line class) 0 given
+in_given line class given =
+    count line (length given) (counts.Attributes class) ∷ in_places (λ i. in_value line (modes.Attribute class i)) 0 given
 
 abbrev pub in_call : Line → NameBytes → List ExpressionTree → List NamedTree → List Use
 in_call line name given yielding =
     at_line line (Routine name)
     ∷ count line (length given) (counts.Given name)
     ∷ count line (length yielding) (counts.Yielded name)
-    ∷ in_places (for_given line name) 0 given ++ in_places (for_yielded line name) 0 yielding
-
--- a target and the value that it takes
-abbrev pub in_let : Line → NamedTree → ExpressionTree → List Use
-in_let line n e = in_target line (mode_of e) n ++ in_expression line false e
+    ∷ in_places (λ i. in_value line (modes.Given name i)) 0 given
+    ++ in_places (λ i. in_target line (modes.Yielded name i)) 0 yielding
 
 -- ---- PRINT
 
@@ -274,15 +247,12 @@ abbrev pub in_items : Line → List ExpressionTree → List Field → List Use
 in_items line items fields =
     of_fit line (length items == length fields) ++ in_places (in_item_at line fields) 0 items
 
-abbrev pub in_print : Line → List ExpressionTree → List (List ℕ) → List Use
-in_print line items pictures = in_items line items (fields_of pictures)
-
 -- ---- statements
 
 -- the uses of a statement on entities, sets or notices
 abbrev pub in_entity_statement : StatementTree → List Use
 in_entity_statement (create_statement line class called) = in_new line Single class called
-in_entity_statement (create_every line classes) = map (create_all line) classes
+in_entity_statement (create_every line classes) = map (λ class. class_used line Permanent class true) classes
 in_entity_statement (destroy_statement line class called) = in_old line Single class called
 in_entity_statement (file_statement line x position set) =
     in_expression line true x ++ in_position line position ++ in_named line roles.Set false set
@@ -297,7 +267,7 @@ in_entity_statement _ = []
 
 -- the uses of a statement, without those of the statements in it: of an IF its condition, of a loop its head
 abbrev pub in_itself : StatementTree → List Use
-in_itself (let_statement line n e) = in_let line n e
+in_itself (let_statement line n e) = in_target line (mode_of e) n ++ in_expression line false e
 in_itself (add_statement line e n) = in_expression line true e ++ in_named line roles.Target true n
 in_itself (subtract_statement line e n) = in_expression line true e ++ in_named line roles.Target true n
 in_itself (call_statement line name given yielding) = in_call line name given yielding
@@ -310,7 +280,7 @@ in_itself (loop_statement line head body) = in_loop_head line head
 in_itself (find_statement line head) = in_head line head
 in_itself (find_if_statement line head outcome first second) = in_head line head
 in_itself (reset_statement line targets) = in_all_named line roles.Reset targets
-in_itself (print_statement line items pictures) = in_print line items pictures
+in_itself (print_statement line items pictures) = in_items line items (fields_of pictures)
 in_itself (skip_statement line lines) = in_expression line true lines
 in_itself s = in_entity_statement s
 

@@ -1,8 +1,10 @@
 //! The uses in statements.
 
-ghost use Rattle.std.specs.Prelude.{◌≡◌, ◌++◌, map, IfOk};
+ghost use Rattle.std.specs.Prelude.{◌≡◌, true, false, ◌++◌, map, IfOk};
+ghost use Rattle.ss_tree.specs.Names.{NameBytes};
 ghost use Rattle.ss_tree.specs.View.{view_expression, view_named, view_option, view_position, view_statement, view_when};
-ghost use Rattle.ss_names_uses.specs.Uses.{create_all, in_body, in_call, in_entity_statement, in_given, in_inner, in_itself, in_let, in_new, in_old, in_position, in_when};
+ghost use Rattle.ss_names_uses.specs.Uses.{class_used, in_body, in_call, in_entity_statement, in_expression, in_given, in_inner, in_itself, in_new, in_old, in_position, in_target, in_when, mode_of};
+ghost use Rattle.ss_names_uses.specs.declared.used.ClassNeed.TheVariants as needs;
 
 use crate::conditions::add_condition;
 use crate::expressions::{
@@ -70,7 +72,7 @@ fn add_old(
 
 // Adds the uses of the classes of CREATE EVERY.
 fn add_created_classes(into: &mut Vec<Use>, line: Line, classes: &[Name]) -> Result<(), AllocError>
-    ensures { IfOk result (λ _. into.new.items ≡ into.old.items ++ map (create_all line) classes.now) }
+    ensures { IfOk result (λ _. into.new.items ≡ into.old.items ++ map (λ (class : NameBytes). class_used line needs.Permanent class true) classes.now) }
 {
     for class in classes {
         add_class(into, line, ClassNeed::Permanent, *class, true)?;
@@ -116,7 +118,7 @@ fn add_let(
     target: &Named,
     value: &Expression,
 ) -> Result<(), AllocError>
-    ensures { IfOk result (λ _. into.new.items ≡ into.old.items ++ in_let line (view_named target.now) (view_expression value.now)) }
+    ensures { IfOk result (λ _. into.new.items ≡ into.old.items ++ (in_target line (mode_of (view_expression value.now)) (view_named target.now) ++ in_expression line false (view_expression value.now))) }
 {
     add_target(into, line, mode_of(value), target)?;
     add_expression(into, line, false, value)
