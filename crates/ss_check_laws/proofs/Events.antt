@@ -30,7 +30,7 @@ use Rattle.ss_names.specs.declared.meaning.Meaning.TheVariants as m
 use Rattle.ss_names.specs.Entries.{event_by, given_by}
 use Rattle.ss_names.specs.Table.{Table, table}
 use Rattle.ss_names_scopes.specs.Locals.{defined, local_used, locals_of, moded_in}
-use Rattle.ss_names_scopes.specs.Scopes.{Scope, hidden_by, is_main, known_mode, scope_of}
+use Rattle.ss_names_scopes.specs.Scopes.{Scope, hidden_by, is_main, known_mode, local_mode, scope_of}
 use Rattle.ss_program.specs.declared.expression.Variable.TheVariants.{Global}
 use Rattle.ss_program.specs.declared.statement.CountedClass.{CountedClass}
 use Rattle.ss_program.specs.Program.{Done, Event, Program}
@@ -41,7 +41,7 @@ use Rattle.ss_check_rules.specs.Refusal.{eventless, eventless_of, in_preamble, u
 use Rattle.ss_check_rules.specs.declared.error.CheckError.TheVariants as errors
 use Rattle.ss_names_meaning.specs.Answers.{◌>>=◌, each, upto}
 use Rattle.ss_names_meaning.specs.Layouts.{ResolvedLayout, class_laid, disciplines, field_mode, layout, set_laid, statistics, tie_keys}
-use Rattle.ss_names_meaning.specs.Resolved.{Parts, class_variable, event_from, event_of_class, local_mode, local_modes, saved}
+use Rattle.ss_names_meaning.specs.Resolved.{Parts, class_variable, event_from, event_of_class, local_modes, saved}
 use Rattle.ss_names_laws.specs.ValidTables.{IsNamedClass, parameters_of}
 use Rattle.ss_names_laws.proofs.Each.{at_place, each_empty, every_first, from_places, in_parts}
 use Rattle.ss_names_laws.proofs.Items.{at_item}

@@ -34,11 +34,10 @@ use Rattle.ss_names.specs.declared.entry.Set.{Set}
 use Rattle.ss_names.specs.declared.meaning.Meaning.{Meaning}
 use Rattle.ss_names.specs.declared.meaning.Meaning.TheVariants as meanings
 use Rattle.ss_names.specs.Table.{Table, owner_of, owner_of_member, owner_of_set, owner_of_statistic, owner_of_subject, owner_or_system, subject_of}
-use Rattle.ss_names_scopes.specs.Scopes.{Scope, hidden_by, known_mode, meaning, meaning_of_class, meaning_of_name, mode_of, named_class, variable_of}
+use Rattle.ss_names_scopes.specs.Scopes.{Scope, hidden_by, known_mode, local_mode, meaning, meaning_of_class, meaning_of_name, mode_of, variable_of}
 use Rattle.ss_check_rules.specs.Kinds.{is_variable}
 use Rattle.ss_names_meaning.specs.Answers.{◌>>=◌, each, upto}
 use Rattle.ss_names_meaning.specs.Layouts.{ResolvedLayout, class_laid, counts, disciplines, laid_out, layout, set_laid, statistics}
-use Rattle.ss_names_meaning.specs.Resolved.{local_mode}
 use Rattle.ss_names_laws.specs.ValidTables.{IsMeant, IsPlainAt, IsSetAt, IsStatisticAt, IsWatched}
 use Rattle.ss_names_laws.proofs.Steps.{got, numbers_at}
 use Rattle.ss_check_laws.specs.Links.{IsLinked}
@@ -263,4 +262,4 @@ module _ (s : Scope) (g : Place) (k : IsLinked s g) where
   implied_here class i =
       let n = k.table.classes class i.0 i.1 in
       let v = class_variable n.name class i.0.kind n.variable n.meant in
-      (v.0, ap (named_class s) n.there ∙ v.1, v.2)
+      (v.0, ap (option_and_then (meaning_of_name s)) n.there ∙ v.1, v.2)

@@ -14,13 +14,13 @@ use Rattle.ss_names.specs.declared.entry.RoutineSection.{RoutineSection}
 use Rattle.ss_names.specs.Entries.{given_by, routine_by}
 use Rattle.ss_names.specs.Table.{Table, table}
 use Rattle.ss_names_scopes.specs.Locals.{Moded, as_list, locals_of}
-use Rattle.ss_names_scopes.specs.Scopes.{is_main, scope_of}
+use Rattle.ss_names_scopes.specs.Scopes.{is_main, local_mode, scope_of}
 use Rattle.ss_program.specs.Program.{Block, Done, Event, Program, Routine}
 use Rattle.ss_program.specs.WellTyped.{Scope as Place, GoodBlock, GoodRoutine}
 use Rattle.ss_check_rules.specs.Refusal.{breaches, breaks, in_preamble, in_program, in_section, use_breaks}
 use Rattle.ss_names_meaning.specs.Answers.{◌>>=◌, each}
 use Rattle.ss_names_meaning.specs.Layouts.{ResolvedLayout}
-use Rattle.ss_names_meaning.specs.Resolved.{Parts, body_with, local_mode, local_modes, parts_with_locals, routine_from, routine_of}
+use Rattle.ss_names_meaning.specs.Resolved.{Parts, body_with, local_modes, parts_with_locals, routine_from, routine_of}
 use Rattle.ss_names_laws.specs.Laws.{HasLayout, IsWellLaid}
 use Rattle.ss_names_laws.specs.ValidTables.{HasRoutines, IsValidSection, IsValidTable}
 use Rattle.ss_names_laws.proofs.Each.{at_place, each_empty, every_first, from_places, in_parts}

@@ -19,7 +19,7 @@ use Rattle.ss_names.specs.declared.entry.RoutineSection.{RoutineSection}
 use Rattle.ss_names.specs.declared.meaning.Meaning.{Meaning}
 use Rattle.ss_names.specs.declared.meaning.Meaning.TheVariants as meanings
 use Rattle.ss_names_scopes.specs.Locals.{Moded}
-use Rattle.ss_names_scopes.specs.Scopes.{Scope, mode_at, mode_given, parameter_mode}
+use Rattle.ss_names_scopes.specs.Scopes.{Scope, local_mode, mode_at, mode_given, parameter_mode}
 use Rattle.ss_check_rules.specs.declared.error.CheckError.{CheckError}
 use Rattle.ss_check_rules.specs.declared.error.CheckError.TheVariants as errors
 use Rattle.ss_check_rules.specs.Counts.{is_given, is_yielded}
@@ -30,7 +30,7 @@ use Rattle.ss_program.specs.Program.{Statement, Change, Call, Target}
 use Rattle.ss_program.specs.WellTyped.{Scope as Place, HasMode, TakesMode, Good}
 use Rattle.ss_names_meaning.specs.Answers.{◌>>=◌, upto}
 use Rattle.ss_names_meaning.specs.Expressions.{expression, target}
-use Rattle.ss_names_meaning.specs.Resolved.{local_mode, local_modes}
+use Rattle.ss_names_meaning.specs.Resolved.{local_modes}
 use Rattle.ss_names_meaning.specs.Statements.{reader, routine_number, simple_statement}
 use Rattle.ss_names_laws.proofs.Steps.{numbers_at, upto_length}
 use Rattle.ss_check_laws.specs.Links.{IsLinked, IsRoutineAt, Kept}

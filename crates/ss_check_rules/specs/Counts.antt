@@ -1,5 +1,6 @@
 -- Rule 74: other counts of arguments than are taken.
-use Rattle.std.specs.Prelude.{ℕ, Bool, true, ◌==◌, Option, Some, None, length, get_or, [], nat_le}
+use Rattle.std.specs.Prelude.{ℕ, Bool, true, ◌==◌, Option, length, get_or, [], nat_le}
+use Rattle.std.specs.Option.{option_map_or}
 use Rattle.ss_tree.specs.declared.expression.Function.{Function}
 use Rattle.ss_tree.specs.declared.expression.Function.TheVariants.{One, Two}
 use Rattle.ss_names_declarations.specs.Firsts.{place_in, value_for}
@@ -14,16 +15,13 @@ argument_count (One op) = 1
 argument_count (Two op) = 2
 
 abbrev pub is_given : ℕ → Option RoutineSection → Bool
-is_given count None = true
-is_given count (Some r) = count == r.given
+is_given count known = option_map_or (λ (r : RoutineSection). count == r.given) true known
 
 abbrev pub is_yielded : ℕ → Option RoutineSection → Bool
-is_yielded count None = true
-is_yielded count (Some r) = count == r.yielding
+is_yielded count known = option_map_or (λ (r : RoutineSection). count == r.yielding) true known
 
 abbrev pub has_attributes : Table → ℕ → Option ℕ → Bool
-has_attributes t count None = true
-has_attributes t count (Some class) = nat_le count (length (get_or t.fields class []))
+has_attributes t count known = option_map_or (λ class. nat_le count (length (get_or t.fields class []))) true known
 
 -- whether so many arguments are taken: a function and a routine take as many as they have, SCHEDULE and EVENT at most as many as
 -- their class has attributes

@@ -1,5 +1,6 @@
 -- What names may be in their places: kinds, subscripts, and what takes values.
 use Rattle.std.specs.Prelude.{ℕ, Bool, true, false, ◌==◌, Option, Some, None, is_some, nat_le}
+use Rattle.std.specs.Option.{option_map_or}
 use Rattle.ss_base.specs.declared.layout.Owner.{Owner}
 use Rattle.ss_base.specs.declared.layout.Owner.TheVariants as owners
 use Rattle.ss_tree.specs.declared.expression.Designator.{Designator}
@@ -15,8 +16,7 @@ use Rattle.ss_names.specs.Table.{Table, owner_of}
 use Rattle.ss_names_scopes.specs.Scopes.{Scope, history_of, is_kind, meaning, variable_of}
 
 abbrev pub if_means : (Meaning → Bool) → Option Meaning → Bool
-if_means suits None = false
-if_means suits (Some meaning) = suits meaning
+if_means test meaning = option_map_or test false meaning
 
 -- ---- kinds, 79
 

@@ -1,5 +1,5 @@
 -- Rule 73: values of two modes, or a text where a number has to be, or a MEAN where a value has to be.
-use Rattle.std.specs.Prelude.{ℕ, ◌+◌, Bool, true, false, ◌&&◌, ◌||◌, ◌==◌, Option, Some, None, slice_get, get_or, []}
+use Rattle.std.specs.Prelude.{ℕ, ◌+◌, Bool, true, false, ◌&&◌, ◌||◌, ◌==◌, Option, Some, option_and_then, option_map, slice_get, get_or, []}
 use Rattle.ss_base.specs.declared.layout.Mode.{Mode}
 use Rattle.ss_base.specs.declared.layout.Mode.TheVariants.{Integer, Alpha}
 use Rattle.ss_tree.specs.Names.{NameBytes}
@@ -16,30 +16,24 @@ use Rattle.ss_names_scopes.specs.Scopes.{Scope, implied, meaning_of_name, mode_o
 use Rattle.ss_check_rules.specs.Kinds.{is_mean}
 
 abbrev pub mode_meant : Option Meaning → Option Mode
-mode_meant None = None
-mode_meant (Some meaning) = mode_of meaning
+mode_meant meaning = option_and_then mode_of meaning
 
 -- the mode of what a routine is given in this place, and of what it yields
 abbrev pub given_mode : Scope → Option RoutineSection → ℕ → Option Mode
-given_mode s None place = None
-given_mode s (Some r) place = parameter_mode s r.section place
+given_mode s known place = option_and_then (λ (r : RoutineSection). parameter_mode s r.section place) known
 
 abbrev pub yielded_mode : Scope → Option RoutineSection → ℕ → Option Mode
-yielded_mode s None place = None
-yielded_mode s (Some r) place = parameter_mode s r.section (r.given + place)
+yielded_mode s known place = option_and_then (λ (r : RoutineSection). parameter_mode s r.section (r.given + place)) known
 
 -- the mode of the attribute of a class in this place
 abbrev pub mode_of_attribute : Option Attribute → Option Mode
-mode_of_attribute None = None
-mode_of_attribute (Some a) = Some a.mode
+mode_of_attribute attribute = option_map (λ (a : Attribute). a.mode) attribute
 
 abbrev pub field_mode : Table → Option NameBytes → Option Mode
-field_mode t None = None
-field_mode t (Some name) = mode_of_attribute (value_for t.attributes name)
+field_mode t field = option_and_then (λ name. mode_of_attribute (value_for t.attributes name)) field
 
 abbrev pub attribute_mode : Table → Option ℕ → ℕ → Option Mode
-attribute_mode t None place = None
-attribute_mode t (Some class) place = field_mode t (slice_get (get_or t.fields class []) place)
+attribute_mode t known place = option_and_then (λ class. field_mode t (slice_get (get_or t.fields class []) place)) known
 
 -- the mode that a use says, if there is one
 abbrev pub mode_said : Scope → ModeOf → Option Mode

@@ -2,7 +2,7 @@
 use Rattle.std.specs.Prelude.{ℕ, ◌++◌, Bool, true, false, not, List, [], ◌∷◌, map, Option, Some, None, is_some, if◌then◌else◌, slice_get}
 use Rattle.std.specs.List.{flat_map}
 use Rattle.std.specs.Map.{keys_of}
-use Rattle.std.specs.Option.{option_map}
+use Rattle.std.specs.Option.{option_map, option_map_or}
 use Rattle.ss_base.specs.declared.line.Line.{Line}
 use Rattle.ss_base.specs.Lines.{line_if}
 use Rattle.ss_base.specs.declared.layout.Mode.{Mode}
@@ -235,8 +235,7 @@ owner_of_subject t (Some (subjects.OfCount set)) = owner_of_set (slice_get t.set
 owner_of_subject t _ = owners.System
 
 abbrev pub owner_of_statistic : Table → Option (Option Subject) → Owner
-owner_of_statistic t None = owners.System
-owner_of_statistic t (Some subject) = owner_of_subject t subject
+owner_of_statistic t known = option_map_or (owner_of_subject t) owners.System known
 
 -- who has what a name means: each entity of a class, or else THE SYSTEM. A statistic is its subject's.
 abbrev pub owner_of : Table → Meaning → Owner

@@ -29,7 +29,8 @@ use Rattle.ss_tables_rules.specs.declared.error.TableError.TheVariants as errors
 use Rattle.ss_tables_rules.specs.Broken.{refusal_of_declarations}
 use Rattle.ss_tables_rules.specs.Rules.{broken_by, has_no_mode, is_real, lacks_mode, may_be_hidden, unmoded_in, unmoded_use}
 use Rattle.ss_names_meaning.specs.Answers.{upto}
-use Rattle.ss_names_meaning.specs.Resolved.{local_mode, local_modes}
+use Rattle.ss_names_scopes.specs.Scopes.{local_mode}
+use Rattle.ss_names_meaning.specs.Resolved.{local_modes}
 use Rattle.ss_names_laws.proofs.Bodies.{IsSilent, body_silent, declares_local, places}
 use Rattle.ss_names_laws.proofs.Each.{at_number, at_place, each_empty, every_first, every_image, every_listed, every_piece, in_parts, joined}
 use Rattle.ss_names_laws.proofs.Items.{at_item, each_item, in_image, in_pieces}

@@ -15,19 +15,13 @@ use Rattle.ss_names.specs.declared.meaning.Meaning.TheVariants as meanings
 use Rattle.ss_names.specs.Entries.{is_notice}
 use Rattle.ss_names.specs.Table.{Table}
 use Rattle.ss_names_scopes.specs.Locals.{Moded, locals_of}
-use Rattle.ss_names_scopes.specs.Scopes.{is_main_section}
+use Rattle.ss_names_scopes.specs.Scopes.{is_main_section, local_mode}
 use Rattle.ss_program.specs.Program.{Block, Routine, Event, Program}
 use Rattle.ss_names_meaning.specs.Answers.{◌>>=◌, each, of_one, of_three, upto, where_holds}
-use Rattle.ss_names_meaning.specs.Layouts.{ResolvedLayout, laid_out, tie_keys}
+use Rattle.ss_names_meaning.specs.Layouts.{laid_out, tie_keys}
 use Rattle.ss_names_meaning.specs.Statements.{statements}
 
 -- ---- sections
-
--- the mode of the local variable of this number
-abbrev pub local_mode : Moded → ℕ → Option Mode
-local_mode locals n = do
-  known ← slice_get (values_of locals) n
-  known
 
 -- the modes of the local variables, in the order of their numbers
 abbrev pub local_modes : Moded → Option (List Mode)
@@ -128,12 +122,14 @@ main_from section sections = do
   n ← position is_main_section sections
   section n
 
--- the program with this layout, by a function that resolves each section, and MAIN
-abbrev pub put_together : Table → ResolvedLayout → (ℕ → Option Parts) → Option Parts → Option Program
-put_together t laid section of_main = do
-  routines ← each (routine_from section) (values_of t.routines)
-  events ← each (event_from t section) t.ranks
-  parts ← of_main
+-- the program with these sections, where they have these local variables
+unfoldable pub resolved_with_locals : Table → List Moded → List SectionTree → Option Program
+resolved_with_locals t all sections = do
+  laid ← laid_out t
+  known ← where_holds (list_all (is_known t) sections) sections
+  routines ← each (routine_from (parts_with_locals t all known)) (values_of t.routines)
+  events ← each (event_from t (parts_with_locals t all known)) t.ranks
+  parts ← main_from (parts_with_locals t all known) known
   Some (record {
     layout = laid.layout;
     disciplines = laid.disciplines;
@@ -145,13 +141,6 @@ put_together t laid section of_main = do
     locals = parts.modes;
     main = parts.body;
   })
-
--- the program with these sections, where they have these local variables
-unfoldable pub resolved_with_locals : Table → List Moded → List SectionTree → Option Program
-resolved_with_locals t all sections = do
-  laid ← laid_out t
-  known ← where_holds (list_all (is_known t) sections) sections
-  put_together t laid (parts_with_locals t all known) (main_from (parts_with_locals t all known) known)
 
 -- The program with these sections, by its table, with each name replaced by what it means. None if a name isn't of the kind
 -- that its place needs. None if a subscript is missing or too many, or a count of arguments doesn't fit.

@@ -1,5 +1,5 @@
 -- What a name means in a section.
-use Rattle.std.specs.Prelude.{ℕ, Bool, true, false, List, map, Option, Some, None, slice_get}
+use Rattle.std.specs.Prelude.{ℕ, Bool, true, false, List, map, Option, Some, None, option_and_then, slice_get}
 use Rattle.std.specs.List.{position}
 use Rattle.std.specs.Map.{keys_of, values_of, lookup}
 use Rattle.ss_base.specs.declared.layout.ClassKind.{ClassKind}
@@ -87,12 +87,8 @@ variable_of (meanings.Class class kind variable) = Some (variables.Global variab
 variable_of _ = None
 
 -- what the name of a class means here: the variable that has an entity of the class where none is named
-abbrev pub named_class : Scope → Option NameBytes → Option Meaning
-named_class s None = None
-named_class s (Some name) = meaning_of_name s name
-
 abbrev pub meaning_of_class : Scope → ℕ → Option Meaning
-meaning_of_class s class = named_class s (slice_get (keys_of s.table.classes) class)
+meaning_of_class s class = option_and_then (meaning_of_name s) (slice_get (keys_of s.table.classes) class)
 
 abbrev pub of_owner : Scope → Owner → Option Meaning
 of_owner s owners.System = None
@@ -117,12 +113,14 @@ history_of s _ = None
 -- ---- parameters
 
 abbrev pub mode_given : Option (Option Mode) → Option Mode
-mode_given (Some mode) = mode
-mode_given None = None
+mode_given known = option_and_then (λ mode. mode) known
+
+-- the mode of the local variable of this number
+abbrev pub local_mode : Moded → ℕ → Option Mode
+local_mode locals n = mode_given (slice_get (values_of locals) n)
 
 abbrev pub mode_at : Option Moded → ℕ → Option Mode
-mode_at None number = None
-mode_at (Some locals) number = mode_given (slice_get (values_of locals) number)
+mode_at found number = option_and_then (λ locals. local_mode locals number) found
 
 -- the mode of a parameter of the routine of a section: the given ones come before those that it yields
 abbrev pub parameter_mode : Scope → ℕ → ℕ → Option Mode

@@ -1,6 +1,7 @@
 -- The uses of a section, in the order of the text.
-use Rattle.std.specs.Prelude.{ℕ, zero, suc, ◌+◌, ◌==◌, nat_le, Bool, true, false, is_some, List, [], ◌∷◌, ◌++◌, map, length, slice_get, Option, Some, None, if◌then◌else◌}
+use Rattle.std.specs.Prelude.{ℕ, zero, suc, ◌+◌, ◌==◌, nat_le, Bool, true, false, is_some, List, [], ◌∷◌, ◌++◌, map, length, slice_get, Option, if◌then◌else◌}
 use Rattle.std.specs.List.{flat_map}
+use Rattle.std.specs.Option.{option_map_or}
 use Rattle.ss_base.specs.declared.line.Line.{Line}
 use Rattle.ss_picture.specs.declared.field.Field.{Field}
 use Rattle.ss_picture.specs.Pictures.{picture_fields}
@@ -105,8 +106,7 @@ in_all_named line role ns = flat_map (in_named line role false) ns
 
 -- the uses of a part that may be left out
 abbrev pub in_option : {A : Type 0} → (A → List Use) → Option A → List Use
-in_option of None = []
-in_option of (Some x) = of x
+in_option of part = option_map_or of [] part
 
 -- the uses of a list, each item by its place, the first of which is this
 abbrev pub in_places : {A : Type 0} → (ℕ → A → List Use) → ℕ → List A → List Use

@@ -1,8 +1,8 @@
 -- The rules 51 to 60 that one declaration and the table decide, and 52 on the uses of sections.
-use Rattle.std.specs.Prelude.{ℕ, Bool, true, false, not, ◌||◌, List, [], ◌∷◌, Option, Some, None, is_some, if◌then◌else◌, nat_le, nat_eq, slice_get}
+use Rattle.std.specs.Prelude.{ℕ, Bool, true, false, not, ◌||◌, List, [], ◌∷◌, Option, Some, None, is_some, option_and_then, option_map, if◌then◌else◌, nat_le, nat_eq, slice_get}
 use Rattle.std.specs.List.{flat_map}
 use Rattle.std.specs.Map.{lookup}
-use Rattle.std.specs.Option.{option_or}
+use Rattle.std.specs.Option.{option_map_or, option_or}
 use Rattle.ss_base.specs.declared.line.Line.{Line}
 use Rattle.ss_base.specs.declared.layout.Mode.{Mode as ValueMode}
 use Rattle.ss_tree.specs.Names.{NameBytes}
@@ -34,12 +34,10 @@ unless false breach = Some breach
 
 -- a number past the most: 64 classes, 64 sets, 64 attributes of a class
 abbrev pub is_too_many : Option ℕ → Bool
-is_too_many None = false
-is_too_many (Some number) = nat_le 64 number
+is_too_many number = option_map_or (nat_le 64) false number
 
 abbrev pub field_of : Option Attribute → Option ℕ
-field_of None = None
-field_of (Some a) = Some a.field
+field_of attribute = option_map (λ (a : Attribute). a.field) attribute
 
 -- a parameter or a local variable may hide a variable, that of a class, or nothing
 abbrev pub may_be_hidden : Option Meaning → Bool
@@ -53,19 +51,16 @@ is_real modes.Real = true
 is_real _ = false
 
 abbrev pub set_at : Table → Option ℕ → Option Set
-set_at t None = None
-set_at t (Some number) = slice_get t.sets number
+set_at t number = option_and_then (slice_get t.sets) number
 
 abbrev pub set_named : Table → NameBytes → Option Set
 set_named t name = set_at t (place_among t.set_names name)
 
 abbrev pub has_owner : Option Set → Bool
-has_owner None = false
-has_owner (Some set) = is_some set.owner
+has_owner set = option_map_or (λ (s : Set). is_some s.owner) false set
 
 abbrev pub has_member : Option Set → Bool
-has_member None = false
-has_member (Some set) = is_some set.member
+has_member set = option_map_or (λ (s : Set). is_some s.member) false set
 
 abbrev pub is_class_of : Option Attribute → Option ℕ → Bool
 is_class_of (Some a) (Some class) = nat_eq a.class class
@@ -111,8 +106,7 @@ has_no_mode _ = false
 
 -- whether a use names a local variable that has no mode
 abbrev pub lacks_mode : Moded → Option NameBytes → Bool
-lacks_mode ls None = false
-lacks_mode ls (Some name) = has_no_mode (lookup (same_name name) ls)
+lacks_mode ls name = option_map_or (λ n. has_no_mode (lookup (same_name n) ls)) false name
 
 abbrev pub unmoded_use : Table → Moded → Use → List TableError
 unmoded_use t ls u = if lacks_mode ls (local_of t u.what) then e.RealMode u.line ∷ [] else []
