@@ -18,7 +18,8 @@ use Rattle.ss_names.specs.declared.meaning.Meaning.TheVariants as meanings
 use Rattle.ss_names_scopes.specs.Scopes.{Scope, is_kind, meaning_of_name, variable_of}
 use Rattle.ss_check_rules.specs.Kinds.{suits_class}
 use Rattle.ss_check_rules.specs.Modes.{is_text, mode_meant}
-use Rattle.ss_check_rules.specs.Refusal.{unless, use_breaks}
+use Rattle.ss_names_declarations.specs.Earliest.{unless}
+use Rattle.ss_check_rules.specs.Refusal.{use_breaks}
 use Rattle.ss_check_rules.specs.declared.error.CheckError.TheVariants as errors
 use Rattle.ss_names_meaning.specs.Answers.{where_holds}
 use Rattle.ss_names_meaning.specs.Classes.{class_number, variable_named}

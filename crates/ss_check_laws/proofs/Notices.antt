@@ -22,7 +22,6 @@ use Rattle.ss_names_scopes.specs.Scopes.{Scope}
 use Rattle.ss_check_rules.specs.declared.error.CheckError.TheVariants as errors
 use Rattle.ss_check_rules.specs.Counts.{has_attributes}
 use Rattle.ss_check_rules.specs.Modes.{attribute_mode, field_mode as mode_of_field, mode_of_attribute}
-use Rattle.ss_check_rules.specs.Refusal.{unless}
 use Rattle.ss_program.specs.Program.{Expression, Now, When, Restart, Statement, ScheduleNew, Schedule}
 use Rattle.ss_program.specs.WellTyped.{Scope as Place, HasMode, HaveModes, GoodWhen, GoodGiven, GoodRestart, Good}
 use Rattle.ss_names_meaning.specs.declared.classes.NamedClass.{NamedClass}
@@ -38,6 +37,7 @@ use Rattle.ss_check_laws.proofs.Expressions.{number_kept}
 use Rattle.ss_check_laws.proofs.Lists.{after, after_one, each_length, holds, in_order}
 use Rattle.ss_check_laws.proofs.Parts.{classes_resolve, restarts_resolve}
 use Rattle.ss_check_laws.proofs.Values.{value_resolves}
+use Rattle.ss_names_declarations.specs.Earliest.{unless}
 use Rattle.ss_check_laws.proofs.Entities.{class_is, new_resolves, old_resolves}
 
 notice_kind : (kind : ClassKind) → is_kind needs.Notice kind ≡ true → kind ≡ kinds.Notice

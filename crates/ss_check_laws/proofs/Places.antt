@@ -25,7 +25,8 @@ use Rattle.ss_names.specs.Table.{owner_of, owner_of_set, owner_of_statistic, own
 use Rattle.ss_names_scopes.specs.Scopes.{Scope, implied, meaning, meaning_of_class, mode_of, of_owner as implied_of, variable_of}
 use Rattle.ss_check_rules.specs.Kinds.{if_means, is_target, may_have, meaning_in_role, suits, suits_subscripts, takes_values}
 use Rattle.ss_check_rules.specs.Modes.{is_mean_as_value, is_text, mixes_modes, mode_meant, mode_said}
-use Rattle.ss_check_rules.specs.Refusal.{meant_breaks, place_breaks, unless}
+use Rattle.ss_names_declarations.specs.Earliest.{unless}
+use Rattle.ss_check_rules.specs.Refusal.{meant_breaks, place_breaks}
 use Rattle.ss_check_rules.specs.declared.error.CheckError.TheVariants as errors
 use Rattle.ss_names_meaning.specs.Answers.{◌>>=◌, of_one}
 use Rattle.ss_names_meaning.specs.Expressions.{entity_of, expression, of_owner, owner_named, place_named, subscript, with_entity}

@@ -13,7 +13,8 @@ use Rattle.ss_names_uses.specs.declared.used.Use.{Use}
 use Rattle.ss_names.specs.declared.entry.RoutineSection.{RoutineSection}
 use Rattle.ss_names.specs.Entries.{given_by, routine_by}
 use Rattle.ss_names.specs.Table.{Table, table}
-use Rattle.ss_names_scopes.specs.Locals.{Moded, as_list, locals_of}
+use Rattle.std.specs.Prelude.{option_to_list}
+use Rattle.ss_names_scopes.specs.Locals.{Moded, locals_of}
 use Rattle.ss_names_scopes.specs.Scopes.{is_main, local_mode, scope_of}
 use Rattle.ss_program.specs.Program.{Block, Done, Event, Program, Routine}
 use Rattle.ss_program.specs.WellTyped.{Scope as Place, GoodBlock, GoodRoutine}
@@ -44,7 +45,7 @@ pub record IsUnbroken (p : tree.ProgramTree) (x : ResolvedLayout) : Type 0 where
 
 -- ---- steps
 
-pub none_listed : {A : Type 0} (o : Option A) → as_list o ≡ [] → o ≡ None
+pub none_listed : {A : Type 0} (o : Option A) → option_to_list o ≡ [] → o ≡ None
 none_listed None e = refl
 none_listed (Some x) e = absurd cc
 

@@ -25,7 +25,6 @@ use Rattle.ss_check_rules.specs.declared.error.CheckError.TheVariants as errors
 use Rattle.ss_check_rules.specs.Counts.{is_given, is_yielded}
 use Rattle.ss_check_rules.specs.Kinds.{if_means, is_routine}
 use Rattle.ss_check_rules.specs.Modes.{given_mode, mode_said, yielded_mode}
-use Rattle.ss_check_rules.specs.Refusal.{unless}
 use Rattle.ss_program.specs.Program.{Statement, Change, Call, Target}
 use Rattle.ss_program.specs.WellTyped.{Scope as Place, HasMode, TakesMode, Good}
 use Rattle.ss_names_meaning.specs.Answers.{◌>>=◌, upto}
@@ -37,6 +36,7 @@ use Rattle.ss_check_laws.specs.Links.{IsLinked, IsRoutineAt, Kept}
 use Rattle.ss_check_laws.proofs.Steps.{GoesWell, agree, each_resolves, holds_unless, two_parts}
 use Rattle.ss_check_laws.proofs.Expressions.{number_kept}
 use Rattle.ss_check_laws.proofs.Lists.{after, after_first, after_one, after_two, each_length, holds, in_order}
+use Rattle.ss_names_declarations.specs.Earliest.{unless}
 use Rattle.ss_check_laws.proofs.Parts.{expressions_resolve, targets_resolve}
 
 -- ---- routines

@@ -55,9 +55,7 @@ abbrev pub suits : Scope → Role → Designator → Bool
 suits s roles.Reset place = is_some (history_of s place)
 suits s roles.Set place = if_means is_set (meaning_in_role s roles.Set place)
 suits s roles.LoopVariable place = if_means is_variable (meaning s place)
-suits s roles.Value place = if_means has_value (meaning s place)
-suits s roles.Item place = if_means has_value (meaning s place)
-suits s roles.Target place = if_means has_value (meaning s place)
+suits s _ place = if_means has_value (meaning s place)
 
 -- what TALLY and ACCUMULATE may be of: a global variable of a DEFINE, an attribute or N. of a set
 abbrev pub may_be_watched : Meaning → Bool

@@ -1,5 +1,5 @@
 -- The first of the rules 71 to 79 that a program breaks, and the first line of the text where it does.
-use Rattle.std.specs.Prelude.{ℕ, Bool, true, false, not, ◌&&◌, ◌||◌, List, [], ◌∷◌, ◌++◌, Option, Some, None, is_some, if◌then◌else◌}
+use Rattle.std.specs.Prelude.{Bool, List, None, Option, Some, ℕ, [], option_to_list, false, if◌then◌else◌, is_some, not, true, ◌&&◌, ◌++◌, ◌||◌, ◌∷◌}
 use Rattle.std.specs.List.{flat_map, list_any}
 use Rattle.ss_base.specs.declared.line.Line.{Line}
 use Rattle.ss_tree.specs.Names.{NameBytes}
@@ -7,7 +7,7 @@ use Rattle.ss_tree.specs.Tree.{PreambleTree, event_notices, every, statistics, S
 use Rattle.ss_tree.specs.declared.expression.Designator.{Designator}
 use Rattle.ss_base.specs.declared.layout.ClassKind.{ClassKind}
 use Rattle.ss_base.specs.declared.layout.ClassKind.TheVariants.{Notice}
-use Rattle.ss_names_declarations.specs.Earliest.{earliest}
+use Rattle.ss_names_declarations.specs.Earliest.{earliest, unless}
 use Rattle.ss_names_declarations.specs.Firsts.{value_for}
 use Rattle.ss_names_uses.specs.declared.used.Role.{Role}
 use Rattle.ss_names_uses.specs.declared.used.ClassNeed.{ClassNeed}
@@ -17,7 +17,6 @@ use Rattle.ss_names_uses.specs.declared.used.Use.{Use}
 use Rattle.ss_names_uses.specs.Uses.{uses}
 use Rattle.ss_names.specs.declared.meaning.Meaning.{Meaning}
 use Rattle.ss_names.specs.Table.{Table, table}
-use Rattle.ss_names_scopes.specs.Locals.{as_list}
 use Rattle.ss_names_scopes.specs.Scopes.{Scope, is_main, is_main_section, meaning, meaning_of_name, scope_of}
 use Rattle.ss_check_rules.specs.Counts.{suits_count}
 use Rattle.ss_check_rules.specs.Kinds.{if_means, is_mean, is_routine, is_target, may_be_watched, meaning_in_role, suits, suits_class, suits_subscripts, takes_values}
@@ -27,10 +26,6 @@ use Rattle.ss_check_rules.specs.declared.error.CheckError.{CheckError}
 use Rattle.ss_check_rules.specs.declared.error.CheckError.TheVariants as e
 
 -- ---- uses
-
-abbrev pub unless : Bool → CheckError → Option CheckError
-unless true breach = None
-unless false breach = Some breach
 
 -- a place that means something: its subscripts, 75; as a target, 76; its mode, 73
 abbrev pub meant_breaks : Scope → Line → Role → ℕ → Bool → Option Meaning → Option CheckError
@@ -72,7 +67,7 @@ use_breaks s in_main u = used_breaks s in_main u.line u.what
 
 -- a use that breaks a rule
 abbrev pub breaks : Scope → Bool → Use → List CheckError
-breaks s in_main u = as_list (use_breaks s in_main u)
+breaks s in_main u = option_to_list (use_breaks s in_main u)
 
 abbrev pub in_section : Table → List SectionTree → SectionTree → List CheckError
 in_section t sections s = flat_map (breaks (scope_of t sections s) (is_main s.kind)) (uses s)
@@ -81,7 +76,7 @@ in_section t sections s = flat_map (breaks (scope_of t sections s) (is_main s.ki
 
 -- a class of notices without an EVENT section, 72
 abbrev pub eventless : Table → Line → NameBytes → List CheckError
-eventless t line class = as_list (unless (is_some (value_for t.events class)) (e.NoEventRoutine line))
+eventless t line class = option_to_list (unless (is_some (value_for t.events class)) (e.NoEventRoutine line))
 
 abbrev pub eventless_of : Table → Line → ClassKind → NameBytes → List CheckError
 eventless_of t line Notice class = eventless t line class
@@ -95,7 +90,7 @@ subject_breaks line meaning =
 abbrev pub in_preamble : Table → PreambleTree → List CheckError
 in_preamble t (event_notices line names) = flat_map (eventless t line) names
 in_preamble t (every line kind class clauses) = eventless_of t line kind class
-in_preamble t (statistics line weighting found subject) = as_list (subject_breaks line (value_for t.meanings subject))
+in_preamble t (statistics line weighting found subject) = option_to_list (subject_breaks line (value_for t.meanings subject))
 in_preamble t _ = []
 
 -- a program without MAIN, 71

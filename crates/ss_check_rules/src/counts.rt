@@ -3,12 +3,12 @@
 ghost use Rattle.std.specs.Prelude.{◌≡◌};
 ghost use Rattle.ss_check_rules.specs.declared.error.CheckError.TheVariants as e;
 ghost use Rattle.ss_check_rules.specs.Counts.{argument_count, has_attributes, is_given, is_yielded, suits_count};
-ghost use Rattle.ss_check_rules.specs.Refusal.{unless};
 
 use crate::error::{CheckError, unless};
 use ss_base::Line;
 use ss_names::{Names, RoutineSection};
 use ss_names_uses::CountNeed;
+ghost use Rattle.ss_names_declarations.specs.Earliest.{unless};
 use ss_tree::expression::Function;
 
 // How many arguments a function takes.

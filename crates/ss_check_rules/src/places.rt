@@ -5,7 +5,8 @@ ghost use Rattle.ss_names_scopes.specs.Seen.{scope_seen};
 ghost use Rattle.ss_check_rules.specs.declared.error.CheckError.TheVariants as e;
 ghost use Rattle.ss_check_rules.specs.Kinds.{if_means, is_mean, is_target, takes_values};
 ghost use Rattle.ss_check_rules.specs.Modes.{attribute_mode, differ, field_mode, given_mode, is_mean_as_value, is_text, mixes_modes, mode_meant, mode_of_attribute, mode_said, yielded_mode};
-ghost use Rattle.ss_check_rules.specs.Refusal.{class_breaks, meant_breaks, place_breaks, unless};
+ghost use Rattle.ss_names_declarations.specs.Earliest.{unless};
+ghost use Rattle.ss_check_rules.specs.Refusal.{class_breaks, meant_breaks, place_breaks};
 ghost use Rattle.ss_names_scopes.specs.Scopes.{meaning};
 
 use crate::error::{CheckError, unless};

@@ -1,5 +1,5 @@
 -- The lists in which a program's things are numbered.
-use Rattle.std.specs.Prelude.{ℕ, ◌++◌, Bool, true, false, List, [], ◌∷◌, map, filter, length, Option, Some, None, is_some, if◌then◌else◌, nat_eq}
+use Rattle.std.specs.Prelude.{ℕ, ◌++◌, Bool, true, false, List, [], ◌∷◌, map, filter, length, Option, Some, None, is_some, option_to_list, if◌then◌else◌, nat_eq, slice_get}
 use Rattle.std.specs.Global.{Vec}
 use Rattle.std.specs.List.{flat_map, fold, list_any, range_with_len}
 use Rattle.std.specs.Map.{keys_of}
@@ -31,7 +31,7 @@ use Rattle.ss_names.specs.Modes.{value_mode}
 abbrev pub given_by : {A : Type 0} → (Declared → List A) → List Declaration → List A
 given_by f ds = flat_map (λ (x : Declaration). f x.what) ds
 
--- the same by names, of which the first counts
+-- what each of some declarations gives to names; of two entries for a name the first counts
 abbrev pub named_by : {A : Type 0} → (Declared → List (NameBytes × A)) → List Declaration → List (NameBytes × A)
 named_by f ds = firsts (given_by f ds)
 
@@ -50,13 +50,9 @@ abbrev pub usual_by : Declared → List Mode
 usual_by (d.Normally mode) = usual_of mode
 usual_by _ = []
 
-abbrev pub first_mode : List Mode → Option Mode
-first_mode [] = None
-first_mode (mode ∷ modes) = Some mode
-
 -- the mode that NORMALLY gives to every name that has none, wherever the NORMALLY is
 abbrev pub usual_mode : List Declaration → Option Mode
-usual_mode ds = first_mode (given_by usual_by ds)
+usual_mode ds = slice_get (given_by usual_by ds) 0
 
 abbrev pub mode_by : Declared → List (NameBytes × Mode)
 mode_by (d.Variable name mode) = (name, value_mode mode) ∷ []
@@ -207,13 +203,9 @@ abbrev pub is_notice : Option ClassKind → Bool
 is_notice (Some kinds.Notice) = true
 is_notice _ = false
 
-abbrev pub number_if : Option ℕ → List ℕ
-number_if None = []
-number_if (Some number) = number ∷ []
-
 -- the number of a class of notices
 abbrev pub notice_number : List (NameBytes × ClassKind) → NameBytes → List ℕ
-notice_number cs name = if is_notice (value_for cs name) then number_if (place_in cs name) else []
+notice_number cs name = if is_notice (value_for cs name) then option_to_list (place_in cs name) else []
 
 abbrev pub priority_by : List (NameBytes × ClassKind) → Declared → List ℕ
 priority_by cs (d.Priority class) = notice_number cs class

@@ -105,7 +105,7 @@ field_pushed mode fs e =
       rows = row_pushed fs.rows e.1 e.0;
     }
 
--- the same, unless its name has an entry
+-- one more attribute of its class, unless its name has an entry
 abbrev pub with_field : (NameBytes → Mode) → Fields → NameBytes × ℕ → Fields
 with_field mode fs e = if is_some (value_for fs.entries e.0) then fs else field_pushed mode fs e
 

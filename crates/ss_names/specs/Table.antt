@@ -177,8 +177,7 @@ same_of_set _ _ = false
 
 -- whether a name that means the one is declared as another
 abbrev pub is_another : Option Meaning → Meaning → Bool
-is_another None new = false
-is_another (Some known) new = not (same_of_set known new)
+is_another known new = option_map_or (λ old. not (same_of_set old new)) false known
 
 -- the lines where a name is declared that means something by the declarations before it
 abbrev pub clashes_after : List (NameBytes × Meaning) → List Entered → List Line

@@ -1,11 +1,11 @@
 //! The filling of the table, in passes over the declarations. The last pass is in `entering`.
 
-ghost use Rattle.std.specs.Prelude.{◌≡◌, ◌<◌, ◌∷◌, [], None, is_some, if◌then◌else◌, length, map, option_map, slice_get, OnOk, IfOk};
+ghost use Rattle.std.specs.Prelude.{IfOk, None, OnOk, [], if◌then◌else◌, is_some, length, map, option_to_list, option_map, slice_get, ◌<◌, ◌∷◌, ◌≡◌};
 ghost use Rattle.std.specs.List.{fold};
 ghost use Rattle.ss_base.specs.declared.layout.Owner.TheVariants as owners;
 ghost use Rattle.ss_tree.specs.Names.{NameBytes};
 ghost use Rattle.ss_names_declarations.specs.Firsts.{entry_if, place_among, place_in, value_for, with_first};
-ghost use Rattle.ss_names.specs.Entries.{class_variables, fields_by_class, notice_number, number_if, owner_named, row_of, usual_of, with_number};
+ghost use Rattle.ss_names.specs.Entries.{class_variables, fields_by_class, notice_number, owner_named, row_of, usual_of, with_number};
 ghost use Rattle.ss_names.specs.Table.{clashes, declared};
 ghost use Rattle.ss_names.specs.Filling.{HasRows, add_entities, add_names, add_variables, entities_pass, field_pushed, fields_added, fields_of, first_line, kept_mode, merged_at, merged_with, mode_named, names_pass, no_names, no_set, pushed, row_pushed, variables_pass, with_field, with_fields, with_ranks, with_rows, with_set, with_sets, with_variables};
 
@@ -339,7 +339,7 @@ fn merge_set(names: &mut Names, set: &Name, more: Set)
 
 // The number of a class of notices.
 fn notice_number(names: &Names, class: &Name) -> Option<usize>
-    ensures { number_if result ≡ notice_number names.now.classes class.now }
+    ensures { option_to_list result ≡ notice_number names.now.classes class.now }
 {
     if names.is_notice(class) {
         class_number(names, class)

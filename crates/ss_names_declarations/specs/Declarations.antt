@@ -43,14 +43,11 @@ rule_of (ranked keys) = Ranked
 
 -- the keys by which the DEFINE of this number ranks its sets
 abbrev pub in_order : Line → ℕ → OrderTree → List Declaration
-in_order line number fifo = []
-in_order line number lifo = []
 in_order line number (ranked keys) = map (λ (key : Key). at_line line (RankKey key.name key.high number)) keys
+in_order line number _ = []
 
 -- what the statement of this number in the preamble declares
 abbrev pub in_statement : ℕ → PreambleTree → List Declaration
-in_statement number (permanent_entities line) = []
-in_statement number (temporary_entities line) = []
 in_statement number (event_notices line names) = map (λ name. at_line line (Class name Notice)) names
 in_statement number (every line kind class clauses) =
     at_line line (Class class kind) ∷ flat_map (in_clause line class) clauses
@@ -63,6 +60,7 @@ in_statement number (priority_order line classes) = at_line line PriorityOrder �
 in_statement number (break_ties line class keys) = at_line line (Ties class) ∷ map (λ (key : Key). at_line line (TieKey class key.name key.high)) keys
 in_statement number (statistics line weighting found subject) =
     map (λ (s : StatisticTree). at_line line (Statistic s.name s.kind subject)) found ++ at_line line (Subject subject weighting) ∷ []
+in_statement number _ = []
 
 -- ---- sections
 

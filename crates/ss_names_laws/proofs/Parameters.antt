@@ -1,6 +1,6 @@
 -- The parameters of a section differ, and are its first local variables.
 use Rattle.std.proofs.Common.{◌≡◌, ℕ, ◌+◌, List, [], ◌∷◌, ◌++◌, length, map, take, Bool, cond, false, Option, Some, None, refl, sym, ap, subst, ◌∙◌, append_assoc, append-nil}
-use Rattle.std.specs.Prelude.{◌&&◌, slice_get}
+use Rattle.std.specs.Prelude.{option_to_list, slice_get, ◌&&◌}
 use Rattle.std.specs.List.{AllByRecursion as Every, IsDistinct, flat_map, fold}
 use Rattle.std.specs.Map.{keys_of}
 use Rattle.std.specs.Option.{option_or}
@@ -21,7 +21,7 @@ use Rattle.ss_names_declarations.proofs.Entries.{keys_append, value_append}
 use Rattle.ss_names_uses.specs.Uses as used
 use Rattle.ss_names_uses.specs.Uses.{as_attribute, in_body, in_kind, in_places, uses}
 use Rattle.ss_names.specs.Table.{Table, table}
-use Rattle.ss_names_scopes.specs.Locals.{as_list, defined, local_used, locals_of, moded_in}
+use Rattle.ss_names_scopes.specs.Locals.{defined, local_used, locals_of, moded_in}
 use Rattle.ss_tables_rules.specs.declared.once.Once.{Once}
 use Rattle.ss_tables_rules.specs.declared.once.Once.TheVariants as once
 use Rattle.ss_tables_rules.specs.Broken.{refusal_of_declarations}
@@ -74,7 +74,7 @@ AllOnce t ds = IsDistinct (λ (b a : Once). same_once a b) (onces t ds)
 once_parts : (t : Table) (xs ys : List Declaration) → AllOnce t (xs ++ ys) → AllOnce t xs × AllOnce t ys
 once_parts t xs ys h =
     let e = λ (b a : Once). same_once a b in
-    distinct_parts e (onces t xs) (onces t ys) (subst (IsDistinct e) (flat_map-append (λ (x : Declaration). as_list (once_of t x.what)) xs ys) h)
+    distinct_parts e (onces t xs) (onces t ys) (subst (IsDistinct e) (flat_map-append (λ (x : Declaration). option_to_list (once_of t x.what)) xs ys) h)
 
 onces_of_parameters : (t : Table) (line : Line) (k : ℕ) (names : List NameBytes) → onces t (map (parameter line k) names) ≡ map (λ n. once.Parameter n k) names
 onces_of_parameters t line k [] = refl

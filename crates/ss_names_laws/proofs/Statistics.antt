@@ -1,6 +1,6 @@
 -- The subjects of TALLY and ACCUMULATE: each is there and a whole number, so each history has a statistic.
 use Rattle.std.proofs.Common.{◌≡◌, ℕ, not, Bool, true, false, [], ◌++◌, List, length, Option, Some, None, option_map, refl, ap, ◌∙◌}
-use Rattle.std.specs.Prelude.{slice_get, if◌then◌else◌}
+use Rattle.std.specs.Prelude.{option_to_list, if◌then◌else◌, slice_get}
 use Rattle.std.specs.List.{AllByRecursion as Every, flat_map}
 use Rattle.std.specs.Map.{keys_of, values_of}
 use Rattle.std.proofs.lemmas.Option.{slice_get-map}
@@ -23,13 +23,13 @@ use Rattle.ss_names.specs.declared.meaning.Meaning.{Meaning}
 use Rattle.ss_names.specs.declared.meaning.Meaning.TheVariants as m
 use Rattle.ss_names.specs.Entries.{given_by, history_by}
 use Rattle.ss_names.specs.Table.{Table, numbered, subject_of, table}
-use Rattle.ss_names_scopes.specs.Locals.{as_list}
 use Rattle.ss_check_rules.specs.declared.error.CheckError.{CheckError}
 use Rattle.ss_check_rules.specs.declared.error.CheckError.TheVariants as errors
 use Rattle.ss_check_rules.specs.Kinds.{may_be_watched}
 use Rattle.ss_check_rules.specs.Modes.{is_text}
 use Rattle.ss_check_rules.specs.Order.{order_of}
-use Rattle.ss_check_rules.specs.Refusal.{breaches, in_preamble, in_program, in_section, refusal_of_uses, subject_breaks, unless}
+use Rattle.ss_names_declarations.specs.Earliest.{unless}
+use Rattle.ss_check_rules.specs.Refusal.{breaches, in_preamble, in_program, in_section, refusal_of_uses, subject_breaks}
 use Rattle.ss_names_meaning.specs.Answers.{upto}
 use Rattle.ss_names_meaning.specs.Layouts.{statistic_kept, statistics as statistics_of}
 use Rattle.ss_names_laws.proofs.Each.{at_place, each_empty, every_first, every_piece}
@@ -55,7 +55,7 @@ whole_so line (Some meaning) h = by (may_be_watched meaning) refl h
     by true is g = (meaning, refl, is, no_text line (is_text (Some meaning)) g)
     by false is g = absurd cc
 
-none_listed : (o : Option CheckError) → as_list o ≡ [] → o ≡ None
+none_listed : (o : Option CheckError) → option_to_list o ≡ [] → o ≡ None
 none_listed None h = refl
 none_listed (Some breach) h = absurd cc
 

@@ -1,5 +1,5 @@
 -- The local variables of a section.
-use Rattle.std.specs.Prelude.{ℕ, Bool, true, false, ◌&&◌, ◌==◌, List, [], ◌∷◌, map, Option, Some, None, is_none, if◌then◌else◌}
+use Rattle.std.specs.Prelude.{ℕ, Bool, true, false, ◌&&◌, ◌==◌, List, [], ◌∷◌, map, Option, Some, None, is_none, option_to_list, if◌then◌else◌}
 use Rattle.std.specs.Global.{Vec}
 use Rattle.std.specs.List.{flat_map}
 use Rattle.std.specs.Option.{option_or}
@@ -43,12 +43,8 @@ local_of t (Local name mode) = Some name
 local_of t (Place role place subscripts is_number) = local_place t role place subscripts
 local_of t _ = None
 
-abbrev pub as_list : {A : Type 0} → Option A → List A
-as_list None = []
-as_list (Some x) = x ∷ []
-
 abbrev pub local_used : Table → Use → List NameBytes
-local_used t u = as_list (local_of t u.what)
+local_used t u = option_to_list (local_of t u.what)
 
 abbrev pub defined_by : Used → List (NameBytes × Mode)
 defined_by (Local name mode) = (name, value_mode mode) ∷ []

@@ -53,19 +53,14 @@ row_length (and_expression e es) = suc (row_length es)
 -- the mode of a named place: a time is a number
 abbrev pub designated : Designator → ModeOf
 designated (designators.Name name) = modes.Named name
-designated designators.TimeV = modes.Integer
-designated designators.TimeA = modes.Integer
+designated _ = modes.Integer
 
 -- the mode of an expression; a text in parentheses is still a text
 abbrev pub mode_of : ExpressionTree → ModeOf
-mode_of (number z) = modes.Integer
 mode_of (text t) = modes.Alpha
 mode_of (named designator subscripts) = designated designator
-mode_of (call function arguments) = modes.Integer
 mode_of (parenthesised e) = mode_of e
-mode_of (product e further) = modes.Integer
-mode_of (signed sign e) = modes.Integer
-mode_of (sum e further) = modes.Integer
+mode_of _ = modes.Integer
 
 -- a text where a number may have to be
 abbrev pub of_text : Line → Bool → List Use
@@ -157,11 +152,9 @@ in_loop_head line (guarded guards) = flat_map (in_guard line) guards
 -- ---- parts of statements
 
 abbrev pub in_position : Line → PositionTree → List Use
-in_position line by_discipline = []
-in_position line at_first = []
-in_position line at_last = []
 in_position line (before e) = in_expression line true e
 in_position line (after e) = in_expression line true e
+in_position line _ = []
 
 abbrev pub in_when : Line → WhenTree → List Use
 in_when line (at_time e) = in_expression line true e
@@ -271,8 +264,6 @@ in_itself (let_statement line n e) = in_target line (mode_of e) n ++ in_expressi
 in_itself (add_statement line e n) = in_expression line true e ++ in_named line roles.Target true n
 in_itself (subtract_statement line e n) = in_expression line true e ++ in_named line roles.Target true n
 in_itself (call_statement line name given yielding) = in_call line name given yielding
-in_itself (return_statement line) = []
-in_itself (stop_statement line) = []
 in_itself (read_statement line targets) = in_all_named line roles.Target targets
 in_itself (start_simulation line) = at_line line Start ∷ []
 in_itself (if_statement line condition first second) = in_condition line condition

@@ -1,5 +1,5 @@
 -- What may be said once, by keys: the number of its kind, that of its section, and its name.
-use Rattle.std.specs.Prelude.{ℕ, Bool, ◌&&◌, List, [], ◌∷◌, ◌++◌, Option, Some, None, if◌then◌else◌, nat_eq}
+use Rattle.std.specs.Prelude.{Bool, List, None, Option, Some, ℕ, [], option_to_list, if◌then◌else◌, nat_eq, ◌&&◌, ◌++◌, ◌∷◌}
 use Rattle.std.specs.List.{list_any}
 use Rattle.std.specs.Option.{option_eq}
 use Rattle.std.specs.Cmp.Lexicographic.{pointwise}
@@ -8,7 +8,6 @@ use Rattle.ss_tree.specs.Names.{NameBytes}
 use Rattle.ss_names_declarations.specs.declared.declaration.Declared.{Declared}
 use Rattle.ss_names_declarations.specs.declared.declaration.Declaration.{Declaration}
 use Rattle.ss_names.specs.Table.{Table}
-use Rattle.ss_names_scopes.specs.Locals.{as_list}
 use Rattle.ss_tables_rules.specs.declared.once.Once.{Once}
 use Rattle.ss_tables_rules.specs.declared.once.Once.TheVariants as o
 use Rattle.ss_tables_rules.specs.declared.error.TableError.{TableError}
@@ -54,5 +53,5 @@ with_key said (Some key) = if has_key said key then said else said ++ key ∷ []
 abbrev pub repeats_by_key : Table → List Key → List Declaration → List TableError
 repeats_by_key t said [] = []
 repeats_by_key t said (x ∷ xs) =
-    as_list (again_by_key said x.line x.what (key_if (once_of t x.what)))
+    option_to_list (again_by_key said x.line x.what (key_if (once_of t x.what)))
     ++ repeats_by_key t (with_key said (key_if (once_of t x.what))) xs

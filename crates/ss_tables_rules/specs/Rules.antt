@@ -9,6 +9,7 @@ use Rattle.ss_tree.specs.Names.{NameBytes}
 use Rattle.ss_tree.specs.Tree.{SectionTree}
 use Rattle.ss_tree.specs.declared.preamble.Mode.{Mode}
 use Rattle.ss_tree.specs.declared.preamble.Mode.TheVariants as modes
+use Rattle.ss_names_declarations.specs.Earliest.{unless}
 use Rattle.ss_names_declarations.specs.Firsts.{is_one_of, place_among, place_in, same_name, value_for}
 use Rattle.ss_names_declarations.specs.declared.declaration.Declared.{Declared}
 use Rattle.ss_names_declarations.specs.declared.declaration.Declared.TheVariants as d
@@ -24,11 +25,6 @@ use Rattle.ss_names.specs.Table.{Table}
 use Rattle.ss_names_scopes.specs.Locals.{Moded, local_of, locals}
 use Rattle.ss_tables_rules.specs.declared.error.TableError.{TableError}
 use Rattle.ss_tables_rules.specs.declared.error.TableError.TheVariants as e
-
--- the breach of a rule that doesn't hold
-abbrev pub unless : Bool → TableError → Option TableError
-unless true breach = None
-unless false breach = Some breach
 
 -- ---- what the rules ask
 

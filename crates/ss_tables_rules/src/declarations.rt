@@ -3,13 +3,13 @@
 ghost use Rattle.std.specs.Prelude.{◌≡◌, ◌||◌, not, is_some};
 ghost use Rattle.std.specs.List.{flat_map, fold};
 ghost use Rattle.std.specs.Option.{option_or};
-ghost use Rattle.ss_names_declarations.specs.Earliest.{earlier};
+ghost use Rattle.ss_names_declarations.specs.Earliest.{earlier, unless};
 ghost use Rattle.ss_names_declarations.specs.Firsts.{place_among, value_for};
 ghost use Rattle.ss_names.specs.Entries.{is_notice};
 ghost use Rattle.ss_tables_rules.specs.declared.error.TableError.TheVariants as e;
 ghost use Rattle.ss_tables_rules.specs.Broken.{breaks};
 ghost use Rattle.ss_tables_rules.specs.Order.{order_of};
-ghost use Rattle.ss_tables_rules.specs.Rules.{broken_by, broken_in, field_of, has_member, has_owner, is_attribute_of, is_class_of, is_real, is_too_many, may_be_hidden, set_named, unless};
+ghost use Rattle.ss_tables_rules.specs.Rules.{broken_by, broken_in, field_of, has_member, has_owner, is_attribute_of, is_class_of, is_real, is_too_many, may_be_hidden, set_named};
 
 use crate::error::TableError;
 use ss_base::{Line, Name};

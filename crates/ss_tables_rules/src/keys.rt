@@ -4,11 +4,10 @@ ghost use Rattle.std.specs.Prelude.{◌≡◌, ◌||◌, not, None, map};
 ghost use Rattle.std.specs.List.{flat_map, fold};
 ghost use Rattle.std.specs.Option.{option_or};
 ghost use Rattle.ss_tree.specs.View.{view_order, view_preamble};
-ghost use Rattle.ss_names_declarations.specs.Earliest.{earlier};
+ghost use Rattle.ss_names_declarations.specs.Earliest.{earlier, unless};
 ghost use Rattle.ss_names_declarations.specs.Firsts.{value_for};
 ghost use Rattle.ss_tables_rules.specs.Keys.{class_of, is_foreign, is_foreign_to_any, keys_of_order, member_named, member_of, misranked, misranked_in, misranked_key};
 ghost use Rattle.ss_tables_rules.specs.Order.{order_of};
-ghost use Rattle.ss_tables_rules.specs.Rules.{unless};
 ghost use Rattle.ss_tables_rules.specs.declared.error.TableError.TheVariants as e;
 
 use crate::declarations::{set_named, unless};
