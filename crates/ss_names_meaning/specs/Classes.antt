@@ -10,7 +10,7 @@ use Rattle.ss_names_scopes.specs.Scopes.{Scope, is_kind, meaning_of_name, variab
 use Rattle.ss_program.specs.declared.expression.Variable.{Variable}
 use Rattle.ss_program.specs.declared.statement.CountedClass.{CountedClass}
 use Rattle.ss_names_meaning.specs.declared.classes.NamedClass.{NamedClass}
-use Rattle.ss_names_meaning.specs.Answers.{◌>>=◌, where_holds}
+use Rattle.ss_names_meaning.specs.Answers.{◌>>=◌, of_one, where_holds}
 
 -- the variable that a name means here
 abbrev pub variable_named : Scope → NameBytes → Option Variable
@@ -26,8 +26,8 @@ class_number need _ = None
 abbrev pub class_named : Scope → ClassNeed → NameBytes → Option NamedClass
 class_named s need name = do
   class ← class_number need (value_for s.table.meanings name)
-  variable ← variable_named s name
-  Some (record { class = class; attributes = length (get_or s.table.fields class []); variable = variable })
+  of_one {B = NamedClass} (variable_named s name)
+      (λ variable. record { class = class; attributes = length (get_or s.table.fields class []); variable = variable })
 
 abbrev pub count_of : Option Meaning → Option CountedClass
 count_of (Some (meanings.Count count)) = Some count

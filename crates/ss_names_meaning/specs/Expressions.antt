@@ -18,7 +18,7 @@ use Rattle.ss_names.specs.declared.meaning.Meaning.{Meaning}
 use Rattle.ss_names.specs.declared.meaning.Meaning.TheVariants as meanings
 use Rattle.ss_names.specs.Table.{owner_of}
 use Rattle.ss_names_scopes.specs.Scopes.{Scope, meaning, meaning_of_class, variable_of}
-use Rattle.ss_names_meaning.specs.Answers.{◌>>=◌, of_one}
+use Rattle.ss_names_meaning.specs.Answers.{◌>>=◌, of_one, of_two}
 
 -- ---- words
 
@@ -111,8 +111,7 @@ set_of_name s _ = None
 abbrev pub with_entity : Scope → Designator → Option Expression → Option (Meaning × Option Expression)
 with_entity s place e = do
   m ← meaning s place
-  of ← entity_of s m e
-  Some (m, of)
+  of_one {B = Meaning × Option Expression} (entity_of s m e) (λ of. (m, of))
 
 -- ---- expressions
 
@@ -150,10 +149,8 @@ module _ (s : Scope) where
 
     -- two arguments
     pub two : ExpressionRow → Option (Expression × Expression)
-    two (and_expression e (and_expression f no_expression)) = do
-      x ← expression e
-      y ← expression f
-      Some (x, y)
+    two (and_expression e (and_expression f no_expression)) =
+        of_two {C = Expression × Expression} (expression e) (expression f) (λ x y. (x, y))
     two _ = None
 
     -- what is on the left, times further factors
@@ -195,5 +192,4 @@ module _ (s : Scope) where
   set_named n = do
     set ← set_of_name s n.designator
     e ← subscript n.subscripts
-    of ← entity_of s (meanings.Set set) e
-    Some (set, owner_named of)
+    of_one {B = ℕ × SetOwner} (entity_of s (meanings.Set set) e) (λ of. (set, owner_named of))

@@ -14,14 +14,10 @@ use Rattle.ss_names_meaning.specs.Conditions.{condition}
 -- ---- conditions of loops
 
 abbrev pub resolved_phrase : Scope → PhraseTree → Option Phrase
-resolved_phrase c p = do
-  tests ← condition c p.condition
-  Some (record { kind = p.kind; condition = tests })
+resolved_phrase c p = of_one {B = Phrase} (condition c p.condition) (λ tests. record { kind = p.kind; condition = tests })
 
 abbrev pub guard : Scope → GuardTree → Option Guard
-guard c g = do
-  tests ← condition c g.condition
-  Some (record { kind = g.kind; condition = tests })
+guard c g = of_one {B = Guard} (condition c g.condition) (λ tests. record { kind = g.kind; condition = tests })
 
 -- the phrases of a FOR
 abbrev pub phrases_of : HeadTree → List PhraseTree

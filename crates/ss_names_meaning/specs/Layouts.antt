@@ -23,7 +23,7 @@ use Rattle.ss_names.specs.declared.meaning.Meaning.TheVariants as meanings
 use Rattle.ss_names.specs.Table.{Table}
 use Rattle.ss_program.specs.declared.sections.Statistic.{Statistic}
 use Rattle.ss_program.specs.declared.statement.CountedClass.{CountedClass}
-use Rattle.ss_names_meaning.specs.Answers.{◌>>=◌, each, of_one, upto, where_holds}
+use Rattle.ss_names_meaning.specs.Answers.{◌>>=◌, each, of_one, of_three, of_two, upto, where_holds}
 
 -- ---- classes and sets
 
@@ -33,17 +33,13 @@ field_mode t name = of_one (value_for t.attributes name) (λ (a : Attribute). a.
 
 -- the class of this number, with the modes of its attributes
 abbrev pub class_laid : Table → ℕ → Option PlainClass
-class_laid t n = do
-  kind ← slice_get (values_of t.classes) n
-  modes ← each (field_mode t) (get_or t.fields n [])
-  Some (record { kind = kind; fields = modes })
+class_laid t n =
+    of_two {C = PlainClass} (slice_get (values_of t.classes) n) (each (field_mode t) (get_or t.fields n []))
+    (λ kind modes. record { kind = kind; fields = modes })
 
 -- a set, which needs an owner and a class of members
 abbrev pub set_laid : Set → Option SetLayout
-set_laid set = do
-  owner ← set.owner
-  member ← set.member
-  Some (record { owner = owner; member = member })
+set_laid set = of_two {C = SetLayout} set.owner set.member (λ owner member. record { owner = owner; member = member })
 
 abbrev pub layout : Table → Option PlainLayout
 layout t = do
@@ -107,8 +103,7 @@ abbrev pub statistic_kept : Table → ℕ → Option Statistic
 statistic_kept t n = do
   weighting ← slice_get (values_of t.histories) n
   known ← slice_get t.subjects n
-  subject ← known
-  Some (record { subject = subject; weighting = weighting })
+  of_one {B = Statistic} known (λ subject. record { subject = subject; weighting = weighting })
 
 -- a statistic for each history
 abbrev pub statistics : Table → Option (List Statistic)
@@ -125,8 +120,6 @@ pub record ResolvedLayout : Type 0 where
   pub statistics : List Statistic
 
 abbrev pub laid_out : Table → Option ResolvedLayout
-laid_out t = do
-  laid ← layout t
-  ordered ← disciplines t
-  kept ← statistics t
-  Some (record { layout = laid; disciplines = ordered; globals = values_of t.variables; counts = counts t; statistics = kept })
+laid_out t =
+    of_three {D = ResolvedLayout} (layout t) (disciplines t) (statistics t)
+    (λ laid ordered kept. record { layout = laid; disciplines = ordered; globals = values_of t.variables; counts = counts t; statistics = kept })

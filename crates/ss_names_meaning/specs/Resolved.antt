@@ -17,7 +17,7 @@ use Rattle.ss_names.specs.Table.{Table}
 use Rattle.ss_names_scopes.specs.Locals.{Moded, locals_of}
 use Rattle.ss_names_scopes.specs.Scopes.{is_main_section, local_mode}
 use Rattle.ss_program.specs.Program.{Block, Routine, Event, Program}
-use Rattle.ss_names_meaning.specs.Answers.{◌>>=◌, each, of_one, of_three, upto, where_holds}
+use Rattle.ss_names_meaning.specs.Answers.{◌>>=◌, each, of_one, of_three, of_two, upto, where_holds}
 use Rattle.ss_names_meaning.specs.Layouts.{laid_out, tie_keys}
 use Rattle.ss_names_meaning.specs.Statements.{statements}
 
@@ -39,10 +39,8 @@ body_with t all locals s = statements (record { table = t; locals = locals; sect
 
 -- the section
 abbrev pub parts_with : Table → List Moded → Moded → SectionTree → Option Parts
-parts_with t all locals s = do
-  modes ← local_modes locals
-  done ← body_with t all locals s
-  Some (record { line = s.line; modes = modes; body = done })
+parts_with t all locals s =
+    of_two {C = Parts} (local_modes locals) (body_with t all locals s) (λ modes done. record { line = s.line; modes = modes; body = done })
 
 -- the section of this number, where sections have these local variables
 abbrev pub parts_with_locals : Table → List Moded → List SectionTree → ℕ → Option Parts

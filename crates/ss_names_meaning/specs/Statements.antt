@@ -28,9 +28,7 @@ use Rattle.ss_names_meaning.specs.Heads.{resolved_phrase, guard, phrases_of, hea
 abbrev pub reader : Scope → NamedTree → Option Target
 reader c n = do
   p ← place_named c n.designator n.subscripts
-  place ← place_of p.0 p.1
-  mode ← mode_of p.0
-  Some (record { place = place; mode = mode })
+  of_two {C = Target} (place_of p.0 p.1) (mode_of p.0) (λ place mode. record { place = place; mode = mode })
 
 -- the target of the number of a new entity: the one after CALLED, or else the variable of the class
 abbrev pub new_place : Scope → Variable → Option NamedTree → Option Place
@@ -46,10 +44,8 @@ entity_called c variable (Some e) = expression c e
 
 -- the statistic that RESET starts afresh, and of which entity, if of one
 abbrev pub restart : Scope → NamedTree → Option Restart
-restart c n = do
-  statistic ← history_of c n.designator
-  p ← place_named c n.designator n.subscripts
-  Some (record { statistic = statistic; of = p.1 })
+restart c n =
+    of_two {C = Restart} (history_of c n.designator) (place_named c n.designator n.subscripts) (λ k p. record { statistic = k; of = p.1 })
 
 -- ---- parts of statements
 
@@ -104,8 +100,7 @@ routine_number _ = None
 abbrev pub routine_named : Scope → NameBytes → Option (ℕ × RoutineSection)
 routine_named c name = do
   routine ← routine_number (value_for c.table.meanings name)
-  section ← slice_get (values_of c.table.routines) routine
-  Some (routine, section)
+  of_one {B = ℕ × RoutineSection} (slice_get (values_of c.table.routines) routine) (λ section. (routine, section))
 
 -- SCHEDULE A and SCHEDULE THE, if the class has at least as many attributes as values are given
 abbrev pub new_notice : Line → NamedClass → Place → List Expression → When → Option Statement
