@@ -1,6 +1,6 @@
 -- What a name means in a linked section is there in the program.
 use Rattle.std.proofs.Common.{◌≡◌, ◌≢◌, ℕ, true, List, length, Option, Some, None, refl, sym, ap, subst, ◌∙◌}
-use Rattle.std.specs.Prelude.{◌&&◌, nat_le, nat_lt, option_map, slice_get, Contains}
+use Rattle.std.specs.Prelude.{◌&&◌, nat_le, nat_lt, option_map, slice_get, unwrap_or, Contains}
 use Rattle.std.specs.List.{AllByRecursion as Every, list_all}
 use Rattle.std.specs.Map.{lookup, values_of}
 use Rattle.std.specs.Option.{option_and_then}
@@ -33,7 +33,7 @@ use Rattle.ss_names_declarations.proofs.Entries.{there as item_at, value_at, val
 use Rattle.ss_names.specs.declared.entry.Set.{Set}
 use Rattle.ss_names.specs.declared.meaning.Meaning.{Meaning}
 use Rattle.ss_names.specs.declared.meaning.Meaning.TheVariants as meanings
-use Rattle.ss_names.specs.Table.{Table, owner_of, owner_of_member, owner_of_set, owner_of_statistic, owner_of_subject, owner_or_system, subject_of}
+use Rattle.ss_names.specs.Table.{Table, owner_of, owner_of_member, owner_of_set, owner_of_statistic, owner_of_subject, subject_of}
 use Rattle.ss_names_scopes.specs.Scopes.{Scope, hidden_by, known_mode, local_mode, meaning, meaning_of_class, meaning_of_name, mode_of, variable_of}
 use Rattle.ss_check_rules.specs.Kinds.{is_variable}
 use Rattle.ss_names_meaning.specs.Answers.{◌>>=◌, each, upto}
@@ -108,8 +108,8 @@ module _ (s : Scope) (g : Place) (k : IsLinked s g) where
       record {
         laid = i.laid;
         there = ap (λ (l : PlainLayout). slice_get l.sets set) k.layout ∙ i.laid_there;
-        owner = ap owner_of_set i.there ∙ ap owner_or_system parts.0;
-        member = ap owner_of_member i.there ∙ ap (λ o. owner_or_system (option_map owners.Class o)) parts.1;
+        owner = ap owner_of_set i.there ∙ ap (λ (o : Option Owner). unwrap_or o owners.System) parts.0;
+        member = ap owner_of_member i.there ∙ ap (λ (o : Option ℕ). unwrap_or (option_map owners.Class o) owners.System) parts.1;
         owner_there = is_owner i.laid.owner both.0;
         member_there = item_at k.laid.layout.classes i.laid.member (ltb-true i.laid.member classes both.1);
       }

@@ -1,5 +1,5 @@
 -- The first of the rules 71 to 79 that a program breaks, and the first line of the text where it does.
-use Rattle.std.specs.Prelude.{Bool, List, None, Option, Some, ℕ, [], option_to_list, false, if◌then◌else◌, is_some, not, true, ◌&&◌, ◌++◌, ◌||◌, ◌∷◌}
+use Rattle.std.specs.Prelude.{Bool, List, None, Option, Some, ℕ, [], option_to_list, if◌then◌else◌, is_some, not, ◌&&◌, ◌++◌, ◌||◌, ◌∷◌}
 use Rattle.std.specs.List.{flat_map, list_any}
 use Rattle.ss_base.specs.declared.line.Line.{Line}
 use Rattle.ss_tree.specs.Names.{NameBytes}

@@ -1,5 +1,5 @@
 -- The lists in which a program's things are numbered.
-use Rattle.std.specs.Prelude.{ℕ, ◌++◌, Bool, true, false, List, [], ◌∷◌, map, filter, length, Option, Some, None, is_some, option_to_list, if◌then◌else◌, nat_eq, slice_get}
+use Rattle.std.specs.Prelude.{ℕ, ◌++◌, Bool, true, false, List, [], ◌∷◌, map, filter, length, Option, Some, None, is_some, option_to_list, if◌then◌else◌, nat_eq, slice_get, unwrap_or}
 use Rattle.std.specs.Global.{Vec}
 use Rattle.std.specs.List.{flat_map, fold, list_any, range_with_len}
 use Rattle.std.specs.Map.{keys_of}
@@ -62,13 +62,9 @@ mode_by _ = []
 abbrev pub modes : List Declaration → List (NameBytes × Mode)
 modes ds = named_by mode_by ds
 
-abbrev pub mode_or_integer : Option Mode → Mode
-mode_or_integer None = Integer
-mode_or_integer (Some mode) = mode
-
 -- the mode of a name: that of its DEFINE, or else that of NORMALLY; a name without any is refused, and counts as INTEGER
 abbrev pub mode_of_name : List Declaration → NameBytes → Mode
-mode_of_name ds name = mode_or_integer (option_or (value_for (modes ds) name) (usual_mode ds))
+mode_of_name ds name = unwrap_or (option_or (value_for (modes ds) name) (usual_mode ds)) Integer
 
 -- ---- classes and their attributes
 

@@ -1,10 +1,11 @@
 -- What each pass over the declarations adds to the table, declaration by declaration. What the table is in the end says `declared`.
-use Rattle.std.specs.Prelude.{◌≡◌, ℕ, ◌++◌, List, [], ◌∷◌, map, length, get_or, Option, Some, None, is_some, if◌then◌else◌, nat_lt, slice_get, slice_set}
+use Rattle.std.specs.Prelude.{◌≡◌, ℕ, ◌++◌, List, [], ◌∷◌, map, length, get_or, Option, Some, None, is_some, if◌then◌else◌, nat_lt, slice_get, slice_set, unwrap_or}
 use Rattle.std.specs.List.{fold}
 use Rattle.std.specs.Map.{keys_of}
 use Rattle.std.specs.Option.{option_or}
 use Rattle.ss_base.specs.declared.line.Line.{Line}
 use Rattle.ss_base.specs.declared.layout.Mode.{Mode}
+use Rattle.ss_base.specs.declared.layout.Mode.TheVariants.{Integer}
 use Rattle.ss_base.specs.declared.layout.ClassKind.{ClassKind}
 use Rattle.ss_program.specs.declared.expression.SetQuery.{SetQuery}
 use Rattle.ss_program.specs.declared.expression.SetQuery.TheVariants.{FirstMember, LastMember, MemberCount}
@@ -18,7 +19,7 @@ use Rattle.ss_names_declarations.specs.declared.declaration.Declaration.{Declara
 use Rattle.ss_names.specs.declared.entry.Attribute.{Attribute}
 use Rattle.ss_names.specs.declared.entry.Set.{Set}
 use Rattle.ss_names.specs.declared.meaning.Meaning.{Meaning}
-use Rattle.ss_names.specs.Entries.{attribute_by, class_by, event_by, fields_by_class, history_by, mode_by, mode_or_integer, notice_by, owner_named, priority_by, rank_key_by, routine_by, set_by, tie_key_by, usual_by, variable_by, with_number}
+use Rattle.ss_names.specs.Entries.{attribute_by, class_by, event_by, fields_by_class, history_by, mode_by, notice_by, owner_named, priority_by, rank_key_by, routine_by, set_by, tie_key_by, usual_by, variable_by, with_number}
 use Rattle.ss_names.specs.Table.{Table, declares, same_of_set, subjects_by}
 
 -- the table of no declarations
@@ -92,7 +93,7 @@ abbrev pub with_fields : Table → Fields → Table
 with_fields t fs = record t { attributes = fs.entries; fields = fs.rows }
 
 abbrev pub mode_named : Table → NameBytes → Mode
-mode_named t name = mode_or_integer (option_or (value_for t.modes name) t.usual)
+mode_named t name = unwrap_or (option_or (value_for t.modes name) t.usual) Integer
 
 abbrev pub row_pushed : List (List NameBytes) → ℕ → NameBytes → List (List NameBytes)
 row_pushed rows class name = slice_set rows class (get_or rows class [] ++ name ∷ [])

@@ -1,5 +1,5 @@
 -- One table of what a program declares. Each thing is numbered by its place in a list.
-use Rattle.std.specs.Prelude.{ℕ, ◌++◌, Bool, true, false, not, List, [], ◌∷◌, map, Option, Some, None, is_some, if◌then◌else◌, slice_get}
+use Rattle.std.specs.Prelude.{ℕ, ◌++◌, Bool, true, false, not, List, [], ◌∷◌, map, Option, Some, None, is_some, if◌then◌else◌, slice_get, unwrap_or}
 use Rattle.std.specs.List.{flat_map}
 use Rattle.std.specs.Map.{keys_of}
 use Rattle.std.specs.Option.{option_map, option_map_or}
@@ -216,17 +216,11 @@ table p = declared (declarations p)
 
 -- ---- who has what a name means
 
-abbrev pub owner_or_system : Option Owner → Owner
-owner_or_system None = owners.System
-owner_or_system (Some owner) = owner
-
 abbrev pub owner_of_set : Option Set → Owner
-owner_of_set None = owners.System
-owner_of_set (Some set) = owner_or_system set.owner
+owner_of_set set = option_map_or (λ (s : Set). unwrap_or s.owner owners.System) owners.System set
 
 abbrev pub owner_of_member : Option Set → Owner
-owner_of_member None = owners.System
-owner_of_member (Some set) = owner_or_system (option_map owners.Class set.member)
+owner_of_member set = option_map_or (λ (s : Set). unwrap_or (option_map owners.Class s.member) owners.System) owners.System set
 
 abbrev pub owner_of_subject : Table → Option Subject → Owner
 owner_of_subject t (Some (subjects.OfAttribute class field)) = owners.Class class

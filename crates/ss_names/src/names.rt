@@ -1,12 +1,13 @@
 //! The table of a program.
 
-ghost use Rattle.std.specs.Prelude.{◌≡◌, ◌<◌, length, map, slice_get, get_or, option_map, Some, [], IfOk};
+ghost use Rattle.std.specs.Prelude.{◌≡◌, ◌<◌, length, map, slice_get, get_or, option_map, unwrap_or, Some, [], IfOk};
 ghost use Rattle.std.specs.Map.{keys_of};
+ghost use Rattle.ss_base.specs.declared.layout.Owner.TheVariants as owners;
 ghost use Rattle.ss_names_declarations.specs.Firsts.{place_in, value_for};
 ghost use Rattle.ss_names.specs.Modes.{value_mode};
 ghost use Rattle.ss_names.specs.Entries.{is_notice, row_of};
 ghost use Rattle.ss_names.specs.Filling.{first_line};
-ghost use Rattle.ss_names.specs.Table.{clashes, declared, owner_of, owner_of_member, owner_of_set, owner_of_statistic, owner_of_subject, owner_or_system};
+ghost use Rattle.ss_names.specs.Table.{clashes, declared, owner_of, owner_of_member, owner_of_set, owner_of_statistic, owner_of_subject};
 
 use crate::entry::{Attribute, EventSection, RankedBy, RoutineSection, Set, TiedBy};
 use crate::filling::{empty, fill};
@@ -78,7 +79,7 @@ impl Model for Names {
 
 // THE SYSTEM, where no owner is known.
 fn owner_or_system(owner: Option<Owner>) -> Owner
-    ensures { result ≡ owner_or_system owner }
+    ensures { result ≡ unwrap_or owner owners.System }
 {
     match owner {
         None => Owner::System,
