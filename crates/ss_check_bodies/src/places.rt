@@ -4,7 +4,7 @@ ghost use Rattle.std.specs.Prelude.{◌≡◌, map, None};
 ghost use Rattle.ss_tree.specs.View.{view_expression, view_named, view_option, view_position};
 ghost use Rattle.ss_program.specs.View.{view_expression as view_resolved, view_option as option_seen, view_owner, view_place, view_position as position_seen, view_restart, view_target};
 ghost use Rattle.ss_names_meaning.specs.Answers.{Gives, each};
-ghost use Rattle.ss_names_meaning.specs.Expressions.{owner_named, place_of, set_named, set_number, set_of_name, target};
+ghost use Rattle.ss_names_meaning.specs.Expressions.{set_owner, place_of, set_named, set_number, set_of_name, target};
 ghost use Rattle.ss_names_meaning.specs.Statements.{entity_called, new_place, position, reader, restart};
 ghost use Rattle.ss_check_bodies.specs.Results.{scope_in};
 
@@ -46,8 +46,8 @@ fn place_of(meaning: Meaning, entity: Option<Resolved>) -> Result<Place, Resolve
 }
 
 // The owner of a set.
-fn owner_named(entity: Option<Resolved>) -> SetOwner
-    ensures { view_owner result ≡ owner_named (option_seen view_resolved entity) }
+fn set_owner(entity: Option<Resolved>) -> SetOwner
+    ensures { view_owner result ≡ set_owner (option_seen view_resolved entity) }
 {
     match entity {
         Some(entity) => SetOwner::Entity { entity },
@@ -159,7 +159,7 @@ impl Resolver<'_> {
         };
         let subscript = self.resolve_subscript(&tree.subscripts)?;
         let entity = self.entity_of(Meaning::Set { set }, subscript)?;
-        Ok((set, owner_named(entity)))
+        Ok((set, set_owner(entity)))
     }
 
     /// Where a member is filed.

@@ -23,12 +23,11 @@ use Rattle.ss_names_uses.specs.Uses as uses
 use Rattle.ss_names_uses.specs.declared.used.CountNeed.TheVariants as counts
 use Rattle.ss_names_uses.specs.declared.used.ModeOf.TheVariants as modes
 use Rattle.ss_names_uses.specs.declared.used.Use.{Use}
-use Rattle.ss_names.specs.declared.entry.Attribute.{Attribute}
 use Rattle.ss_names.specs.declared.entry.EventSection.{EventSection}
 use Rattle.ss_names.specs.declared.meaning.Meaning.{Meaning}
 use Rattle.ss_names.specs.declared.meaning.Meaning.TheVariants as m
 use Rattle.ss_names.specs.Entries.{event_by, given_by}
-use Rattle.ss_names.specs.Table.{Table, table}
+use Rattle.ss_names.specs.Table.{Table, field_mode, table}
 use Rattle.ss_names_scopes.specs.Locals.{defined, local_used, locals_of, moded_in}
 use Rattle.ss_names_scopes.specs.Scopes.{Scope, hidden_by, is_main, known_mode, local_mode, scope_of}
 use Rattle.ss_program.specs.declared.expression.Variable.TheVariants.{Global}
@@ -36,11 +35,11 @@ use Rattle.ss_program.specs.declared.statement.CountedClass.{CountedClass}
 use Rattle.ss_program.specs.Program.{Done, Event, Program}
 use Rattle.ss_program.specs.WellTyped.{GoodBlock, GoodEvent, GoodKeys, IsPlain}
 use Rattle.ss_check_rules.specs.Counts.{has_attributes, suits_count}
-use Rattle.ss_check_rules.specs.Modes.{attribute_mode, field_mode as mode_of_field, mode_meant, mode_of_attribute, mode_said}
+use Rattle.ss_check_rules.specs.Modes.{attribute_mode, mode_meant, mode_said}
 use Rattle.ss_check_rules.specs.Refusal.{eventless, eventless_of, in_preamble, use_breaks}
 use Rattle.ss_check_rules.specs.declared.error.CheckError.TheVariants as errors
 use Rattle.ss_names_meaning.specs.Answers.{◌>>=◌, each, upto}
-use Rattle.ss_names_meaning.specs.Layouts.{ResolvedLayout, class_laid, disciplines, field_mode, layout, set_laid, statistics, tie_keys}
+use Rattle.ss_names_meaning.specs.Layouts.{ResolvedLayout, class_laid, disciplines, layout, set_laid, statistics, tie_keys}
 use Rattle.ss_names_meaning.specs.Resolved.{Parts, class_variable, event_from, event_of_class, local_modes, saved}
 use Rattle.ss_names_laws.specs.ValidTables.{IsNamedClass, parameters_of}
 use Rattle.ss_names_laws.proofs.Each.{at_place, each_empty, every_first, from_places, in_parts}
@@ -76,10 +75,6 @@ places_at P f n (y ∷ xs) zero x h e =
 places_at P f n (y ∷ xs) (suc i) x h e =
     let next : n + 1 + i ≡ n + suc i = omega arith in
     subst (λ j. Every P (f j x)) next (places_at P f (n + 1) xs i x (in_parts P (f n y) (uses.in_places f (n + 1) xs) h).1 e)
-
-field_said : (o : Option Attribute) → mode_of_attribute o ≡ (o >>= λ a. Some a.mode)
-field_said None = refl
-field_said (Some a) = refl
 
 event_is : (t : Table) (section : ℕ → Option Parts) (class : ℕ) (name : NameBytes) (known : EventSection) (keys : List RankKey) (variable : Option ℕ) (parts : Parts) →
     slice_get (keys_of t.classes) class ≡ Some name → value_for t.events name ≡ Some known → nat_le known.given (length (get_or t.fields class [])) ≡ true →
@@ -223,7 +218,7 @@ module _ (p : tree.ProgramTree) (x : ResolvedLayout) (k : IsUnbroken p x) where
         (λ j. mode_meant (hidden_by locals g.0 (place j) (value_for t.meanings g.0))) ∙ ap (λ (o : Option (Option Mode)). Some (known_mode o)) (value ∙ ap Some known) in
         let a = there (get_or t.fields class []) i (omega (arith, leb-true (length given) (length (get_or t.fields class [])) limit)) in
         let field = each_at (field_mode t) (get_or t.fields class []) n.laid.fields i a.0 n.named.fields a.1 in
-        let attribute : mode_said sc (modes.Attribute name i) ≡ Some field.0 = ap (λ o. attribute_mode t o i) placed ∙ ap (mode_of_field t) a.1 ∙ field_said (value_for t.attributes a.0) ∙ field.2 in
+        let attribute : mode_said sc (modes.Attribute name i) ≡ Some field.0 = ap (λ o. attribute_mode t o i) placed ∙ ap (option_and_then (field_mode t)) a.1 ∙ field.2 in
         let same_place : 0 + i ≡ i = omega arith in
         let places = in_parts holds (map (uses.parameter s.line) given) (uses.in_places (uses.as_attribute s.line name) 0 given) head.1.1 in
         let used = subst (λ j. Every holds (uses.as_attribute s.line name j g.0)) same_place (places_at holds (uses.as_attribute s.line name) 0 given i g.0 places.1 g.1) in

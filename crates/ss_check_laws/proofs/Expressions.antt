@@ -39,7 +39,7 @@ module _ (s : Scope) (g : Place) where
   -- ---- numbers
 
   -- a number has the mode of a number
-  from_number : (b : Bool) (e : ExpressionTree) → Number s g e → mode_said s (uses.mode_of e) ≡ Some Integer → Resolves s g b e
+  from_number : (b : Bool) (e : ExpressionTree) → Number s g e → mode_said s (uses.expression_mode e) ≡ Some Integer → Resolves s g b e
   from_number b e n h = (n.0, Integer, n.1, n.2, h, λ t. refl)
 
   pub as_number : (e : ExpressionTree) → Resolves s g true e → Number s g e

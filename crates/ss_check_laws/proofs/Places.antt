@@ -29,7 +29,7 @@ use Rattle.ss_names_declarations.specs.Earliest.{unless}
 use Rattle.ss_check_rules.specs.Refusal.{meant_breaks, place_breaks}
 use Rattle.ss_check_rules.specs.declared.error.CheckError.TheVariants as errors
 use Rattle.ss_names_meaning.specs.Answers.{◌>>=◌, of_one}
-use Rattle.ss_names_meaning.specs.Expressions.{entity_of, expression, of_owner, owner_named, place_named, subscript, with_entity}
+use Rattle.ss_names_meaning.specs.Expressions.{entity_of, expression, of_owner, set_owner, place_named, subscript, with_entity}
 use Rattle.ss_check_laws.specs.Links.{IsLinked}
 use Rattle.ss_check_laws.proofs.Steps.{alike, first_fails, first_holds, goes, holds_unless, meant}
 use Rattle.ss_check_laws.proofs.Linked.{IsHere, IsOwner, IsSetHere, IsStatisticHere, IsSubjectHere, implied_here, meaning_here, owner_here}
@@ -184,10 +184,10 @@ module _ (s : Scope) (g : Place) (k : IsLinked s g) where
   -- ---- sets and statistics
 
   -- the entity of a set is an owner such as its sets have
-  pub owner_fits : (set : ℕ) → IsSetHere s g k set → (of : Option Expression) → OwnerHas s g (owner_of_set (slice_get s.table.sets set)) of → OwnerFits g set (owner_named of)
+  pub owner_fits : (set : ℕ) → IsSetHere s g k set → (of : Option Expression) → OwnerHas s g (owner_of_set (slice_get s.table.sets set)) of → OwnerFits g set (set_owner of)
   owner_fits set i of f = by i.laid.owner of (ap (option_map (λ (l : SetLayout). l.owner)) i.there) (subst (λ o. OwnerHas s g o of) i.owner f)
     where
-      by : (o : Owner) (of : Option Expression) → owner_in_program g.program set ≡ Some o → OwnerHas s g o of → OwnerFits g set (owner_named of)
+      by : (o : Owner) (of : Option Expression) → owner_in_program g.program set ≡ Some o → OwnerHas s g o of → OwnerFits g set (set_owner of)
       by owners.System None e f = e
       by owners.System (Some x) e f = absurd f
       by (owners.Class class) None e f = absurd f

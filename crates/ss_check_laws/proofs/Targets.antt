@@ -26,7 +26,7 @@ use Rattle.ss_check_rules.specs.Modes.{mode_meant}
 use Rattle.ss_check_rules.specs.Refusal.{place_breaks}
 use Rattle.ss_check_rules.specs.declared.error.CheckError.TheVariants as errors
 use Rattle.ss_names_meaning.specs.Answers.{◌>>=◌}
-use Rattle.ss_names_meaning.specs.Expressions.{entity_of, owner_named, place_named, place_of, set_number, set_of_name, subscript}
+use Rattle.ss_names_meaning.specs.Expressions.{entity_of, set_owner, place_named, place_of, set_number, set_of_name, subscript}
 use Rattle.ss_check_laws.specs.BodyLaws.{RestartResolves, RestartsResolve, SetResolves, SetsResolve, TargetResolves, TargetsResolve}
 use Rattle.ss_check_laws.specs.Links.{IsLinked, Kept}
 use Rattle.ss_check_laws.proofs.Steps.{goes, meant, two_steps}
@@ -88,7 +88,7 @@ module _ (s : Scope) (g : Place) (k : IsLinked s g) where
   -- ---- sets
 
   abbrev with_owner : ℕ → Option Expression → Option (ℕ × SetOwner)
-  with_owner set of = Some (set, owner_named of)
+  with_owner set of = Some (set, set_owner of)
 
   set_by : (line : Line) (d : Designator) (es : ExpressionRow) → place_breaks s line roles.Set d (row_length es) false ≡ None → Numbers s g es → SetResolves s g (record { designator = d; subscripts = es })
   set_by line (Name name) es h n =
@@ -98,7 +98,7 @@ module _ (s : Scope) (g : Place) (k : IsLinked s g) where
       let e : global ≡ Some (meanings.Set set.0) = m.1 ∙ ap Some set.1 in
       let here = meant_here s g k (meanings.Set set.0) (k.table.meanings name (meanings.Set set.0) e) in
       let p = (in_place s g k line roles.Set (Name name) es false (meanings.Set set.0) here e h n).1 in
-      let made : ℕ × SetOwner = (set.0, owner_named p.1) in (
+      let made : ℕ × SetOwner = (set.0, set_owner p.1) in (
         made,
         goes (set_of_name s (Name name)) (λ x. subscript s es >>= λ y. entity_of s (meanings.Set x) y >>= λ of. with_owner x of) set.0 made (ap set_number e)
             (goes (subscript s es) (λ y. entity_of s (meanings.Set set.0) y >>= λ of. with_owner set.0 of) p.0 made p.2

@@ -84,7 +84,7 @@ module _ (s : Scope) (g : Place) (linked : IsLinked s g) (line : Line) where
   pub value_resolves : (wanted : ModeOf) (m : Mode) (e : ExpressionTree) → mode_said s wanted ≡ Some m → Kept s g.is_main (uses.in_value line wanted e) → GoesWell (λ x. HasMode g x m) (expression s e)
   value_resolves wanted m e w k =
       let x = expressions_resolve s g linked line false e k.1 in
-      (x.0, x.2, subst (HasMode g x.0) (agree (mode_said s (uses.mode_of e)) (mode_said s wanted) x.1 m (errors.Mode line) k.0 x.4 w) x.3)
+      (x.0, x.2, subst (HasMode g x.0) (agree (mode_said s (uses.expression_mode e)) (mode_said s wanted) x.1 m (errors.Mode line) k.0 x.4 w) x.3)
 
   takes_value : (wanted : ModeOf) (m : Mode) (n : NamedTree) → mode_said s wanted ≡ Some m → Kept s g.is_main (uses.in_target line wanted n) → GoesWell (λ x. TakesMode g x m) (target s n)
   takes_value wanted m n w k =
@@ -93,13 +93,13 @@ module _ (s : Scope) (g : Place) (linked : IsLinked s g) (line : Line) where
 
   -- ---- statements
 
-  pub let_resolves : (n : NamedTree) (e : ExpressionTree) → Kept s g.is_main (uses.in_target line (uses.mode_of e) n ++ uses.in_expression line false e) → GoesWell (Good g) (simple_statement s (let_statement line n e))
+  pub let_resolves : (n : NamedTree) (e : ExpressionTree) → Kept s g.is_main (uses.in_target line (uses.expression_mode e) n ++ uses.in_expression line false e) → GoesWell (Good g) (simple_statement s (let_statement line n e))
   unfolding simple_statement
   let_resolves n e k =
-      let p = two_parts s g.is_main (uses.in_target line (uses.mode_of e) n) (uses.in_expression line false e) k in
+      let p = two_parts s g.is_main (uses.in_target line (uses.expression_mode e) n) (uses.in_expression line false e) k in
       let y = expressions_resolve s g linked line false e p.1 in
       let value : GoesWell (λ v. HasMode g v y.1) (expression s e) = (y.0, y.2, y.3) in
-      after_two (Good g) _ _ _ (takes_value (uses.mode_of e) y.1 n y.4 p.0) value (λ x v h f. (y.1, h, f))
+      after_two (Good g) _ _ _ (takes_value (uses.expression_mode e) y.1 n y.4 p.0) value (λ x v h f. (y.1, h, f))
 
   -- ADD and SUBTRACT
   pub change_resolves : (sign : Sign) (e : ExpressionTree) (n : NamedTree) → Kept s g.is_main (uses.in_expression line true e ++ uses.in_named line roles.Target true n) →

@@ -27,7 +27,7 @@ use Rattle.ss_check_laws.specs.Links.{IsLinked, Kept}
 -- the expression has a resolved form, of the mode that the rules say, which is Integer where it has to be a number
 abbrev pub Resolves : Scope → Place → (is_number : Bool) → ExpressionTree → Type 0
 Resolves s g is_number e =
-    (x : Expression) × (m : Mode) × (expression s e ≡ Some x) × HasMode g x m × (mode_said s (uses.mode_of e) ≡ Some m) × (is_number ≡ true → m ≡ Integer)
+    (x : Expression) × (m : Mode) × (expression s e ≡ Some x) × HasMode g x m × (mode_said s (uses.expression_mode e) ≡ Some m) × (is_number ≡ true → m ≡ Integer)
 
 -- the target has a resolved form, which takes values of the mode that the rules say; READ finds the same mode
 abbrev pub TargetResolves : Scope → Place → (is_number : Bool) → NamedTree → Type 0

@@ -1,17 +1,15 @@
 -- Rule 73: values of two modes, or a text where a number has to be, or a MEAN where a value has to be.
-use Rattle.std.specs.Prelude.{ℕ, ◌+◌, Bool, true, false, ◌&&◌, ◌||◌, ◌==◌, Option, Some, option_and_then, option_map, slice_get, get_or, []}
+use Rattle.std.specs.Prelude.{ℕ, ◌+◌, Bool, true, false, ◌&&◌, ◌||◌, ◌==◌, Option, Some, option_and_then, slice_get, get_or, []}
 use Rattle.ss_base.specs.declared.layout.Mode.{Mode}
 use Rattle.ss_base.specs.declared.layout.Mode.TheVariants.{Integer, Alpha}
-use Rattle.ss_tree.specs.Names.{NameBytes}
 use Rattle.ss_names_declarations.specs.Firsts.{place_in, value_for}
 use Rattle.ss_names_uses.specs.declared.used.ModeOf.{ModeOf}
 use Rattle.ss_names_uses.specs.declared.used.ModeOf.TheVariants as modes
 use Rattle.ss_names_uses.specs.declared.used.Role.{Role}
 use Rattle.ss_names_uses.specs.declared.used.Role.TheVariants as roles
-use Rattle.ss_names.specs.declared.entry.Attribute.{Attribute}
 use Rattle.ss_names.specs.declared.entry.RoutineSection.{RoutineSection}
 use Rattle.ss_names.specs.declared.meaning.Meaning.{Meaning}
-use Rattle.ss_names.specs.Table.{Table}
+use Rattle.ss_names.specs.Table.{Table, field_mode}
 use Rattle.ss_names_scopes.specs.Scopes.{Scope, implied, meaning_of_name, mode_of, parameter_mode}
 use Rattle.ss_check_rules.specs.Kinds.{is_mean}
 
@@ -26,14 +24,8 @@ abbrev pub yielded_mode : Scope → Option RoutineSection → ℕ → Option Mod
 yielded_mode s known place = option_and_then (λ (r : RoutineSection). parameter_mode s r.section (r.given + place)) known
 
 -- the mode of the attribute of a class in this place
-abbrev pub mode_of_attribute : Option Attribute → Option Mode
-mode_of_attribute attribute = option_map (λ (a : Attribute). a.mode) attribute
-
-abbrev pub field_mode : Table → Option NameBytes → Option Mode
-field_mode t field = option_and_then (λ name. mode_of_attribute (value_for t.attributes name)) field
-
 abbrev pub attribute_mode : Table → Option ℕ → ℕ → Option Mode
-attribute_mode t known place = option_and_then (λ class. field_mode t (slice_get (get_or t.fields class []) place)) known
+attribute_mode t known place = option_and_then (λ class. option_and_then (field_mode t) (slice_get (get_or t.fields class []) place)) known
 
 -- the mode that a use says, if there is one
 abbrev pub mode_said : Scope → ModeOf → Option Mode

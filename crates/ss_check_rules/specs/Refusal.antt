@@ -12,7 +12,7 @@ use Rattle.ss_names_declarations.specs.Firsts.{value_for}
 use Rattle.ss_names_uses.specs.declared.used.Role.{Role}
 use Rattle.ss_names_uses.specs.declared.used.ClassNeed.{ClassNeed}
 use Rattle.ss_names_uses.specs.declared.used.Used.{Used}
-use Rattle.ss_names_uses.specs.declared.used.Used.TheVariants.{Parameter, Local, Place, Class, Routine, Start, Same, Count, Mean, Unfit}
+use Rattle.ss_names_uses.specs.declared.used.Used.TheVariants.{Place, Class, Routine, Start, Same, Count, Mean, Unfit}
 use Rattle.ss_names_uses.specs.declared.used.Use.{Use}
 use Rattle.ss_names_uses.specs.Uses.{uses}
 use Rattle.ss_names.specs.declared.meaning.Meaning.{Meaning}
@@ -50,8 +50,6 @@ class_breaks s line need class called =
 
 -- the first of the rules that a use breaks, in MAIN or in another section
 abbrev pub used_breaks : Scope → Bool → Line → Used → Option CheckError
-used_breaks s in_main line (Parameter name) = None
-used_breaks s in_main line (Local name mode) = None
 used_breaks s in_main line (Place role place subscripts is_number) = place_breaks s line role place subscripts is_number
 used_breaks s in_main line (Class need class called) = class_breaks s line need class called
 used_breaks s in_main line (Routine routine) =
@@ -61,6 +59,7 @@ used_breaks s in_main line (Same found wanted) = unless (not (differ (mode_said 
 used_breaks s in_main line (Count found wanted) = unless (suits_count s.table found wanted) (e.Arguments line)
 used_breaks s in_main line (Mean place) = unless (if_means is_mean (meaning s place)) (e.Fields line)
 used_breaks s in_main line Unfit = Some (e.Fields line)
+used_breaks s in_main line _ = None
 
 abbrev pub use_breaks : Scope → Bool → Use → Option CheckError
 use_breaks s in_main u = used_breaks s in_main u.line u.what

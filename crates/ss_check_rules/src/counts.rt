@@ -1,6 +1,7 @@
 //! The rule on counts of arguments.
 
 ghost use Rattle.std.specs.Prelude.{◌≡◌};
+ghost use Rattle.ss_names_declarations.specs.Earliest.{unless};
 ghost use Rattle.ss_check_rules.specs.declared.error.CheckError.TheVariants as e;
 ghost use Rattle.ss_check_rules.specs.Counts.{argument_count, has_attributes, is_given, is_yielded, suits_count};
 
@@ -8,7 +9,6 @@ use crate::error::{CheckError, unless};
 use ss_base::Line;
 use ss_names::{Names, RoutineSection};
 use ss_names_uses::CountNeed;
-ghost use Rattle.ss_names_declarations.specs.Earliest.{unless};
 use ss_tree::expression::Function;
 
 // How many arguments a function takes.

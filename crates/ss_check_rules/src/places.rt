@@ -1,10 +1,12 @@
 //! The rules on named places and on modes.
 
-ghost use Rattle.std.specs.Prelude.{◌≡◌, ◌&&◌, ◌||◌, not, slice_get};
+ghost use Rattle.std.specs.Prelude.{◌≡◌, ◌&&◌, ◌||◌, not, option_and_then, option_map, slice_get};
 ghost use Rattle.ss_names_scopes.specs.Seen.{scope_seen};
 ghost use Rattle.ss_check_rules.specs.declared.error.CheckError.TheVariants as e;
 ghost use Rattle.ss_check_rules.specs.Kinds.{if_means, is_mean, is_target, takes_values};
-ghost use Rattle.ss_check_rules.specs.Modes.{attribute_mode, differ, field_mode, given_mode, is_mean_as_value, is_text, mixes_modes, mode_meant, mode_of_attribute, mode_said, yielded_mode};
+ghost use Rattle.ss_check_rules.specs.Modes.{attribute_mode, differ, given_mode, is_mean_as_value, is_text, mixes_modes, mode_meant, mode_said, yielded_mode};
+ghost use Rattle.ss_names.specs.declared.entry.Attribute.{Attribute as AttributeSeen};
+ghost use Rattle.ss_names.specs.Table.{field_mode};
 ghost use Rattle.ss_names_declarations.specs.Earliest.{unless};
 ghost use Rattle.ss_check_rules.specs.Refusal.{class_breaks, meant_breaks, place_breaks};
 ghost use Rattle.ss_names_scopes.specs.Scopes.{meaning};
@@ -53,7 +55,7 @@ fn yielded_mode(scope: &Scope<'_>, routine: Option<RoutineSection>, place: usize
 
 // The mode of an attribute.
 fn mode_of_attribute(attribute: Option<Attribute>) -> Option<Mode>
-    ensures { result ≡ mode_of_attribute attribute }
+    ensures { result ≡ option_map (λ (a : AttributeSeen). a.mode) attribute }
 {
     match attribute {
         Some(attribute) => Some(attribute.mode),
@@ -63,7 +65,7 @@ fn mode_of_attribute(attribute: Option<Attribute>) -> Option<Mode>
 
 // The mode of an attribute of this name.
 fn field_mode(names: &Names, attribute: &Option<Name>) -> Option<Mode>
-    ensures { result ≡ field_mode names.now attribute.now }
+    ensures { result ≡ option_and_then (field_mode names.now) attribute.now }
 {
     match attribute {
         Some(name) => mode_of_attribute(names.attributes.get(name).copied()),

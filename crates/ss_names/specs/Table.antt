@@ -214,6 +214,12 @@ declared ds = record (numbered ds) {
 abbrev pub table : ProgramTree → Table
 table p = declared (declarations p)
 
+-- ---- what the table says of names
+
+-- the mode of an attribute by its name
+abbrev pub field_mode : Table → NameBytes → Option Mode
+field_mode t name = option_map (λ (a : Attribute). a.mode) (value_for t.attributes name)
+
 -- ---- who has what a name means
 
 abbrev pub owner_of_set : Option Set → Owner

@@ -14,7 +14,7 @@ use Rattle.ss_names_uses.specs.declared.used.ClassNeed.TheVariants.{Single, Noti
 use Rattle.ss_names_uses.specs.declared.used.Used.{Used}
 use Rattle.ss_names_uses.specs.declared.used.Used.TheVariants.{Parameter, Local, Unfit}
 use Rattle.ss_names_uses.specs.declared.used.Use.{Use}
-use Rattle.ss_names_uses.specs.Uses.{as_mean, fields_of, in_body, in_call, in_condition, in_expression, in_field, in_given, in_guard, in_head, in_inner, in_item, in_item_at, in_items, in_itself, in_loop_head, in_named, in_new, in_numbers, in_old, in_option, in_phrase, in_places, in_position, in_row, in_start, in_statement, in_target, in_terms, in_test, in_value, in_when, loop_variable, mode_of, of_fit, of_text, with_decimals}
+use Rattle.ss_names_uses.specs.Uses.{as_mean, fields_of, in_body, in_call, in_condition, in_expression, in_field, in_given, in_guard, in_head, in_inner, in_item, in_item_at, in_items, in_itself, in_loop_head, in_named, in_new, in_numbers, in_old, in_option, in_phrase, in_places, in_position, in_row, in_start, in_statement, in_target, in_terms, in_test, in_value, in_when, loop_variable, expression_mode, of_fit, of_text, with_decimals}
 use Rattle.ss_names_laws.proofs.Each.{joined}
 
 -- whether what is used declares a local variable
@@ -185,7 +185,7 @@ every_class line [] = nothing
 every_class line (class ∷ classes) = record { each = (refl, (every_class line classes).each) }
 
 itself : (s : StatementTree) → Silent (in_itself s)
-itself (let_statement line n e) = both (target line (mode_of e) n) (expression line false e)
+itself (let_statement line n e) = both (target line (expression_mode e) n) (expression line false e)
 itself (add_statement line e n) = both (expression line true e) (place_named line roles.Target true n)
 itself (subtract_statement line e n) = both (expression line true e) (place_named line roles.Target true n)
 itself (call_statement line name given yielding) = called_with line name given yielding

@@ -22,11 +22,11 @@ use Rattle.ss_names.specs.declared.entry.Attribute.{Attribute}
 use Rattle.ss_names.specs.declared.meaning.Meaning.{Meaning}
 use Rattle.ss_names.specs.declared.meaning.Meaning.TheVariants as m
 use Rattle.ss_names.specs.Entries.{class_by, classes, given_by, routines, set_names, set_of, sets, variables}
-use Rattle.ss_names.specs.Table.{numbered, subject_of, table}
+use Rattle.ss_names.specs.Table.{field_mode, numbered, subject_of, table}
 use Rattle.ss_names_scopes.specs.Scopes.{mode_of}
 use Rattle.ss_tables_rules.specs.Broken.{refusal_of_declarations}
 use Rattle.ss_names_meaning.specs.Answers.{◌>>=◌, each, upto}
-use Rattle.ss_names_meaning.specs.Layouts.{ResolvedLayout, class_laid, count_by, counts, field_mode, laid_out, set_laid, statistic_kept, statistics}
+use Rattle.ss_names_meaning.specs.Layouts.{ResolvedLayout, class_laid, count_by, counts, laid_out, set_laid, statistic_kept, statistics}
 use Rattle.ss_names_laws.specs.Laws.{TablesAreValid}
 use Rattle.ss_names_laws.specs.ValidTables.{IsClassAt, IsMeant, IsNamedClass, IsPlainAt, IsSetAt, IsValidTable, IsWatched}
 use Rattle.ss_names_laws.proofs.Attributes.{attribute_there}

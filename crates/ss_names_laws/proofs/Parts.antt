@@ -7,9 +7,9 @@ use Rattle.ss_base.specs.declared.layout.SetLayout.{SetLayout}
 use Rattle.ss_base.specs.Layout.{is_layout, layout_of}
 use Rattle.ss_base.specs.Plain.{PlainClass, PlainLayout}
 use Rattle.ss_program.specs.declared.sections.Statistic.{Statistic}
-use Rattle.ss_names.specs.Table.{Table}
+use Rattle.ss_names.specs.Table.{Table, field_mode}
 use Rattle.ss_names_meaning.specs.Answers.{◌>>=◌, each, upto}
-use Rattle.ss_names_meaning.specs.Layouts.{ResolvedLayout, class_laid, counts, disciplines, field_mode, laid_out, layout, set_laid, statistic_kept, statistics}
+use Rattle.ss_names_meaning.specs.Layouts.{ResolvedLayout, class_laid, counts, disciplines, laid_out, layout, set_laid, statistic_kept, statistics}
 use Rattle.ss_names_laws.proofs.Steps.{got, upto_length}
 
 each_length : {A B : Type 0} (step : A → Option B) (xs : List A) (ys : List B) → each step xs ≡ Some ys → length ys ≡ length xs

@@ -36,11 +36,11 @@ use Rattle.ss_names.specs.declared.entry.TiedBy.{TiedBy}
 use Rattle.ss_names.specs.declared.meaning.Meaning.{Meaning}
 use Rattle.ss_names.specs.declared.meaning.Meaning.TheVariants as m
 use Rattle.ss_names.specs.Entries.{classes, given_by}
-use Rattle.ss_names.specs.Table.{Table, declares, numbered, subject_of, table}
+use Rattle.ss_names.specs.Table.{Table, declares, field_mode, numbered, subject_of, table}
 use Rattle.ss_check_rules.specs.Modes.{is_text}
 use Rattle.ss_check_rules.specs.Refusal.{refusal_of_uses}
 use Rattle.ss_names_meaning.specs.Answers.{◌>>=◌, each, upto, where_holds}
-use Rattle.ss_names_meaning.specs.Layouts.{ResolvedLayout, class_laid, count_by, counts, discipline, disciplines, field_mode, key_of, laid_out, layout, ordered, rank_keys, ranked_by, ruled, set_laid, statistic_kept, statistics, tie_keys, tied_by}
+use Rattle.ss_names_meaning.specs.Layouts.{ResolvedLayout, class_laid, count_by, counts, discipline, disciplines, key_of, laid_out, layout, ordered, rank_keys, ranked_by, ruled, set_laid, statistic_kept, statistics, tie_keys, tied_by}
 use Rattle.ss_names_laws.specs.Laws.{HasLayout, IsWellLaid, LayoutsAreWellTyped, TablesAreThere}
 use Rattle.ss_names_laws.specs.ValidTables.{IsMeant, IsValidTable}
 use Rattle.ss_names_laws.proofs.Attributes.{attribute_there}

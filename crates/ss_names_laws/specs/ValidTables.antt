@@ -19,11 +19,11 @@ use Rattle.ss_names.specs.declared.entry.Set.{Set}
 use Rattle.ss_names.specs.declared.meaning.Meaning.{Meaning}
 use Rattle.ss_names.specs.declared.meaning.Meaning.TheVariants as m
 use Rattle.ss_names.specs.Entries.{count_name}
-use Rattle.ss_names.specs.Table.{Table, subject_of}
+use Rattle.ss_names.specs.Table.{Table, field_mode, subject_of}
 use Rattle.ss_names_scopes.specs.Locals.{Moded}
 use Rattle.ss_tables_rules.specs.Rules.{may_be_hidden}
 use Rattle.ss_names_meaning.specs.Answers.{each}
-use Rattle.ss_names_meaning.specs.Layouts.{ResolvedLayout, field_mode, laid_out, set_laid}
+use Rattle.ss_names_meaning.specs.Layouts.{ResolvedLayout, laid_out, set_laid}
 use Rattle.ss_names_meaning.specs.Resolved.{local_modes}
 
 -- ---- what a name means

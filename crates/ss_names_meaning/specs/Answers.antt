@@ -1,5 +1,5 @@
 -- Steps that may have no result, and what a call gives for them.
-use Rattle.std.specs.Prelude.{◌≡◌, ℕ, zero, suc, Bool, true, false, List, [], ◌∷◌, ◌++◌, Option, Some, None, Result, Ok, Err}
+use Rattle.std.specs.Prelude.{◌≡◌, ℕ, zero, suc, Bool, List, [], ◌∷◌, ◌++◌, Option, Some, None, Result, Ok, Err, if◌then◌else◌}
 use Rattle.ss_names_meaning.specs.declared.error.ResolveError.{ResolveError}
 use Rattle.ss_names_meaning.specs.declared.error.ResolveError.TheVariants.{Memory, Unresolved}
 
@@ -31,8 +31,7 @@ if_there step (Some x) = of_one (step x) Some
 
 -- a value, if a test holds
 abbrev pub where_holds : {A : Type 0} → Bool → A → Option A
-where_holds true x = Some x
-where_holds false x = None
+where_holds b x = if b then Some x else None
 
 -- the numbers below a bound
 unfoldable pub upto : ℕ → List ℕ

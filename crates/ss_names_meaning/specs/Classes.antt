@@ -14,9 +14,7 @@ use Rattle.ss_names_meaning.specs.Answers.{◌>>=◌, of_one, where_holds}
 
 -- the variable that a name means here
 abbrev pub variable_named : Scope → NameBytes → Option Variable
-variable_named s name = do
-  m ← meaning_of_name s name
-  variable_of m
+variable_named s name = meaning_of_name s name >>= variable_of
 
 -- the number of a class of the kind that a place needs; no local variable hides a class
 abbrev pub class_number : ClassNeed → Option Meaning → Option ℕ

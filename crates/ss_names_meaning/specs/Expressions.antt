@@ -1,5 +1,6 @@
 -- Resolved expressions, targets and sets: each name is replaced by what it means.
 use Rattle.std.specs.Prelude.{ℕ, option_map, Option, Some, None}
+use Rattle.std.specs.Option.{option_map_or}
 use Rattle.ss_base.specs.declared.value.Value.TheVariants.{Whole, Text}
 use Rattle.ss_tree.specs.declared.expression.Function.TheVariants.{One, Two}
 use Rattle.ss_tree.specs.Tree.{ExpressionTree, number, text, named, call, parenthesised, product, signed, sum, ExpressionRow, no_expression, and_expression, TermRow, no_term, and_term, NamedTree}
@@ -31,9 +32,7 @@ resolved_operator Minus = Subtract
 
 -- the entity in the variable of a class
 abbrev pub entity_implied : Scope → ℕ → Option Expression
-entity_implied s class = do
-  m ← meaning_of_class s class
-  of_one (variable_of m) Fetch
+entity_implied s class = meaning_of_class s class >>= λ m. of_one (variable_of m) Fetch
 
 -- of each entity of a class: the one in the subscript, or else the one in the variable of the class
 abbrev pub of_class : Scope → ℕ → Option Expression → Option (Option Expression)
@@ -94,9 +93,8 @@ place_of (meanings.Attribute class field mode) (Some e) = Some (ToAttribute clas
 place_of _ _ = None
 
 -- the owner of a set
-abbrev pub owner_named : Option Expression → SetOwner
-owner_named None = TheSystem
-owner_named (Some e) = Entity e
+abbrev pub set_owner : Option Expression → SetOwner
+set_owner e = option_map_or Entity TheSystem e
 
 -- the number of a set, which nothing hides
 abbrev pub set_number : Option Meaning → Option ℕ
@@ -128,13 +126,9 @@ module _ (s : Scope) where
     expression (call (One op) arguments) = of_one (one arguments) (Unary op)
     expression (call (Two op) arguments) = of_one (two arguments) (λ p. Calculate op p.0 p.1)
     expression (parenthesised e) = expression e
-    expression (product first further) = do
-      left ← expression first
-      factors left further
+    expression (product first further) = expression first >>= λ left. factors left further
     expression (signed sign term) = of_one (expression term) (Signed sign)
-    expression (sum first further) = do
-      left ← expression first
-      terms left further
+    expression (sum first further) = expression first >>= λ left. terms left further
 
     -- the subscript, if there is one; None if there are more
     pub subscript : ExpressionRow → Option (Option Expression)
@@ -156,40 +150,30 @@ module _ (s : Scope) where
     -- what is on the left, times further factors
     pub factors : Expression → ExpressionRow → Option Expression
     factors left no_expression = Some left
-    factors left (and_expression e es) = do
-      x ← expression e
-      factors (Calculate Multiply left x) es
+    factors left (and_expression e es) = expression e >>= λ x. factors (Calculate Multiply left x) es
 
     -- what is on the left, and further terms
     pub terms : Expression → TermRow → Option Expression
     terms left no_term = Some left
-    terms left (and_term sign e es) = do
-      x ← expression e
-      terms (Calculate (resolved_operator sign) left x) es
+    terms left (and_term sign e es) = expression e >>= λ x. terms (Calculate (resolved_operator sign) left x) es
 
   -- what is named, with its subscripts, and the entity that has it
   abbrev pub place_named : Designator → ExpressionRow → Option (Meaning × Option Expression)
-  place_named place subscripts = do
-    e ← subscript subscripts
-    with_entity s place e
+  place_named place subscripts = subscript subscripts >>= with_entity s place
 
   -- an item of PRINT: a mean if one is named alone, in any parentheses, and else a value
   abbrev pub item : ExpressionTree → Option Item
   item (parenthesised e) = item e
-  item (named designator subscripts) = do
-    p ← place_named designator subscripts
-    resolved_item p.0 p.1
+  item (named designator subscripts) = place_named designator subscripts >>= λ p. resolved_item p.0 p.1
   item e = option_map AValue (expression e)
 
   -- a target
   abbrev pub target : NamedTree → Option Place
-  target n = do
-    p ← place_named n.designator n.subscripts
-    place_of p.0 p.1
+  target n = place_named n.designator n.subscripts >>= λ p. place_of p.0 p.1
 
   -- a set and its owner
   abbrev pub set_named : NamedTree → Option (ℕ × SetOwner)
   set_named n = do
     set ← set_of_name s n.designator
     e ← subscript n.subscripts
-    of_one {B = ℕ × SetOwner} (entity_of s (meanings.Set set) e) (λ of. (set, owner_named of))
+    of_one {B = ℕ × SetOwner} (entity_of s (meanings.Set set) e) (λ of. (set, set_owner of))

@@ -13,23 +13,18 @@ use Rattle.ss_tree.specs.Names.{NameBytes}
 use Rattle.ss_names_declarations.specs.declared.declaration.SetRule.{SetRule}
 use Rattle.ss_names_declarations.specs.declared.declaration.SetRule.TheVariants as rules
 use Rattle.ss_names_declarations.specs.Firsts.{same_name, value_for}
-use Rattle.ss_names.specs.declared.entry.Attribute.{Attribute}
 use Rattle.ss_names.specs.declared.entry.Order.{Order}
 use Rattle.ss_names.specs.declared.entry.Set.{Set}
 use Rattle.ss_names.specs.declared.entry.RankedBy.{RankedBy}
 use Rattle.ss_names.specs.declared.entry.TiedBy.{TiedBy}
 use Rattle.ss_names.specs.declared.meaning.Meaning.{Meaning}
 use Rattle.ss_names.specs.declared.meaning.Meaning.TheVariants as meanings
-use Rattle.ss_names.specs.Table.{Table}
+use Rattle.ss_names.specs.Table.{Table, field_mode}
 use Rattle.ss_program.specs.declared.sections.Statistic.{Statistic}
 use Rattle.ss_program.specs.declared.statement.CountedClass.{CountedClass}
 use Rattle.ss_names_meaning.specs.Answers.{◌>>=◌, each, of_one, of_three, of_two, upto, where_holds}
 
 -- ---- classes and sets
-
--- the mode of an attribute by its name
-abbrev pub field_mode : Table → NameBytes → Option Mode
-field_mode t name = of_one (value_for t.attributes name) (λ (a : Attribute). a.mode)
 
 -- the class of this number, with the modes of its attributes
 abbrev pub class_laid : Table → ℕ → Option PlainClass

@@ -73,9 +73,7 @@ class_variable _ = None
 -- the global variable that gets the number of the notice, also if the routine has a local one of its name
 abbrev pub saved : Table → NameBytes → Bool → Option (Option ℕ)
 saved t name false = Some None
-saved t name true = do
-  meaning ← value_for t.meanings name
-  class_variable meaning
+saved t name true = value_for t.meanings name >>= class_variable
 
 -- the event routine of a class that is given so many values
 abbrev pub event_of_class : ℕ → List RankKey → ℕ → Option ℕ → Parts → Event
@@ -116,9 +114,7 @@ is_known t s = is_known_kind t s.kind
 
 -- MAIN, the first if there are several, by a function that resolves each section
 abbrev pub main_from : (ℕ → Option Parts) → List SectionTree → Option Parts
-main_from section sections = do
-  n ← position is_main_section sections
-  section n
+main_from section sections = position is_main_section sections >>= section
 
 -- the program with these sections, where they have these local variables
 unfoldable pub resolved_with_locals : Table → List Moded → List SectionTree → Option Program

@@ -1,5 +1,5 @@
 -- Resolved statements: each name is replaced by what it means.
-use Rattle.std.specs.Prelude.{ℕ, slice_get, nat_le, ◌&&◌, ◌==◌, List, length, Option, Some, None}
+use Rattle.std.specs.Prelude.{ℕ, slice_get, nat_le, ◌&&◌, ◌==◌, length, Option, Some, None}
 use Rattle.ss_base.specs.declared.line.Line.{Line}
 use Rattle.ss_tree.specs.declared.statement.FindOutcome.{FindOutcome}
 use Rattle.ss_tree.specs.declared.statement.FindOutcome.TheVariants as outcomes
@@ -15,9 +15,8 @@ use Rattle.ss_names.specs.declared.entry.RoutineSection.{RoutineSection}
 use Rattle.ss_names.specs.declared.meaning.Meaning.{Meaning}
 use Rattle.ss_names.specs.declared.meaning.Meaning.TheVariants as meanings
 use Rattle.ss_names_scopes.specs.Scopes.{Scope, history_of, mode_of}
-use Rattle.ss_names_meaning.specs.declared.classes.NamedClass.{NamedClass}
 use Rattle.ss_names_meaning.specs.Classes.{class_named, counted}
-use Rattle.ss_names_meaning.specs.Answers.{◌>>=◌, each, of_one, of_three, of_two, where_holds}
+use Rattle.ss_names_meaning.specs.Answers.{each, of_one, of_three, of_two, where_holds}
 use Rattle.ss_names_meaning.specs.Expressions.{expression, item, place_named, place_of, set_named, target}
 use Rattle.ss_names_meaning.specs.Conditions.{condition}
 use Rattle.ss_names_meaning.specs.Heads.{resolved_phrase, guard, phrases_of, head}
@@ -86,12 +85,6 @@ resolved_loop line c (guarded guards) body = of_one (each (guard c) guards) (λ 
 abbrev pub if_over : Line → Scope → ConditionTree → Block → Block → Option Statement
 if_over line c test first second = of_one (condition c test) (λ tests. If line tests first second)
 
--- a CALL, if the routine is given and yields as many values
-abbrev pub call_of : Line → ℕ → RoutineSection → List Expression → List Place → Option Statement
-call_of line routine section given yielding =
-    where_holds ((length given == section.given) && (length yielding == section.yielding))
-    (Call line routine given yielding)
-
 abbrev pub routine_number : Option Meaning → Option ℕ
 routine_number (Some (meanings.Routine routine)) = Some routine
 routine_number _ = None
@@ -102,16 +95,8 @@ routine_named c name = do
   routine ← routine_number (value_for c.table.meanings name)
   of_one {B = ℕ × RoutineSection} (slice_get (values_of c.table.routines) routine) (λ section. (routine, section))
 
--- SCHEDULE A and SCHEDULE THE, if the class has at least as many attributes as values are given
-abbrev pub new_notice : Line → NamedClass → Place → List Expression → When → Option Statement
-new_notice line class place given due =
-    where_holds (nat_le (length given) class.attributes) (ScheduleNew line class.class place given due)
-
-abbrev pub old_notice : Line → NamedClass → Expression → List Expression → When → Option Statement
-old_notice line class notice given due =
-    where_holds (nat_le (length given) class.attributes) (Schedule line class.class notice given due)
-
--- a statement without statements in it; None for another
+-- a statement without statements in it; None for another. A CALL has as many values and targets as its routine is given and yields,
+-- a SCHEDULE at most as many values as its class has attributes.
 unfoldable pub simple_statement : Scope → StatementTree → Option Statement
 simple_statement c (let_statement line n e) = of_two (target c n) (expression c e) (Let line)
 simple_statement c (add_statement line e n) = of_two (expression c e) (target c n) (λ value place. Change line Plus place value)
@@ -120,7 +105,7 @@ simple_statement c (call_statement line name given yielding) = do
   routine ← routine_named c name
   values ← each (expression c) given
   places ← each (target c) yielding
-  call_of line routine.0 routine.1 values places
+  where_holds ((length values == routine.1.given) && (length places == routine.1.yielding)) (Call line routine.0 values places)
 simple_statement c (return_statement line) = Some Return
 simple_statement c (stop_statement line) = Some Stop
 simple_statement c (read_statement line targets) = of_one (each (reader c) targets) (Read line)
@@ -142,13 +127,13 @@ simple_statement c (schedule_new line name called given time) = do
   place ← new_place c class.variable called
   values ← each (expression c) given
   due ← when c time
-  new_notice line class place values due
+  where_holds (nat_le (length values) class.attributes) (ScheduleNew line class.class place values due)
 simple_statement c (schedule_statement line name called given time) = do
   class ← class_named c needs.Notice name
   notice ← entity_called c class.variable called
   values ← each (expression c) given
   due ← when c time
-  old_notice line class notice values due
+  where_holds (nat_le (length values) class.attributes) (Schedule line class.class notice values due)
 simple_statement c (cancel_statement line name called) = do
   class ← class_named c needs.Notice name
   of_one (entity_called c class.variable called) (Cancel line class.class)

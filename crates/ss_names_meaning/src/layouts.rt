@@ -3,7 +3,8 @@
 ghost use Rattle.std.specs.Prelude.{◌≡◌, IfOk};
 ghost use Rattle.ss_names_declarations.specs.Firsts.{value_for};
 ghost use Rattle.ss_names_meaning.specs.Answers.{Gives, each, upto};
-ghost use Rattle.ss_names_meaning.specs.Layouts.{class_laid, field_mode, layout, set_laid};
+ghost use Rattle.ss_names.specs.Table.{field_mode};
+ghost use Rattle.ss_names_meaning.specs.Layouts.{class_laid, layout, set_laid};
 
 use crate::error::ResolveError;
 use ss_base::{ClassLayout, Layout, Mode, Name, SetLayout};

@@ -56,11 +56,11 @@ designated (designators.Name name) = modes.Named name
 designated _ = modes.Integer
 
 -- the mode of an expression; a text in parentheses is still a text
-abbrev pub mode_of : ExpressionTree → ModeOf
-mode_of (text t) = modes.Alpha
-mode_of (named designator subscripts) = designated designator
-mode_of (parenthesised e) = mode_of e
-mode_of _ = modes.Integer
+abbrev pub expression_mode : ExpressionTree → ModeOf
+expression_mode (text t) = modes.Alpha
+expression_mode (named designator subscripts) = designated designator
+expression_mode (parenthesised e) = expression_mode e
+expression_mode _ = modes.Integer
 
 -- a text where a number may have to be
 abbrev pub of_text : Line → Bool → List Use
@@ -112,7 +112,7 @@ in_places of i (x ∷ xs) = of i x ++ in_places of (i + 1) xs
 
 abbrev pub in_test : Line → TestTree → List Use
 in_test line (compare left relation right) =
-    same line (mode_of left) (mode_of right) ∷ in_expression line false left ++ in_expression line false right
+    same line (expression_mode left) (expression_mode right) ∷ in_expression line false left ++ in_expression line false right
 in_test line (empty set negated) = in_named line roles.Set false set
 in_test line (member x set negated) = in_expression line true x ++ in_named line roles.Set false set
 in_test line (data_ended negated) = []
@@ -173,7 +173,7 @@ in_old line need class called =
 
 -- a value that has this mode
 abbrev pub in_value : Line → ModeOf → ExpressionTree → List Use
-in_value line wanted e = same line (mode_of e) wanted ∷ in_expression line false e
+in_value line wanted e = same line (expression_mode e) wanted ∷ in_expression line false e
 
 -- a target that takes a value of this mode
 abbrev pub in_target : Line → ModeOf → NamedTree → List Use
@@ -260,7 +260,7 @@ in_entity_statement _ = []
 
 -- the uses of a statement, without those of the statements in it: of an IF its condition, of a loop its head
 abbrev pub in_itself : StatementTree → List Use
-in_itself (let_statement line n e) = in_target line (mode_of e) n ++ in_expression line false e
+in_itself (let_statement line n e) = in_target line (expression_mode e) n ++ in_expression line false e
 in_itself (add_statement line e n) = in_expression line true e ++ in_named line roles.Target true n
 in_itself (subtract_statement line e n) = in_expression line true e ++ in_named line roles.Target true n
 in_itself (call_statement line name given yielding) = in_call line name given yielding

@@ -5,7 +5,7 @@ ghost use Rattle.std.specs.List.{flat_map};
 ghost use Rattle.ss_base.specs.declared.words.Sign.{Sign};
 ghost use Rattle.ss_tree.specs.Tree.{ExpressionTree};
 ghost use Rattle.ss_tree.specs.View.{view_expression, view_named, view_option, view_term};
-ghost use Rattle.ss_names_uses.specs.Uses.{at_line, class_used, count, designated, in_all_named, in_expression, in_named, in_option, mode_of, of_text, place, same};
+ghost use Rattle.ss_names_uses.specs.Uses.{at_line, class_used, count, designated, in_all_named, in_expression, in_named, in_option, expression_mode, of_text, place, same};
 
 use crate::used::{ClassNeed, CountNeed, ModeOf, Role, Use, Used};
 use ss_base::{Line, Name};
@@ -31,13 +31,13 @@ pub(crate) fn mode_of_target(target: &Named) -> ModeOf
 
 // The mode of an expression; a text in parentheses is still a text.
 #[tactic(auto, unfolding(ss_tree::specs::View::view_expression))]
-pub(crate) fn mode_of(expression: &Expression) -> ModeOf
-    ensures { result ≡ mode_of (view_expression expression.now) }
+pub(crate) fn expression_mode(expression: &Expression) -> ModeOf
+    ensures { result ≡ expression_mode (view_expression expression.now) }
 {
     match expression {
         Expression::Text(_) => ModeOf::Alpha,
         Expression::Named(named) => designated(named.designator),
-        Expression::Parenthesised(inner) => mode_of(inner),
+        Expression::Parenthesised(inner) => expression_mode(inner),
         Expression::Number(_)
         | Expression::Call { .. }
         | Expression::Product { .. }

@@ -5,7 +5,7 @@ ghost use Rattle.ss_tree.specs.View.{view_expression, view_named};
 ghost use Rattle.ss_names_uses.specs.Uses.{as_attribute, in_places, in_target, in_value};
 ghost use Rattle.ss_names_uses.specs.declared.used.ModeOf.TheVariants as modes;
 
-use crate::expressions::{add_expression, add_named, add_same, mode_of, mode_of_target};
+use crate::expressions::{add_expression, add_named, add_same, expression_mode, mode_of_target};
 use crate::used::{ModeOf, Role, Use};
 use ss_base::{Line, Name};
 use ss_tree::expression::{Expression, Named};
@@ -20,7 +20,7 @@ fn add_value(
 ) -> Result<(), AllocError>
     ensures { IfOk result (λ _. into.new.items ≡ into.old.items ++ in_value line wanted (view_expression value.now)) }
 {
-    add_same(into, line, mode_of(value), wanted)?;
+    add_same(into, line, expression_mode(value), wanted)?;
     add_expression(into, line, false, value)
 }
 
