@@ -1,5 +1,7 @@
 -- The event routines of a program that breaks no rule.
 use Rattle.std.proofs.Common.{◌≡◌, ◌≢◌, ℕ, zero, suc, ◌+◌, ◌<◌, ◌≤◌, Bool, true, false, List, [], ◌∷◌, length, get_or, take, map, flat_map, slice_get, option_map, Option, Some, None, is_some, IfSome, refl, sym, ap, subst, subst₂, ◌∙◌, nat_eq, nat_le, add-zero, take-append-drop, length-take, get_or-take, arith}
+use Rattle.std.specs.Prelude.{option_and_then}
+use Rattle.std.specs.Option.{option_map_or}
 use Rattle.std.specs.List.{AllByRecursion as Every, list_any}
 use Rattle.std.specs.Map.{keys_of}
 use Rattle.std.proofs.lemmas.Bool.{and_parts, leb-true}
@@ -34,7 +36,7 @@ use Rattle.ss_program.specs.declared.expression.Variable.TheVariants.{Global}
 use Rattle.ss_program.specs.declared.statement.CountedClass.{CountedClass}
 use Rattle.ss_program.specs.Program.{Done, Event, Program}
 use Rattle.ss_program.specs.WellTyped.{GoodBlock, GoodEvent, GoodKeys, IsPlain}
-use Rattle.ss_check_rules.specs.Counts.{has_attributes, suits_count}
+use Rattle.ss_check_rules.specs.Counts.{suits_count}
 use Rattle.ss_check_rules.specs.Modes.{attribute_mode, mode_meant, mode_said}
 use Rattle.ss_check_rules.specs.Refusal.{eventless, eventless_of, in_preamble, use_breaks}
 use Rattle.ss_check_rules.specs.declared.error.CheckError.TheVariants as errors
@@ -196,7 +198,7 @@ module _ (p : tree.ProgramTree) (x : ResolvedLayout) (k : IsUnbroken p x) where
 
     -- it is given no more than the class has attributes
     limit : nat_le (length given) (length (get_or t.fields class [])) ≡ true
-    limit = sym (ap (has_attributes t (length given)) placed) ∙ holds_unless (suits_count t (length given) (counts.Attributes name)) (errors.Arguments s.line) head.1.0
+    limit = sym (ap (λ (o : Option ℕ). option_map_or (λ (n : ℕ). nat_le (length given) (length (get_or t.fields n []))) true o) placed) ∙ holds_unless (suits_count t (length given) (counts.Attributes name)) (errors.Arguments s.line) head.1.0
 
     -- what it is given in a place has the mode of the attribute in that place
     mode_given : (ms : List Mode) → local_modes (locals_of t s) ≡ Some ms → take (length given) (keys_of (locals_of t s)) ≡ given → length given ≤ length (locals_of t s) →

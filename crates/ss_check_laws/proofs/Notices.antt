@@ -1,6 +1,7 @@
 -- SCHEDULE, CANCEL and RESET.
 use Rattle.std.proofs.Common.{◌≡◌, ℕ, ◌<◌, ◌≤◌, Bool, true, false, List, ◌++◌, length, get_or, take, Option, Some, None, is_some, nat_le, option_map, [], refl, sym, ap, subst, arith, ◌∙◌, le-leb, leb-true}
 use Rattle.std.specs.Prelude.{option_and_then, slice_get}
+use Rattle.std.specs.Option.{option_map_or}
 use Rattle.std.proofs.lemmas.Option.{slice_get_within}
 use Rattle.ss_base.specs.declared.layout.ClassKind.{ClassKind}
 use Rattle.ss_base.specs.declared.layout.ClassKind.TheVariants as kinds
@@ -19,7 +20,6 @@ use Rattle.ss_names.specs.declared.meaning.Meaning.TheVariants as meanings
 use Rattle.ss_names.specs.Table.{Table, field_mode}
 use Rattle.ss_names_scopes.specs.Scopes.{Scope}
 use Rattle.ss_check_rules.specs.declared.error.CheckError.TheVariants as errors
-use Rattle.ss_check_rules.specs.Counts.{has_attributes}
 use Rattle.ss_check_rules.specs.Modes.{attribute_mode}
 use Rattle.ss_program.specs.Program.{Expression, Now, When, Restart, Statement, ScheduleNew, Schedule}
 use Rattle.ss_program.specs.WellTyped.{Scope as Place, HasMode, HaveModes, GoodWhen, GoodGiven, GoodRestart, Good}
@@ -75,7 +75,7 @@ module _ (s : Scope) (g : Place) (linked : IsLinked s g) (line : Line) where
       let names = get_or s.table.fields class [] in
       let few : length given ≤ length names =
       leb-true (length given) (length names) (holds_unless (nat_le (length given) (length names)) (errors.Arguments line)
-      (subst (λ (o : Option ℕ). unless (has_attributes s.table (length given) o) (errors.Arguments line) ≡ None) place k.0)) in
+      (subst (λ (o : Option ℕ). unless (option_map_or (λ (n : ℕ). nat_le (length given) (length (get_or s.table.fields n []))) true o) (errors.Arguments line) ≡ None) place k.0)) in
       let xs = in_order s g.is_main (expression s) (λ (i : ℕ). uses.in_value line (modes.Attribute name i)) (HasMode g) given laid.0.fields
       (λ i e w f h. value_resolves s g linked line (modes.Attribute name i) w e
       (ap (λ (o : Option ℕ). attribute_mode s.table o i) place ∙ field_there s.table names laid.0.fields i w fields f) h)

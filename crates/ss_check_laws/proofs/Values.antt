@@ -1,6 +1,7 @@
 -- Values and targets of the modes that their places want: LET, ADD, SUBTRACT, READ and CALL.
 use Rattle.std.proofs.Common.{◌≡◌, ℕ, ◌+◌, ◌<◌, true, false, List, ◌++◌, length, take, drop, Option, Some, None, refl, sym, ap, subst, arith, ◌∙◌, length-drop, eq-eqb, eqb-true}
-use Rattle.std.specs.Prelude.{◌&&◌, ◌==◌, slice_get}
+use Rattle.std.specs.Prelude.{◌&&◌, ◌==◌, option_and_then, slice_get}
+use Rattle.std.specs.Option.{option_map_or}
 use Rattle.std.specs.List.{AllZip}
 use Rattle.std.specs.Map.{values_of}
 use Rattle.std.proofs.lemmas.Option.{slice_get_within}
@@ -22,9 +23,8 @@ use Rattle.ss_names_scopes.specs.Locals.{Moded}
 use Rattle.ss_names_scopes.specs.Scopes.{Scope, local_mode, mode_at, mode_given, parameter_mode}
 use Rattle.ss_check_rules.specs.declared.error.CheckError.{CheckError}
 use Rattle.ss_check_rules.specs.declared.error.CheckError.TheVariants as errors
-use Rattle.ss_check_rules.specs.Counts.{is_given, is_yielded}
 use Rattle.ss_check_rules.specs.Kinds.{if_means, is_routine}
-use Rattle.ss_check_rules.specs.Modes.{given_mode, mode_said, yielded_mode}
+use Rattle.ss_check_rules.specs.Modes.{mode_said}
 use Rattle.ss_program.specs.Program.{Statement, Change, Call, Target}
 use Rattle.ss_program.specs.WellTyped.{Scope as Place, HasMode, TakesMode, Good}
 use Rattle.ss_names_meaning.specs.Answers.{◌>>=◌, upto}
@@ -127,16 +127,16 @@ module _ (s : Scope) (g : Place) (linked : IsLinked s g) (line : Line) where
       let known = entry.0 in
       let r = linked.routines meant.0 known entry.1 in
       let some : length given ≡ known.given =
-      as_many (length given) known.given (errors.Arguments line) (subst (λ (o : Option RoutineSection). unless (is_given (length given) o) (errors.Arguments line) ≡ None) entry.2 k.1.0) in
+      as_many (length given) known.given (errors.Arguments line) (subst (λ (o : Option RoutineSection). unless (option_map_or (λ (r : RoutineSection). length given == r.given) true o) (errors.Arguments line) ≡ None) entry.2 k.1.0) in
       let more : length yielding ≡ known.yielding =
-      as_many (length yielding) known.yielding (errors.Arguments line) (subst (λ (o : Option RoutineSection). unless (is_yielded (length yielding) o) (errors.Arguments line) ≡ None) entry.2 k.1.1.0) in
+      as_many (length yielding) known.yielding (errors.Arguments line) (subst (λ (o : Option RoutineSection). unless (option_map_or (λ (r : RoutineSection). length yielding == r.yielding) true o) (errors.Arguments line) ≡ None) entry.2 k.1.1.0) in
       let p = two_parts s g.is_main (uses.in_places (λ (i : ℕ). uses.in_value line (modes.Given name i)) 0 given) (uses.in_places (λ (i : ℕ). uses.in_target line (modes.Yielded name i)) 0 yielding) k.1.1.1 in
       let xs = in_order s g.is_main (expression s) (λ (i : ℕ). uses.in_value line (modes.Given name i)) (HasMode g) given r.modes
-      (λ i e m f h. value_resolves (modes.Given name i) m e (ap (λ (o : Option RoutineSection). given_mode s o i) entry.2 ∙ parameter_there s g meant.0 known r i m f) h)
+      (λ i e m f h. value_resolves (modes.Given name i) m e (ap (option_and_then (λ (r : RoutineSection). parameter_mode s r.section i)) entry.2 ∙ parameter_there s g meant.0 known r i m f) h)
       (omega (arith, some, r.enough)) p.0 in
       let ys = in_order s g.is_main (target s) (λ (i : ℕ). uses.in_target line (modes.Yielded name i)) (TakesMode g) yielding (drop known.given r.modes)
       (λ i n m f h. takes_value (modes.Yielded name i) m n
-      (ap (λ (o : Option RoutineSection). yielded_mode s o i) entry.2 ∙ parameter_there s g meant.0 known r (known.given + i) m (sym (after_first known.given i r.modes) ∙ f)) h)
+      (ap (option_and_then (λ (r : RoutineSection). parameter_mode s r.section (r.given + i))) entry.2 ∙ parameter_there s g meant.0 known r (known.given + i) m (sym (after_first known.given i r.modes) ∙ f)) h)
       (omega (arith, more, r.enough, length-drop known.given r.modes)) p.1 in
       let made : Statement = Call line meant.0 xs.0 ys.0 in
       after {A = ℕ × RoutineSection} (Good g) _ _ (meant.0, known) (routine_found (value_for s.table.meanings name) (values_of s.table.routines) meant.0 known meant.1 entry.1)

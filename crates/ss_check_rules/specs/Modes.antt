@@ -16,13 +16,6 @@ use Rattle.ss_check_rules.specs.Kinds.{is_mean}
 abbrev pub mode_meant : Option Meaning → Option Mode
 mode_meant meaning = option_and_then mode_of meaning
 
--- the mode of what a routine is given in this place, and of what it yields
-abbrev pub given_mode : Scope → Option RoutineSection → ℕ → Option Mode
-given_mode s known place = option_and_then (λ (r : RoutineSection). parameter_mode s r.section place) known
-
-abbrev pub yielded_mode : Scope → Option RoutineSection → ℕ → Option Mode
-yielded_mode s known place = option_and_then (λ (r : RoutineSection). parameter_mode s r.section (r.given + place)) known
-
 -- the mode of the attribute of a class in this place
 abbrev pub attribute_mode : Table → Option ℕ → ℕ → Option Mode
 attribute_mode t known place = option_and_then (λ class. option_and_then (field_mode t) (slice_get (get_or t.fields class []) place)) known
@@ -32,8 +25,10 @@ abbrev pub mode_said : Scope → ModeOf → Option Mode
 mode_said s modes.Integer = Some Integer
 mode_said s modes.Alpha = Some Alpha
 mode_said s (modes.Named name) = mode_meant (meaning_of_name s name)
-mode_said s (modes.Given routine place) = given_mode s (value_for s.table.routines routine) place
-mode_said s (modes.Yielded routine place) = yielded_mode s (value_for s.table.routines routine) place
+mode_said s (modes.Given routine place) =
+    option_and_then (λ (r : RoutineSection). parameter_mode s r.section place) (value_for s.table.routines routine)
+mode_said s (modes.Yielded routine place) =
+    option_and_then (λ (r : RoutineSection). parameter_mode s r.section (r.given + place)) (value_for s.table.routines routine)
 mode_said s (modes.Attribute class place) = attribute_mode s.table (place_in s.table.classes class) place
 
 -- two modes, where there are two

@@ -1,15 +1,16 @@
 //! The rules on named places and on modes.
 
-ghost use Rattle.std.specs.Prelude.{◌≡◌, ◌&&◌, ◌||◌, not, option_and_then, option_map, slice_get};
+ghost use Rattle.std.specs.Prelude.{◌≡◌, ◌+◌, ◌&&◌, ◌||◌, not, option_and_then, option_map, slice_get};
 ghost use Rattle.ss_names_scopes.specs.Seen.{scope_seen};
 ghost use Rattle.ss_check_rules.specs.declared.error.CheckError.TheVariants as e;
 ghost use Rattle.ss_check_rules.specs.Kinds.{if_means, is_mean, is_target, takes_values};
-ghost use Rattle.ss_check_rules.specs.Modes.{attribute_mode, differ, given_mode, is_mean_as_value, is_text, mixes_modes, mode_meant, mode_said, yielded_mode};
+ghost use Rattle.ss_check_rules.specs.Modes.{attribute_mode, differ, is_mean_as_value, is_text, mixes_modes, mode_meant, mode_said};
+ghost use Rattle.ss_names.specs.declared.entry.RoutineSection.{RoutineSection as SectionSeen};
 ghost use Rattle.ss_names.specs.declared.entry.Attribute.{Attribute as AttributeSeen};
 ghost use Rattle.ss_names.specs.Table.{field_mode};
 ghost use Rattle.ss_names_declarations.specs.Earliest.{unless};
 ghost use Rattle.ss_check_rules.specs.Refusal.{class_breaks, meant_breaks, place_breaks};
-ghost use Rattle.ss_names_scopes.specs.Scopes.{meaning};
+ghost use Rattle.ss_names_scopes.specs.Scopes.{meaning, parameter_mode};
 
 use crate::error::{CheckError, unless};
 use crate::kinds::{
@@ -35,7 +36,7 @@ fn mode_meant(meaning: Option<Meaning>) -> Option<Mode>
 
 // The mode of what a routine is given in this place.
 fn given_mode(scope: &Scope<'_>, routine: Option<RoutineSection>, place: usize) -> Option<Mode>
-    ensures { result ≡ given_mode (scope_seen scope.now) routine place }
+    ensures { result ≡ option_and_then (λ (r : SectionSeen). parameter_mode (scope_seen scope.now) r.section place) routine }
 {
     match routine {
         Some(routine) => scope.parameter_mode(routine.section, place),
@@ -45,7 +46,7 @@ fn given_mode(scope: &Scope<'_>, routine: Option<RoutineSection>, place: usize) 
 
 // The mode of what a routine yields in this place.
 fn yielded_mode(scope: &Scope<'_>, routine: Option<RoutineSection>, place: usize) -> Option<Mode>
-    ensures { result ≡ yielded_mode (scope_seen scope.now) routine place }
+    ensures { result ≡ option_and_then (λ (r : SectionSeen). parameter_mode (scope_seen scope.now) r.section (r.given + place)) routine }
 {
     match routine {
         Some(routine) => scope.yielded_mode(routine.section, routine.given, place),

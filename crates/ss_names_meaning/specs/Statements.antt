@@ -16,7 +16,7 @@ use Rattle.ss_names.specs.declared.meaning.Meaning.{Meaning}
 use Rattle.ss_names.specs.declared.meaning.Meaning.TheVariants as meanings
 use Rattle.ss_names_scopes.specs.Scopes.{Scope, history_of, mode_of}
 use Rattle.ss_names_meaning.specs.Classes.{class_named, counted}
-use Rattle.ss_names_meaning.specs.Answers.{each, of_one, of_three, of_two, where_holds}
+use Rattle.ss_names_meaning.specs.Answers.{◌>>=◌, each, of_one, of_three, of_two, where_holds}
 use Rattle.ss_names_meaning.specs.Expressions.{expression, item, place_named, place_of, set_named, target}
 use Rattle.ss_names_meaning.specs.Conditions.{condition}
 use Rattle.ss_names_meaning.specs.Heads.{resolved_phrase, guard, phrases_of, head}
