@@ -20,7 +20,11 @@ fn class_number(need: ClassNeed, meaning: Option<Meaning>) -> Option<usize>
 {
     match meaning {
         Some(Meaning::Class { class, kind, .. }) => {
-            if is_kind(need, kind) { Some(class) } else { None }
+            if is_kind(need, kind) {
+                Some(class)
+            } else {
+                None
+            }
         }
         _ => None,
     }

@@ -17,7 +17,7 @@ use Rattle.ss_names.specs.declared.meaning.Meaning.{Meaning}
 use Rattle.ss_names.specs.declared.meaning.Meaning.TheVariants as meanings
 use Rattle.ss_names_scopes.specs.Scopes.{Scope, is_kind, meaning_of_name, variable_of}
 use Rattle.ss_check_rules.specs.Kinds.{suits_class}
-use Rattle.ss_check_rules.specs.Modes.{is_text, mode_meant}
+use Rattle.ss_check_rules.specs.Modes.{is_text, meaning_mode}
 use Rattle.ss_names_declarations.specs.Earliest.{unless}
 use Rattle.ss_check_rules.specs.Refusal.{use_breaks}
 use Rattle.ss_check_rules.specs.declared.error.CheckError.TheVariants as errors
@@ -42,7 +42,7 @@ module _ (s : Scope) (g : Place) (k : IsLinked s g) (line : Line) where
   numeric : (is_called : Bool) (o : Option Meaning) (m : Meaning) (v : IsVariable s g k m) → unless (is_called || not (is_text o)) (errors.Mode line) ≡ None → o ≡ Some m → is_called ≡ false → TakesMode g (ToVariable v.0) Integer
   numeric is_called o m v h e f =
       let plain = not-true (is_text o) (subst (λ b. (b || not (is_text o)) ≡ true) f (holds_unless (is_called || not (is_text o)) (errors.Mode line) h)) in
-      subst (λ n. TakesMode g (ToVariable v.0) n) (alike (mode_meant o) (Some Integer) v.1 Integer plain (ap mode_meant e ∙ v.3) refl) v.4
+      subst (λ n. TakesMode g (ToVariable v.0) n) (alike (meaning_mode o) (Some Integer) v.1 Integer plain (ap meaning_mode e ∙ v.3) refl) v.4
 
   pub class_resolves : (need : ClassNeed) (name : NameBytes) (is_called : Bool) → use_breaks s g.is_main (class_used line need name is_called) ≡ None → ClassResolves s g need name is_called
   class_resolves need name is_called h =

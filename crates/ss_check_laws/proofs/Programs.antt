@@ -25,7 +25,7 @@ use Rattle.ss_check_rules.specs.Kinds.{suits_class}
 use Rattle.ss_check_rules.specs.Order.{order_of}
 use Rattle.ss_check_rules.specs.Refusal.{breaches}
 use Rattle.ss_names_meaning.specs.Answers.{each}
-use Rattle.ss_names_meaning.specs.Layouts.{ResolvedLayout, laid_out}
+use Rattle.ss_names_meaning.specs.Layouts.{ResolvedLayout, resolved_layout}
 use Rattle.ss_names_meaning.specs.Resolved.{Parts, event_from, is_known, is_known_kind, parts_with_locals, resolved, resolved_with_locals, routine_from}
 use Rattle.ss_names_laws.specs.Laws.{LayoutsAreWellTyped, RoutinesAreThere, SectionsAreValid, TablesAreThere, TablesAreValid}
 use Rattle.ss_check_laws.specs.BodyLaws.{BodiesResolve}
@@ -48,7 +48,7 @@ notice_found (Some (m.Class class kinds.Notice variable)) e = (class, variable, 
 notice_found _ e = absurd cc
 
 assembled : (t : Table) (all : List Moded) (sections : List tree.SectionTree) (x : ResolvedLayout) (routines : List Routine) (events : List Event) (n : ℕ) (parts : Parts) →
-    laid_out t ≡ Some x → list_all (is_known t) sections ≡ true →
+    resolved_layout t ≡ Some x → list_all (is_known t) sections ≡ true →
     each (routine_from (parts_with_locals t all sections)) (values_of t.routines) ≡ Some routines →
     each (event_from t (parts_with_locals t all sections)) t.ranks ≡ Some events →
     position is_main_section sections ≡ Some n → parts_with_locals t all sections n ≡ Some parts →

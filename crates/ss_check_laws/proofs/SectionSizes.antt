@@ -15,7 +15,7 @@ use Rattle.ss_tree.specs.Names.{NameBytes}
 use Rattle.ss_tree.specs.Nodes as tree
 use Rattle.ss_tree.specs.Tree.{SectionKindTree, main, routine, event, SectionTree, StatementTree, statement_row, ProgramTree}
 use Rattle.ss_names_declarations.specs.Declarations.{declarations, flat_map_from}
-use Rattle.ss_names_declarations.specs.Firsts.{entry_beside, firsts, same_name, value_for, with_first}
+use Rattle.ss_names_declarations.specs.Firsts.{entry_beside, first_entries, same_name, value_for, with_first}
 use Rattle.ss_names_declarations.specs.declared.declaration.Declared.{Declared}
 use Rattle.ss_names_declarations.proofs.Entries.{entry_of_key, firsts_once, place_from, there}
 use Rattle.ss_names.specs.declared.entry.EventSection.{EventSection}
@@ -26,7 +26,7 @@ use Rattle.ss_names_scopes.specs.Locals.{Moded, locals_of}
 use Rattle.ss_names_scopes.specs.Scopes.{is_main, is_main_section}
 use Rattle.ss_program.specs.Nodes.{option_nodes, block_nodes, routine_nodes, event_nodes, nodes}
 use Rattle.ss_names_meaning.specs.Answers.{where_holds}
-use Rattle.ss_names_meaning.specs.Layouts.{laid_out, tie_keys}
+use Rattle.ss_names_meaning.specs.Layouts.{resolved_layout, tie_keys}
 use Rattle.ss_names_meaning.specs.Resolved.{Parts, event_from, is_known, local_modes, parts_with_locals, resolved_with_locals, routine_from, saved}
 use Rattle.ss_names_laws.proofs.Items.{at_item, each_item}
 use Rattle.ss_check_laws.specs.SizeLaws.{ProgramsStaySmall}
@@ -90,11 +90,11 @@ module _ (p : ProgramTree) where
   -- what the first entry of each name weighs, where the heads of sections declare it
   declared_less : {V : Type 0} (h : V → ℕ) (f : Declared → List (NameBytes × V)) → ((x : Declared) → Fits IsAny x → f x ≡ []) →
       ((n : ℕ) (s : SectionTree) → slice_get p.sections n ≡ Some s → sum_by (λ (e : NameBytes × V). h e.1) (f (head_of n s.kind)) ≤ part f s) →
-      sum_by h (values_of (firsts (given_by f (declarations p)))) ≤ sum_by (part f) p.sections
+      sum_by h (values_of (first_entries (given_by f (declarations p)))) ≤ sum_by (part f) p.sections
   declared_less {V} h f quiet heads =
       let g = λ (e : NameBytes × V). h e.1 in
       let ds = given_by f (declarations p) in
-      let values : sum_by h (values_of (firsts ds)) ≡ sum_by g (firsts ds) = fold-map (λ (a : ℕ) (v : V). a + h v) (λ (e : NameBytes × V). e.1) 0 (firsts ds) in
+      let values : sum_by h (values_of (first_entries ds)) ≡ sum_by g (first_entries ds) = fold-map (λ (a : ℕ) (v : V). a + h v) (λ (e : NameBytes × V). e.1) 0 (first_entries ds) in
       let all = ap (sum_by g) (of_sections f quiet p) in
       let less = numbered_less g (λ n s. f (head_of n s.kind)) (part f) 0 p.sections (λ i s e. heads (0 + i) s (let same : 0 + i ≡ i = omega arith in ap (slice_get p.sections) same ∙ e)) in
       omega (arith, firsts_less g [] ds)
@@ -242,7 +242,7 @@ module _ (p : ProgramTree) (all : List Moded) where
       let key : ℕ → Option NameBytes = slice_get (keys_of t.classes) in
       let ranked = given_by (priority_by t.classes) ds ++ given_by (notice_by t.classes) ds in
       let events = named_less (event_weight p) key (one_number t.classes (firsts_once (given_by class_by ds))) t.ranks t.events (distinct_numbers [] ranked no_numbers) in
-      looked (laid_out t) (λ laid.
+      looked (resolved_layout t) (λ laid.
       held (list_all (is_known t) p.sections) p.sections _ (
       followed (each_small routine_small (values_of t.routines)) (λ rs q.
       followed (each_small event_small t.ranks) (λ es r.

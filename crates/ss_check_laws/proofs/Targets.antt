@@ -22,7 +22,7 @@ use Rattle.ss_names.specs.declared.meaning.Meaning.TheVariants as meanings
 use Rattle.ss_names.specs.Table.{owner_of_subject, subject_of}
 use Rattle.ss_names_scopes.specs.Scopes.{Scope, history_of, meaning_of_name, mode_of, unless_hidden}
 use Rattle.ss_check_rules.specs.Kinds.{has_value, is_set, takes_values}
-use Rattle.ss_check_rules.specs.Modes.{mode_meant}
+use Rattle.ss_check_rules.specs.Modes.{meaning_mode}
 use Rattle.ss_check_rules.specs.Refusal.{place_breaks}
 use Rattle.ss_check_rules.specs.declared.error.CheckError.TheVariants as errors
 use Rattle.ss_names_meaning.specs.Answers.{◌>>=◌}
@@ -79,7 +79,7 @@ module _ (s : Scope) (g : Place) (k : IsLinked s g) where
         v.1,
         goes (place_named s d es) (λ r. place_of r.0 r.1) q v.0 found v.2,
         v.4,
-        said_is s d ∙ ap mode_meant p.1 ∙ v.3,
+        said_is s d ∙ ap meaning_mode p.1 ∙ v.3,
         number_mode b p.0 v.1 v.3 p.4.mode,
         goes (place_named s d es) (λ r. place_of r.0 r.1 >>= λ x. mode_of r.0 >>= λ m. Some (record { place = x; mode = m })) q read found
             (two_steps (place_of p.0 p.5.1) (mode_of p.0) (λ x m. Some (record { place = x; mode = m })) v.0 v.1 read v.2 v.3 refl),

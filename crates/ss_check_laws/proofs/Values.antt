@@ -24,7 +24,7 @@ use Rattle.ss_names_scopes.specs.Scopes.{Scope, local_mode, mode_at, mode_given,
 use Rattle.ss_check_rules.specs.declared.error.CheckError.{CheckError}
 use Rattle.ss_check_rules.specs.declared.error.CheckError.TheVariants as errors
 use Rattle.ss_check_rules.specs.Kinds.{if_means, is_routine}
-use Rattle.ss_check_rules.specs.Modes.{mode_said}
+use Rattle.ss_check_rules.specs.Modes.{mode_of_use}
 use Rattle.ss_program.specs.Program.{Statement, Change, Call, Target}
 use Rattle.ss_program.specs.WellTyped.{Scope as Place, HasMode, TakesMode, Good}
 use Rattle.ss_names_meaning.specs.Answers.{◌>>=◌, upto}
@@ -81,15 +81,15 @@ module _ (s : Scope) (g : Place) (linked : IsLinked s g) (line : Line) where
       let x = targets_resolve s g linked line true n k in
       (x.0, x.2, subst (TakesMode g x.0) (x.5 refl) x.3)
 
-  pub value_resolves : (wanted : ModeOf) (m : Mode) (e : ExpressionTree) → mode_said s wanted ≡ Some m → Kept s g.is_main (uses.in_value line wanted e) → GoesWell (λ x. HasMode g x m) (expression s e)
+  pub value_resolves : (wanted : ModeOf) (m : Mode) (e : ExpressionTree) → mode_of_use s wanted ≡ Some m → Kept s g.is_main (uses.in_value line wanted e) → GoesWell (λ x. HasMode g x m) (expression s e)
   value_resolves wanted m e w k =
       let x = expressions_resolve s g linked line false e k.1 in
-      (x.0, x.2, subst (HasMode g x.0) (agree (mode_said s (uses.expression_mode e)) (mode_said s wanted) x.1 m (errors.Mode line) k.0 x.4 w) x.3)
+      (x.0, x.2, subst (HasMode g x.0) (agree (mode_of_use s (uses.expression_mode e)) (mode_of_use s wanted) x.1 m (errors.Mode line) k.0 x.4 w) x.3)
 
-  takes_value : (wanted : ModeOf) (m : Mode) (n : NamedTree) → mode_said s wanted ≡ Some m → Kept s g.is_main (uses.in_target line wanted n) → GoesWell (λ x. TakesMode g x m) (target s n)
+  takes_value : (wanted : ModeOf) (m : Mode) (n : NamedTree) → mode_of_use s wanted ≡ Some m → Kept s g.is_main (uses.in_target line wanted n) → GoesWell (λ x. TakesMode g x m) (target s n)
   takes_value wanted m n w k =
       let x = targets_resolve s g linked line false n k.1 in
-      (x.0, x.2, subst (TakesMode g x.0) (agree (mode_said s (uses.designated n.designator)) (mode_said s wanted) x.1 m (errors.Mode line) k.0 x.4 w) x.3)
+      (x.0, x.2, subst (TakesMode g x.0) (agree (mode_of_use s (uses.designated n.designator)) (mode_of_use s wanted) x.1 m (errors.Mode line) k.0 x.4 w) x.3)
 
   -- ---- statements
 

@@ -13,23 +13,23 @@ use Rattle.ss_names.specs.Table.{Table, field_mode}
 use Rattle.ss_names_scopes.specs.Scopes.{Scope, implied, meaning_of_name, mode_of, parameter_mode}
 use Rattle.ss_check_rules.specs.Kinds.{is_mean}
 
-abbrev pub mode_meant : Option Meaning → Option Mode
-mode_meant meaning = option_and_then mode_of meaning
+abbrev pub meaning_mode : Option Meaning → Option Mode
+meaning_mode meaning = option_and_then mode_of meaning
 
 -- the mode of the attribute of a class in this place
 abbrev pub attribute_mode : Table → Option ℕ → ℕ → Option Mode
 attribute_mode t known place = option_and_then (λ class. option_and_then (field_mode t) (slice_get (get_or t.fields class []) place)) known
 
 -- the mode that a use says, if there is one
-abbrev pub mode_said : Scope → ModeOf → Option Mode
-mode_said s modes.Integer = Some Integer
-mode_said s modes.Alpha = Some Alpha
-mode_said s (modes.Named name) = mode_meant (meaning_of_name s name)
-mode_said s (modes.Given routine place) =
+abbrev pub mode_of_use : Scope → ModeOf → Option Mode
+mode_of_use s modes.Integer = Some Integer
+mode_of_use s modes.Alpha = Some Alpha
+mode_of_use s (modes.Named name) = meaning_mode (meaning_of_name s name)
+mode_of_use s (modes.Given routine place) =
     option_and_then (λ (r : RoutineSection). parameter_mode s r.section place) (value_for s.table.routines routine)
-mode_said s (modes.Yielded routine place) =
+mode_of_use s (modes.Yielded routine place) =
     option_and_then (λ (r : RoutineSection). parameter_mode s r.section (r.given + place)) (value_for s.table.routines routine)
-mode_said s (modes.Attribute class place) = attribute_mode s.table (place_in s.table.classes class) place
+mode_of_use s (modes.Attribute class place) = attribute_mode s.table (place_in s.table.classes class) place
 
 -- two modes, where there are two
 abbrev pub differ : Option Mode → Option Mode → Bool
@@ -38,7 +38,7 @@ differ (Some Alpha) (Some Integer) = true
 differ _ _ = false
 
 abbrev pub is_text : Option Meaning → Bool
-is_text meaning = differ (mode_meant meaning) (Some Integer)
+is_text meaning = differ (meaning_mode meaning) (Some Integer)
 
 -- a MEAN isn't a whole number but what two whole numbers make, and is rounded where it is printed
 abbrev pub is_mean_as_value : Role → Meaning → Bool

@@ -20,7 +20,7 @@ use Rattle.ss_names.specs.Table.{Table, table}
 use Rattle.ss_names_scopes.specs.Scopes.{Scope, is_main, is_main_section, meaning, meaning_of_name, scope_of}
 use Rattle.ss_check_rules.specs.Counts.{suits_count}
 use Rattle.ss_check_rules.specs.Kinds.{if_means, is_mean, is_routine, is_target, may_be_watched, meaning_in_role, suits, suits_class, suits_subscripts, takes_values}
-use Rattle.ss_check_rules.specs.Modes.{differ, is_text, mixes_modes, mode_said}
+use Rattle.ss_check_rules.specs.Modes.{differ, is_text, mixes_modes, mode_of_use}
 use Rattle.ss_check_rules.specs.Order.{order_of}
 use Rattle.ss_check_rules.specs.declared.error.CheckError.{CheckError}
 use Rattle.ss_check_rules.specs.declared.error.CheckError.TheVariants as e
@@ -28,9 +28,9 @@ use Rattle.ss_check_rules.specs.declared.error.CheckError.TheVariants as e
 -- ---- uses
 
 -- a place that means something: its subscripts, 75; as a target, 76; its mode, 73
-abbrev pub meant_breaks : Scope → Line → Role → ℕ → Bool → Option Meaning → Option CheckError
-meant_breaks s line role subscripts is_number None = None
-meant_breaks s line role subscripts is_number (Some meaning) =
+abbrev pub meaning_breaks : Scope → Line → Role → ℕ → Bool → Option Meaning → Option CheckError
+meaning_breaks s line role subscripts is_number None = None
+meaning_breaks s line role subscripts is_number (Some meaning) =
     if not (suits_subscripts s.table meaning subscripts) then Some (e.Subscript line)
     else if is_target role && not (takes_values meaning) then Some (e.NotAssignable line)
     else unless (not (mixes_modes s role meaning subscripts is_number)) (e.Mode line)
@@ -38,7 +38,7 @@ meant_breaks s line role subscripts is_number (Some meaning) =
 -- its kind, 79, comes first
 abbrev pub place_breaks : Scope → Line → Role → Designator → ℕ → Bool → Option CheckError
 place_breaks s line role place subscripts is_number =
-    if suits s role place then meant_breaks s line role subscripts is_number (meaning_in_role s role place)
+    if suits s role place then meaning_breaks s line role subscripts is_number (meaning_in_role s role place)
     else Some (e.Unknown line)
 
 -- a class of another kind, 79; or its entity is in a variable of texts because none is named, 73
@@ -55,7 +55,7 @@ used_breaks s in_main line (Class need class called) = class_breaks s line need 
 used_breaks s in_main line (Routine routine) =
     unless (if_means is_routine (value_for s.table.meanings routine)) (e.Unknown line)
 used_breaks s in_main line Start = unless in_main (e.StartPlace line)
-used_breaks s in_main line (Same found wanted) = unless (not (differ (mode_said s found) (mode_said s wanted))) (e.Mode line)
+used_breaks s in_main line (Same found wanted) = unless (not (differ (mode_of_use s found) (mode_of_use s wanted))) (e.Mode line)
 used_breaks s in_main line (Count found wanted) = unless (suits_count s.table found wanted) (e.Arguments line)
 used_breaks s in_main line (Mean place) = unless (if_means is_mean (meaning s place)) (e.Fields line)
 used_breaks s in_main line Unfit = Some (e.Fields line)

@@ -3,11 +3,11 @@
 ghost use Rattle.std.specs.Prelude.{◌≡◌};
 ghost use Rattle.ss_check_rules.specs.Order.{order_of};
 ghost use Rattle.ss_check_rules.specs.declared.error.CheckError.TheVariants.{Memory};
+ghost use Rattle.ss_names_declarations.specs.Earliest.{unless};
 
 use ss_base::Line;
 use ss_names_declarations::Breach;
 use std::alloc::AllocError;
-ghost use Rattle.ss_names_declarations.specs.Earliest.{unless};
 use thiserror::Error;
 
 /// Why a program is refused for what it does with its names and values, with the line of the first place

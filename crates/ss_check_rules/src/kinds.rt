@@ -1,7 +1,7 @@
 //! The kinds of names that places need, their subscripts, and what takes values.
 
 ghost use Rattle.std.specs.Prelude.{◌≡◌};
-ghost use Rattle.ss_names_scopes.specs.Seen.{scope_seen};
+ghost use Rattle.ss_names_scopes.specs.Seen.{view_scope};
 ghost use Rattle.ss_names_uses.specs.declared.used.Role.TheVariants as roles;
 ghost use Rattle.ss_check_rules.specs.Kinds.{has_value, if_means, is_mean, is_routine, is_set, is_variable, may_be_watched, may_have, meaning_in_role, suits, suits_class, suits_subscripts, takes_values};
 
@@ -114,7 +114,7 @@ pub fn if_watched(meaning: Option<Meaning>) -> bool
 
 // What a place means as a set.
 fn meaning_as_set(scope: &Scope<'_>, place: &Designator) -> Option<Meaning>
-    ensures { result ≡ meaning_in_role (scope_seen scope.now) roles.Set place.now }
+    ensures { result ≡ meaning_in_role (view_scope scope.now) roles.Set place.now }
 {
     match place {
         Designator::Name(name) => scope.names.meaning(name),
@@ -125,7 +125,7 @@ fn meaning_as_set(scope: &Scope<'_>, place: &Designator) -> Option<Meaning>
 
 /// What a place means in its role. No local variable hides a set.
 pub fn meaning_in_role(scope: &Scope<'_>, role: Role, place: &Designator) -> Option<Meaning>
-    ensures { result ≡ meaning_in_role (scope_seen scope.now) role place.now }
+    ensures { result ≡ meaning_in_role (view_scope scope.now) role place.now }
 {
     match role {
         Role::Set => meaning_as_set(scope, place),
@@ -135,7 +135,7 @@ pub fn meaning_in_role(scope: &Scope<'_>, role: Role, place: &Designator) -> Opt
 
 /// Whether what is named is of the kind that its role needs.
 pub fn suits(scope: &Scope<'_>, role: Role, place: &Designator) -> bool
-    ensures { result ≡ suits (scope_seen scope.now) role place.now }
+    ensures { result ≡ suits (view_scope scope.now) role place.now }
 {
     match role {
         Role::Reset => scope.history_of(place).is_some(),

@@ -5,7 +5,7 @@ use Rattle.std.proofs.lemmas.List.Sums.{fold-append}
 use Rattle.ss_base.specs.declared.line.Line.{Line}
 use Rattle.ss_base.specs.Lines.{line_if}
 use Rattle.ss_tree.specs.Names.{NameBytes}
-use Rattle.ss_names_declarations.specs.Firsts.{firsts, value_for, with_first}
+use Rattle.ss_names_declarations.specs.Firsts.{first_entries, value_for, with_first}
 use Rattle.ss_names_declarations.specs.declared.declaration.Declaration.{Declaration}
 use Rattle.ss_names_declarations.proofs.Entries.{value_in_firsts}
 use Rattle.ss_names.specs.declared.meaning.Meaning.{Meaning}
@@ -56,13 +56,13 @@ one_clash line (Some known) new at = by (same_of_set known new)
     by true = refl
     by false = refl
 
-clash_is : (before : List (NameBytes × Meaning)) (line : Option Line) (es : List Entered) → clash_of (firsts before) line es ≡ fold sooner line (clashes_after before es)
+clash_is : (before : List (NameBytes × Meaning)) (line : Option Line) (es : List Entered) → clash_of (first_entries before) line es ≡ fold sooner line (clashes_after before es)
 clash_is before line [] = refl
 clash_is before line (e ∷ es) =
     let after = before ++ pair_of e ∷ [] in
     let here = line_if (is_another (value_for before e.name) e.meaning) e.line in
-    ap (λ o. clash_of (with_first (firsts before) (pair_of e)) (clash_after line o e.meaning e.line) es) (value_in_firsts before e.name)
-    ∙ ap (λ l. clash_of (with_first (firsts before) (pair_of e)) l es) (one_clash line (value_for before e.name) e.meaning e.line)
+    ap (λ o. clash_of (with_first (first_entries before) (pair_of e)) (clash_after line o e.meaning e.line) es) (value_in_firsts before e.name)
+    ∙ ap (λ l. clash_of (with_first (first_entries before) (pair_of e)) l es) (one_clash line (value_for before e.name) e.meaning e.line)
     ∙ ap (λ ms. clash_of ms (fold sooner line here) es) (sym (fold-append with_first [] before (pair_of e ∷ [])))
     ∙ clash_is after (fold sooner line here) es
     ∙ sym (fold-append sooner line here (clashes_after after es))

@@ -14,7 +14,7 @@ use Rattle.ss_tree.specs.Names.{NameBytes}
 use Rattle.ss_tree.specs.declared.preamble.Mode.{Mode as ModeWord}
 use Rattle.ss_tree.specs.declared.preamble.Mode.TheVariants as words
 use Rattle.ss_base.specs.declared.words.Weighting.{Weighting}
-use Rattle.ss_names_declarations.specs.Firsts.{each_once, entry_if, firsts, place_in, value_for}
+use Rattle.ss_names_declarations.specs.Firsts.{each_once, entry_if, first_entries, place_in, value_for}
 use Rattle.ss_names_declarations.specs.declared.declaration.Declared.{Declared}
 use Rattle.ss_names_declarations.specs.declared.declaration.Declared.TheVariants as d
 use Rattle.ss_names_declarations.specs.declared.declaration.Declaration.{Declaration}
@@ -33,7 +33,7 @@ given_by f ds = flat_map (λ (x : Declaration). f x.what) ds
 
 -- what each of some declarations gives to names; of two entries for a name the first counts
 abbrev pub named_by : {A : Type 0} → (Declared → List (NameBytes × A)) → List Declaration → List (NameBytes × A)
-named_by f ds = firsts (given_by f ds)
+named_by f ds = first_entries (given_by f ds)
 
 abbrev pub row_of : Vec NameBytes → List NameBytes
 row_of row = row.items

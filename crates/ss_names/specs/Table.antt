@@ -23,7 +23,7 @@ use Rattle.ss_tree.specs.declared.preamble.StatisticKind.{StatisticKind}
 use Rattle.ss_tree.specs.declared.preamble.StatisticKind.TheVariants as kinds
 use Rattle.ss_base.specs.declared.words.Weighting.{Weighting}
 use Rattle.ss_names_declarations.specs.Declarations.{declarations}
-use Rattle.ss_names_declarations.specs.Firsts.{entry_if, firsts, place_among, place_in, value_for}
+use Rattle.ss_names_declarations.specs.Firsts.{entry_if, first_entries, place_among, place_in, value_for}
 use Rattle.ss_names_declarations.specs.declared.declaration.Declared.{Declared}
 use Rattle.ss_names_declarations.specs.declared.declaration.Declared.TheVariants as d
 use Rattle.ss_names_declarations.specs.declared.declaration.Declaration.{Declaration}
@@ -152,7 +152,7 @@ declares t _ = []
 
 -- each global and derived name, with what it means by its first declaration
 abbrev pub meanings : List Declaration → List (NameBytes × Meaning)
-meanings ds = firsts (given_by (declares (numbered ds)) ds)
+meanings ds = first_entries (given_by (declares (numbered ds)) ds)
 
 -- ---- names that are declared twice
 

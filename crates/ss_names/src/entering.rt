@@ -201,7 +201,13 @@ fn enter_of_set(
     ensures { OnOk result (entered meanings.new clash.new ≡ enter line (entered meanings.old clash.old) (derived_name (letter_of_set query) name.now, m.OfSet query set)) }
 {
     let spelling = Spelling::derived(letter_of_set(query), name);
-    enter(meanings, clash, line, spelling, Meaning::OfSet { query, set })
+    enter(
+        meanings,
+        clash,
+        line,
+        spelling,
+        Meaning::OfSet { query, set },
+    )
 }
 
 // The letter of F., L. or N.
@@ -227,7 +233,13 @@ fn enter_of_member(
     ensures { OnOk result (entered meanings.new clash.new ≡ enter line (entered meanings.old clash.old) (derived_name (letter_of_member query) name.now, m.OfMember query set)) }
 {
     let spelling = Spelling::derived(letter_of_member(query), name);
-    enter(meanings, clash, line, spelling, Meaning::OfMember { query, set })
+    enter(
+        meanings,
+        clash,
+        line,
+        spelling,
+        Meaning::OfMember { query, set },
+    )
 }
 
 // The letter of P., S. or M.

@@ -72,9 +72,9 @@ impl Model for Names {
 
     ghost Value = { Table };
 
-    ghost use Rattle.ss_names.specs.View.{table_seen};
+    ghost use Rattle.ss_names.specs.View.{view_table};
 
-    ghost view = { table_seen };
+    ghost view = { view_table };
 }
 
 // THE SYSTEM, where no owner is known.

@@ -24,7 +24,7 @@ use Rattle.ss_tables_rules.specs.declared.error.TableError.TheVariants as errors
 use Rattle.ss_tables_rules.specs.declared.once.Once.{Once}
 use Rattle.ss_tables_rules.specs.Broken.{breaches, breaks, refusal_of_declarations, unmoded}
 use Rattle.ss_tables_rules.specs.Keys.{misranked}
-use Rattle.ss_tables_rules.specs.Once.{is_among, once_of, repeats, repeats_after, said_again, same_once, again, with_said}
+use Rattle.ss_tables_rules.specs.Once.{is_among, once_of, repeats, repeats_after, repeated_breach, same_once, again, once_added}
 use Rattle.ss_tables_rules.specs.Order.{order_of}
 use Rattle.ss_tables_rules.specs.Rules.{broken_by}
 use Rattle.ss_names_laws.proofs.Firsts.{has_value}
@@ -205,7 +205,7 @@ all_fewer once said (a ∷ more) h =
 
 said_anew : (t : Table) (said : List Once) (x : Declaration) (ds : List Declaration) (once : Once) (b : Bool) → is_among said once ≡ b →
     ((more : List Once) → repeats_after t more ds ≡ [] → NeverAgain more (onces t ds)) →
-    option_to_list (cond b (Some (said_again x.line x.what)) None) ++ repeats_after t (cond b said (said ++ once ∷ [])) ds ≡ [] → NeverAgain said (once ∷ onces t ds)
+    option_to_list (cond b (Some (repeated_breach x.line x.what)) None) ++ repeats_after t (cond b said (said ++ once ∷ [])) ds ≡ [] → NeverAgain said (once ∷ onces t ds)
 unfolding IsDistinct
 said_anew t said x ds once true is next h = absurd cc
 said_anew t said x ds once false is next h =
@@ -215,7 +215,7 @@ said_anew t said x ds once false is next h =
 
 said_next : (t : Table) (said : List Once) (x : Declaration) (ds : List Declaration) (o : Option Once) →
     ((more : List Once) → repeats_after t more ds ≡ [] → NeverAgain more (onces t ds)) →
-    option_to_list (again said x.line x.what o) ++ repeats_after t (with_said said o) ds ≡ [] → NeverAgain said (option_to_list o ++ onces t ds)
+    option_to_list (again said x.line x.what o) ++ repeats_after t (once_added said o) ds ≡ [] → NeverAgain said (option_to_list o ++ onces t ds)
 said_next t said x ds None next h = next said h
 said_next t said x ds (Some once) next h = said_anew t said x ds once (is_among said once) refl next h
 

@@ -13,7 +13,7 @@ use Rattle.ss_tree.specs.Tree.{DefinitionTree, SectionKindTree, main, routine, e
 use Rattle.ss_tree.specs.declared.expression.Designator.{Designator}
 use Rattle.ss_tree.specs.declared.expression.Designator.TheVariants as designators
 use Rattle.ss_names_declarations.specs.Declarations.{flat_map_from, in_definition, in_head, in_section, in_statement, local, parameter}
-use Rattle.ss_names_declarations.specs.Firsts.{firsts, place_in, same_name, value_for}
+use Rattle.ss_names_declarations.specs.Firsts.{first_entries, place_in, same_name, value_for}
 use Rattle.ss_names_declarations.specs.declared.declaration.Declaration.{Declaration}
 use Rattle.ss_names_declarations.proofs.Entries.{firsts_once, there, value_at, value_by_place, value_from_place}
 use Rattle.ss_names_uses.specs.declared.used.Role.{Role}
@@ -150,7 +150,7 @@ module _ (p : ProgramTree) (kept : refusal_of_declarations p ≡ None) where
       let names = flat_map (local_used (table p)) us in
       let moded = λ (u : Option Mode). map (moded_in u (defined us)) names in
       let all = every_first HasMode (moded (Some usual)) (every_image HasMode (moded_in (Some usual) (defined us)) names (λ n a. some_mode (value_for (defined us) n) usual)) in
-      at_place HasMode (locals (table p) us) i (name, o) (subst (λ (u : Option Mode). Every HasMode (firsts (moded u))) (sym is) all) at
+      at_place HasMode (locals (table p) us) i (name, o) (subst (λ (u : Option Mode). Every HasMode (first_entries (moded u))) (sym is) all) at
 
   by_definitions : (k : ℕ) (s : SectionTree) → slice_get p.sections k ≡ Some s → (table p).usual ≡ None → HaveModes (locals_of (table p) s)
   by_definitions k s at is i name o here =

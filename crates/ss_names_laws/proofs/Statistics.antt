@@ -31,7 +31,7 @@ use Rattle.ss_check_rules.specs.Order.{order_of}
 use Rattle.ss_names_declarations.specs.Earliest.{unless}
 use Rattle.ss_check_rules.specs.Refusal.{breaches, in_preamble, in_program, in_section, refusal_of_uses, subject_breaks}
 use Rattle.ss_names_meaning.specs.Answers.{upto}
-use Rattle.ss_names_meaning.specs.Layouts.{statistic_kept, statistics as statistics_of}
+use Rattle.ss_names_meaning.specs.Layouts.{resolved_statistic, statistics as statistics_of}
 use Rattle.ss_names_laws.proofs.Each.{at_place, each_empty, every_first, every_piece}
 use Rattle.ss_names_laws.proofs.Items.{at_item}
 use Rattle.ss_names_laws.proofs.Kept.{both_empty, nothing_found}
@@ -67,7 +67,7 @@ subject_there t name (m.Attribute class field mode) known h = (OfAttribute class
 subject_there t name (m.OfSet MemberCount set) known h = (OfCount set, refl)
 subject_there t name _ known h = absurd cc
 
-statistic_there : (t : Table) (n : ℕ) (weighting : Weighting) (subject : Subject) → slice_get (values_of t.histories) n ≡ Some weighting → slice_get t.subjects n ≡ Some (Some subject) → (s : Statistic) × (statistic_kept t n ≡ Some s) × Unit {0}
+statistic_there : (t : Table) (n : ℕ) (weighting : Weighting) (subject : Subject) → slice_get (values_of t.histories) n ≡ Some weighting → slice_get t.subjects n ≡ Some (Some subject) → (s : Statistic) × (resolved_statistic t n ≡ Some s) × Unit {0}
 statistic_there t n weighting subject e f =
     let made : Statistic = record { subject = subject; weighting = weighting } in
     (made, rw (e, f) refl, tt)
@@ -95,11 +95,11 @@ module _ (p : ProgramTree) (kept : refusal_of_uses p ≡ None) where
   statistics_there =
       let t = table p in
       let of_name : NameBytes → Option Subject = λ n. subject_of (value_for t.meanings n) in
-      let all = upto_every (λ (n : ℕ). (s : Statistic) × (statistic_kept t n ≡ Some s) × Unit {0}) (length t.histories) (λ n lt.
+      let all = upto_every (λ (n : ℕ). (s : Statistic) × (resolved_statistic t n ≡ Some s) × Unit {0}) (length t.histories) (λ n lt.
       let e = there t.histories n lt in
       let whole = at_place IsWatched t.histories n e.0 all_watched e.1 in
       let subject = subject_there (numbered (declarations p)) e.0.0 whole.0 (name_known (declarations p) e.0.0 whole.0 whole.1) whole.2 in
       let named : slice_get t.subjects n ≡ Some (of_name e.0.0) = slice_get-map of_name (keys_of t.histories) n ∙ ap (option_map of_name) (key_at t.histories n e.0.0 e.0.1 e.1) in
       statistic_there t n e.0.1 subject.0 (value_at t.histories n e.0.0 e.0.1 e.1) (named ∙ ap Some (ap subject_of whole.1 ∙ subject.1))) in
-      let found = each_made (statistic_kept t) (λ (s : Statistic). Unit {0}) (upto (length t.histories)) all in
+      let found = each_made (resolved_statistic t) (λ (s : Statistic). Unit {0}) (upto (length t.histories)) all in
       (found.0, found.1)

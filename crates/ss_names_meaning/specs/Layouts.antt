@@ -27,19 +27,19 @@ use Rattle.ss_names_meaning.specs.Answers.{◌>>=◌, each, of_one, of_three, of
 -- ---- classes and sets
 
 -- the class of this number, with the modes of its attributes
-abbrev pub class_laid : Table → ℕ → Option PlainClass
-class_laid t n =
+abbrev pub class_layout : Table → ℕ → Option PlainClass
+class_layout t n =
     of_two {C = PlainClass} (slice_get (values_of t.classes) n) (each (field_mode t) (get_or t.fields n []))
     (λ kind modes. record { kind = kind; fields = modes })
 
 -- a set, which needs an owner and a class of members
-abbrev pub set_laid : Set → Option SetLayout
-set_laid set = of_two {C = SetLayout} set.owner set.member (λ owner member. record { owner = owner; member = member })
+abbrev pub set_layout : Set → Option SetLayout
+set_layout set = of_two {C = SetLayout} set.owner set.member (λ owner member. record { owner = owner; member = member })
 
 abbrev pub layout : Table → Option PlainLayout
 layout t = do
-  classes ← each (class_laid t) (upto (length t.classes))
-  sets ← each set_laid t.sets
+  classes ← each (class_layout t) (upto (length t.classes))
+  sets ← each set_layout t.sets
   layout_of classes sets
 
 -- ---- disciplines and ties
@@ -94,15 +94,15 @@ abbrev pub counts : Table → List CountedClass
 counts t = flat_map count_by (values_of t.meanings)
 
 -- the statistic of the history of this number
-abbrev pub statistic_kept : Table → ℕ → Option Statistic
-statistic_kept t n = do
+abbrev pub resolved_statistic : Table → ℕ → Option Statistic
+resolved_statistic t n = do
   weighting ← slice_get (values_of t.histories) n
   known ← slice_get t.subjects n
   of_one {B = Statistic} known (λ subject. record { subject = subject; weighting = weighting })
 
 -- a statistic for each history
 abbrev pub statistics : Table → Option (List Statistic)
-statistics t = each (statistic_kept t) (upto (length t.histories))
+statistics t = each (resolved_statistic t) (upto (length t.histories))
 
 -- ---- all of it
 
@@ -114,7 +114,7 @@ pub record ResolvedLayout : Type 0 where
   pub counts : List CountedClass
   pub statistics : List Statistic
 
-abbrev pub laid_out : Table → Option ResolvedLayout
-laid_out t =
+abbrev pub resolved_layout : Table → Option ResolvedLayout
+resolved_layout t =
     of_three {D = ResolvedLayout} (layout t) (disciplines t) (statistics t)
     (λ laid ordered kept. record { layout = laid; disciplines = ordered; globals = values_of t.variables; counts = counts t; statistics = kept })

@@ -18,7 +18,7 @@ use Rattle.ss_names_scopes.specs.Locals.{Moded, locals_of}
 use Rattle.ss_names_scopes.specs.Scopes.{is_main_section, local_mode}
 use Rattle.ss_program.specs.Program.{Block, Routine, Event, Program}
 use Rattle.ss_names_meaning.specs.Answers.{◌>>=◌, each, of_one, of_three, of_two, upto, where_holds}
-use Rattle.ss_names_meaning.specs.Layouts.{laid_out, tie_keys}
+use Rattle.ss_names_meaning.specs.Layouts.{resolved_layout, tie_keys}
 use Rattle.ss_names_meaning.specs.Statements.{statements}
 
 -- ---- sections
@@ -119,7 +119,7 @@ main_from section sections = position is_main_section sections >>= section
 -- the program with these sections, where they have these local variables
 unfoldable pub resolved_with_locals : Table → List Moded → List SectionTree → Option Program
 resolved_with_locals t all sections = do
-  laid ← laid_out t
+  laid ← resolved_layout t
   known ← where_holds (list_all (is_known t) sections) sections
   routines ← each (routine_from (parts_with_locals t all known)) (values_of t.routines)
   events ← each (event_from t (parts_with_locals t all known)) t.ranks

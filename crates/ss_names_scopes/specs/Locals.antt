@@ -8,7 +8,7 @@ use Rattle.ss_tree.specs.Names.{NameBytes}
 use Rattle.ss_tree.specs.Tree.{SectionTree}
 use Rattle.ss_tree.specs.declared.expression.Designator.TheVariants as designators
 use Rattle.ss_tree.specs.declared.expression.Designator.{Designator}
-use Rattle.ss_names_declarations.specs.Firsts.{firsts, value_for}
+use Rattle.ss_names_declarations.specs.Firsts.{first_entries, value_for}
 use Rattle.ss_names_uses.specs.declared.used.Role.{Role}
 use Rattle.ss_names_uses.specs.declared.used.Role.TheVariants as roles
 use Rattle.ss_names_uses.specs.declared.used.Used.{Used}
@@ -61,7 +61,7 @@ moded_in usual modes name = (name, option_or (value_for modes name) usual)
 -- the local variables of a section with these uses, in the order of their numbers: each once, by its first use. So parameters
 -- come first, given ones before yielded ones, then those of DEFINEs, then those that are only used.
 abbrev pub locals : Table → List Use → Moded
-locals t us = firsts (map (moded_in t.usual (defined us)) (flat_map (local_used t) us))
+locals t us = first_entries (map (moded_in t.usual (defined us)) (flat_map (local_used t) us))
 
 abbrev pub uses_seen : Vec Use → List Use
 uses_seen us = us.items

@@ -4,7 +4,7 @@ ghost use Rattle.std.specs.Prelude.{◌≡◌, ◌==◌, map, length, slice_get,
 ghost use Rattle.std.specs.List.{flat_map, fold, position};
 ghost use Rattle.std.specs.Map.{keys_of, values_of, lookup};
 ghost use Rattle.std.specs.Option.{option_or};
-ghost use Rattle.ss_names_declarations.specs.Firsts.{firsts, same_name, value_for, with_first};
+ghost use Rattle.ss_names_declarations.specs.Firsts.{first_entries, same_name, value_for, with_first};
 ghost use Rattle.ss_names_scopes.specs.Locals.{defined, defined_by, is_local_place, is_variable, local_of, local_place, local_used, locals, moded_in, uses_seen};
 
 use ss_base::{Mode, Name};
@@ -114,7 +114,7 @@ fn add_mode(modes: &mut Table<Name, Mode>, used: &Used) -> Result<(), AllocError
 
 // The modes that local DEFINEs give.
 fn modes_of(alloc: Global, seed: Seed, uses: &[Use]) -> Result<Table<Name, Mode>, AllocError>
-    ensures { IfOk result (λ modes. modes ≡ firsts (defined uses.now)) }
+    ensures { IfOk result (λ modes. modes ≡ first_entries (defined uses.now)) }
 {
     let mut modes = Table::new(alloc, seed);
     for one in uses {
@@ -156,7 +156,7 @@ fn collect(
     modes: &Table<Name, Mode>,
     uses: &[Use],
 ) -> Result<Table<Name, Option<Mode>>, AllocError>
-    ensures { IfOk result (λ found. found ≡ firsts (map (moded_in names.now.usual modes.now) (flat_map (local_used names.now) uses.now))) }
+    ensures { IfOk result (λ found. found ≡ first_entries (map (moded_in names.now.usual modes.now) (flat_map (local_used names.now) uses.now))) }
 {
     let mut entries = Table::new(alloc, seed);
     for one in uses {

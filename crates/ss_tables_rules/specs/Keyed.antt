@@ -11,7 +11,7 @@ use Rattle.ss_names.specs.Table.{Table}
 use Rattle.ss_tables_rules.specs.declared.once.Once.{Once}
 use Rattle.ss_tables_rules.specs.declared.once.Once.TheVariants as o
 use Rattle.ss_tables_rules.specs.declared.error.TableError.{TableError}
-use Rattle.ss_tables_rules.specs.Once.{once_of, said_again}
+use Rattle.ss_tables_rules.specs.Once.{once_of, repeated_breach}
 
 abbrev pub Key : Type 0
 Key = ℕ × (ℕ × Option NameBytes)
@@ -43,7 +43,7 @@ has_key said key = list_any (same_key key) said
 
 abbrev pub again_by_key : List Key → Line → Declared → Option Key → Option TableError
 again_by_key said line what None = None
-again_by_key said line what (Some key) = if has_key said key then Some (said_again line what) else None
+again_by_key said line what (Some key) = if has_key said key then Some (repeated_breach line what) else None
 
 abbrev pub with_key : List Key → Option Key → List Key
 with_key said None = said
