@@ -119,7 +119,7 @@ simple_statement c (destroy_statement line name called) = do
   class ← class_named c needs.Single name
   of_one (entity_called c class.variable called) (Destroy line class.class)
 simple_statement c (file_statement line e place n) =
-    of_three (expression c e) (position c place) (set_named c n) (λ x at set. File line set.0 x at set.1)
+    of_three (expression c e) (position c place) (set_named c n) (λ x p set. File line set.0 x p set.1)
 simple_statement c (remove_end line end n m) = of_two (target c n) (set_named c m) (λ place set. RemoveEnd line end set.0 place set.1)
 simple_statement c (remove_statement line e n) = of_two (expression c e) (set_named c n) (λ x set. Remove line set.0 x set.1)
 simple_statement c (schedule_new line name called given time) = do
