@@ -22,7 +22,7 @@ use Rattle.ss_names_uses.specs.declared.used.Role.{Role}
 use Rattle.ss_names.specs.declared.meaning.Meaning.{Meaning}
 use Rattle.ss_names.specs.declared.meaning.Meaning.TheVariants as meanings
 use Rattle.ss_names.specs.Table.{owner_of, owner_of_set, owner_of_statistic, owner_of_subject}
-use Rattle.ss_names_scopes.specs.Scopes.{Scope, implied, meaning, meaning_of_class, mode_of, of_owner as implied_of, variable_of}
+use Rattle.ss_names_scopes.specs.Scopes.{Scope, implied, meaning, meaning_of_class, mode_of, meaning_of_owner as implied_of, variable_of}
 use Rattle.ss_check_rules.specs.Kinds.{if_means, is_target, may_have, meaning_in_role, suits, suits_subscripts, takes_values}
 use Rattle.ss_check_rules.specs.Modes.{is_mean_as_value, is_text, mixes_modes, meaning_mode, mode_of_use}
 use Rattle.ss_names_declarations.specs.Earliest.{unless}

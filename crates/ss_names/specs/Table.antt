@@ -115,11 +115,11 @@ count_meaning (Some class) (Some Permanent) (Some variable) = Some (m.Count (rec
 count_meaning _ _ _ = None
 
 -- what the name of a class means, and N. of it
-abbrev pub class_named : Table → NameBytes → Option Meaning
-class_named t name = class_meaning (place_in t.classes name) (value_for t.classes name) (place_in t.variables name)
+abbrev pub class_entry : Table → NameBytes → Option Meaning
+class_entry t name = class_meaning (place_in t.classes name) (value_for t.classes name) (place_in t.variables name)
 
-abbrev pub count_named : Table → NameBytes → Option Meaning
-count_named t name = count_meaning (place_in t.classes name) (value_for t.classes name) (place_in t.variables (count_name name))
+abbrev pub count_entry : Table → NameBytes → Option Meaning
+count_entry t name = count_meaning (place_in t.classes name) (value_for t.classes name) (place_in t.variables (count_name name))
 
 abbrev pub attribute_meaning : Attribute → Meaning
 attribute_meaning a = m.Attribute a.class a.field a.mode
@@ -140,7 +140,7 @@ fold_of kinds.Mean = None
 
 -- the names that a declaration declares, and what they mean; a set is declared by its owner and by its members
 abbrev pub declares : Table → Declared → List (NameBytes × Meaning)
-declares t (d.Class name kind) = entry_if name (class_named t name) ++ entry_if (count_name name) (count_named t name)
+declares t (d.Class name kind) = entry_if name (class_entry t name) ++ entry_if (count_name name) (count_entry t name)
 declares t (d.Attribute name class) = entry_if name (option_map attribute_meaning (value_for t.attributes name))
 declares t (d.Owner name class) = set_meanings name (place_among t.set_names name)
 declares t (d.Member name class) = set_meanings name (place_among t.set_names name)

@@ -5,7 +5,7 @@ ghost use Rattle.std.specs.List.{fold};
 ghost use Rattle.ss_names_declarations.specs.Firsts.{entry_if, place_among, place_in, value_for};
 ghost use Rattle.ss_names.specs.declared.meaning.Meaning.TheVariants as m;
 ghost use Rattle.ss_names.specs.Entries.{count_name};
-ghost use Rattle.ss_names.specs.Table.{attribute_meaning, class_meaning, class_named, count_meaning, count_named, declares, derived_name, fold_of, same_of_set, set_meanings, subject_of, subjects_by, variable_meaning};
+ghost use Rattle.ss_names.specs.Table.{attribute_meaning, class_meaning, class_entry, count_meaning, count_entry, declares, derived_name, fold_of, same_of_set, set_meanings, subject_of, subjects_by, variable_meaning};
 ghost use Rattle.ss_names.specs.Filling.{all_entered, clash_after, enter, entered, letter_of_member, letter_of_set, meanings_pass, sooner, with_meanings, with_subjects};
 
 use crate::filling::{class_number, has_attribute, set_number};
@@ -154,8 +154,8 @@ fn variable_number(names: &Names, variable: &Spelling) -> Option<usize>
 }
 
 // What the name of a class means.
-fn class_named(names: &Names, name: &Name) -> Option<Meaning>
-    ensures { result ≡ class_named names.now name.now }
+fn class_entry(names: &Names, name: &Name) -> Option<Meaning>
+    ensures { result ≡ class_entry names.now name.now }
 {
     let class = class_number(names, name);
     let kind = class_kind(names, name);
@@ -164,8 +164,8 @@ fn class_named(names: &Names, name: &Name) -> Option<Meaning>
 }
 
 // What N. of the name of a class means.
-fn count_named(names: &Names, name: &Name) -> Option<Meaning>
-    ensures { result ≡ count_named names.now name.now }
+fn count_entry(names: &Names, name: &Name) -> Option<Meaning>
+    ensures { result ≡ count_entry names.now name.now }
 {
     let class = class_number(names, name);
     let kind = class_kind(names, name);
@@ -181,10 +181,10 @@ fn enter_class(
     line: Line,
     name: &Name,
 ) -> Result<(), AllocError>
-    ensures { OnOk result (entered meanings.new clash.new ≡ fold (enter line) (entered meanings.old clash.old) (entry_if name.now (class_named names.now name.now) ++ entry_if (count_name name.now) (count_named names.now name.now))) }
+    ensures { OnOk result (entered meanings.new clash.new ≡ fold (enter line) (entered meanings.old clash.old) (entry_if name.now (class_entry names.now name.now) ++ entry_if (count_name name.now) (count_entry names.now name.now))) }
 {
-    let meaning = class_named(names, name);
-    let count = count_named(names, name);
+    let meaning = class_entry(names, name);
+    let count = count_entry(names, name);
     enter_if(meanings, clash, line, Spelling::of_name(name), meaning)?;
     enter_if(meanings, clash, line, Spelling::derived(b'N', name), count)
 }

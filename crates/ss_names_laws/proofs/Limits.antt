@@ -20,7 +20,7 @@ use Rattle.ss_names.specs.Entries.{attribute_by, attribute_classes, attributes, 
 use Rattle.ss_names.specs.Table.{Table, table}
 use Rattle.ss_tables_rules.specs.declared.error.TableError.TheVariants as errors
 use Rattle.ss_tables_rules.specs.Broken.{refusal_of_declarations}
-use Rattle.ss_tables_rules.specs.Rules.{broken_in, field_of, has_member, has_owner, is_too_many, set_named}
+use Rattle.ss_tables_rules.specs.Rules.{broken_in, field_of, has_member, has_owner, is_too_many, set_by_name}
 use Rattle.ss_names_laws.proofs.Each.{at_place, every_first, every_if, from_places}
 use Rattle.ss_names_laws.proofs.Names.{entry_of, every_entry, once_as_entries}
 use Rattle.ss_names_laws.proofs.Unbroken.{every_given, fits, two_fit}
@@ -51,8 +51,8 @@ module _ (t : Table) (line : Line) where
   class_few _ h = tt
 
   set_few : (w : Declared) → broken_in t line w ≡ None → Every (λ (name : NameBytes). IsFew (place_among t.set_names name)) (set_by w)
-  set_few (d.Owner set class) h = ((two_fit (has_member (set_named t set)) (not (is_too_many (place_among t.set_names set))) (errors.NoMember line) (errors.TooMany line) h).1, tt)
-  set_few (d.Member set class) h = ((two_fit (has_owner (set_named t set)) (not (is_too_many (place_among t.set_names set))) (errors.NoOwner line) (errors.TooMany line) h).1, tt)
+  set_few (d.Owner set class) h = ((two_fit (has_member (set_by_name t set)) (not (is_too_many (place_among t.set_names set))) (errors.NoMember line) (errors.TooMany line) h).1, tt)
+  set_few (d.Member set class) h = ((two_fit (has_owner (set_by_name t set)) (not (is_too_many (place_among t.set_names set))) (errors.NoOwner line) (errors.TooMany line) h).1, tt)
   set_few _ h = tt
 
   attribute_few : (w : Declared) → broken_in t line w ≡ None → Every (λ (e : NameBytes × ℕ). IsFew (field_of (value_for t.attributes e.0))) (attribute_by t.classes w)

@@ -24,7 +24,7 @@ use Rattle.ss_names_uses.specs.Uses as used
 use Rattle.ss_names_uses.specs.Uses.{as_attribute, in_body, in_kind, in_places, uses}
 use Rattle.ss_names.specs.declared.meaning.Meaning.{Meaning}
 use Rattle.ss_names.specs.Table.{Table, table}
-use Rattle.ss_names_scopes.specs.Locals.{Moded, defined, is_local_place, is_variable, local_of, local_place, local_used, locals, locals_of, moded_in}
+use Rattle.ss_names_scopes.specs.Locals.{Moded, defined, is_local_place, may_be_variable, local_of, local_place, local_used, locals, locals_of, moded_in}
 use Rattle.ss_tables_rules.specs.declared.error.TableError.TheVariants as errors
 use Rattle.ss_tables_rules.specs.Broken.{refusal_of_declarations}
 use Rattle.ss_tables_rules.specs.Rules.{broken_by, has_no_mode, is_real, lacks_mode, may_be_hidden, unmoded_in, unmoded_use}
@@ -79,7 +79,7 @@ module _ (p : ProgramTree) where
   of_place role (designators.Name n) subscripts name h =
       let meant : Option Meaning = value_for (table p).meanings n in
       let found = cond_some (is_local_place (table p) role n subscripts) n name h in
-      subst IsHidable found.1 (nothing_hidden meant (and_parts (is_variable role && (subscripts == 0)) (is_none meant) found.0).1)
+      subst IsHidable found.1 (nothing_hidden meant (and_parts (may_be_variable role && (subscripts == 0)) (is_none meant) found.0).1)
   of_place role designators.TimeV subscripts name h = absurd cc
   of_place role designators.TimeA subscripts name h = absurd cc
 

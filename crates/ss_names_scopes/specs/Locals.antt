@@ -23,14 +23,14 @@ abbrev pub Moded : Type 0
 Moded = List (NameBytes × Option Mode)
 
 -- whether a name without subscript is a variable in this role
-abbrev pub is_variable : Role → Bool
-is_variable roles.Set = false
-is_variable _ = true
+abbrev pub may_be_variable : Role → Bool
+may_be_variable roles.Set = false
+may_be_variable _ = true
 
 -- whether a name with so many subscripts is a local variable in this role: one without subscript that is used as a variable and
 -- isn't global
 abbrev pub is_local_place : Table → Role → NameBytes → ℕ → Bool
-is_local_place t role name subscripts = is_variable role && (subscripts == 0) && is_none (value_for t.meanings name)
+is_local_place t role name subscripts = may_be_variable role && (subscripts == 0) && is_none (value_for t.meanings name)
 
 abbrev pub local_place : Table → Role → Designator → ℕ → Option NameBytes
 local_place t role (designators.Name name) subscripts = if is_local_place t role name subscripts then Some name else None

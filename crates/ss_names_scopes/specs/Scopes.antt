@@ -90,13 +90,13 @@ variable_of _ = None
 abbrev pub meaning_of_class : Scope → ℕ → Option Meaning
 meaning_of_class s class = option_and_then (meaning_of_name s) (slice_get (keys_of s.table.classes) class)
 
-abbrev pub of_owner : Scope → Owner → Option Meaning
-of_owner s owners.System = None
-of_owner s (owners.Class class) = meaning_of_class s class
+abbrev pub meaning_of_owner : Scope → Owner → Option Meaning
+meaning_of_owner s owners.System = None
+meaning_of_owner s (owners.Class class) = meaning_of_class s class
 
 -- the variable that has the entity of what a name means, where no subscript is written; None where it is of no entity
 abbrev pub implied : Scope → Meaning → Option Meaning
-implied s m = of_owner s (owner_of s.table m)
+implied s m = meaning_of_owner s (owner_of s.table m)
 
 -- ---- histories
 

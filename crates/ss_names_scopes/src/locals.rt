@@ -5,7 +5,7 @@ ghost use Rattle.std.specs.List.{flat_map, fold, position};
 ghost use Rattle.std.specs.Map.{keys_of, values_of, lookup};
 ghost use Rattle.std.specs.Option.{option_or};
 ghost use Rattle.ss_names_declarations.specs.Firsts.{first_entries, same_name, value_for, with_first};
-ghost use Rattle.ss_names_scopes.specs.Locals.{defined, defined_by, is_local_place, is_variable, local_of, local_place, local_used, locals, moded_in, uses_seen};
+ghost use Rattle.ss_names_scopes.specs.Locals.{defined, defined_by, is_local_place, may_be_variable, local_of, local_place, local_used, locals, moded_in, uses_seen};
 
 use ss_base::{Mode, Name};
 use ss_names::{Names, value_mode};
@@ -35,8 +35,8 @@ impl Model for Locals {
 }
 
 // Whether a name without subscript is a variable in this role.
-fn is_variable(role: Role) -> bool
-    ensures { result ≡ is_variable role }
+fn may_be_variable(role: Role) -> bool
+    ensures { result ≡ may_be_variable role }
 {
     match role {
         Role::Set => false,
@@ -48,7 +48,7 @@ fn is_variable(role: Role) -> bool
 fn is_local_place(names: &Names, role: Role, name: &Name, subscripts: usize) -> bool
     ensures { result ≡ is_local_place names.now role name.now subscripts }
 {
-    is_variable(role) && subscripts == 0 && names.meaning(name).is_none()
+    may_be_variable(role) && subscripts == 0 && names.meaning(name).is_none()
 }
 
 // The local variable that a place names.

@@ -9,7 +9,7 @@ use Rattle.ss_names_declarations.specs.Firsts.{value_for}
 use Rattle.ss_names.specs.declared.entry.Attribute.{Attribute}
 use Rattle.ss_names.specs.declared.entry.Set.{Set}
 use Rattle.ss_names.specs.Table.{Table}
-use Rattle.ss_tables_rules.specs.Rules.{set_named}
+use Rattle.ss_tables_rules.specs.Rules.{set_by_name}
 use Rattle.ss_tables_rules.specs.declared.error.TableError.{TableError}
 use Rattle.ss_tables_rules.specs.declared.error.TableError.TheVariants.{RankKey}
 
@@ -17,7 +17,7 @@ abbrev pub member_of : Option Set → Option ℕ
 member_of set = option_and_then (λ (s : Set). s.member) set
 
 abbrev pub member_named : Table → NameBytes → Option ℕ
-member_named t set = member_of (set_named t set)
+member_named t set = member_of (set_by_name t set)
 
 abbrev pub class_of : Option Attribute → Option ℕ
 class_of attribute = option_map (λ (a : Attribute). a.class) attribute

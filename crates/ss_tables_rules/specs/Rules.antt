@@ -49,8 +49,8 @@ is_real _ = false
 abbrev pub set_at : Table → Option ℕ → Option Set
 set_at t number = option_and_then (slice_get t.sets) number
 
-abbrev pub set_named : Table → NameBytes → Option Set
-set_named t name = set_at t (place_among t.set_names name)
+abbrev pub set_by_name : Table → NameBytes → Option Set
+set_by_name t name = set_at t (place_among t.set_names name)
 
 abbrev pub has_owner : Option Set → Bool
 has_owner set = option_map_or (λ (s : Set). is_some s.owner) false set
@@ -76,10 +76,10 @@ broken_in t line (d.Attribute name class) =
     option_or (unless (is_some t.usual || is_some (value_for t.modes name)) (e.RealMode line))
     (unless (not (is_too_many (field_of (value_for t.attributes name)))) (e.TooMany line))
 broken_in t line (d.Owner set class) =
-    option_or (unless (has_member (set_named t set)) (e.NoMember line))
+    option_or (unless (has_member (set_by_name t set)) (e.NoMember line))
     (unless (not (is_too_many (place_among t.set_names set))) (e.TooMany line))
 broken_in t line (d.Member set class) =
-    option_or (unless (has_owner (set_named t set)) (e.NoOwner line))
+    option_or (unless (has_owner (set_by_name t set)) (e.NoOwner line))
     (unless (not (is_too_many (place_among t.set_names set))) (e.TooMany line))
 broken_in t line (d.Variable name mode) = unless (not (is_real mode)) (e.RealMode line)
 broken_in t line (d.Order set rule statement) = unless (is_one_of t.set_names set) (e.UnknownSet line)

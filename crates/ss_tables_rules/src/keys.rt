@@ -10,7 +10,7 @@ ghost use Rattle.ss_tables_rules.specs.Keys.{class_of, is_foreign, is_foreign_to
 ghost use Rattle.ss_tables_rules.specs.Order.{order_of};
 ghost use Rattle.ss_tables_rules.specs.declared.error.TableError.TheVariants as e;
 
-use crate::declarations::{set_named, unless};
+use crate::declarations::{set_by_name, unless};
 use crate::error::TableError;
 use ss_base::{Line, Name};
 use ss_names::{Attribute, Names, Set};
@@ -31,7 +31,7 @@ fn member_of(set: Option<Set>) -> Option<usize>
 fn member_named(names: &Names, set: &Name) -> Option<usize>
     ensures { result ≡ member_named names.now set.now }
 {
-    member_of(set_named(names, set))
+    member_of(set_by_name(names, set))
 }
 
 // The class of an attribute.
