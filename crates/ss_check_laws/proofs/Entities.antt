@@ -27,6 +27,7 @@ use Rattle.ss_names_meaning.specs.declared.classes.NamedClass.{NamedClass}
 use Rattle.ss_names_meaning.specs.Answers.{◌>>=◌, each, where_holds}
 use Rattle.ss_names_meaning.specs.Classes.{class_named, class_number, count_of, counted, variable_named}
 use Rattle.ss_names_meaning.specs.Statements.{entity_called, new_place, position, simple_statement}
+use Rattle.ss_names_laws.proofs.Results.{held}
 use Rattle.ss_names_laws.proofs.Steps.{got}
 use Rattle.ss_check_laws.specs.Links.{IsLinked, Kept}
 use Rattle.ss_check_laws.specs.BodyLaws.{ClassResolves}
@@ -46,10 +47,6 @@ single_kind kinds.Temporary h = h
 single_kind kinds.Notice h = h
 
 -- ---- names of classes
-
-held : {A : Type 0} (b : Bool) (x y : A) → where_holds b x ≡ Some y → (b ≡ true) × (x ≡ y)
-held true x y e = (refl, same_Some x y e)
-held false x y e = absurd cc
 
 class_meant : (need : ClassNeed) (o : Option Meaning) (n : ℕ) → class_number need o ≡ Some n → (kind : ClassKind) × (x : ℕ) × (o ≡ Some (meanings.Class n kind x)) × (is_kind need kind ≡ true)
 class_meant need (Some (meanings.Class class kind x)) n e =

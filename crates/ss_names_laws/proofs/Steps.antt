@@ -12,7 +12,7 @@ got (Some x) f y e = (x, refl, e)
 
 -- ---- steps for each item
 
-abbrev cons_of : {B : Type 0} → Option B → Option (List B) → Option (List B)
+abbrev pub cons_of : {B : Type 0} → Option B → Option (List B) → Option (List B)
 cons_of r q = r >>= λ y. q >>= λ ys. Some (y ∷ ys)
 
 pub parts : {B : Type 0} (r : Option B) (q : Option (List B)) (bs : List B) → cons_of r q ≡ Some bs → (y : B) × (ys : List B) × (r ≡ Some y) × (q ≡ Some ys) × (bs ≡ y ∷ ys)
