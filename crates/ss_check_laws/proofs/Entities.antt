@@ -1,5 +1,5 @@
 -- Classes by what their names mean, and CREATE, DESTROY, FILE and REMOVE.
-use Rattle.std.proofs.Common.{◌≡◌, ℕ, Bool, true, false, List, [], ◌∷◌, ◌++◌, length, get_or, map, Option, Some, None, is_some, Contains, refl, sym, ap, subst, ◌∙◌}
+use Rattle.std.proofs.Common.{◌≡◌, ℕ, true, false, List, [], ◌∷◌, ◌++◌, length, get_or, map, Option, Some, None, is_some, Contains, refl, sym, ap, subst, ◌∙◌}
 use Rattle.std.specs.List.{AllByRecursion as Every}
 use Rattle.std.proofs.lemmas.Option.{same_Some}
 use Rattle.ss_base.specs.declared.layout.ClassKind.{ClassKind}
@@ -24,7 +24,7 @@ use Rattle.ss_program.specs.declared.statement.CountedClass.{CountedClass}
 use Rattle.ss_program.specs.Program.{Fetch, ToVariable, ByDiscipline, AsFirst, AsLast}
 use Rattle.ss_program.specs.WellTyped.{Scope as Place, HasMode, TakesMode, GoodPosition, Good, is_created_singly}
 use Rattle.ss_names_meaning.specs.declared.classes.NamedClass.{NamedClass}
-use Rattle.ss_names_meaning.specs.Answers.{◌>>=◌, each, where_holds}
+use Rattle.ss_names_meaning.specs.Answers.{◌>>=◌, each}
 use Rattle.ss_names_meaning.specs.Classes.{class_named, class_number, count_of, counted, variable_named}
 use Rattle.ss_names_meaning.specs.Statements.{entity_called, new_place, position, simple_statement}
 use Rattle.ss_names_laws.proofs.Results.{held}
