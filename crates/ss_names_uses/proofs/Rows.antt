@@ -27,7 +27,7 @@ use Rattle.ss_names_uses.specs.Uses.{row_length, place, count, in_expression, in
 
 -- ---- rows
 
-abbrev in_all_numbers : Line → List ExpressionTree → List Use
+abbrev pub in_all_numbers : Line → List ExpressionTree → List Use
 in_all_numbers line es = flat_map (in_expression line true) es
 
 in_number_row : (line : Line) (es : List ExpressionTree) → in_numbers line (expression_row es) ≡ in_all_numbers line es
@@ -35,7 +35,7 @@ in_number_row line [] = refl
 in_number_row line (e ∷ es) = ap (λ us. in_expression line true e ++ us) (in_number_row line es)
 
 -- the terms after their signs
-abbrev in_each_term : Line → List (Sign × ExpressionTree) → List Use
+abbrev pub in_each_term : Line → List (Sign × ExpressionTree) → List Use
 in_each_term line ts = flat_map (λ (t : Sign × ExpressionTree). in_expression line true t.1) ts
 
 in_term_row : (line : Line) (ts : List (Sign × ExpressionTree)) → in_terms line (term_row ts) ≡ in_each_term line ts
