@@ -198,7 +198,7 @@ module _ (p : tree.ProgramTree) (x : ResolvedLayout) (k : IsUnbroken p x) where
 
     -- it is given no more than the class has attributes
     limit : nat_le (length given) (length (get_or t.fields class [])) ≡ true
-    limit = sym (ap (λ (o : Option ℕ). option_map_or (λ (n : ℕ). nat_le (length given) (length (get_or t.fields n []))) true o) placed) ∙ holds_unless (suits_count t (length given) (counts.Attributes name)) (errors.Arguments s.line) head.1.0
+    limit = sym (ap (λ (o : Option ℕ). option_map_or (λ (n : ℕ). nat_le (length given) (length (get_or t.fields n []))) o true) placed) ∙ holds_unless (suits_count t (length given) (counts.Attributes name)) (errors.Arguments s.line) head.1.0
 
     -- what it is given in a place has the mode of the attribute in that place
     mode_given : (ms : List Mode) → local_modes (locals_of t s) ≡ Some ms → take (length given) (keys_of (locals_of t s)) ≡ given → length given ≤ length (locals_of t s) →

@@ -75,7 +75,7 @@ module _ (s : Scope) (g : Place) (linked : IsLinked s g) (line : Line) where
       let names = get_or s.table.fields class [] in
       let few : length given ≤ length names =
       leb-true (length given) (length names) (holds_unless (nat_le (length given) (length names)) (errors.Arguments line)
-      (subst (λ (o : Option ℕ). unless (option_map_or (λ (n : ℕ). nat_le (length given) (length (get_or s.table.fields n []))) true o) (errors.Arguments line) ≡ None) place k.0)) in
+      (subst (λ (o : Option ℕ). unless (option_map_or (λ (n : ℕ). nat_le (length given) (length (get_or s.table.fields n []))) o true) (errors.Arguments line) ≡ None) place k.0)) in
       let xs = in_order s g.is_main (expression s) (λ (i : ℕ). uses.in_value line (modes.Attribute name i)) (HasMode g) given laid.0.fields
       (λ i e w f h. value_resolves s g linked line (modes.Attribute name i) w e
       (ap (λ (o : Option ℕ). attribute_mode s.table o i) place ∙ field_there s.table names laid.0.fields i w fields f) h)

@@ -127,9 +127,9 @@ module _ (s : Scope) (g : Place) (linked : IsLinked s g) (line : Line) where
       let known = entry.0 in
       let r = linked.routines meant.0 known entry.1 in
       let some : length given ≡ known.given =
-      as_many (length given) known.given (errors.Arguments line) (subst (λ (o : Option RoutineSection). unless (option_map_or (λ (r : RoutineSection). length given == r.given) true o) (errors.Arguments line) ≡ None) entry.2 k.1.0) in
+      as_many (length given) known.given (errors.Arguments line) (subst (λ (o : Option RoutineSection). unless (option_map_or (λ (r : RoutineSection). length given == r.given) o true) (errors.Arguments line) ≡ None) entry.2 k.1.0) in
       let more : length yielding ≡ known.yielding =
-      as_many (length yielding) known.yielding (errors.Arguments line) (subst (λ (o : Option RoutineSection). unless (option_map_or (λ (r : RoutineSection). length yielding == r.yielding) true o) (errors.Arguments line) ≡ None) entry.2 k.1.1.0) in
+      as_many (length yielding) known.yielding (errors.Arguments line) (subst (λ (o : Option RoutineSection). unless (option_map_or (λ (r : RoutineSection). length yielding == r.yielding) o true) (errors.Arguments line) ≡ None) entry.2 k.1.1.0) in
       let p = two_parts s g.is_main (uses.in_places (λ (i : ℕ). uses.in_value line (modes.Given name i)) 0 given) (uses.in_places (λ (i : ℕ). uses.in_target line (modes.Yielded name i)) 0 yielding) k.1.1.1 in
       let xs = in_order s g.is_main (expression s) (λ (i : ℕ). uses.in_value line (modes.Given name i)) (HasMode g) given r.modes
       (λ i e m f h. value_resolves (modes.Given name i) m e (ap (option_and_then (λ (r : RoutineSection). parameter_mode s r.section i)) entry.2 ∙ parameter_there s g meant.0 known r i m f) h)

@@ -18,7 +18,7 @@ argument_count (Two op) = 2
 -- their class has attributes. A name of no routine or class breaks 79.
 abbrev pub suits_count : Table → ℕ → CountNeed → Bool
 suits_count t count (needs.Arguments function) = count == argument_count function
-suits_count t count (needs.Given routine) = option_map_or (λ (r : RoutineSection). count == r.given) true (value_for t.routines routine)
-suits_count t count (needs.Yielded routine) = option_map_or (λ (r : RoutineSection). count == r.yielding) true (value_for t.routines routine)
+suits_count t count (needs.Given routine) = option_map_or (λ (r : RoutineSection). count == r.given) (value_for t.routines routine) true
+suits_count t count (needs.Yielded routine) = option_map_or (λ (r : RoutineSection). count == r.yielding) (value_for t.routines routine) true
 suits_count t count (needs.Attributes class) =
-    option_map_or (λ (n : ℕ). nat_le count (length (get_or t.fields n []))) true (place_in t.classes class)
+    option_map_or (λ (n : ℕ). nat_le count (length (get_or t.fields n []))) (place_in t.classes class) true

@@ -16,7 +16,7 @@ use Rattle.ss_names.specs.Table.{Table, owner_of}
 use Rattle.ss_names_scopes.specs.Scopes.{Scope, history_of, is_kind, meaning, variable_of}
 
 abbrev pub if_means : (Meaning → Bool) → Option Meaning → Bool
-if_means test meaning = option_map_or test false meaning
+if_means test meaning = option_map_or test meaning false
 
 -- ---- kinds, 79
 

@@ -25,7 +25,7 @@ fn argument_count(function: Function) -> usize
 
 // Whether a CALL gives so many values, where the name is that of a routine.
 fn is_given(found: usize, routine: Option<RoutineSection>) -> bool
-    ensures { result ≡ option_map_or (λ (r : Section). found == r.given) true routine }
+    ensures { result ≡ option_map_or (λ (r : Section). found == r.given) routine true }
 {
     match routine {
         Some(routine) => found == routine.given,
@@ -35,7 +35,7 @@ fn is_given(found: usize, routine: Option<RoutineSection>) -> bool
 
 // Whether a CALL takes so many values, where the name is that of a routine.
 fn is_yielded(found: usize, routine: Option<RoutineSection>) -> bool
-    ensures { result ≡ option_map_or (λ (r : Section). found == r.yielding) true routine }
+    ensures { result ≡ option_map_or (λ (r : Section). found == r.yielding) routine true }
 {
     match routine {
         Some(routine) => found == routine.yielding,
@@ -45,7 +45,7 @@ fn is_yielded(found: usize, routine: Option<RoutineSection>) -> bool
 
 // Whether a class has so many attributes at least, where there is one.
 fn has_attributes(names: &Names, found: usize, class: Option<usize>) -> bool
-    ensures { result ≡ option_map_or (λ (n : ℕ). nat_le found (length (get_or names.now.fields n []))) true class }
+    ensures { result ≡ option_map_or (λ (n : ℕ). nat_le found (length (get_or names.now.fields n []))) class true }
 {
     match class {
         Some(class) => found <= names.attributes_of(class).len(),

@@ -177,7 +177,7 @@ same_of_set _ _ = false
 
 -- whether a name that means the one is declared as another
 abbrev pub is_another : Option Meaning → Meaning → Bool
-is_another known new = option_map_or (λ old. not (same_of_set old new)) false known
+is_another known new = option_map_or (λ old. not (same_of_set old new)) known false
 
 -- the lines where a name is declared that means something by the declarations before it
 abbrev pub clashes_after : List (NameBytes × Meaning) → List Entered → List Line
@@ -223,10 +223,10 @@ field_mode t name = option_map (λ (a : Attribute). a.mode) (value_for t.attribu
 -- ---- who has what a name means
 
 abbrev pub owner_of_set : Option Set → Owner
-owner_of_set set = option_map_or (λ (s : Set). unwrap_or s.owner owners.System) owners.System set
+owner_of_set set = option_map_or (λ (s : Set). unwrap_or s.owner owners.System) set owners.System
 
 abbrev pub owner_of_member : Option Set → Owner
-owner_of_member set = option_map_or (λ (s : Set). unwrap_or (option_map owners.Class s.member) owners.System) owners.System set
+owner_of_member set = option_map_or (λ (s : Set). unwrap_or (option_map owners.Class s.member) owners.System) set owners.System
 
 abbrev pub owner_of_subject : Table → Option Subject → Owner
 owner_of_subject t (Some (subjects.OfAttribute class field)) = owners.Class class
@@ -234,7 +234,7 @@ owner_of_subject t (Some (subjects.OfCount set)) = owner_of_set (slice_get t.set
 owner_of_subject t _ = owners.System
 
 abbrev pub owner_of_statistic : Table → Option (Option Subject) → Owner
-owner_of_statistic t known = option_map_or (owner_of_subject t) owners.System known
+owner_of_statistic t known = option_map_or (owner_of_subject t) known owners.System
 
 -- who has what a name means: each entity of a class, or else THE SYSTEM. A statistic is its subject's.
 abbrev pub owner_of : Table → Meaning → Owner

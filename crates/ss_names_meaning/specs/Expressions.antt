@@ -94,7 +94,7 @@ place_of _ _ = None
 
 -- the owner of a set
 abbrev pub set_owner : Option Expression → SetOwner
-set_owner e = option_map_or Entity TheSystem e
+set_owner e = option_map_or Entity e TheSystem
 
 -- the number of a set, which nothing hides
 abbrev pub set_number : Option Meaning → Option ℕ

@@ -101,7 +101,7 @@ in_all_named line role ns = flat_map (in_named line role false) ns
 
 -- the uses of a part that may be left out
 abbrev pub in_option : {A : Type 0} → (A → List Use) → Option A → List Use
-in_option of part = option_map_or of [] part
+in_option of part = option_map_or of part []
 
 -- the uses of a list, each item by its place, the first of which is this
 abbrev pub in_places : {A : Type 0} → (ℕ → A → List Use) → ℕ → List A → List Use

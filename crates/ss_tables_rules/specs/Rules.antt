@@ -30,7 +30,7 @@ use Rattle.ss_tables_rules.specs.declared.error.TableError.TheVariants as e
 
 -- a number past the most: 64 classes, 64 sets, 64 attributes of a class
 abbrev pub is_too_many : Option ℕ → Bool
-is_too_many number = option_map_or (nat_le 64) false number
+is_too_many number = option_map_or (nat_le 64) number false
 
 abbrev pub field_of : Option Attribute → Option ℕ
 field_of attribute = option_map (λ (a : Attribute). a.field) attribute
@@ -53,10 +53,10 @@ abbrev pub set_by_name : Table → NameBytes → Option Set
 set_by_name t name = set_at t (place_among t.set_names name)
 
 abbrev pub has_owner : Option Set → Bool
-has_owner set = option_map_or (λ (s : Set). is_some s.owner) false set
+has_owner set = option_map_or (λ (s : Set). is_some s.owner) set false
 
 abbrev pub has_member : Option Set → Bool
-has_member set = option_map_or (λ (s : Set). is_some s.member) false set
+has_member set = option_map_or (λ (s : Set). is_some s.member) set false
 
 abbrev pub is_class_of : Option Attribute → Option ℕ → Bool
 is_class_of (Some a) (Some class) = nat_eq a.class class
@@ -102,7 +102,7 @@ has_no_mode _ = false
 
 -- whether a use names a local variable that has no mode
 abbrev pub lacks_mode : Moded → Option NameBytes → Bool
-lacks_mode ls name = option_map_or (λ n. has_no_mode (lookup (same_name n) ls)) false name
+lacks_mode ls name = option_map_or (λ n. has_no_mode (lookup (same_name n) ls)) name false
 
 abbrev pub unmoded_use : Table → Moded → Use → List TableError
 unmoded_use t ls u = if lacks_mode ls (local_of t u.what) then e.RealMode u.line ∷ [] else []

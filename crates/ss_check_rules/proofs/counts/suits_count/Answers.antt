@@ -9,7 +9,7 @@ use Rattle.ss_check_rules.proofs.counts.suits_count.Goals as goal
 
 -- a test of what is there
 abbrev given_or : {A : Type 0} → (A → Bool) → Option A → Bool
-given_or test o = option_map_or test true o
+given_or test o = option_map_or test o true
 
 pub returns-in-Given : goal.returns-in-Given
 returns-in-Given c =
