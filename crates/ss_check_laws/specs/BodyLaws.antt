@@ -14,7 +14,7 @@ use Rattle.ss_names_uses.specs.Uses as uses
 use Rattle.ss_names_scopes.specs.Scopes.{Scope}
 use Rattle.ss_check_rules.specs.Kinds.{is_kind}
 use Rattle.ss_check_rules.specs.Modes.{mode_said}
-use Rattle.ss_program.specs.Program.{Expression, Item, SetOwner, Condition, Place as Target, ToVariable, Restart, Head, Phrase, Guard, Block}
+use Rattle.ss_program.specs.Program.{Expression, PrintItem, SetOwner, Condition, Place as Target, ToVariable, Restart, Head, Phrase, Guard, Block}
 use Rattle.ss_program.specs.WellTyped.{Scope as Place, HasMode, TakesMode, TakesItem, OwnerFits, GoodCondition, GoodHead, GoodPhrase, GoodRestart, GoodBlock, kind_of_class}
 use Rattle.ss_names_meaning.specs.declared.classes.NamedClass.{NamedClass}
 use Rattle.ss_names_meaning.specs.Answers.{each}
@@ -42,7 +42,7 @@ SetResolves s g n = (p : ℕ × SetOwner) × (set_named s n ≡ Some p) × Owner
 
 -- the item of PRINT has a resolved form, which the field takes
 abbrev pub ItemResolves : Scope → Place → Field → ExpressionTree → Type 0
-ItemResolves s g field e = (x : Item) × (item s e ≡ Some x) × TakesItem g field x
+ItemResolves s g field e = (x : PrintItem) × (item s e ≡ Some x) × TakesItem g field x
 
 -- the subject of a RESET has a resolved form
 abbrev pub RestartResolves : Scope → Place → NamedTree → Type 0

@@ -7,7 +7,7 @@ use Rattle.ss_picture.specs.declared.field.Field.{Field}
 use Rattle.ss_program.specs.declared.statement.Statement as statements
 use Rattle.ss_program.specs.declared.statement.Statement.TheVariants as forms
 use Rattle.ss_program.specs.Program as p
-use Rattle.ss_program.specs.Program.{Condition, Head, Numbers, Each, Members, TheSystem, Entity, Guard, Phrase, Item, AValue, AMean, AMeanOf, Statement, Block, Done}
+use Rattle.ss_program.specs.Program.{Condition, Head, Numbers, Each, Members, TheSystem, Entity, Guard, Phrase, PrintItem, AValue, AMean, AMeanOf, Statement, Block, Done}
 use Rattle.ss_program.specs.View.{view_expression, view_place, view_target, view_position, view_owner, view_when, view_restart, view_item, view_statement, block_of}
 use Rattle.ss_program.specs.WellTyped.{Scope, GoodHead, GoodPhrase, GoodCondition, Good, GoodBlock, TakesItem}
 use Rattle.ss_code_instructions.specs.declared.instruction.Instruction.{Instruction as Running}
@@ -262,7 +262,7 @@ module _ (g0 g1 g2 : Generator) (h : ℕ) (first second : Lined) (p0 p1 p2 : Lis
   }
 
 -- PRINT
-good_items : (s : Scope) (fields : List Field) (xs : List Item) → AllZip (TakesItem s) fields xs → Every (λ (x : Item). GoodItem x s) xs
+good_items : (s : Scope) (fields : List Field) (xs : List PrintItem) → AllZip (TakesItem s) fields xs → Every (λ (x : PrintItem). GoodItem x s) xs
 good_items s [] [] h = tt
 good_items s [] (x ∷ xs) h = absurd h
 good_items s (f ∷ fs) [] h = tt
@@ -270,7 +270,7 @@ good_items s (f ∷ fs) (AValue e ∷ xs) h = (h.0.0, good_items s fs xs h.1)
 good_items s (f ∷ fs) (AMean k ∷ xs) h = (tt, good_items s fs xs h.1)
 good_items s (f ∷ fs) (AMeanOf k e ∷ xs) h = (h.0.1, good_items s fs xs h.1)
 
-pub print_said : (g0 g1 : Generator) (x y : Lined) (h : ℕ) (p0 p1 : List RunningLines) (l l' : Line) (items : List Item) (pictures : List (List ℕ)) → l ≡ l' → PrintsLines g0 g1 x y (record { line = l; height = h }) p0 p1 items pictures → EmitsStatement g0 g1 x y h p0 p1 (p.Print l' items pictures)
+pub print_said : (g0 g1 : Generator) (x y : Lined) (h : ℕ) (p0 p1 : List RunningLines) (l l' : Line) (items : List PrintItem) (pictures : List (List ℕ)) → l ≡ l' → PrintsLines g0 g1 x y (record { line = l; height = h }) p0 p1 items pictures → EmitsStatement g0 g1 x y h p0 p1 (p.Print l' items pictures)
 print_said g0 g1 x y h p0 p1 l l' items pictures line m = record {
   code = record {
     grows = m.code.grows;

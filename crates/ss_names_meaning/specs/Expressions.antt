@@ -9,7 +9,7 @@ use Rattle.ss_base.specs.declared.words.Sign.{Sign}
 use Rattle.ss_base.specs.declared.words.Sign.TheVariants.{Plus, Minus}
 use Rattle.ss_base.specs.declared.words.Operator.{Operator}
 use Rattle.ss_base.specs.declared.words.Operator.TheVariants.{Add, Subtract, Multiply}
-use Rattle.ss_program.specs.Program.{Expression, Constant, Fetch, Attribute, OfSystemSet, OfSet, OfMember, Clock, TimeOf, Figure, FigureOf, Signed, Unary, Calculate, Item, AValue, AMean, AMeanOf, SetOwner, TheSystem, Entity, Place, ToVariable, ToAttribute, ToCount}
+use Rattle.ss_program.specs.Program.{Expression, Constant, Fetch, Attribute, OfSystemSet, OfSet, OfMember, Clock, TimeOf, Figure, FigureOf, Signed, Unary, Calculate, PrintItem, AValue, AMean, AMeanOf, SetOwner, TheSystem, Entity, Place, ToVariable, ToAttribute, ToCount}
 use Rattle.ss_base.specs.declared.layout.Owner.{Owner}
 use Rattle.ss_base.specs.declared.layout.Owner.TheVariants as owners
 use Rattle.ss_tree.specs.declared.expression.Designator.{Designator}
@@ -88,7 +88,7 @@ resolved_value meaning (Some e) = value_of_entity meaning e
 resolved_value meaning None = value_alone meaning
 
 -- what PRINT shows of it
-abbrev pub resolved_item : Meaning → Option Expression → Option Item
+abbrev pub resolved_item : Meaning → Option Expression → Option PrintItem
 resolved_item (meanings.Statistic None statistic) None = Some (AMean statistic)
 resolved_item (meanings.Statistic None statistic) (Some e) = Some (AMeanOf statistic e)
 resolved_item meaning e = option_map AValue (resolved_value meaning e)
@@ -193,7 +193,7 @@ module _ (s : Scope) where
     with_entity s place e
 
   -- an item of PRINT: a mean if one is named alone, in any parentheses, and else a value
-  abbrev pub item : ExpressionTree → Option Item
+  abbrev pub item : ExpressionTree → Option PrintItem
   item (parenthesised e) = item e
   item (named designator subscripts) = do
     p ← place_named designator subscripts

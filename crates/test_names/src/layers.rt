@@ -6,7 +6,7 @@ use ss_base::{
 };
 use ss_events::{Key, Pending, Tie, TieShape};
 use ss_machine::{Missed, Source};
-use ss_picture::{FieldValue, Picture};
+use ss_picture::{Item, Picture};
 use ss_records::Heap;
 use ss_sets::{file, fits, is_in, remove_first, remove_last};
 use ss_stats::Totals;
@@ -191,10 +191,7 @@ fn a_tally_counts_and_sums(rt: HostRuntime) {
 // A picture with these items, one for each of its fields.
 fn filled(alloc: Global, picture: &Picture, number: i64) -> Result<Vec<u8>, AllocError> {
     match picture.fields() {
-        [field] if field.decimals == 0 => picture.fill(
-            alloc,
-            &[FieldValue::Is(Value::Whole(number))],
-        ),
+        [field] if field.decimals == 0 => picture.fill(alloc, &[Item::Is(Value::Whole(number))]),
         _ => Err(AllocError),
     }
 }

@@ -1,5 +1,5 @@
 use Rattle.std.proofs.Common.{◌≡◌, ◌+◌, List, [], ◌∷◌, ◌++◌, map, take, sym, subst}
-use Rattle.ss_program.specs.Program.{Item}
+use Rattle.ss_program.specs.Program.{PrintItem}
 use Rattle.ss_program.specs.View.{view_item}
 use Rattle.ss_code_generator.proofs.Listed.{next_mapped}
 use Rattle.ss_code_generator.proofs.Itemed.{MakesItems, no_items, items_more, items_done}
@@ -17,7 +17,7 @@ loop-item-preserved c =
     let old = c.reach.new.self in
     let more : map view_item (take (l.item-index + 1) xs) ≡ map view_item (take l.item-index xs) ++ view_item x ∷ [] = next_mapped view_item xs l.item-index x c.loop-item-test.true c.item-item.is in
     let step = items_more old l.self c.item.new.self c.args.code.now l.code c.item.new.code c.args.site l.here c.above-here.result (map view_item (take l.item-index xs)) (view_item x) c.in_ok-cells.cells l.invariant c.in_ok-cells.ensures.code c.in_ok-cells.ensures.width c.in_ok-cells.ensures.room c.above-here.ensures.line c.above-here.ensures.height in
-    subst (λ (ys : List Item). MakesItems old c.item.new.self c.args.code.now c.item.new.code c.args.site c.above-here.result ys) (sym more) step
+    subst (λ (ys : List PrintItem). MakesItems old c.item.new.self c.args.code.now c.item.new.code c.args.site c.above-here.result ys) (sym more) step
 
 pub returns : goal.returns
 returns c =
