@@ -24,17 +24,15 @@ first_after_whole-requires-clause-own c =
     let st = c.args.heap.now.state in let e : to_z w64 (of_z w64 c.in-Some.own) ≡ c.in-Some.own = search rules in
     ap (λ n. value_of st n c.args.key.field (to_z w64 (of_z w64 c.args.x))) (sym c.class_of-class.ensures) ∙ (c.whole_of.ensures c.in-Some.own c.in-Some.is).1 ∙ ap (λ (z : ℤ). Whole z) (sym e)
 
-pub returns-in_default-clause-found : goal.returns-in_default-clause-found
-returns-in_default-clause-found c = let fo = c.ranges.o in let fx = c.ranges.x in simp to_z-of_z at c.first_after_whole.ensures.found
+pub returns-in_default : goal.returns-in_default
+returns-in_default c =
+    let fo = c.ranges.o in let fx = c.ranges.x in
+    record { found = simp to_z-of_z at c.first_after_whole.ensures.found; same = search rules; touches = simp to_z-of_z at c.first_after_whole.ensures.touches }
 
-pub returns-in_default-clause-touches : goal.returns-in_default-clause-touches
-returns-in_default-clause-touches c = let fo = c.ranges.o in let fx = c.ranges.x in simp to_z-of_z at c.first_after_whole.ensures.touches
-
-pub returns-in-None-clause-found : goal.returns-in-None-clause-found
-returns-in-None-clause-found c = let fo = c.ranges.o in let fx = c.ranges.x in simp to_z-of_z at c.first_after_value.ensures.found
-
-pub returns-in-None-clause-touches : goal.returns-in-None-clause-touches
-returns-in-None-clause-touches c = let fo = c.ranges.o in let fx = c.ranges.x in simp to_z-of_z at c.first_after_value.ensures.touches
+pub returns-in-None : goal.returns-in-None
+returns-in-None c =
+    let fo = c.ranges.o in let fx = c.ranges.x in
+    record { found = simp to_z-of_z at c.first_after_value.ensures.found; same = search rules; touches = simp to_z-of_z at c.first_after_value.ensures.touches }
 
 pub returns-in-empty-clause-found : goal.returns-in-empty-clause-found
 returns-in-empty-clause-found c =

@@ -72,11 +72,8 @@ impossible c =
     let n = next_is st c.sets_are_apart.ensures c.args.set c.requires.set o a.0 a.1 a.4 in
     never_lost c.loop-member.heap.state st c.args.set y (pos a.0) (pos (head0 a.1)) c.in-Err-whole_member.fault c.in-Err-whole_member.ensures.found h.same (hand ∙ a.3) n
 
-pub returns-in-Err-whole_member-clause-found : goal.returns-in-Err-whole_member-clause-found
-returns-in-Err-whole_member-clause-found c = absurd (impossible c)
-
-pub returns-in-Err-whole_member-clause-touches : goal.returns-in-Err-whole_member-clause-touches
-returns-in-Err-whole_member-clause-touches c = absurd (impossible c)
+pub returns-in-Err-whole_member : goal.returns-in-Err-whole_member
+returns-in-Err-whole_member c = record { found = absurd (impossible c); same = search rules; touches = absurd (impossible c) }
 
 -- x passes this member
 passed_one : (c : goal.After-as_member-member) → Looked c.args.heap.now.state c.args.set (to_z w64 (of_z w64 c.args.o)) (to_z w64 (of_z w64 c.args.x)) (c.args.key ∷ c.args.others.now) c.loop-member.member c.in-Some.y c.in-Ok-whole_member.its.next false

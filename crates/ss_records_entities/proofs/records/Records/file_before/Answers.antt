@@ -10,187 +10,122 @@ use Rattle.ss_records_entities.proofs.Cuts.{parts, prev_found, before_it, list_b
 use Rattle.ss_records_entities.proofs.Still.{kept_still, set_still, owns_still, joins_still, free_still, at_start, one_refused, one_few, then_refused, then_room, then_few, then_linked, no_touch, base_room}
 use Rattle.ss_records_entities.proofs.records.Records.file_before.Goals as goal
 
-pub follow-beside-requires-clause-leads : goal.follow-beside-requires-clause-leads
-follow-beside-requires-clause-leads c =
-    let r = c.args.self.now in let triple = c.in-Ok.triple in let p1 = c.is_filed.new.self in let p = c.is_in.new.self in
-    let h1 : uncounted p1 ≡ uncounted r = unmoved r p1 c.is_filed.ensures.same c.is_filed.ensures.cells in
-    let cells : p.blocks.cells ≡ r.blocks.cells = c.is_in.ensures.cells ∙ c.is_filed.ensures.cells in
-    let value : contains (members_of r.notes.lists c.args.s triple.owner.number) triple.y.number ≡ c.is_in.result = sym (c.is_in.ensures.value ∙ ap (λ (z : Records). contains (members_of z.notes.lists c.args.s triple.owner.number) triple.y.number) h1) in
-    let there = value ∙ c.if-not-is_in.false in
-    rw cells (prev_found r c.requires.kept c.args.s c.requires.set triple.y c.in-Ok.ensures.found.2 c.member_base-base.result c.member_base-base.ensures.at triple.owner.number there)
+pub follow-beside-requires : goal.follow-beside-requires
+follow-beside-requires c =
+    let r = c.args.self.now in let p1 = c.is_filed.new.self in let p = c.is_in.new.self in
+    record {
+      leads =
+          let triple = c.in-Ok.triple in let h1 : uncounted p1 ≡ uncounted r = unmoved r p1 c.is_filed.ensures.same c.is_filed.ensures.cells in
+          let cells : p.blocks.cells ≡ r.blocks.cells = c.is_in.ensures.cells ∙ c.is_filed.ensures.cells in
+          let value : contains (members_of r.notes.lists c.args.s triple.owner.number) triple.y.number ≡ c.is_in.result = sym (c.is_in.ensures.value ∙ ap (λ (z : Records). contains (members_of z.notes.lists c.args.s triple.owner.number) triple.y.number) h1) in
+          let there = value ∙ c.if-not-is_in.false in
+          rw cells (prev_found r c.requires.kept c.args.s c.requires.set triple.y c.in-Ok.ensures.found.2 c.member_base-base.result c.member_base-base.ensures.at triple.owner.number there);
+      room = then_room r.blocks.touches r.blocks.total p1.blocks.touches p1.blocks.total c.requires.touches c.is_filed.ensures.touches p.blocks.touches p.blocks.total c.is_in.ensures.touches;
+    }
 
-pub link_in-requires-clause-between : goal.link_in-requires-clause-between
-link_in-requires-clause-between c =
-    let r = c.args.self.now in let triple = c.in-Ok.triple in let p1 = c.is_filed.new.self in let p = c.is_in.new.self in
-    let h1 : uncounted p1 ≡ uncounted r = unmoved r p1 c.is_filed.ensures.same c.is_filed.ensures.cells in
-    let cells : p.blocks.cells ≡ r.blocks.cells = c.is_in.ensures.cells ∙ c.is_filed.ensures.cells in
-    let value : contains (members_of r.notes.lists c.args.s triple.owner.number) triple.y.number ≡ c.is_in.result = sym (c.is_in.ensures.value ∙ ap (λ (z : Records). contains (members_of z.notes.lists c.args.s triple.owner.number) triple.y.number) h1) in
-    let there = value ∙ c.if-not-is_in.false in
-    let d = parts r c.requires.kept c.args.s c.requires.set triple.y c.in-Ok.ensures.found.2 c.member_base-base.result c.member_base-base.ensures.at triple.owner.number there in
-    let q = c.follow-beside.result in
-    let h : uncounted (record p { blocks = c.follow-beside.new.self }) ≡ uncounted r = looked p1 p c.follow-beside.new.self c.is_in.ensures.same c.is_in.ensures.cells c.follow-beside.ensures.cells ∙ h1 in
-    let w : word_at r.blocks.cells triple.y.place.at (c.member_base-base.result + 1) ≡ link q.place.at = (λ i. word_at (sym cells i) triple.y.place.at (c.member_base-base.result + 1)) ∙ c.follow-beside.ensures.word in
-    let v : word_at r.blocks.cells q.place.at 1 ≡ number q.number = (λ i. word_at (sym cells i) q.place.at 1) ∙ c.follow-beside.ensures.there in
-    let between = before_it r c.requires.kept c.args.s c.requires.set triple.y c.in-Ok.ensures.found.2 c.member_base-base.result c.member_base-base.ensures.at triple.owner.number there q w v in
-    (d.0, (triple.y.number ∷ d.1), still_between r (record p { blocks = c.follow-beside.new.self }) c.args.s triple.owner.number q triple.y d.0 (triple.y.number ∷ d.1) h between)
+pub link_in-requires : goal.link_in-requires
+link_in-requires c =
+    let r = c.args.self.now in let p1 = c.is_filed.new.self in let h1 : uncounted p1 ≡ uncounted r = unmoved r p1 c.is_filed.ensures.same c.is_filed.ensures.cells in let p = c.is_in.new.self in let b = c.follow-beside.new.self in
+    let h : uncounted (record p { blocks = b }) ≡ uncounted r = looked p1 p b c.is_in.ensures.same c.is_in.ensures.cells c.follow-beside.ensures.cells ∙ h1 in
+    record {
+      kept = kept_still r (record p { blocks = b }) h c.requires.kept;
+      set = set_still r (record p { blocks = b }) h c.args.s c.requires.set;
+      owns = owns_still r (record p { blocks = b }) h c.args.s c.in-Ok.triple.owner c.in-Ok.ensures.found.0;
+      joins = joins_still r (record p { blocks = b }) h c.args.s c.in-Ok.triple.x c.in-Ok.ensures.found.1;
+      free = free_still r (record p { blocks = b }) h c.args.s c.in-Ok.triple.x.number (sym c.is_filed.ensures.value ∙ c.if-is_filed.false);
+      between =
+          let triple = c.in-Ok.triple in let cells : p.blocks.cells ≡ r.blocks.cells = c.is_in.ensures.cells ∙ c.is_filed.ensures.cells in
+          let value : contains (members_of r.notes.lists c.args.s triple.owner.number) triple.y.number ≡ c.is_in.result = sym (c.is_in.ensures.value ∙ ap (λ (z : Records). contains (members_of z.notes.lists c.args.s triple.owner.number) triple.y.number) h1) in
+          let there = value ∙ c.if-not-is_in.false in let d = parts r c.requires.kept c.args.s c.requires.set triple.y c.in-Ok.ensures.found.2 c.member_base-base.result c.member_base-base.ensures.at triple.owner.number there in
+          let q = c.follow-beside.result in
+          let h : uncounted (record p { blocks = c.follow-beside.new.self }) ≡ uncounted r = looked p1 p c.follow-beside.new.self c.is_in.ensures.same c.is_in.ensures.cells c.follow-beside.ensures.cells ∙ h1 in
+          let w : word_at r.blocks.cells triple.y.place.at (c.member_base-base.result + 1) ≡ link q.place.at = (λ i. word_at (sym cells i) triple.y.place.at (c.member_base-base.result + 1)) ∙ c.follow-beside.ensures.word in
+          let v : word_at r.blocks.cells q.place.at 1 ≡ number q.number = (λ i. word_at (sym cells i) q.place.at 1) ∙ c.follow-beside.ensures.there in
+          let between = before_it r c.requires.kept c.args.s c.requires.set triple.y c.in-Ok.ensures.found.2 c.member_base-base.result c.member_base-base.ensures.at triple.owner.number there q w v in
+          (d.0, (triple.y.number ∷ d.1), still_between r (record p { blocks = c.follow-beside.new.self }) c.args.s triple.owner.number q triple.y d.0 (triple.y.number ∷ d.1) h between);
+      touches = then_few r.blocks.touches r.blocks.total p1.blocks.touches p1.blocks.total c.requires.touches c.is_filed.ensures.touches p.blocks.touches p.blocks.total c.is_in.ensures.touches b.touches b.total c.follow-beside.ensures.touches;
+    }
 
-pub returns-then-is_filed-clause-done : goal.returns-then-is_filed-clause-done
-returns-then-is_filed-clause-done c =
-    let r = c.args.self.now in let fo = c.ranges.o in let fx = c.ranges.x in let fy = c.ranges.y in let f = simp to_z-of_z at c.in-Ok.ensures.found in
-    (beside_twice (state r) c.args.s c.args.o c.args.x _ _ f.3 f.5 c.args.y _ f.4 put_before (sym c.is_filed.ensures.value ∙ c.if-is_filed.true), ap state (unmoved r c.is_filed.new.self c.is_filed.ensures.same c.is_filed.ensures.cells))
+pub returns-then-is_filed : goal.returns-then-is_filed
+returns-then-is_filed c =
+    let r = c.args.self.now in let p1 = c.is_filed.new.self in
+    record {
+      kept = let h1 : uncounted p1 ≡ uncounted r = unmoved r p1 c.is_filed.ensures.same c.is_filed.ensures.cells in kept_still r p1 h1 c.requires.kept;
+      done =
+          let fo = c.ranges.o in let fx = c.ranges.x in let fy = c.ranges.y in let f = simp to_z-of_z at c.in-Ok.ensures.found in
+          (beside_twice (state r) c.args.s c.args.o c.args.x _ _ f.3 f.5 c.args.y _ f.4 put_before (sym c.is_filed.ensures.value ∙ c.if-is_filed.true), ap state (unmoved r c.is_filed.new.self c.is_filed.ensures.same c.is_filed.ensures.cells));
+      touches = one_refused r.blocks.touches r.blocks.total p1.blocks.touches p1.blocks.total c.requires.touches c.is_filed.ensures.touches;
+    }
 
-pub returns-then-not-is_in-clause-done : goal.returns-then-not-is_in-clause-done
-returns-then-not-is_in-clause-done c =
-    let fo = c.ranges.o in let fx = c.ranges.x in let fy = c.ranges.y in let f = simp to_z-of_z at c.in-Ok.ensures.found in
-    let r = c.args.self.now in let triple = c.in-Ok.triple in let p1 = c.is_filed.new.self in let p = c.is_in.new.self in
-    let h1 : uncounted p1 ≡ uncounted r = unmoved r p1 c.is_filed.ensures.same c.is_filed.ensures.cells in
-    let cells : p.blocks.cells ≡ r.blocks.cells = c.is_in.ensures.cells ∙ c.is_filed.ensures.cells in
-    let value : contains (members_of r.notes.lists c.args.s triple.owner.number) triple.y.number ≡ c.is_in.result = sym (c.is_in.ensures.value ∙ ap (λ (z : Records). contains (members_of z.notes.lists c.args.s triple.owner.number) triple.y.number) h1) in
-    (not_beside (state r) c.args.s c.args.o c.args.x _ _ f.3 f.5 c.args.y _ f.4 put_before (sym c.is_filed.ensures.value ∙ c.if-is_filed.false) (value ∙ c.if-not-is_in.true), ap state (unmoved p1 p c.is_in.ensures.same c.is_in.ensures.cells ∙ h1))
+pub returns-then-not-is_in : goal.returns-then-not-is_in
+returns-then-not-is_in c =
+    let r = c.args.self.now in let p1 = c.is_filed.new.self in let h1 : uncounted p1 ≡ uncounted r = unmoved r p1 c.is_filed.ensures.same c.is_filed.ensures.cells in let p = c.is_in.new.self in
+    record {
+      kept = let h2 : uncounted p ≡ uncounted r = unmoved p1 p c.is_in.ensures.same c.is_in.ensures.cells ∙ h1 in kept_still r p h2 c.requires.kept;
+      done =
+          let fo = c.ranges.o in let fx = c.ranges.x in let fy = c.ranges.y in let f = simp to_z-of_z at c.in-Ok.ensures.found in let triple = c.in-Ok.triple in
+          let cells : p.blocks.cells ≡ r.blocks.cells = c.is_in.ensures.cells ∙ c.is_filed.ensures.cells in
+          let value : contains (members_of r.notes.lists c.args.s triple.owner.number) triple.y.number ≡ c.is_in.result = sym (c.is_in.ensures.value ∙ ap (λ (z : Records). contains (members_of z.notes.lists c.args.s triple.owner.number) triple.y.number) h1) in
+          (not_beside (state r) c.args.s c.args.o c.args.x _ _ f.3 f.5 c.args.y _ f.4 put_before (sym c.is_filed.ensures.value ∙ c.if-is_filed.false) (value ∙ c.if-not-is_in.true), ap state (unmoved p1 p c.is_in.ensures.same c.is_in.ensures.cells ∙ h1));
+      touches = then_refused r.blocks.touches r.blocks.total p1.blocks.touches p1.blocks.total c.requires.touches c.is_filed.ensures.touches p.blocks.touches p.blocks.total c.is_in.ensures.touches;
+    }
 
-pub returns-else-not-is_in-clause-done : goal.returns-else-not-is_in-clause-done
-returns-else-not-is_in-clause-done c =
-    let fo = c.ranges.o in let fx = c.ranges.x in let fy = c.ranges.y in let f = simp to_z-of_z at c.in-Ok.ensures.found in
-    let r = c.args.self.now in let triple = c.in-Ok.triple in let p1 = c.is_filed.new.self in let p = c.is_in.new.self in
-    let h1 : uncounted p1 ≡ uncounted r = unmoved r p1 c.is_filed.ensures.same c.is_filed.ensures.cells in
-    let cells : p.blocks.cells ≡ r.blocks.cells = c.is_in.ensures.cells ∙ c.is_filed.ensures.cells in
-    let value : contains (members_of r.notes.lists c.args.s triple.owner.number) triple.y.number ≡ c.is_in.result = sym (c.is_in.ensures.value ∙ ap (λ (z : Records). contains (members_of z.notes.lists c.args.s triple.owner.number) triple.y.number) h1) in
-    let there = value ∙ c.if-not-is_in.false in
-    let d = parts r c.requires.kept c.args.s c.requires.set triple.y c.in-Ok.ensures.found.2 c.member_base-base.result c.member_base-base.ensures.at triple.owner.number there in
-    let q = c.follow-beside.result in
-    let h : uncounted (record p { blocks = c.follow-beside.new.self }) ≡ uncounted r = looked p1 p c.follow-beside.new.self c.is_in.ensures.same c.is_in.ensures.cells c.follow-beside.ensures.cells ∙ h1 in
-    let w : word_at r.blocks.cells triple.y.place.at (c.member_base-base.result + 1) ≡ link q.place.at = (λ i. word_at (sym cells i) triple.y.place.at (c.member_base-base.result + 1)) ∙ c.follow-beside.ensures.word in
-    let v : word_at r.blocks.cells q.place.at 1 ≡ number q.number = (λ i. word_at (sym cells i) q.place.at 1) ∙ c.follow-beside.ensures.there in
-    let between = before_it r c.requires.kept c.args.s c.requires.set triple.y c.in-Ok.ensures.found.2 c.member_base-base.result c.member_base-base.ensures.at triple.owner.number there q w v in
-    let done = c.link_in.ensures.done d.0 (triple.y.number ∷ d.1) (still_between r (record p { blocks = c.follow-beside.new.self }) c.args.s triple.owner.number q triple.y d.0 (triple.y.number ∷ d.1) h between) in
-    beside_done (state r) c.args.s c.args.o c.args.x _ _ f.3 f.5 c.args.y _ f.4 put_before (state c.link_in.new.self) (sym c.is_filed.ensures.value ∙ c.if-is_filed.false) there
-    (done ∙ ap (λ (z : State). with_list_of z c.args.s triple.owner.number (d.0 ++ triple.x.number ∷ (triple.y.number ∷ d.1))) (ap state h) ∙ ap (with_list_of (state r) c.args.s triple.owner.number) (list_before r c.requires.kept c.args.s c.requires.set triple.y c.in-Ok.ensures.found.2 c.member_base-base.result c.member_base-base.ensures.at triple.owner.number there triple.x.number))
+pub returns-else-not-is_in : goal.returns-else-not-is_in
+returns-else-not-is_in c =
+    let r = c.args.self.now in let p1 = c.is_filed.new.self in let p = c.is_in.new.self in
+    record {
+      kept = c.link_in.ensures.kept;
+      done =
+          let fo = c.ranges.o in let fx = c.ranges.x in let fy = c.ranges.y in let f = simp to_z-of_z at c.in-Ok.ensures.found in let triple = c.in-Ok.triple in
+          let h1 : uncounted p1 ≡ uncounted r = unmoved r p1 c.is_filed.ensures.same c.is_filed.ensures.cells in let cells : p.blocks.cells ≡ r.blocks.cells = c.is_in.ensures.cells ∙ c.is_filed.ensures.cells in
+          let value : contains (members_of r.notes.lists c.args.s triple.owner.number) triple.y.number ≡ c.is_in.result = sym (c.is_in.ensures.value ∙ ap (λ (z : Records). contains (members_of z.notes.lists c.args.s triple.owner.number) triple.y.number) h1) in
+          let there = value ∙ c.if-not-is_in.false in let d = parts r c.requires.kept c.args.s c.requires.set triple.y c.in-Ok.ensures.found.2 c.member_base-base.result c.member_base-base.ensures.at triple.owner.number there in
+          let q = c.follow-beside.result in
+          let h : uncounted (record p { blocks = c.follow-beside.new.self }) ≡ uncounted r = looked p1 p c.follow-beside.new.self c.is_in.ensures.same c.is_in.ensures.cells c.follow-beside.ensures.cells ∙ h1 in
+          let w : word_at r.blocks.cells triple.y.place.at (c.member_base-base.result + 1) ≡ link q.place.at = (λ i. word_at (sym cells i) triple.y.place.at (c.member_base-base.result + 1)) ∙ c.follow-beside.ensures.word in
+          let v : word_at r.blocks.cells q.place.at 1 ≡ number q.number = (λ i. word_at (sym cells i) q.place.at 1) ∙ c.follow-beside.ensures.there in
+          let between = before_it r c.requires.kept c.args.s c.requires.set triple.y c.in-Ok.ensures.found.2 c.member_base-base.result c.member_base-base.ensures.at triple.owner.number there q w v in
+          let done = c.link_in.ensures.done d.0 (triple.y.number ∷ d.1) (still_between r (record p { blocks = c.follow-beside.new.self }) c.args.s triple.owner.number q triple.y d.0 (triple.y.number ∷ d.1) h between) in
+          beside_done (state r) c.args.s c.args.o c.args.x _ _ f.3 f.5 c.args.y _ f.4 put_before (state c.link_in.new.self) (sym c.is_filed.ensures.value ∙ c.if-is_filed.false) there
+          (done ∙ ap (λ (z : State). with_list_of z c.args.s triple.owner.number (d.0 ++ triple.x.number ∷ (triple.y.number ∷ d.1))) (ap state h) ∙ ap (with_list_of (state r) c.args.s triple.owner.number) (list_before r c.requires.kept c.args.s c.requires.set triple.y c.in-Ok.ensures.found.2 c.member_base-base.result c.member_base-base.ensures.at triple.owner.number there triple.x.number));
+      touches =
+          let b = c.follow-beside.new.self in let q = c.link_in.new.self in
+          then_linked r.blocks.touches r.blocks.total p1.blocks.touches p1.blocks.total c.requires.touches c.is_filed.ensures.touches p.blocks.touches p.blocks.total c.is_in.ensures.touches b.touches b.total q.blocks.touches q.blocks.total c.follow-beside.ensures.touches c.link_in.ensures.touches;
+    }
 
-pub returns-in-Err-clause-done : goal.returns-in-Err-clause-done
-returns-in-Err-clause-done c =
-    let fo = c.ranges.o in let fx = c.ranges.x in let fy = c.ranges.y in let f = simp to_z-of_z at c.in-Err.ensures.found in
-    (f (λ n k m. put_beside put_before (state c.args.self.now) c.args.s m n k), refl)
+pub returns-in-Err : goal.returns-in-Err
+returns-in-Err c =
+    record {
+      kept = c.requires.kept;
+      done = let fo = c.ranges.o in let fx = c.ranges.x in let fy = c.ranges.y in let f = simp to_z-of_z at c.in-Err.ensures.found in (f (λ n k m. put_beside put_before (state c.args.self.now) c.args.s m n k), refl);
+      touches = let r = c.args.self.now in no_touch r.blocks.touches r.blocks.total 0 0 c.requires.touches 12 4;
+    }
 
-pub triple-requires-clause-kept : goal.triple-requires-clause-kept
-triple-requires-clause-kept c = c.requires.kept
-
-pub triple-requires-clause-set : goal.triple-requires-clause-set
-triple-requires-clause-set c = c.requires.set
+pub triple-requires : goal.triple-requires
+triple-requires c = record { kept = c.requires.kept; set = c.requires.set }
 
 pub member_base-base-requires : goal.member_base-base-requires
 member_base-base-requires c = c.requires.set
 
-pub is_filed-requires-clause-kept : goal.is_filed-requires-clause-kept
-is_filed-requires-clause-kept c = c.requires.kept
+pub is_filed-requires : goal.is_filed-requires
+is_filed-requires c =
+    record {
+      kept = c.requires.kept;
+      set = c.requires.set;
+      joins = c.in-Ok.ensures.found.1;
+      touches = let r = c.args.self.now in at_start r.blocks.touches r.blocks.total 0 0 c.requires.touches;
+    }
 
-pub is_filed-requires-clause-set : goal.is_filed-requires-clause-set
-is_filed-requires-clause-set c = c.requires.set
-
-pub is_filed-requires-clause-joins : goal.is_filed-requires-clause-joins
-is_filed-requires-clause-joins c = c.in-Ok.ensures.found.1
-
-pub is_filed-requires-clause-touches : goal.is_filed-requires-clause-touches
-is_filed-requires-clause-touches c = let r = c.args.self.now in at_start r.blocks.touches r.blocks.total 0 0 c.requires.touches
-
-pub returns-then-is_filed-clause-kept : goal.returns-then-is_filed-clause-kept
-returns-then-is_filed-clause-kept c =
+pub is_in-requires : goal.is_in-requires
+is_in-requires c =
     let r = c.args.self.now in let p1 = c.is_filed.new.self in let h1 : uncounted p1 ≡ uncounted r = unmoved r p1 c.is_filed.ensures.same c.is_filed.ensures.cells in
-    kept_still r p1 h1 c.requires.kept
-
-pub returns-then-is_filed-clause-touches : goal.returns-then-is_filed-clause-touches
-returns-then-is_filed-clause-touches c =
-    let r = c.args.self.now in let p1 = c.is_filed.new.self in
-    one_refused r.blocks.touches r.blocks.total p1.blocks.touches p1.blocks.total c.requires.touches c.is_filed.ensures.touches
-
-pub is_in-requires-clause-kept : goal.is_in-requires-clause-kept
-is_in-requires-clause-kept c =
-    let r = c.args.self.now in let p1 = c.is_filed.new.self in let h1 : uncounted p1 ≡ uncounted r = unmoved r p1 c.is_filed.ensures.same c.is_filed.ensures.cells in
-    kept_still r p1 h1 c.requires.kept
-
-pub is_in-requires-clause-set : goal.is_in-requires-clause-set
-is_in-requires-clause-set c =
-    let r = c.args.self.now in let p1 = c.is_filed.new.self in let h1 : uncounted p1 ≡ uncounted r = unmoved r p1 c.is_filed.ensures.same c.is_filed.ensures.cells in
-    set_still r p1 h1 c.args.s c.requires.set
-
-pub is_in-requires-clause-owns : goal.is_in-requires-clause-owns
-is_in-requires-clause-owns c =
-    let r = c.args.self.now in let p1 = c.is_filed.new.self in let h1 : uncounted p1 ≡ uncounted r = unmoved r p1 c.is_filed.ensures.same c.is_filed.ensures.cells in
-    owns_still r p1 h1 c.args.s c.in-Ok.triple.owner c.in-Ok.ensures.found.0
-
-pub is_in-requires-clause-joins : goal.is_in-requires-clause-joins
-is_in-requires-clause-joins c =
-    let r = c.args.self.now in let p1 = c.is_filed.new.self in let h1 : uncounted p1 ≡ uncounted r = unmoved r p1 c.is_filed.ensures.same c.is_filed.ensures.cells in
-    joins_still r p1 h1 c.args.s c.in-Ok.triple.y c.in-Ok.ensures.found.2
-
-pub is_in-requires-clause-touches : goal.is_in-requires-clause-touches
-is_in-requires-clause-touches c =
-    let r = c.args.self.now in let p1 = c.is_filed.new.self in
-    one_few r.blocks.touches r.blocks.total p1.blocks.touches p1.blocks.total c.requires.touches c.is_filed.ensures.touches
-
-pub returns-then-not-is_in-clause-kept : goal.returns-then-not-is_in-clause-kept
-returns-then-not-is_in-clause-kept c =
-    let r = c.args.self.now in let p1 = c.is_filed.new.self in let h1 : uncounted p1 ≡ uncounted r = unmoved r p1 c.is_filed.ensures.same c.is_filed.ensures.cells in
-    let p = c.is_in.new.self in let h2 : uncounted p ≡ uncounted r = unmoved p1 p c.is_in.ensures.same c.is_in.ensures.cells ∙ h1 in
-    kept_still r p h2 c.requires.kept
-
-pub returns-then-not-is_in-clause-touches : goal.returns-then-not-is_in-clause-touches
-returns-then-not-is_in-clause-touches c =
-    let r = c.args.self.now in let p1 = c.is_filed.new.self in let p = c.is_in.new.self in
-    then_refused r.blocks.touches r.blocks.total p1.blocks.touches p1.blocks.total c.requires.touches c.is_filed.ensures.touches p.blocks.touches p.blocks.total c.is_in.ensures.touches
-
-pub follow-beside-requires-clause-room : goal.follow-beside-requires-clause-room
-follow-beside-requires-clause-room c =
-    let r = c.args.self.now in let p1 = c.is_filed.new.self in let p = c.is_in.new.self in
-    then_room r.blocks.touches r.blocks.total p1.blocks.touches p1.blocks.total c.requires.touches c.is_filed.ensures.touches p.blocks.touches p.blocks.total c.is_in.ensures.touches
-
-pub link_in-requires-clause-kept : goal.link_in-requires-clause-kept
-link_in-requires-clause-kept c =
-    let r = c.args.self.now in let p1 = c.is_filed.new.self in let h1 : uncounted p1 ≡ uncounted r = unmoved r p1 c.is_filed.ensures.same c.is_filed.ensures.cells in
-    let p = c.is_in.new.self in let b = c.follow-beside.new.self in let h : uncounted (record p { blocks = b }) ≡ uncounted r = looked p1 p b c.is_in.ensures.same c.is_in.ensures.cells c.follow-beside.ensures.cells ∙ h1 in
-    kept_still r (record p { blocks = b }) h c.requires.kept
-
-pub link_in-requires-clause-set : goal.link_in-requires-clause-set
-link_in-requires-clause-set c =
-    let r = c.args.self.now in let p1 = c.is_filed.new.self in let h1 : uncounted p1 ≡ uncounted r = unmoved r p1 c.is_filed.ensures.same c.is_filed.ensures.cells in
-    let p = c.is_in.new.self in let b = c.follow-beside.new.self in let h : uncounted (record p { blocks = b }) ≡ uncounted r = looked p1 p b c.is_in.ensures.same c.is_in.ensures.cells c.follow-beside.ensures.cells ∙ h1 in
-    set_still r (record p { blocks = b }) h c.args.s c.requires.set
-
-pub link_in-requires-clause-owns : goal.link_in-requires-clause-owns
-link_in-requires-clause-owns c =
-    let r = c.args.self.now in let p1 = c.is_filed.new.self in let h1 : uncounted p1 ≡ uncounted r = unmoved r p1 c.is_filed.ensures.same c.is_filed.ensures.cells in
-    let p = c.is_in.new.self in let b = c.follow-beside.new.self in let h : uncounted (record p { blocks = b }) ≡ uncounted r = looked p1 p b c.is_in.ensures.same c.is_in.ensures.cells c.follow-beside.ensures.cells ∙ h1 in
-    owns_still r (record p { blocks = b }) h c.args.s c.in-Ok.triple.owner c.in-Ok.ensures.found.0
-
-pub link_in-requires-clause-joins : goal.link_in-requires-clause-joins
-link_in-requires-clause-joins c =
-    let r = c.args.self.now in let p1 = c.is_filed.new.self in let h1 : uncounted p1 ≡ uncounted r = unmoved r p1 c.is_filed.ensures.same c.is_filed.ensures.cells in
-    let p = c.is_in.new.self in let b = c.follow-beside.new.self in let h : uncounted (record p { blocks = b }) ≡ uncounted r = looked p1 p b c.is_in.ensures.same c.is_in.ensures.cells c.follow-beside.ensures.cells ∙ h1 in
-    joins_still r (record p { blocks = b }) h c.args.s c.in-Ok.triple.x c.in-Ok.ensures.found.1
-
-pub link_in-requires-clause-free : goal.link_in-requires-clause-free
-link_in-requires-clause-free c =
-    let r = c.args.self.now in let p1 = c.is_filed.new.self in let h1 : uncounted p1 ≡ uncounted r = unmoved r p1 c.is_filed.ensures.same c.is_filed.ensures.cells in
-    let p = c.is_in.new.self in let b = c.follow-beside.new.self in let h : uncounted (record p { blocks = b }) ≡ uncounted r = looked p1 p b c.is_in.ensures.same c.is_in.ensures.cells c.follow-beside.ensures.cells ∙ h1 in
-    free_still r (record p { blocks = b }) h c.args.s c.in-Ok.triple.x.number (sym c.is_filed.ensures.value ∙ c.if-is_filed.false)
-
-pub link_in-requires-clause-touches : goal.link_in-requires-clause-touches
-link_in-requires-clause-touches c =
-    let r = c.args.self.now in let p1 = c.is_filed.new.self in let p = c.is_in.new.self in let b = c.follow-beside.new.self in
-    then_few r.blocks.touches r.blocks.total p1.blocks.touches p1.blocks.total c.requires.touches c.is_filed.ensures.touches p.blocks.touches p.blocks.total c.is_in.ensures.touches b.touches b.total c.follow-beside.ensures.touches
-
-pub returns-else-not-is_in-clause-kept : goal.returns-else-not-is_in-clause-kept
-returns-else-not-is_in-clause-kept c = c.link_in.ensures.kept
-
-pub returns-else-not-is_in-clause-touches : goal.returns-else-not-is_in-clause-touches
-returns-else-not-is_in-clause-touches c =
-    let r = c.args.self.now in let p1 = c.is_filed.new.self in let p = c.is_in.new.self in let b = c.follow-beside.new.self in let q = c.link_in.new.self in
-    then_linked r.blocks.touches r.blocks.total p1.blocks.touches p1.blocks.total c.requires.touches c.is_filed.ensures.touches p.blocks.touches p.blocks.total c.is_in.ensures.touches b.touches b.total q.blocks.touches q.blocks.total c.follow-beside.ensures.touches c.link_in.ensures.touches
-
-pub returns-in-Err-clause-kept : goal.returns-in-Err-clause-kept
-returns-in-Err-clause-kept c = c.requires.kept
-
-pub returns-in-Err-clause-touches : goal.returns-in-Err-clause-touches
-returns-in-Err-clause-touches c = let r = c.args.self.now in no_touch r.blocks.touches r.blocks.total 0 0 c.requires.touches 12 4
+    record {
+      kept = kept_still r p1 h1 c.requires.kept;
+      set = set_still r p1 h1 c.args.s c.requires.set;
+      owns = owns_still r p1 h1 c.args.s c.in-Ok.triple.owner c.in-Ok.ensures.found.0;
+      joins = joins_still r p1 h1 c.args.s c.in-Ok.triple.y c.in-Ok.ensures.found.2;
+      touches = one_few r.blocks.touches r.blocks.total p1.blocks.touches p1.blocks.total c.requires.touches c.is_filed.ensures.touches;
+    }
 
 pub overflow_add-base : goal.overflow_add-base
 overflow_add-base c = base_room c.member_base-base.result c.member_base-base.ensures.bound

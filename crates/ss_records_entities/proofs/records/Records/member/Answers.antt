@@ -22,18 +22,14 @@ mode-mode-requires-clause-field c =
 pub value_start-k-requires : goal.value_start-k-requires
 value_start-k-requires c = let r = c.args.self.now in few_fields r.layout c.member_class-class.result c.args.field _ c.requires.kept.small c.mode-mode.ensures
 
-pub value-value-requires-clause-first : goal.value-value-requires-clause-first
-value-value-requires-clause-first c =
+pub value-value-requires : goal.value-value-requires
+value-value-requires c =
     let r = c.args.self.now in let f = c.in-Ok.ensures.found in
-    first_number r.layout r.blocks.cells r.system.at (places r) r.notes.lists c.requires.kept f.index c.in-Ok.place f.entry c.member_class-class.result f.class _ f.is f.entity c.args.field c.value_start-k.result c.value_start-k.ensures.at c.mode-mode.result c.mode-mode.ensures
-
-pub value-value-requires-clause-second : goal.value-value-requires-clause-second
-value-value-requires-clause-second c =
-    let r = c.args.self.now in let f = c.in-Ok.ensures.found in
-    second_number r.layout r.blocks.cells r.system.at (places r) r.notes.lists c.requires.kept f.index c.in-Ok.place f.entry c.member_class-class.result f.class _ f.is f.entity c.args.field c.value_start-k.result c.value_start-k.ensures.at c.mode-mode.result c.mode-mode.ensures
-
-pub value-value-requires-clause-room : goal.value-value-requires-clause-room
-value-value-requires-clause-room c = omega (arith, c.value_start-k.ensures.bound)
+    record {
+      first = first_number r.layout r.blocks.cells r.system.at (places r) r.notes.lists c.requires.kept f.index c.in-Ok.place f.entry c.member_class-class.result f.class _ f.is f.entity c.args.field c.value_start-k.result c.value_start-k.ensures.at c.mode-mode.result c.mode-mode.ensures;
+      second = second_number r.layout r.blocks.cells r.system.at (places r) r.notes.lists c.requires.kept f.index c.in-Ok.place f.entry c.member_class-class.result f.class _ f.is f.entity c.args.field c.value_start-k.result c.value_start-k.ensures.at c.mode-mode.result c.mode-mode.ensures;
+      room = omega (arith, c.value_start-k.ensures.bound);
+    }
 
 pub follow-next-requires-clause-leads : goal.follow-next-requires-clause-leads
 follow-next-requires-clause-leads c =
@@ -50,30 +46,38 @@ overflow_cast-result c =
     let h = next_fits r c.requires.kept c.args.s c.requires.set (record { place = c.in-Ok.place; number = c.number-number.result }) j.0 c.member_base-base.result c.member_base-base.ensures.at c.follow-next.result c.follow-next.ensures.word c.follow-next.ensures.there c.other_than.result c.other_than.ensures.same c.other_than.ensures.other in
     omega (arith, ints, h)
 
-pub returns-in-Ok-clause-found : goal.returns-in-Ok-clause-found
-returns-in-Ok-clause-found c =
-    let r = c.args.self.now in let fits = c.ranges.x in let f = simp to_z-of_z at c.in-Ok.ensures.found in
-    let k = kind_is r.layout c.args.s (λ (t : SetLayout). t.member) c.member_class-class.result c.requires.set c.member_class-class.ensures.is in
-    let e = ap member_in k.1 ∙ k.2 in
-    let j = joins_found r c.requires.kept c.member_class-class.result c.args.x c.in-Ok.place f c.number-number.result c.number-number.ensures c.args.s e in
-    let v = is_value r.layout r.blocks.cells r.system.at (places r) r.notes.lists c.requires.kept f.index c.in-Ok.place f.entry c.member_class-class.result f.class c.args.x f.is f.entity c.args.field c.value_start-k.result c.value_start-k.ensures.at c.mode-mode.result c.mode-mode.ensures in
-    let n = next_is r c.requires.kept c.args.s c.requires.set (record { place = c.in-Ok.place; number = c.number-number.result }) j.0 c.member_base-base.result c.member_base-base.ensures.at c.follow-next.result c.follow-next.ensures.word c.follow-next.ensures.there c.args.x c.other_than.result j.1 c.other_than.ensures.same c.other_than.ensures.other in
-    (ap (λ b. value_in (state r) b c.args.field c.args.x) e ∙ v ∙ ap Ok (sym c.value-value.ensures), sym n)
+pub returns-in-Ok : goal.returns-in-Ok
+returns-in-Ok c =
+    let r = c.args.self.now in let b = c.follow-next.new.self in let h : uncounted (record r { blocks = b }) ≡ uncounted r = λ i. record r { blocks = record { cells = c.follow-next.ensures.cells i; touches = 0; total = 0 } } in
+    record {
+      found =
+          let fits = c.ranges.x in let f = simp to_z-of_z at c.in-Ok.ensures.found in let k = kind_is r.layout c.args.s (λ (t : SetLayout). t.member) c.member_class-class.result c.requires.set c.member_class-class.ensures.is in
+          let e = ap member_in k.1 ∙ k.2 in let j = joins_found r c.requires.kept c.member_class-class.result c.args.x c.in-Ok.place f c.number-number.result c.number-number.ensures c.args.s e in
+          let v = is_value r.layout r.blocks.cells r.system.at (places r) r.notes.lists c.requires.kept f.index c.in-Ok.place f.entry c.member_class-class.result f.class c.args.x f.is f.entity c.args.field c.value_start-k.result c.value_start-k.ensures.at c.mode-mode.result c.mode-mode.ensures in
+          let n = next_is r c.requires.kept c.args.s c.requires.set (record { place = c.in-Ok.place; number = c.number-number.result }) j.0 c.member_base-base.result c.member_base-base.ensures.at c.follow-next.result c.follow-next.ensures.word c.follow-next.ensures.there c.args.x c.other_than.result j.1 c.other_than.ensures.same c.other_than.ensures.other in
+          (ap (λ b. value_in (state r) b c.args.field c.args.x) e ∙ v ∙ ap Ok (sym c.value-value.ensures), sym n);
+      kept = kept_still r (record r { blocks = b }) h c.requires.kept;
+      same = ap state h;
+      touches = one_touch r.blocks.touches r.blocks.total b.touches b.total c.requires.touches c.follow-next.ensures.touches;
+    }
 
-pub returns-in-Err-clause-found : goal.returns-in-Err-clause-found
-returns-in-Err-clause-found c =
-    let r = c.args.self.now in let fits = c.ranges.x in let f = simp to_z-of_z at c.in-Err.ensures.found in
-    let k = kind_is r.layout c.args.s (λ (t : SetLayout). t.member) c.member_class-class.result c.requires.set c.member_class-class.ensures.is in
-    ap (λ z. and_then z (λ n. Ok (pos (follower n (companions r.notes.lists c.args.s n))))) (not_joiner (state r) c.args.s c.member_class-class.result c.args.x c.in-Err.fault (ap member_in k.1 ∙ k.2) f)
+pub returns-in-Err : goal.returns-in-Err
+returns-in-Err c =
+    let r = c.args.self.now in
+    record {
+      found =
+          let fits = c.ranges.x in let f = simp to_z-of_z at c.in-Err.ensures.found in let k = kind_is r.layout c.args.s (λ (t : SetLayout). t.member) c.member_class-class.result c.requires.set c.member_class-class.ensures.is in
+          ap (λ z. and_then z (λ n. Ok (pos (follower n (companions r.notes.lists c.args.s n))))) (not_joiner (state r) c.args.s c.member_class-class.result c.args.x c.in-Err.fault (ap member_in k.1 ∙ k.2) f);
+      kept = c.requires.kept;
+      same = refl;
+      touches = no_touch r.blocks.touches r.blocks.total 0 0 c.requires.touches 1 1;
+    }
 
 pub member_class-class-requires : goal.member_class-class-requires
 member_class-class-requires c = c.requires.set
 
-pub find-requires-clause-kept : goal.find-requires-clause-kept
-find-requires-clause-kept c = c.requires.kept
-
-pub find-requires-clause-class : goal.find-requires-clause-class
-find-requires-clause-class c = c.member_class-class.ensures.class
+pub find-requires : goal.find-requires
+find-requires c = record { kept = c.requires.kept; class = c.member_class-class.ensures.class }
 
 pub mode-mode-requires-clause-class : goal.mode-mode-requires-clause-class
 mode-mode-requires-clause-class c = c.member_class-class.ensures.class
@@ -83,27 +87,3 @@ member_base-base-requires c = c.requires.set
 
 pub follow-next-requires-clause-room : goal.follow-next-requires-clause-room
 follow-next-requires-clause-room c = let r = c.args.self.now in room_first r.blocks.touches r.blocks.total 0 0 c.requires.touches
-
-pub returns-in-Ok-clause-kept : goal.returns-in-Ok-clause-kept
-returns-in-Ok-clause-kept c =
-    let r = c.args.self.now in let b = c.follow-next.new.self in let h : uncounted (record r { blocks = b }) ≡ uncounted r = λ i. record r { blocks = record { cells = c.follow-next.ensures.cells i; touches = 0; total = 0 } } in
-    kept_still r (record r { blocks = b }) h c.requires.kept
-
-pub returns-in-Ok-clause-same : goal.returns-in-Ok-clause-same
-returns-in-Ok-clause-same c =
-    let r = c.args.self.now in let b = c.follow-next.new.self in let h : uncounted (record r { blocks = b }) ≡ uncounted r = λ i. record r { blocks = record { cells = c.follow-next.ensures.cells i; touches = 0; total = 0 } } in
-    ap state h
-
-pub returns-in-Ok-clause-touches : goal.returns-in-Ok-clause-touches
-returns-in-Ok-clause-touches c =
-    let r = c.args.self.now in let b = c.follow-next.new.self in
-    one_touch r.blocks.touches r.blocks.total b.touches b.total c.requires.touches c.follow-next.ensures.touches
-
-pub returns-in-Err-clause-kept : goal.returns-in-Err-clause-kept
-returns-in-Err-clause-kept c = c.requires.kept
-
-pub returns-in-Err-clause-same : goal.returns-in-Err-clause-same
-returns-in-Err-clause-same c = refl
-
-pub returns-in-Err-clause-touches : goal.returns-in-Err-clause-touches
-returns-in-Err-clause-touches c = let r = c.args.self.now in no_touch r.blocks.touches r.blocks.total 0 0 c.requires.touches 1 1

@@ -1,4 +1,4 @@
-use Rattle.std.proofs.Common.{arith, ◌≡◌, refl, ap}
+use Rattle.std.proofs.Common.{rules, arith, ◌≡◌, refl, ap}
 use Rattle.std.proofs.lemmas.Int.{ints, to_z-of_z}
 use Rattle.ss_records_entities.proofs.Looks.{next_leads, next_fits, next_is}
 use Rattle.ss_records_entities.specs.Parts.{state, uncounted}
@@ -13,37 +13,26 @@ overflow_cast-result c =
     let h = next_fits c.args.self.now c.requires.kept c.args.s c.requires.set c.in-Ok.member c.in-Ok.ensures.found.0 c.member_base-base.result c.member_base-base.ensures.at c.follow-next.result c.follow-next.ensures.word c.follow-next.ensures.there c.other_than.result c.other_than.ensures.same c.other_than.ensures.other in
     omega (arith, ints, h)
 
-pub returns-in-Ok-clause-value : goal.returns-in-Ok-clause-value
-returns-in-Ok-clause-value c =
-    let fits = c.ranges.x in let f = simp to_z-of_z at c.in-Ok.ensures.found in
-    next_is c.args.self.now c.requires.kept c.args.s c.requires.set c.in-Ok.member f.0 c.member_base-base.result c.member_base-base.ensures.at c.follow-next.result c.follow-next.ensures.word c.follow-next.ensures.there c.args.x c.other_than.result f.1 c.other_than.ensures.same c.other_than.ensures.other
+pub returns-in-Ok : goal.returns-in-Ok
+returns-in-Ok c =
+    let r = c.args.self.now in let b = c.follow-next.new.self in let h : uncounted (record r { blocks = b }) ≡ uncounted r = λ i. record r { blocks = record { cells = c.follow-next.ensures.cells i; touches = 0; total = 0 } } in
+    record {
+      value =
+          let fits = c.ranges.x in let f = simp to_z-of_z at c.in-Ok.ensures.found in
+          next_is c.args.self.now c.requires.kept c.args.s c.requires.set c.in-Ok.member f.0 c.member_base-base.result c.member_base-base.ensures.at c.follow-next.result c.follow-next.ensures.word c.follow-next.ensures.there c.args.x c.other_than.result f.1 c.other_than.ensures.same c.other_than.ensures.other;
+      kept = kept_still r (record r { blocks = b }) h c.requires.kept;
+      same = ap state h;
+      touches = one_touch r.blocks.touches r.blocks.total b.touches b.total c.requires.touches c.follow-next.ensures.touches;
+    }
 
-pub joiner-requires-clause-kept : goal.joiner-requires-clause-kept
-joiner-requires-clause-kept c = c.requires.kept
-
-pub joiner-requires-clause-set : goal.joiner-requires-clause-set
-joiner-requires-clause-set c = c.requires.set
+pub joiner-requires : goal.joiner-requires
+joiner-requires c = record { kept = c.requires.kept; set = c.requires.set }
 
 pub member_base-base-requires : goal.member_base-base-requires
 member_base-base-requires c = c.requires.set
 
 pub follow-next-requires-clause-room : goal.follow-next-requires-clause-room
 follow-next-requires-clause-room c = let r = c.args.self.now in room_first r.blocks.touches r.blocks.total 0 0 c.requires.touches
-
-pub returns-in-Ok-clause-kept : goal.returns-in-Ok-clause-kept
-returns-in-Ok-clause-kept c =
-    let r = c.args.self.now in let b = c.follow-next.new.self in let h : uncounted (record r { blocks = b }) ≡ uncounted r = λ i. record r { blocks = record { cells = c.follow-next.ensures.cells i; touches = 0; total = 0 } } in
-    kept_still r (record r { blocks = b }) h c.requires.kept
-
-pub returns-in-Ok-clause-same : goal.returns-in-Ok-clause-same
-returns-in-Ok-clause-same c =
-    let r = c.args.self.now in let b = c.follow-next.new.self in let h : uncounted (record r { blocks = b }) ≡ uncounted r = λ i. record r { blocks = record { cells = c.follow-next.ensures.cells i; touches = 0; total = 0 } } in
-    ap state h
-
-pub returns-in-Ok-clause-touches : goal.returns-in-Ok-clause-touches
-returns-in-Ok-clause-touches c =
-    let r = c.args.self.now in let b = c.follow-next.new.self in
-    one_touch r.blocks.touches r.blocks.total b.touches b.total c.requires.touches c.follow-next.ensures.touches
 
 pub returns-in-Err-clause-kept : goal.returns-in-Err-clause-kept
 returns-in-Err-clause-kept c = c.requires.kept

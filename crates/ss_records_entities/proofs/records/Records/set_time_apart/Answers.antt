@@ -1,4 +1,4 @@
-use Rattle.std.proofs.Common.{inl, ◌≡◌, ap, ◌∙◌, refl}
+use Rattle.std.proofs.Common.{rules, inl, ◌≡◌, ap, ◌∙◌, refl}
 use Rattle.std.specs.Int.{cast_signed}
 use Rattle.std.proofs.lemmas.Int.{to_z-of_z}
 use mir.Syntax.{w64}
@@ -12,35 +12,21 @@ set_number-requires c =
     let v : cast_signed w64 c.cast_unsigned.result ≡ c.args.t = ap (cast_signed w64) e ∙ to_z-of_z w64 c.args.t fits in
     rw c.time_word-k.ensures (may_time r.layout r.blocks.cells r.system.at (places r) r.notes.lists c.requires.kept f.index c.in-Ok.place (inl f.entry) _ f.is f.notice c.cast_unsigned.result c.args.t v)
 
-pub returns-in-Ok-clause-kept : goal.returns-in-Ok-clause-kept
-returns-in-Ok-clause-kept c =
+pub returns-in-Ok : goal.returns-in-Ok
+returns-in-Ok c =
     let r = c.args.self.now in let f = c.in-Ok.ensures.found in let fits = c.ranges.t in let e = simp to_z-of_z at c.cast_unsigned.ensures in
     let v : cast_signed w64 c.cast_unsigned.result ≡ c.args.t = ap (cast_signed w64) e ∙ to_z-of_z w64 c.args.t fits in
-    rw (c.set_number.ensures.cells, c.time_word-k.ensures) (kept_timed r.layout r.blocks.cells r.system.at (places r) r.notes.lists c.requires.kept f.index c.in-Ok.place (inl f.entry) _ f.is f.notice c.cast_unsigned.result c.args.t v)
-
-pub returns-in-Ok-clause-done : goal.returns-in-Ok-clause-done
-returns-in-Ok-clause-done c =
-    let r = c.args.self.now in let fit = c.ranges.r in let f = simp to_z-of_z at c.in-Ok.ensures.found in let fits = c.ranges.t in let e = simp to_z-of_z at c.cast_unsigned.ensures in
-    let v : cast_signed w64 c.cast_unsigned.result ≡ c.args.t = ap (cast_signed w64) e ∙ to_z-of_z w64 c.args.t fits in
-    rw (c.set_number.ensures.cells, c.time_word-k.ensures) (is_set r.layout r.blocks.cells r.system.at (places r) r.notes.lists c.requires.kept f.index c.in-Ok.place (inl f.entry) c.args.r f.is f.notice c.cast_unsigned.result c.args.t v f.entry)
-
-pub returns-in-Ok-clause-blocks : goal.returns-in-Ok-clause-blocks
-returns-in-Ok-clause-blocks c =
-    let r = c.args.self.now in let f = c.in-Ok.ensures.found in let fits = c.ranges.t in let e = simp to_z-of_z at c.cast_unsigned.ensures in
-    let v : cast_signed w64 c.cast_unsigned.result ≡ c.args.t = ap (cast_signed w64) e ∙ to_z-of_z w64 c.args.t fits in
-    rw (c.set_number.ensures.cells, c.time_word-k.ensures) (length_timed r.layout r.blocks.cells r.system.at (places r) r.notes.lists c.requires.kept f.index c.in-Ok.place (inl f.entry) _ f.is f.notice c.cast_unsigned.result c.args.t v)
+    record {
+      kept = rw (c.set_number.ensures.cells, c.time_word-k.ensures) (kept_timed r.layout r.blocks.cells r.system.at (places r) r.notes.lists c.requires.kept f.index c.in-Ok.place (inl f.entry) _ f.is f.notice c.cast_unsigned.result c.args.t v);
+      done =
+          let fit = c.ranges.r in let f = simp to_z-of_z at c.in-Ok.ensures.found in
+          rw (c.set_number.ensures.cells, c.time_word-k.ensures) (is_set r.layout r.blocks.cells r.system.at (places r) r.notes.lists c.requires.kept f.index c.in-Ok.place (inl f.entry) c.args.r f.is f.notice c.cast_unsigned.result c.args.t v f.entry);
+      touches = c.set_number.ensures.touches;
+      blocks = rw (c.set_number.ensures.cells, c.time_word-k.ensures) (length_timed r.layout r.blocks.cells r.system.at (places r) r.notes.lists c.requires.kept f.index c.in-Ok.place (inl f.entry) _ f.is f.notice c.cast_unsigned.result c.args.t v);
+    }
 
 pub find_notice-requires : goal.find_notice-requires
 find_notice-requires c = record { kept = c.requires.kept }
 
-pub returns-in-Ok-clause-touches : goal.returns-in-Ok-clause-touches
-returns-in-Ok-clause-touches c = c.set_number.ensures.touches
-
-pub returns-in-Err-clause-kept : goal.returns-in-Err-clause-kept
-returns-in-Err-clause-kept c = c.requires.kept
-
-pub returns-in-Err-clause-touches : goal.returns-in-Err-clause-touches
-returns-in-Err-clause-touches c = (refl, refl)
-
-pub returns-in-Err-clause-blocks : goal.returns-in-Err-clause-blocks
-returns-in-Err-clause-blocks c = refl
+pub returns-in-Err : goal.returns-in-Err
+returns-in-Err c = record { kept = c.requires.kept; done = search rules; touches = (refl, refl); blocks = refl }

@@ -20,42 +20,35 @@ whole-requires c =
     let r = c.args.self.now in let f = c.in-Ok.ensures.found in
     first_number r.layout r.blocks.cells r.system.at (places r) r.notes.lists c.requires.kept f.index c.in-Ok.place f.entry c.args.class f.class _ f.is f.entity c.args.field c.value_start-k.result c.value_start-k.ensures.at Integer c.requires.mode
 
-pub set_whole-requires-clause-first : goal.set_whole-requires-clause-first
-set_whole-requires-clause-first c =
+pub set_whole-requires : goal.set_whole-requires
+set_whole-requires c =
     let r = c.args.self.now in let f = c.in-Ok.ensures.found in
-    first_number r.layout r.blocks.cells r.system.at (places r) r.notes.lists c.requires.kept f.index c.in-Ok.place f.entry c.args.class f.class _ f.is f.entity c.args.field c.value_start-k.result c.value_start-k.ensures.at Integer c.requires.mode
-
-pub set_whole-requires-clause-second : goal.set_whole-requires-clause-second
-set_whole-requires-clause-second c =
-    let r = c.args.self.now in let f = c.in-Ok.ensures.found in
-    second_number r.layout r.blocks.cells r.system.at (places r) r.notes.lists c.requires.kept f.index c.in-Ok.place f.entry c.args.class f.class _ f.is f.entity c.args.field c.value_start-k.result c.value_start-k.ensures.at Integer c.requires.mode
-
-pub returns-in-Ok-minus-clause-kept : goal.returns-in-Ok-minus-clause-kept
-returns-in-Ok-minus-clause-kept c =
-    let r = c.args.self.now in let f = c.in-Ok.ensures.found in
-    kept_assigned r.layout r.blocks.cells r.system.at (places r) r.notes.lists c.requires.kept f.index c.in-Ok.place f.entry c.args.class f.class _ f.is f.entity c.args.field c.value_start-k.result c.value_start-k.ensures.at _ c.requires.mode c.set_whole.new.blocks.cells c.set_whole.ensures.written
-
-pub returns-in-Ok-minus-clause-done : goal.returns-in-Ok-minus-clause-done
-returns-in-Ok-minus-clause-done c =
-    let r = c.args.self.now in let fits = c.ranges.r in let f = simp to_z-of_z at c.in-Ok.ensures.found in
-    let before : to_z w64 (of_z w64 c.whole.result) ≡ c.whole.result = search rules in
-    let by : to_z w64 (of_z w64 c.args.n) ≡ c.args.n = search rules in
-    let changed : to_z w64 (of_z w64 c.in-Ok-minus.changed) ≡ c.in-Ok-minus.changed = search rules in
-    let written = subst (λ z. PutsValue r.blocks.cells c.set_whole.new.blocks.cells c.in-Ok.place.at c.value_start-k.result (Whole z)) changed c.set_whole.ensures.written in
-    let read = is_value r.layout r.blocks.cells r.system.at (places r) r.notes.lists c.requires.kept f.index c.in-Ok.place f.entry c.args.class f.class c.args.r f.is f.entity c.args.field c.value_start-k.result c.value_start-k.ensures.at Integer c.requires.mode ∙ ap Ok (sym c.whole.ensures) in
     record {
-      number = c.in-Ok-minus.changed;
-      makes = ap (changed_number (λ z. minus_of z c.args.n)) read ∙ (λ i. minus_of (sym before i) (sym by i)) ∙ sym c.in-Ok-minus.ensures;
-      is = record {
-        gives = is_assigned r.layout r.blocks.cells r.system.at (places r) r.notes.lists c.requires.kept f.index c.in-Ok.place f.entry c.args.class f.class c.args.r f.is f.entity c.args.field c.value_start-k.result c.value_start-k.ensures.at (Whole c.in-Ok-minus.changed) c.requires.mode c.set_whole.new.blocks.cells written;
-        reads = reads_back r.layout r.blocks.cells r.system.at (places r) r.notes.lists c.requires.kept f.index c.in-Ok.place f.entry c.args.class f.class c.args.r f.is f.entity c.args.field c.value_start-k.result c.value_start-k.ensures.at (Whole c.in-Ok-minus.changed) c.requires.mode c.set_whole.new.blocks.cells written;
-      };
+      first = first_number r.layout r.blocks.cells r.system.at (places r) r.notes.lists c.requires.kept f.index c.in-Ok.place f.entry c.args.class f.class _ f.is f.entity c.args.field c.value_start-k.result c.value_start-k.ensures.at Integer c.requires.mode;
+      second = second_number r.layout r.blocks.cells r.system.at (places r) r.notes.lists c.requires.kept f.index c.in-Ok.place f.entry c.args.class f.class _ f.is f.entity c.args.field c.value_start-k.result c.value_start-k.ensures.at Integer c.requires.mode;
     }
 
-pub returns-in-Ok-minus-clause-blocks : goal.returns-in-Ok-minus-clause-blocks
-returns-in-Ok-minus-clause-blocks c =
+pub returns-in-Ok-minus : goal.returns-in-Ok-minus
+returns-in-Ok-minus c =
     let r = c.args.self.now in let f = c.in-Ok.ensures.found in
-    length_assigned r.layout r.blocks.cells r.system.at (places r) r.notes.lists c.requires.kept f.index c.in-Ok.place f.entry c.args.class f.class _ f.is f.entity c.args.field c.value_start-k.result c.value_start-k.ensures.at _ c.requires.mode c.set_whole.new.blocks.cells c.set_whole.ensures.written
+    record {
+      kept = kept_assigned r.layout r.blocks.cells r.system.at (places r) r.notes.lists c.requires.kept f.index c.in-Ok.place f.entry c.args.class f.class _ f.is f.entity c.args.field c.value_start-k.result c.value_start-k.ensures.at _ c.requires.mode c.set_whole.new.blocks.cells c.set_whole.ensures.written;
+      done =
+          let fits = c.ranges.r in let f = simp to_z-of_z at c.in-Ok.ensures.found in let before : to_z w64 (of_z w64 c.whole.result) ≡ c.whole.result = search rules in
+          let by : to_z w64 (of_z w64 c.args.n) ≡ c.args.n = search rules in let changed : to_z w64 (of_z w64 c.in-Ok-minus.changed) ≡ c.in-Ok-minus.changed = search rules in
+          let written = subst (λ z. PutsValue r.blocks.cells c.set_whole.new.blocks.cells c.in-Ok.place.at c.value_start-k.result (Whole z)) changed c.set_whole.ensures.written in
+          let read = is_value r.layout r.blocks.cells r.system.at (places r) r.notes.lists c.requires.kept f.index c.in-Ok.place f.entry c.args.class f.class c.args.r f.is f.entity c.args.field c.value_start-k.result c.value_start-k.ensures.at Integer c.requires.mode ∙ ap Ok (sym c.whole.ensures) in
+          record {
+            number = c.in-Ok-minus.changed;
+            makes = ap (changed_number (λ z. minus_of z c.args.n)) read ∙ (λ i. minus_of (sym before i) (sym by i)) ∙ sym c.in-Ok-minus.ensures;
+            is = record {
+              gives = is_assigned r.layout r.blocks.cells r.system.at (places r) r.notes.lists c.requires.kept f.index c.in-Ok.place f.entry c.args.class f.class c.args.r f.is f.entity c.args.field c.value_start-k.result c.value_start-k.ensures.at (Whole c.in-Ok-minus.changed) c.requires.mode c.set_whole.new.blocks.cells written;
+              reads = reads_back r.layout r.blocks.cells r.system.at (places r) r.notes.lists c.requires.kept f.index c.in-Ok.place f.entry c.args.class f.class c.args.r f.is f.entity c.args.field c.value_start-k.result c.value_start-k.ensures.at (Whole c.in-Ok-minus.changed) c.requires.mode c.set_whole.new.blocks.cells written;
+            };
+          };
+      touches = search rules;
+      blocks = length_assigned r.layout r.blocks.cells r.system.at (places r) r.notes.lists c.requires.kept f.index c.in-Ok.place f.entry c.args.class f.class _ f.is f.entity c.args.field c.value_start-k.result c.value_start-k.ensures.at _ c.requires.mode c.set_whole.new.blocks.cells c.set_whole.ensures.written;
+    }
 
 -- the number does not fit
 pub returns-in-Err-minus-clause-done : goal.returns-in-Err-minus-clause-done

@@ -9,18 +9,14 @@ use Rattle.ss_records_entities.proofs.records.Records.text.Goals as goal
 pub value_start-k-requires : goal.value_start-k-requires
 value_start-k-requires c = let r = c.args.self.now in few_fields r.layout c.args.class c.args.field Alpha c.requires.kept.small c.requires.mode
 
-pub text-requires-clause-first : goal.text-requires-clause-first
-text-requires-clause-first c =
+pub text-requires : goal.text-requires
+text-requires c =
     let r = c.args.self.now in let f = c.in-Ok.ensures.found in
-    first_number r.layout r.blocks.cells r.system.at (places r) r.notes.lists c.requires.kept f.index c.in-Ok.place f.entry c.args.class f.class _ f.is f.entity c.args.field c.value_start-k.result c.value_start-k.ensures.at Alpha c.requires.mode
-
-pub text-requires-clause-second : goal.text-requires-clause-second
-text-requires-clause-second c =
-    let r = c.args.self.now in let f = c.in-Ok.ensures.found in
-    second_number r.layout r.blocks.cells r.system.at (places r) r.notes.lists c.requires.kept f.index c.in-Ok.place f.entry c.args.class f.class _ f.is f.entity c.args.field c.value_start-k.result c.value_start-k.ensures.at Alpha c.requires.mode
-
-pub text-requires-clause-room : goal.text-requires-clause-room
-text-requires-clause-room c = omega (arith, c.value_start-k.ensures.bound)
+    record {
+      first = first_number r.layout r.blocks.cells r.system.at (places r) r.notes.lists c.requires.kept f.index c.in-Ok.place f.entry c.args.class f.class _ f.is f.entity c.args.field c.value_start-k.result c.value_start-k.ensures.at Alpha c.requires.mode;
+      second = second_number r.layout r.blocks.cells r.system.at (places r) r.notes.lists c.requires.kept f.index c.in-Ok.place f.entry c.args.class f.class _ f.is f.entity c.args.field c.value_start-k.result c.value_start-k.ensures.at Alpha c.requires.mode;
+      room = omega (arith, c.value_start-k.ensures.bound);
+    }
 
 pub returns-in-Ok : goal.returns-in-Ok
 returns-in-Ok c =

@@ -8,18 +8,14 @@ use Rattle.ss_records_entities.proofs.records.Records.value.Goals as goal
 pub value_start-k-requires : goal.value_start-k-requires
 value_start-k-requires c = let r = c.args.self.now in few_fields r.layout c.args.class c.args.field c.mode-mode.result c.requires.kept.small c.mode-mode.ensures
 
-pub value-requires-clause-first : goal.value-requires-clause-first
-value-requires-clause-first c =
+pub value-requires : goal.value-requires
+value-requires c =
     let r = c.args.self.now in let f = c.in-Ok.ensures.found in
-    first_number r.layout r.blocks.cells r.system.at (places r) r.notes.lists c.requires.kept f.index c.in-Ok.place f.entry c.args.class f.class _ f.is f.entity c.args.field c.value_start-k.result c.value_start-k.ensures.at c.mode-mode.result c.mode-mode.ensures
-
-pub value-requires-clause-second : goal.value-requires-clause-second
-value-requires-clause-second c =
-    let r = c.args.self.now in let f = c.in-Ok.ensures.found in
-    second_number r.layout r.blocks.cells r.system.at (places r) r.notes.lists c.requires.kept f.index c.in-Ok.place f.entry c.args.class f.class _ f.is f.entity c.args.field c.value_start-k.result c.value_start-k.ensures.at c.mode-mode.result c.mode-mode.ensures
-
-pub value-requires-clause-room : goal.value-requires-clause-room
-value-requires-clause-room c = omega (arith, c.value_start-k.ensures.bound)
+    record {
+      first = first_number r.layout r.blocks.cells r.system.at (places r) r.notes.lists c.requires.kept f.index c.in-Ok.place f.entry c.args.class f.class _ f.is f.entity c.args.field c.value_start-k.result c.value_start-k.ensures.at c.mode-mode.result c.mode-mode.ensures;
+      second = second_number r.layout r.blocks.cells r.system.at (places r) r.notes.lists c.requires.kept f.index c.in-Ok.place f.entry c.args.class f.class _ f.is f.entity c.args.field c.value_start-k.result c.value_start-k.ensures.at c.mode-mode.result c.mode-mode.ensures;
+      room = omega (arith, c.value_start-k.ensures.bound);
+    }
 
 pub returns-in-Ok : goal.returns-in-Ok
 returns-in-Ok c =

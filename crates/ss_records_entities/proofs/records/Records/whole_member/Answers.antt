@@ -44,60 +44,44 @@ overflow_cast-result c =
     let h = next_fits r c.requires.kept c.args.s c.requires.set (record { place = c.in-Ok.place; number = c.number-number.result }) j.0 c.member_base-base.result c.member_base-base.ensures.at c.follow-next.result c.follow-next.ensures.word c.follow-next.ensures.there c.other_than.result c.other_than.ensures.same c.other_than.ensures.other in
     omega (arith, ints, h)
 
-pub returns-in-Ok-clause-found : goal.returns-in-Ok-clause-found
-returns-in-Ok-clause-found c =
-    let r = c.args.self.now in let fits = c.ranges.x in let f = simp to_z-of_z at c.in-Ok.ensures.found in
-    let k = kind_is r.layout c.args.s (λ (t : SetLayout). t.member) c.member_class-class.result c.requires.set c.member_class-class.ensures.is in
-    let e = ap member_in k.1 ∙ k.2 in
-    let j = joins_found r c.requires.kept c.member_class-class.result c.args.x c.in-Ok.place f c.number-number.result c.number-number.ensures c.args.s e in
-    let kk = kind_is r.layout c.args.s (λ (t : SetLayout). t.member) c.member_class-class.result c.requires.set c.member_class-class.ensures.is in
-    let m = subst (λ b. slice_get (modes_of r.layout b) c.args.field ≡ Some Integer) (ap member_in kk.1 ∙ kk.2) c.requires.mode in
-    let v = is_value r.layout r.blocks.cells r.system.at (places r) r.notes.lists c.requires.kept f.index c.in-Ok.place f.entry c.member_class-class.result f.class c.args.x f.is f.entity c.args.field c.value_start-k.result c.value_start-k.ensures.at Integer m in
-    let n = next_is r c.requires.kept c.args.s c.requires.set (record { place = c.in-Ok.place; number = c.number-number.result }) j.0 c.member_base-base.result c.member_base-base.ensures.at c.follow-next.result c.follow-next.ensures.word c.follow-next.ensures.there c.args.x c.other_than.result j.1 c.other_than.ensures.same c.other_than.ensures.other in
-    let w : to_z w64 (of_z w64 c.whole-value.result) ≡ c.whole-value.result = search rules in
-    (ap (λ b. value_in (state r) b c.args.field c.args.x) e ∙ v ∙ ap Ok (sym c.whole-value.ensures) ∙ ap (λ (z : ℤ). Ok (Whole z)) (sym w), sym n)
+pub returns-in-Ok : goal.returns-in-Ok
+returns-in-Ok c =
+    let r = c.args.self.now in let b = c.follow-next.new.self in let h : uncounted (record r { blocks = b }) ≡ uncounted r = λ i. record r { blocks = record { cells = c.follow-next.ensures.cells i; touches = 0; total = 0 } } in
+    record {
+      found =
+          let fits = c.ranges.x in let f = simp to_z-of_z at c.in-Ok.ensures.found in let k = kind_is r.layout c.args.s (λ (t : SetLayout). t.member) c.member_class-class.result c.requires.set c.member_class-class.ensures.is in
+          let e = ap member_in k.1 ∙ k.2 in let j = joins_found r c.requires.kept c.member_class-class.result c.args.x c.in-Ok.place f c.number-number.result c.number-number.ensures c.args.s e in
+          let kk = kind_is r.layout c.args.s (λ (t : SetLayout). t.member) c.member_class-class.result c.requires.set c.member_class-class.ensures.is in
+          let m = subst (λ b. slice_get (modes_of r.layout b) c.args.field ≡ Some Integer) (ap member_in kk.1 ∙ kk.2) c.requires.mode in
+          let v = is_value r.layout r.blocks.cells r.system.at (places r) r.notes.lists c.requires.kept f.index c.in-Ok.place f.entry c.member_class-class.result f.class c.args.x f.is f.entity c.args.field c.value_start-k.result c.value_start-k.ensures.at Integer m in
+          let n = next_is r c.requires.kept c.args.s c.requires.set (record { place = c.in-Ok.place; number = c.number-number.result }) j.0 c.member_base-base.result c.member_base-base.ensures.at c.follow-next.result c.follow-next.ensures.word c.follow-next.ensures.there c.args.x c.other_than.result j.1 c.other_than.ensures.same c.other_than.ensures.other in
+          let w : to_z w64 (of_z w64 c.whole-value.result) ≡ c.whole-value.result = search rules in
+          (ap (λ b. value_in (state r) b c.args.field c.args.x) e ∙ v ∙ ap Ok (sym c.whole-value.ensures) ∙ ap (λ (z : ℤ). Ok (Whole z)) (sym w), sym n);
+      kept = kept_still r (record r { blocks = b }) h c.requires.kept;
+      same = ap state h;
+      touches = one_touch r.blocks.touches r.blocks.total b.touches b.total c.requires.touches c.follow-next.ensures.touches;
+    }
 
-pub returns-in-Err-clause-found : goal.returns-in-Err-clause-found
-returns-in-Err-clause-found c =
-    let r = c.args.self.now in let fits = c.ranges.x in let f = simp to_z-of_z at c.in-Err.ensures.found in
-    let k = kind_is r.layout c.args.s (λ (t : SetLayout). t.member) c.member_class-class.result c.requires.set c.member_class-class.ensures.is in
-    ap (λ z. and_then z (λ n. Ok (pos (follower n (companions r.notes.lists c.args.s n))))) (not_joiner (state r) c.args.s c.member_class-class.result c.args.x c.in-Err.fault (ap member_in k.1 ∙ k.2) f)
+pub returns-in-Err : goal.returns-in-Err
+returns-in-Err c =
+    let r = c.args.self.now in
+    record {
+      found =
+          let fits = c.ranges.x in let f = simp to_z-of_z at c.in-Err.ensures.found in let k = kind_is r.layout c.args.s (λ (t : SetLayout). t.member) c.member_class-class.result c.requires.set c.member_class-class.ensures.is in
+          ap (λ z. and_then z (λ n. Ok (pos (follower n (companions r.notes.lists c.args.s n))))) (not_joiner (state r) c.args.s c.member_class-class.result c.args.x c.in-Err.fault (ap member_in k.1 ∙ k.2) f);
+      kept = c.requires.kept;
+      same = refl;
+      touches = no_touch r.blocks.touches r.blocks.total 0 0 c.requires.touches 1 1;
+    }
 
 pub member_class-class-requires : goal.member_class-class-requires
 member_class-class-requires c = c.requires.set
 
-pub find-requires-clause-kept : goal.find-requires-clause-kept
-find-requires-clause-kept c = c.requires.kept
-
-pub find-requires-clause-class : goal.find-requires-clause-class
-find-requires-clause-class c = c.member_class-class.ensures.class
+pub find-requires : goal.find-requires
+find-requires c = record { kept = c.requires.kept; class = c.member_class-class.ensures.class }
 
 pub member_base-base-requires : goal.member_base-base-requires
 member_base-base-requires c = c.requires.set
 
 pub follow-next-requires-clause-room : goal.follow-next-requires-clause-room
 follow-next-requires-clause-room c = let r = c.args.self.now in room_first r.blocks.touches r.blocks.total 0 0 c.requires.touches
-
-pub returns-in-Ok-clause-kept : goal.returns-in-Ok-clause-kept
-returns-in-Ok-clause-kept c =
-    let r = c.args.self.now in let b = c.follow-next.new.self in let h : uncounted (record r { blocks = b }) ≡ uncounted r = λ i. record r { blocks = record { cells = c.follow-next.ensures.cells i; touches = 0; total = 0 } } in
-    kept_still r (record r { blocks = b }) h c.requires.kept
-
-pub returns-in-Ok-clause-same : goal.returns-in-Ok-clause-same
-returns-in-Ok-clause-same c =
-    let r = c.args.self.now in let b = c.follow-next.new.self in let h : uncounted (record r { blocks = b }) ≡ uncounted r = λ i. record r { blocks = record { cells = c.follow-next.ensures.cells i; touches = 0; total = 0 } } in
-    ap state h
-
-pub returns-in-Ok-clause-touches : goal.returns-in-Ok-clause-touches
-returns-in-Ok-clause-touches c =
-    let r = c.args.self.now in let b = c.follow-next.new.self in
-    one_touch r.blocks.touches r.blocks.total b.touches b.total c.requires.touches c.follow-next.ensures.touches
-
-pub returns-in-Err-clause-kept : goal.returns-in-Err-clause-kept
-returns-in-Err-clause-kept c = c.requires.kept
-
-pub returns-in-Err-clause-same : goal.returns-in-Err-clause-same
-returns-in-Err-clause-same c = refl
-
-pub returns-in-Err-clause-touches : goal.returns-in-Err-clause-touches
-returns-in-Err-clause-touches c = let r = c.args.self.now in no_touch r.blocks.touches r.blocks.total 0 0 c.requires.touches 1 1
