@@ -16,7 +16,7 @@ ghost use Rattle.ss_records_entities.specs.Passing.{ranks_past, first_where, bef
 use ss_base::{Alpha, FaultKind, Layout, Mode, Refused, Value};
 use ss_records_entities::records::Records;
 use ss_records_entities::sets::{Member, WholeMember};
-use ss_records_entities::skimming::{Filter, Skimmed};
+use ss_records_entities::skimming::{Filter, SetWalk, Skimmed};
 use std::alloc::{AllocError, Global};
 use std::marker::Model;
 
@@ -441,30 +441,22 @@ impl Heap {
         self.records.onward(set, o, x, reverse)
     }
 
-    /// Walks along the set of an owner from the member x on, or in reverse, past members that a filter passes over. It looks at
-    /// `most` members at most, the one where it stops among them: an `onward` and a `value` for each, with one search for x. None
-    /// where x is not in that set or not of the class of the filter, or there is a fault, and it may give up elsewhere too.
+    /// Walks along a set from the member x on, past members that a filter passes over. It looks at `most` members at most, the
+    /// one where it stops among them: an `onward` and a `value` for each, with one search for x. None where x is not in that
+    /// set or not of the class of the filter, or there is a fault, and it may give up elsewhere too.
     #[inline(always)]
-    pub fn skim(
-        &mut self,
-        set: usize,
-        o: i64,
-        x: i64,
-        reverse: bool,
-        filter: &Filter,
-        most: u64,
-    ) -> Option<Skimmed>
-        requires set { set < length self.old.state.layout.sets }
+    pub fn skim(&mut self, walk: SetWalk, x: i64, filter: &Filter, most: u64) -> Option<Skimmed>
+        requires set { walk.set < length self.old.state.layout.sets }
         requires mode { slice_get (modes_of self.old.state.layout filter.now.class) filter.now.field ≡ Some Mode.Integer }
         requires some { 1 ≤ most }
         requires few { most < 2 ^ 32 }
-        ensures found { IfSome result (λ k. IsSkimmed self.old.state set o reverse filter.now x k) }
+        ensures found { IfSome result (λ k. IsSkimmed self.old.state walk.set walk.owner walk.reverse filter.now x k) }
         ensures within { IfSome result (λ k. k.passed < most) }
         ensures same { self.new.state ≡ self.old.state }
         ensures touches { (self.new.touches ≤ 2 * most) × (self.new.total ≡ self.old.total + self.new.touches) }
     {
         self.records.start();
-        self.records.skim(set, o, x, reverse, filter, most)
+        self.records.skim(walk, x, filter, most)
     }
 
     /// The owner whose set of this name x is in, if any. Faults: 1 to 5.

@@ -10,7 +10,9 @@ pub returns : goal.returns
 returns c =
     let e : state c.start.new.self ≡ c.args.self.now.state = ap state c.start.ensures ∙ ap (λ (w : Heaped). w.state) c.self.view_is in
     record {
-      found = let fo = c.ranges.o in let fx = c.ranges.x in let h = simp to_z-of_z at c.skim.ensures.found in subst (λ (s : State). IfSome c.skim.result (λ k. IsSkimmed s c.args.set c.args.o c.args.reverse c.args.filter.now c.args.x k)) e h;
+      found =
+          let fx = c.ranges.x in let h = simp to_z-of_z at c.skim.ensures.found in
+          subst (λ (s : State). IfSome c.skim.result (λ k. IsSkimmed s c.args.walk.set c.args.walk.owner c.args.walk.reverse c.args.filter.now c.args.x k)) e h;
       within = search rules;
       same = c.skim.ensures.same ∙ e;
       touches = search rules;
