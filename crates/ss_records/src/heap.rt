@@ -500,7 +500,7 @@ impl Heap {
         ensures touches { (self.new.touches ≤ 12) × (IsOk result → 4 ≤ self.new.touches) × (self.new.total ≡ self.old.total + self.new.touches) }
     {
         self.records.start();
-        self.records.file_before(set, o, x, y)
+        self.records.file_beside(set, o, x, y, true)
     }
 
     /// Files x directly after y in the set of an owner. Faults: those of x (1 to 5), of y, of the owner, then 6
@@ -511,7 +511,7 @@ impl Heap {
         ensures touches { (self.new.touches ≤ 12) × (IsOk result → 4 ≤ self.new.touches) × (self.new.total ≡ self.old.total + self.new.touches) }
     {
         self.records.start();
-        self.records.file_after(set, o, x, y)
+        self.records.file_beside(set, o, x, y, false)
     }
 
     /// Takes x out of the set of an owner. Faults: those of x (1 to 5), of the owner, then 7 where x isn't in this
