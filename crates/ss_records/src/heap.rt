@@ -200,7 +200,7 @@ impl Heap {
         ensures touches { (self.new.touches ≡ 0) × (self.new.total ≡ self.old.total) }
     {
         self.records.start();
-        self.records.add_whole(class, field, r, n)
+        self.records.change_whole(class, field, r, n, false)
     }
 
     /// Subtracts a number from an attribute of whole numbers. Faults: 1 to 5, then 14 where the difference does not fit 64 bits.
@@ -218,7 +218,7 @@ impl Heap {
         ensures touches { (self.new.touches ≡ 0) × (self.new.total ≡ self.old.total) }
     {
         self.records.start();
-        self.records.subtract_whole(class, field, r, n)
+        self.records.change_whole(class, field, r, n, true)
     }
 
     /// Whether a class owns a set.

@@ -57,7 +57,7 @@ remember-requires c =
 pub cut_out-requires : goal.cut_out-requires
 cut_out-requires c =
     let r = c.args.self.now in let e = c.in-Ok.owner in let q = c.follow-last.result in let b = c.follow-last.new.self in let k = c.requires.kept in let own = c.in-Ok.ensures.found.0 in let at = c.owner_base-base in
-    let p = c.remember.new.self in let h : uncounted p ≡ uncounted r = ap uncounted c.remember.ensures ∙ λ i. record r { blocks = record { cells = c.follow-last.ensures.cells i; touches = 0; total = 0 } } in
+    let looked : uncounted (record r { blocks = b }) ≡ uncounted r = λ i. record r { blocks = record { cells = c.follow-last.ensures.cells i; touches = 0; total = 0 } } in let p = c.remember.new.self in let h : uncounted p ≡ uncounted r = ap uncounted c.remember.ensures ∙ looked in
     let between = at_last r k c.args.s c.requires.set e own at.result at.ensures.at q c.follow-last.ensures.word c.follow-last.ensures.there in
     let inn = last_in_it r c.args.s e.number q (record { place = r.system; number = 0 }) (members_of r.notes.lists c.args.s e.number) between c.if-last-eq0.false in
     record {
@@ -81,7 +81,7 @@ returns-else-last-eq0 c =
     record {
       kept = c.cut_out.ensures.kept;
       done =
-          let h : uncounted c.remember.new.self ≡ uncounted r = ap uncounted c.remember.ensures ∙ λ i. record r { blocks = record { cells = c.follow-last.ensures.cells i; touches = 0; total = 0 } } in
+          let looked : uncounted (record r { blocks = b }) ≡ uncounted r = λ i. record r { blocks = record { cells = c.follow-last.ensures.cells i; touches = 0; total = 0 } } in let h : uncounted c.remember.new.self ≡ uncounted r = ap uncounted c.remember.ensures ∙ looked in
           let between = at_last r k c.args.s c.requires.set e own at.result at.ensures.at q c.follow-last.ensures.word c.follow-last.ensures.there in
           let inn = last_in_it r c.args.s e.number q (record { place = r.system; number = 0 }) (members_of r.notes.lists c.args.s e.number) between c.if-last-eq0.false in let fits = c.ranges.o in
           let t = simp to_z-of_z at c.in-Ok.ensures.found in let found = sym (last_value r k c.args.s c.requires.set e t.0 at.result at.ensures.at q c.follow-last.ensures.word c.follow-last.ensures.there c.args.o t.1) in

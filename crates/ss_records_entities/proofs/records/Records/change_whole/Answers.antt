@@ -1,16 +1,16 @@
 use Rattle.std.proofs.Common.{rules, ◌≡◌, w64, to_z, of_z, refl, sym, ap, subst, ◌∙◌, Ok}
-use Rattle.std.specs.Prelude.{pos, slice_index_or}
+use Rattle.std.specs.Prelude.{pos, if◌then◌else◌, slice_index_or}
 use Rattle.std.proofs.lemmas.Int.{to_z-of_z}
 use Rattle.ss_base.specs.declared.value.Value.TheVariants.{Whole}
 use Rattle.ss_base.specs.declared.layout.Mode.TheVariants.{Integer}
-use Rattle.ss_base.specs.Arithmetic.{minus_of}
+use Rattle.ss_base.specs.Arithmetic.{plus_of, minus_of}
 use Rattle.ss_world.specs.State.{and_then}
 use Rattle.ss_records_entities.specs.Attributes.{changed_number}
 use Rattle.ss_records_entities.specs.Parts.{places}
 use Rattle.ss_records_words.specs.Reading.{PutsValue}
 use Rattle.ss_records_entities.proofs.Assigns.{first_number, second_number, kept_assigned, length_assigned, is_assigned, reads_back, is_value}
 use Rattle.ss_records_entities.proofs.Still.{few_fields}
-use Rattle.ss_records_entities.proofs.records.Records.subtract_whole.Goals as goal
+use Rattle.ss_records_entities.proofs.records.Records.change_whole.Goals as goal
 
 pub value_start-k-requires : goal.value_start-k-requires
 value_start-k-requires c = let r = c.args.self.now in few_fields r.layout c.args.class c.args.field Integer c.requires.kept.small c.requires.mode
@@ -28,22 +28,22 @@ set_whole-requires c =
       second = second_number r.layout r.blocks.cells r.system.at (places r) r.notes.lists c.requires.kept f.index c.in-Ok.place f.entry c.args.class f.class _ f.is f.entity c.args.field c.value_start-k.result c.value_start-k.ensures.at Integer c.requires.mode;
     }
 
-pub returns-in-Ok-minus : goal.returns-in-Ok-minus
-returns-in-Ok-minus c =
+pub returns-in-Ok-changed : goal.returns-in-Ok-changed
+returns-in-Ok-changed c =
     let r = c.args.self.now in let f = c.in-Ok.ensures.found in
     record {
       kept = kept_assigned r.layout r.blocks.cells r.system.at (places r) r.notes.lists c.requires.kept f.index c.in-Ok.place f.entry c.args.class f.class _ f.is f.entity c.args.field c.value_start-k.result c.value_start-k.ensures.at _ c.requires.mode c.set_whole.new.blocks.cells c.set_whole.ensures.written;
       done =
           let fits = c.ranges.r in let f = simp to_z-of_z at c.in-Ok.ensures.found in let before : to_z w64 (of_z w64 c.whole.result) ≡ c.whole.result = search rules in
-          let by : to_z w64 (of_z w64 c.args.n) ≡ c.args.n = search rules in let changed : to_z w64 (of_z w64 c.in-Ok-minus.changed) ≡ c.in-Ok-minus.changed = search rules in
+          let change = if c.args.subtract then minus_of else plus_of in let by : to_z w64 (of_z w64 c.args.n) ≡ c.args.n = search rules in let changed : to_z w64 (of_z w64 c.in-Ok-changed.number) ≡ c.in-Ok-changed.number = search rules in
           let written = subst (λ z. PutsValue r.blocks.cells c.set_whole.new.blocks.cells c.in-Ok.place.at c.value_start-k.result (Whole z)) changed c.set_whole.ensures.written in
           let read = is_value r.layout r.blocks.cells r.system.at (places r) r.notes.lists c.requires.kept f.index c.in-Ok.place f.entry c.args.class f.class c.args.r f.is f.entity c.args.field c.value_start-k.result c.value_start-k.ensures.at Integer c.requires.mode ∙ ap Ok (sym c.whole.ensures) in
           record {
-            number = c.in-Ok-minus.changed;
-            makes = ap (changed_number (λ z. minus_of z c.args.n)) read ∙ (λ i. minus_of (sym before i) (sym by i)) ∙ sym c.in-Ok-minus.ensures;
+            number = c.in-Ok-changed.number;
+            makes = ap (changed_number (λ z. change z c.args.n)) read ∙ (λ i. change (sym before i) (sym by i)) ∙ sym c.in-Ok-changed.ensures;
             is = record {
-              gives = is_assigned r.layout r.blocks.cells r.system.at (places r) r.notes.lists c.requires.kept f.index c.in-Ok.place f.entry c.args.class f.class c.args.r f.is f.entity c.args.field c.value_start-k.result c.value_start-k.ensures.at (Whole c.in-Ok-minus.changed) c.requires.mode c.set_whole.new.blocks.cells written;
-              reads = reads_back r.layout r.blocks.cells r.system.at (places r) r.notes.lists c.requires.kept f.index c.in-Ok.place f.entry c.args.class f.class c.args.r f.is f.entity c.args.field c.value_start-k.result c.value_start-k.ensures.at (Whole c.in-Ok-minus.changed) c.requires.mode c.set_whole.new.blocks.cells written;
+              gives = is_assigned r.layout r.blocks.cells r.system.at (places r) r.notes.lists c.requires.kept f.index c.in-Ok.place f.entry c.args.class f.class c.args.r f.is f.entity c.args.field c.value_start-k.result c.value_start-k.ensures.at (Whole c.in-Ok-changed.number) c.requires.mode c.set_whole.new.blocks.cells written;
+              reads = reads_back r.layout r.blocks.cells r.system.at (places r) r.notes.lists c.requires.kept f.index c.in-Ok.place f.entry c.args.class f.class c.args.r f.is f.entity c.args.field c.value_start-k.result c.value_start-k.ensures.at (Whole c.in-Ok-changed.number) c.requires.mode c.set_whole.new.blocks.cells written;
             };
           };
       touches = search rules;
@@ -51,16 +51,16 @@ returns-in-Ok-minus c =
     }
 
 -- the number does not fit
-pub returns-in-Err-minus-clause-done : goal.returns-in-Err-minus-clause-done
-returns-in-Err-minus-clause-done c =
+pub returns-in-Err-changed-clause-done : goal.returns-in-Err-changed-clause-done
+returns-in-Err-changed-clause-done c =
     let r = c.args.self.now in let fits = c.ranges.r in let f = simp to_z-of_z at c.in-Ok.ensures.found in
     let before : to_z w64 (of_z w64 c.whole.result) ≡ c.whole.result = search rules in
-    let by : to_z w64 (of_z w64 c.args.n) ≡ c.args.n = search rules in
+    let change = if c.args.subtract then minus_of else plus_of in let by : to_z w64 (of_z w64 c.args.n) ≡ c.args.n = search rules in
     let read = is_value r.layout r.blocks.cells r.system.at (places r) r.notes.lists c.requires.kept f.index c.in-Ok.place f.entry c.args.class f.class c.args.r f.is f.entity c.args.field c.value_start-k.result c.value_start-k.ensures.at Integer c.requires.mode ∙ ap Ok (sym c.whole.ensures) in
-    (ap (changed_number (λ z. minus_of z c.args.n)) read ∙ (λ i. minus_of (sym before i) (sym by i)) ∙ sym c.in-Err-minus.ensures, refl)
+    (ap (changed_number (λ z. change z c.args.n)) read ∙ (λ i. change (sym before i) (sym by i)) ∙ sym c.in-Err-changed.ensures, refl)
 
 -- there is no such entity
 pub returns-in-Err-clause-done : goal.returns-in-Err-clause-done
 returns-in-Err-clause-done c =
     let fits = c.ranges.r in let f = simp to_z-of_z at c.in-Err.ensures.found in
-    (ap (λ q. changed_number (λ z. minus_of z c.args.n) (and_then q (λ q. Ok (slice_index_or q.values c.args.field (Whole (pos 0)))))) f, refl)
+    (ap (λ q. changed_number (λ z. (if c.args.subtract then minus_of else plus_of) z c.args.n) (and_then q (λ q. Ok (slice_index_or q.values c.args.field (Whole (pos 0)))))) f, refl)
