@@ -9,6 +9,7 @@ ghost use Rattle.ss_records_words.specs.Kept.{IsPermanent};
 ghost use Rattle.ss_records_entities.specs.Parts.{IsKept, state, Owns, Joins};
 ghost use Rattle.ss_records_entities.specs.Passing.{ranks_past, first_where, before_where};
 
+use crate::finding::Hint;
 use crate::records::Records;
 use ss_base::{FaultKind, Mode, Owner, Value};
 use ss_records_blocks::{Directory, Entry, NUMBER};
@@ -366,7 +367,7 @@ impl Records {
         requires set { s < length self.now.layout.sets }
         ensures { IfSome result (λ e. Joins self.now s e × (joiner (state self.now) s x ≡ Ok e.number)) }
     {
-        match self.expected(self.layout.member_class(s), x) {
+        match self.hinted_of_class(self.layout.member_class(s), x, Hint::Next) {
             Some(place) => Some(Entry {
                 place,
                 number: self.blocks.number(place, NUMBER),

@@ -2,7 +2,7 @@ use Rattle.std.proofs.lemmas.Int.{to_z-of_z}
 use Rattle.ss_records_entities.specs.Parts.{places}
 use Rattle.ss_records_entities.proofs.Keeps.{class_number, class_right}
 use Rattle.ss_records_entities.proofs.Remembered.{found_numbered}
-use Rattle.ss_records_entities.proofs.records.Records.remembered.Goals as goal
+use Rattle.ss_records_entities.proofs.records.Records.hinted_of_class.Goals as goal
 
 pub number-requires : goal.number-requires
 number-requires c = let r = c.args.self.now in class_number r.layout r.blocks.cells r.system.at (places r) r.notes.lists c.requires.kept _ c.in-Some.place c.in-Some.ensures
