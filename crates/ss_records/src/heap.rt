@@ -310,7 +310,7 @@ impl Heap {
         ensures touches { (self.new.touches ≤ 1) × (IsOk result → 1 ≤ self.new.touches) × (self.new.total ≡ self.old.total + self.new.touches) }
     {
         self.records.start();
-        self.records.first(set, o)
+        self.records.end(set, o, false)
     }
 
     /// The last member of the set of an owner, 0 where there is none. Faults: 1 to 5.
@@ -321,7 +321,7 @@ impl Heap {
         ensures touches { (self.new.touches ≤ 1) × (IsOk result → 1 ≤ self.new.touches) × (self.new.total ≡ self.old.total + self.new.touches) }
     {
         self.records.start();
-        self.records.last(set, o)
+        self.records.end(set, o, true)
     }
 
     /// How many members the set of an owner has. Faults: 1 to 5.
@@ -361,7 +361,7 @@ impl Heap {
         ensures touches { (self.new.touches ≤ 1) × (IsOk result → 1 ≤ self.new.touches) × (self.new.total ≡ self.old.total + self.new.touches) }
     {
         self.records.start();
-        self.records.next(set, x)
+        self.records.next_to(set, x, false)
     }
 
     /// The value of an attribute of x, of the class of the members of a set, and the member that follows x in its set,
@@ -423,7 +423,7 @@ impl Heap {
         ensures touches { (self.new.touches ≤ 1) × (IsOk result → 1 ≤ self.new.touches) × (self.new.total ≡ self.old.total + self.new.touches) }
     {
         self.records.start();
-        self.records.previous(set, x)
+        self.records.next_to(set, x, true)
     }
 
     /// The member that follows x in the set of an owner, or in reverse the one that precedes it, 0 where there is none: an

@@ -1,14 +1,23 @@
 -- What a call that only reads leaves for the calls after it, and how many touches there are.
-use Rattle.std.proofs.Common.{◌≡◌, ℕ, ◌+◌, ◌≤◌, ◌<◌, ◌^◌, Bool, true, false, Fits, w64, length, slice_get, Some, sym, subst, arith}
+use Rattle.std.proofs.Common.{◌≡◌, ℕ, ◌+◌, ◌≤◌, ◌<◌, ◌^◌, Bool, true, false, Fits, w64, length, slice_get, Some, sym, ap, subst, ◌∙◌, arith}
 use Rattle.std.proofs.lemmas.Option.{slice_get_within}
 use Rattle.ss_base.specs.declared.layout.Layout.{Layout}
 use Rattle.ss_base.specs.declared.layout.Mode.{Mode}
 use Rattle.ss_records_entities.specs.declared.records.Records.{Records}
 use Rattle.ss_records_blocks.specs.declared.links.Entry.{Entry}
+use Rattle.ss_records_blocks.specs.Cells.{Memory}
 use Rattle.ss_world.specs.State.{modes_of, is_filed, members_of, contains}
 use Rattle.ss_records_words.specs.Kept.{Small}
 use Rattle.ss_records_entities.specs.Parts.{IsKept, uncounted, Owns, Joins}
 use Rattle.ss_records_blocks.proofs.Same.{false_is_not_true}
+
+-- a read of the blocks changes nothing but counts of touches
+pub reads_only : (r : Records) (b : Memory) → b.cells ≡ r.blocks.cells → uncounted (record r { blocks = b }) ≡ uncounted r
+reads_only r b e = λ i. record r { blocks = record { cells = e i; touches = 0; total = 0 } }
+
+-- .. and so does a call that only reads
+pub unmoved : (r q : Records) → q ≡ record r { blocks = q.blocks } → q.blocks.cells ≡ r.blocks.cells → uncounted q ≡ uncounted r
+unmoved r q h e = ap uncounted h ∙ reads_only r q.blocks e
 
 module _ (r q : Records) (h : uncounted q ≡ uncounted r) where
   pub kept_still : IsKept r → IsKept q

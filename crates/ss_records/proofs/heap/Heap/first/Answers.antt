@@ -9,7 +9,7 @@ pub returns : goal.returns
 returns c =
     let e : state c.start.new.self ≡ c.args.self.now.state = ap state c.start.ensures ∙ ap (λ (w : Heaped). w.state) c.self.view_is in
     record {
-      value = let fits = c.ranges.o in let h = simp to_z-of_z at c.first.ensures.value in subst (λ (s : State). c.first.result ≡ first_in s c.args.set c.args.o) e h;
-      same = c.first.ensures.same ∙ e;
+      value = let fits = c.ranges.o in let h = simp to_z-of_z at c.end.ensures.value in subst (λ (s : State). c.end.result ≡ first_in s c.args.set c.args.o) e h;
+      same = c.end.ensures.same ∙ e;
       touches = search rules;
     }

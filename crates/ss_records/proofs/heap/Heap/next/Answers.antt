@@ -9,7 +9,7 @@ pub returns : goal.returns
 returns c =
     let e : state c.start.new.self ≡ c.args.self.now.state = ap state c.start.ensures ∙ ap (λ (w : Heaped). w.state) c.self.view_is in
     record {
-      value = let fits = c.ranges.x in let h = simp to_z-of_z at c.next.ensures.value in subst (λ (s : State). c.next.result ≡ next_in s c.args.set c.args.x) e h;
-      same = c.next.ensures.same ∙ e;
+      value = let fits = c.ranges.x in let h = simp to_z-of_z at c.next_to.ensures.value in subst (λ (s : State). c.next_to.result ≡ next_in s c.args.set c.args.x) e h;
+      same = c.next_to.ensures.same ∙ e;
       touches = search rules;
     }

@@ -3,8 +3,7 @@ use Rattle.std.proofs.lemmas.Int.{ints, to_z-of_z}
 use Rattle.ss_records_blocks.proofs.Same.{false_is_not_true}
 use Rattle.ss_records_entities.specs.Parts.{state}
 use Rattle.ss_records_entities.proofs.Looks.{counts, how_many_small, how_many_value}
-use Rattle.ss_records_entities.proofs.Passing.{as_before}
-use Rattle.ss_records_entities.proofs.Still.{kept_still}
+use Rattle.ss_records_entities.proofs.Still.{kept_still, unmoved}
 use Rattle.ss_records_entities.proofs.records.Records.count.Goals as goal
 
 pub owner-requires : goal.owner-requires
@@ -37,8 +36,8 @@ returns-in-Ok c =
       value =
           let fits = c.ranges.o in let f = simp to_z-of_z at c.in-Ok.ensures.found in
           how_many_value c.args.self.now c.requires.kept c.args.s c.requires.set c.in-Ok.owner f.0 c.owner_base-base.result c.owner_base-base.ensures.at c.peek_count-count.result c.peek_count-count.ensures.word c.args.o f.1;
-      kept = let q = record r { blocks = c.start_at.new.self } in kept_still r q (as_before r q refl (c.start_at.ensures.cells ∙ c.peek_count-count.ensures.cells)) c.requires.kept;
-      same = ap state (as_before r (record r { blocks = c.start_at.new.self }) refl (c.start_at.ensures.cells ∙ c.peek_count-count.ensures.cells));
+      kept = let q = record r { blocks = c.start_at.new.self } in kept_still r q (unmoved r q refl (c.start_at.ensures.cells ∙ c.peek_count-count.ensures.cells)) c.requires.kept;
+      same = ap state (unmoved r (record r { blocks = c.start_at.new.self }) refl (c.start_at.ensures.cells ∙ c.peek_count-count.ensures.cells));
       touches = let n = c.peek_count-count.ensures.touches in let at = c.start_at.ensures.touches in (omega (arith, at.0), λ _. omega (arith, at.0), omega (arith, n.1, at.0, at.1));
     }
 
@@ -47,7 +46,7 @@ returns-in-Err c =
     let r = c.args.self.now in
     record {
       value = search rules;
-      kept = let q = record r { blocks = c.start.new.self } in kept_still r q (as_before r q refl c.start.ensures.cells) c.requires.kept;
-      same = ap state (as_before r (record r { blocks = c.start.new.self }) refl c.start.ensures.cells);
+      kept = let q = record r { blocks = c.start.new.self } in kept_still r q (unmoved r q refl c.start.ensures.cells) c.requires.kept;
+      same = ap state (unmoved r (record r { blocks = c.start.new.self }) refl c.start.ensures.cells);
       touches = let f = c.start.ensures.touches in (omega (arith, f.0), λ e. absurd (false_is_not_true e), omega (arith, f.0, f.1));
     }

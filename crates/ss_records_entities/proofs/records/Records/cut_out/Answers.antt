@@ -2,10 +2,10 @@ use Rattle.std.proofs.Common.{◌≡◌, ◌+◌, ◌++◌, refl, sym, ap, ◌�
 use Rattle.ss_records_blocks.specs.Cells.{link, number, word_at}
 use Rattle.ss_world.specs.State.{State}
 use Rattle.ss_world.specs.Sets.{with_list_of}
-use Rattle.ss_records_entities.specs.Parts.{state, uncounted}
+use Rattle.ss_records_entities.specs.Parts.{state}
 use Rattle.ss_records_entities.proofs.Files.{still_around}
 use Rattle.ss_records_entities.proofs.Cuts.{parts, prev_found, next_found, around_it, list_less}
-use Rattle.ss_records_entities.proofs.Still.{kept_still, set_still, owns_still, joins_still, base_room}
+use Rattle.ss_records_entities.proofs.Still.{kept_still, set_still, owns_still, joins_still, base_room, reads_only}
 use Rattle.ss_records_entities.proofs.Ends.{room_at_first, room_at_second, few_then, nine_touches}
 use Rattle.ss_records_entities.proofs.records.Records.cut_out.Goals as goal
 
@@ -32,7 +32,7 @@ follow-after-requires c =
 pub link_out-requires : goal.link_out-requires
 link_out-requires c =
     let r = c.args.self.now in
-    let h : uncounted (record r { blocks = c.follow-after.new.self }) ≡ uncounted r = λ i. record r { blocks = record { cells = (c.follow-after.ensures.cells ∙ c.follow-before.ensures.cells) i; touches = 0; total = 0 } } in
+    let h = reads_only r c.follow-after.new.self (c.follow-after.ensures.cells ∙ c.follow-before.ensures.cells) in
     record {
       kept = kept_still r (record r { blocks = c.follow-after.new.self }) h c.requires.kept;
       set = set_still r (record r { blocks = c.follow-after.new.self }) h c.args.s c.requires.set;
@@ -56,7 +56,7 @@ returns c =
       done =
           let x = c.args.x in let base = c.member_base-base in let o = c.args.owner.number in let d = parts r c.requires.kept c.args.s c.requires.set x c.requires.joins base.result base.ensures.at o c.requires.there in
           let a = c.follow-before.result in let z = c.follow-after.result in let cells = c.follow-before.ensures.cells in
-          let h : uncounted (record r { blocks = c.follow-after.new.self }) ≡ uncounted r = λ i. record r { blocks = record { cells = (c.follow-after.ensures.cells ∙ cells) i; touches = 0; total = 0 } } in
+          let h = reads_only r c.follow-after.new.self (c.follow-after.ensures.cells ∙ cells) in
           let w : word_at r.blocks.cells x.place.at base.result ≡ link z.place.at = (λ i. word_at (sym cells i) x.place.at base.result) ∙ c.follow-after.ensures.word in
           let v : word_at r.blocks.cells z.place.at 1 ≡ number z.number = (λ i. word_at (sym cells i) z.place.at 1) ∙ c.follow-after.ensures.there in
           let around = around_it r c.requires.kept c.args.s c.requires.set x c.requires.joins base.result base.ensures.at o c.requires.there a c.follow-before.ensures.word c.follow-before.ensures.there z w v in

@@ -12,8 +12,7 @@ use Rattle.ss_records_words.specs.Kept.{Kept, state_of}
 use Rattle.ss_world.specs.State.{destroyed}
 use Rattle.ss_records_entities.specs.Parts.{places, state, uncounted}
 use Rattle.ss_records_entities.proofs.Destroys.{its_size, kept_destroyed, is_destroyed}
-use Rattle.ss_records_entities.proofs.Files.{unmoved}
-use Rattle.ss_records_entities.proofs.Still.{kept_still, as_many}
+use Rattle.ss_records_entities.proofs.Still.{kept_still, as_many, unmoved}
 use Rattle.ss_records_entities.proofs.Frees.{free_by, by_number}
 use Rattle.ss_records_entities.proofs.records.Records.destroy.Goals as goal
 

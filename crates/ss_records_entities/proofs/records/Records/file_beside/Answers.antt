@@ -6,9 +6,9 @@ use Rattle.ss_records_blocks.specs.Links.{Leads}
 use Rattle.ss_world.specs.State.{State}
 use Rattle.ss_world.specs.Sets.{with_list_of}
 use Rattle.ss_records_entities.specs.Parts.{state, uncounted}
-use Rattle.ss_records_entities.proofs.Files.{unmoved, looked, still_between}
+use Rattle.ss_records_entities.proofs.Files.{looked, still_between}
 use Rattle.ss_records_entities.proofs.Cuts.{front, back, beside_found, beside_it, list_beside, beside_twice, not_beside, beside_done, beside_failed}
-use Rattle.ss_records_entities.proofs.Still.{kept_still, set_still, owns_still, joins_still, free_still, listed_still, at_start, one_refused, one_few, then_refused, then_room, then_few, then_linked, no_touch}
+use Rattle.ss_records_entities.proofs.Still.{kept_still, set_still, owns_still, joins_still, free_still, listed_still, at_start, one_refused, one_few, then_refused, then_room, then_few, then_linked, no_touch, unmoved}
 use Rattle.ss_records_entities.proofs.records.Records.file_beside.Goals as goal
 
 pub triple-requires : goal.triple-requires

@@ -5,9 +5,9 @@ use Rattle.ss_world.specs.State.{State, members_of}
 use Rattle.ss_world.specs.Sets.{with_list_of, put_in}
 use Rattle.ss_records_entities.specs.Parts.{state, uncounted}
 use Rattle.ss_records_entities.proofs.Looks.{first_leads}
-use Rattle.ss_records_entities.proofs.Files.{unmoved, looked, still_between}
+use Rattle.ss_records_entities.proofs.Files.{looked, still_between}
 use Rattle.ss_records_entities.proofs.Cuts.{at_first, put_twice, put_done}
-use Rattle.ss_records_entities.proofs.Still.{kept_still, set_still, owns_still, joins_still, free_still, at_start, one_refused, one_room, one_then_few, one_then_linked, no_touch}
+use Rattle.ss_records_entities.proofs.Still.{kept_still, set_still, owns_still, joins_still, free_still, at_start, one_refused, one_room, one_then_few, one_then_linked, no_touch, unmoved}
 use Rattle.ss_records_entities.proofs.records.Records.file_first.Goals as goal
 
 pub follow-first-requires : goal.follow-first-requires

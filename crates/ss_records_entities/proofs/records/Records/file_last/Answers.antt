@@ -4,8 +4,7 @@ use Rattle.ss_world.specs.Sets.{put_in}
 use Rattle.ss_records_blocks.proofs.Same.{false_is_not_true}
 use Rattle.ss_records_entities.specs.Parts.{state}
 use Rattle.ss_records_entities.proofs.Cuts.{put_tried}
-use Rattle.ss_records_entities.proofs.Passing.{as_before}
-use Rattle.ss_records_entities.proofs.Still.{kept_still}
+use Rattle.ss_records_entities.proofs.Still.{kept_still, unmoved}
 use Rattle.ss_records_entities.proofs.records.Records.file_last.Goals as goal
 
 pub pair-requires : goal.pair-requires
@@ -23,9 +22,9 @@ pub returns-in-Err : goal.returns-in-Err
 returns-in-Err c =
     let r = c.args.self.now in
     record {
-      kept = let q = record r { blocks = c.start.new.self } in kept_still r q (as_before r q refl c.start.ensures.cells) c.requires.kept;
+      kept = let q = record r { blocks = c.start.new.self } in kept_still r q (unmoved r q refl c.start.ensures.cells) c.requires.kept;
       done =
           let fo = c.ranges.o in let fx = c.ranges.x in let f = simp to_z-of_z at c.in-Err.ensures.found in
-          (f (λ n m. put_in (λ y l. l ++ y ∷ []) (state r) c.args.s m n), ap state (as_before r (record r { blocks = c.start.new.self }) refl c.start.ensures.cells));
+          (f (λ n m. put_in (λ y l. l ++ y ∷ []) (state r) c.args.s m n), ap state (unmoved r (record r { blocks = c.start.new.self }) refl c.start.ensures.cells));
       touches = let f = c.start.ensures.touches in (omega (arith, f.0), λ e. absurd (false_is_not_true e), omega (arith, f.0, f.1));
     }

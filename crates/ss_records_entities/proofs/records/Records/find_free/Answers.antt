@@ -1,4 +1,4 @@
-use Rattle.std.proofs.Common.{rules, ◌≡◌, suc, ◌+◌, ◌≤◌, true, false, Some, slice_get, sym, ap, subst, ◌∙◌, arith}
+use Rattle.std.proofs.Common.{◌≡◌, suc, ◌+◌, ◌≤◌, true, false, Some, slice_get, sym, ap, subst, ◌∙◌, arith}
 use Rattle.ss_base.specs.declared.layout.Owner.TheVariants.{Class}
 use Rattle.ss_records_words.specs.Shape.{count_sets, owned_by}
 use Rattle.std.specs.Prelude.{nat_abs}
@@ -10,8 +10,7 @@ use Rattle.ss_records_words.specs.Places.{class_at_place}
 use Rattle.ss_world.specs.State.{and_then, let_go, number_in, in_a_set, owns_members}
 use Rattle.ss_records_entities.specs.Parts.{places, state, uncounted}
 use Rattle.ss_records_entities.proofs.Destroys.{in_a_set_is, owns_members_is}
-use Rattle.ss_records_entities.proofs.Files.{unmoved}
-use Rattle.ss_records_entities.proofs.Still.{kept_still, start_ties, more_ties, after_ties}
+use Rattle.ss_records_entities.proofs.Still.{kept_still, start_ties, more_ties, after_ties, unmoved}
 use Rattle.ss_records_entities.proofs.Frees.{by_number}
 use Rattle.ss_records_entities.proofs.records.Records.find_free.Goals as goal
 

@@ -1,8 +1,7 @@
-use Rattle.std.proofs.Common.{rules, refl, ap, arith}
+use Rattle.std.proofs.Common.{refl, ap, arith}
 use Rattle.std.proofs.lemmas.Int.{ints, to_z-of_z}
 use Rattle.ss_records_entities.specs.Parts.{state}
-use Rattle.ss_records_entities.proofs.Passing.{as_before}
-use Rattle.ss_records_entities.proofs.Still.{kept_still}
+use Rattle.ss_records_entities.proofs.Still.{kept_still, unmoved}
 use Rattle.ss_records_entities.proofs.records.Records.first_past.Goals as goal
 
 pub owner-requires : goal.owner-requires
@@ -17,10 +16,10 @@ overflow_cast-result c = let h = c.past.ensures.small in omega (arith, ints, h)
 pub returns-in-Ok-clause-kept : goal.returns-in-Ok-clause-kept
 returns-in-Ok-clause-kept c =
     let r = c.args.self.now in let q = c.past.new.self in
-    kept_still r q (as_before r q c.past.ensures.same c.past.ensures.cells) c.requires.kept
+    kept_still r q (unmoved r q c.past.ensures.same c.past.ensures.cells) c.requires.kept
 
 pub returns-in-Ok-clause-same : goal.returns-in-Ok-clause-same
-returns-in-Ok-clause-same c = ap state (as_before c.args.self.now c.past.new.self c.past.ensures.same c.past.ensures.cells)
+returns-in-Ok-clause-same c = ap state (unmoved c.args.self.now c.past.new.self c.past.ensures.same c.past.ensures.cells)
 
 pub returns-in-Err : goal.returns-in-Err
 returns-in-Err c =

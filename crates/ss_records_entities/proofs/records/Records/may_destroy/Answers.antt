@@ -5,8 +5,7 @@ use Rattle.ss_base.specs.declared.fault.FaultKind.{FaultKind}
 use Rattle.ss_world.specs.State.{State, no_value}
 use Rattle.ss_records_entities.specs.Parts.{places, state, uncounted}
 use Rattle.ss_records_entities.proofs.Destroys.{is_destroyed}
-use Rattle.ss_records_entities.proofs.Files.{unmoved}
-use Rattle.ss_records_entities.proofs.Still.{kept_still}
+use Rattle.ss_records_entities.proofs.Still.{kept_still, unmoved}
 use Rattle.ss_records_entities.proofs.Frees.{by_number}
 use Rattle.ss_records_entities.proofs.records.Records.may_destroy.Goals as goal
 

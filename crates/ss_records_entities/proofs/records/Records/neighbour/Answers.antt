@@ -7,9 +7,8 @@ use Rattle.ss_records_entities.proofs.Looks.{owner_leads, owner_small, owner_has
 use Rattle.ss_records_entities.proofs.Onward.{beside_leads, beside_small, beside_free, beside_filed, beside_value, in_its, in_none, its_only}
 use Rattle.ss_records_entities.specs.declared.records.Records.{Records}
 use Rattle.ss_records_words.specs.Kept.{state_of}
-use Rattle.ss_records_entities.specs.Parts.{IsKept, state, places, uncounted}
-use Rattle.ss_records_entities.proofs.Still.{kept_still, joins_still, base_room2, room_first, one_room, one_counted, two_counted}
-use Rattle.ss_records_entities.proofs.Passing.{as_before}
+use Rattle.ss_records_entities.specs.Parts.{IsKept, state, places}
+use Rattle.ss_records_entities.proofs.Still.{kept_still, joins_still, base_room2, room_first, one_room, one_counted, two_counted, unmoved, reads_only}
 use Rattle.ss_records_entities.proofs.Remembered.{beside_joins}
 use Rattle.ss_records_entities.proofs.records.Records.neighbour.Goals as goal
 
@@ -31,7 +30,7 @@ follow-neighbour-requires-clause-room c = let b = c.args.self.now.blocks in room
 pub returns-then-neighbour-member : goal.returns-then-neighbour-member
 returns-then-neighbour-member c =
     let r = c.args.self.now in let b = c.follow-neighbour.new.self in let f = c.follow-neighbour.ensures in
-    let h = as_before r (record r { blocks = b }) refl f.cells in
+    let h = unmoved r (record r { blocks = b }) refl f.cells in
     let e = c.args.member in let base = c.member_base-base in let q = c.follow-neighbour.result in
     let w = subst (λ k. word_at r.blocks.cells e.place.at k ≡ link q.place.at) c.beside.ensures f.word in
     let free = beside_free r c.requires.kept c.args.s c.requires.set e c.requires.joins base.result base.ensures.at q f.there c.args.reverse w c.if-neighbour-member.true in
@@ -72,7 +71,7 @@ overflow_cast-owner c =
 pub returns-then-owner-o : goal.returns-then-owner-o
 returns-then-owner-o c =
     let r = c.args.self.now in let b = c.follow-neighbour.new.self in let d = c.follow-owner.new.self in let f = c.follow-owner.ensures in
-    let h = as_before r (record r { blocks = d }) refl (f.cells ∙ c.follow-neighbour.ensures.cells) in
+    let h = unmoved r (record r { blocks = d }) refl (f.cells ∙ c.follow-neighbour.ensures.cells) in
     let e = c.args.member in let base = c.member_base-base in let q = c.follow-neighbour.result in
     let w = subst (λ k. word_at r.blocks.cells e.place.at k ≡ link q.place.at) c.beside.ensures c.follow-neighbour.ensures.word in
     let filed = beside_filed r c.requires.kept c.args.s c.requires.set e c.requires.joins base.result base.ensures.at q c.follow-neighbour.ensures.there c.if-neighbour-member.false c.args.reverse w in
@@ -95,9 +94,9 @@ pub pass-requires : goal.pass-requires
 pass-requires c =
     let r = c.args.self.now in let q = record r { blocks = c.follow-owner.new.self } in
     record {
-      kept = kept_still r q (as_before r q refl (c.follow-owner.ensures.cells ∙ c.follow-neighbour.ensures.cells)) c.requires.kept;
+      kept = kept_still r q (unmoved r q refl (c.follow-owner.ensures.cells ∙ c.follow-neighbour.ensures.cells)) c.requires.kept;
       set = c.requires.set;
-      joins = joins_still r q (as_before r q refl (c.follow-owner.ensures.cells ∙ c.follow-neighbour.ensures.cells)) c.args.s c.args.member c.requires.joins;
+      joins = joins_still r q (unmoved r q refl (c.follow-owner.ensures.cells ∙ c.follow-neighbour.ensures.cells)) c.args.s c.args.member c.requires.joins;
       next =
           let e = c.args.member in let b = c.member_base-base in let q = c.follow-neighbour.result in let w = subst (λ k. word_at r.blocks.cells e.place.at k ≡ link q.place.at) c.beside.ensures c.follow-neighbour.ensures.word in
           let n = c.if-neighbour-member.false in let filed = beside_filed r c.requires.kept c.args.s c.requires.set e c.requires.joins b.result b.ensures.at q c.follow-neighbour.ensures.there n c.args.reverse w in
@@ -105,7 +104,7 @@ pass-requires c =
           let u : word_at r.blocks.cells e.place.at (b.result + 2) ≡ link p.place.at = (λ i. word_at (sym cells i) e.place.at (b.result + 2)) ∙ c.follow-owner.ensures.word in
           let v : word_at r.blocks.cells p.place.at 1 ≡ number p.number = (λ i. word_at (sym cells i) p.place.at 1) ∙ c.follow-owner.ensures.there in
           let has = owner_has r c.requires.kept c.args.s c.requires.set e c.requires.joins b.result b.ensures.at filed p u v in
-          let h : uncounted (record r { blocks = z }) ≡ uncounted r = λ i. record r { blocks = record { cells = (c.follow-owner.ensures.cells ∙ cells) i; touches = 0; total = 0 } } in
+          let h = reads_only r z (c.follow-owner.ensures.cells ∙ cells) in
           λ some. joins_still r (record r { blocks = z }) h c.args.s q (beside_joins r c.requires.kept c.args.s c.requires.set e c.requires.joins b.result b.ensures.at p.number has.1 q c.follow-neighbour.ensures.there some c.args.reverse w);
     }
 
@@ -132,7 +131,7 @@ returns c =
             beside_value r c.requires.kept c.args.s c.requires.set e c.requires.joins b.result b.ensures.at q c.follow-neighbour.ensures.there n c.args.reverse w x j,
           );
       gone = λ zero none. absurd (none-some _ (sym none));
-      kept = let q = record r { blocks = c.follow-owner.new.self } in subst IsKept (sym c.pass.ensures) (kept_still r q (as_before r q refl (c.follow-owner.ensures.cells ∙ c.follow-neighbour.ensures.cells)) c.requires.kept);
+      kept = let q = record r { blocks = c.follow-owner.new.self } in subst IsKept (sym c.pass.ensures) (kept_still r q (unmoved r q refl (c.follow-owner.ensures.cells ∙ c.follow-neighbour.ensures.cells)) c.requires.kept);
       same = ap (λ (z : Records). state z) c.pass.ensures ∙ ap (λ bs. state_of r.layout bs (places r) r.notes.lists) (c.follow-owner.ensures.cells ∙ c.follow-neighbour.ensures.cells);
       touches =
           let a = c.args.self.now.blocks in let b = c.follow-neighbour.new.self in let d = c.follow-owner.new.self in

@@ -6,8 +6,7 @@ use Rattle.ss_world.specs.State.{has_members, members_of}
 use Rattle.ss_records_words.specs.Places.{class_at_place}
 use Rattle.ss_records_blocks.proofs.Entries.{get_there}
 use Rattle.ss_records_words.proofs.Filed.{owns_here, owns_not, owns_other, class_of_owner}
-use Rattle.ss_records_entities.proofs.Passing.{as_before}
-use Rattle.ss_records_entities.proofs.Still.{kept_still, later_room, last_look}
+use Rattle.ss_records_entities.proofs.Still.{kept_still, later_room, last_look, unmoved}
 use Rattle.ss_records_entities.proofs.Setless.{owns_none, as_owner, counts_one, counts_none}
 use Rattle.ss_records_words.specs.Shape.{owned_by}
 use Rattle.ss_records_entities.proofs.records.Records.owns_members.Goals as goal
@@ -46,7 +45,7 @@ is_owner-requires c = subst (λ (z : Records). c.loop-s.s < length z.layout.sets
 pub owns_in-requires : goal.owns_in-requires
 owns_in-requires c =
     record {
-      kept = let r = c.args.self.now in let m = c.loop-s in kept_still r m.self (as_before r m.self m.invariant.same m.invariant.cells) c.requires.kept;
+      kept = let r = c.args.self.now in let m = c.loop-s in kept_still r m.self (unmoved r m.self m.invariant.same m.invariant.cells) c.requires.kept;
       set = subst (λ (z : Records). c.loop-s.s < length z.layout.sets) (sym c.loop-s.invariant.same) (omega (arith, c.loop-s-test.true, c.names-s-end.ensures));
       entry = let e = c.requires.entry in (e.0, subst (λ (z : Records). slice_get z.directory.places e.0 ≡ Some (Some c.args.place)) (sym c.loop-s.invariant.same) e.1, e.2);
       class = λ t g.

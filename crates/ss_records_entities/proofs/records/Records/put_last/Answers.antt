@@ -6,8 +6,7 @@ use Rattle.ss_records_blocks.proofs.Same.{by_same, false_is_not_true}
 use Rattle.ss_records_entities.proofs.Looks.{next_leads, last_leads, counts, how_many, how_many_small, is_filed_value}
 use Rattle.ss_records_entities.proofs.Files.{owner_words, member_words, before_word, kept_in, state_in}
 use Rattle.ss_records_entities.proofs.Cuts.{at_last}
-use Rattle.ss_records_entities.proofs.Passing.{as_before}
-use Rattle.ss_records_entities.proofs.Still.{kept_still, owner_room}
+use Rattle.ss_records_entities.proofs.Still.{kept_still, owner_room, unmoved}
 use Rattle.ss_records_entities.proofs.records.Records.put_last.Goals as goal
 
 pub member_base-member-requires : goal.member_base-member-requires
@@ -25,7 +24,7 @@ start_at-requires c = tt
 pub returns-then-next-x : goal.returns-then-next-x
 returns-then-next-x c =
     let r = c.args.self.now in let q = record r { blocks = c.start_at.new.self } in let f = c.start_at.ensures in let look = c.look-next.ensures in
-    let h = as_before r q refl (f.cells ∙ look.cells) in
+    let h = unmoved r q refl (f.cells ∙ look.cells) in
     let e = c.look-next.result in let x = c.args.x in
     let filed : is_filed r.notes.lists c.args.s x.number ≡ true = sym (is_filed_value r c.requires.kept c.args.s c.requires.set x c.requires.joins c.member_base-member.result c.member_base-member.ensures.at e look.word look.there) ∙ by_same e.number x.number (λ z i. absurd (c.if-next-x.true i)) (λ z n. rw z refl) in
     record {

@@ -4,9 +4,8 @@ use Rattle.ss_records_entities.specs.declared.records.Records.{Records}
 use Rattle.ss_world.specs.State.{members_of}
 use Rattle.ss_world.specs.Sets.{with_list_of, taken_out, less}
 use Rattle.ss_records_entities.specs.Parts.{state, uncounted}
-use Rattle.ss_records_entities.proofs.Files.{unmoved}
 use Rattle.ss_records_entities.proofs.Cuts.{not_out, out_done}
-use Rattle.ss_records_entities.proofs.Still.{kept_still, set_still, owns_still, joins_still, listed_still, at_first, two_refused, two_few, two_then_nine, no_touch}
+use Rattle.ss_records_entities.proofs.Still.{kept_still, set_still, owns_still, joins_still, listed_still, at_first, two_refused, two_few, two_then_nine, no_touch, unmoved}
 use Rattle.ss_records_entities.proofs.records.Records.remove.Goals as goal
 
 pub pair-requires : goal.pair-requires

@@ -2,8 +2,7 @@ use Rattle.std.proofs.Common.{refl, ap, arith}
 use Rattle.std.proofs.lemmas.Int.{to_z-of_z}
 use Rattle.ss_records_entities.specs.Parts.{state}
 use Rattle.ss_records_entities.proofs.Ends.{drawn, first_refused}
-use Rattle.ss_records_entities.proofs.Passing.{as_before}
-use Rattle.ss_records_entities.proofs.Still.{kept_still}
+use Rattle.ss_records_entities.proofs.Still.{kept_still, unmoved}
 use Rattle.ss_records_entities.proofs.records.Records.remove_first.Goals as goal
 
 pub owner-requires : goal.owner-requires
@@ -21,7 +20,7 @@ pub returns-in-Err : goal.returns-in-Err
 returns-in-Err c =
     let r = c.args.self.now in
     record {
-      kept = let q = record r { blocks = c.start.new.self } in kept_still r q (as_before r q refl c.start.ensures.cells) c.requires.kept;
-      done = let fits = c.ranges.o in let t = simp to_z-of_z at c.in-Err.ensures.found in (first_refused (state r) c.args.s c.args.o c.in-Err.fault t, ap state (as_before r (record r { blocks = c.start.new.self }) refl c.start.ensures.cells));
+      kept = let q = record r { blocks = c.start.new.self } in kept_still r q (unmoved r q refl c.start.ensures.cells) c.requires.kept;
+      done = let fits = c.ranges.o in let t = simp to_z-of_z at c.in-Err.ensures.found in (first_refused (state r) c.args.s c.args.o c.in-Err.fault t, ap state (unmoved r (record r { blocks = c.start.new.self }) refl c.start.ensures.cells));
       touches = let f = c.start.ensures.touches in (omega (arith, f.0), omega (arith, f.0, f.1));
     }

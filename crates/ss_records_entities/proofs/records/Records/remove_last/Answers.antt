@@ -8,7 +8,7 @@ use Rattle.ss_world.specs.Sets.{with_list_of, less, last_in}
 use Rattle.ss_records_entities.specs.Parts.{state, uncounted}
 use Rattle.ss_records_entities.proofs.Looks.{as_whole, last_leads, last_small, last_value}
 use Rattle.ss_records_entities.proofs.Cuts.{at_last}
-use Rattle.ss_records_entities.proofs.Still.{kept_still, set_still, owns_still, joins_still, listed_still, room_first, one_few, owner_room}
+use Rattle.ss_records_entities.proofs.Still.{kept_still, set_still, owns_still, joins_still, listed_still, room_first, one_few, owner_room, reads_only}
 use Rattle.ss_records_entities.proofs.Ends.{joins_it, has_it, taken, last_in_it, none_taken, last_refused, untouched, one_at_most, one_and_nine}
 use Rattle.ss_records_entities.proofs.records.Records.remove_last.Goals as goal
 
@@ -31,7 +31,7 @@ follow-last-requires c =
 pub returns-then-last-eq0 : goal.returns-then-last-eq0
 returns-then-last-eq0 c =
     let r = c.args.self.now in let e = c.in-Ok.owner in let q = c.follow-last.result in let b = c.follow-last.new.self in let k = c.requires.kept in let own = c.in-Ok.ensures.found.0 in let at = c.owner_base-base in
-    let h : uncounted (record r { blocks = b }) ≡ uncounted r = λ i. record r { blocks = record { cells = c.follow-last.ensures.cells i; touches = 0; total = 0 } } in
+    let h = reads_only r b c.follow-last.ensures.cells in
     record {
       kept = kept_still r (record r { blocks = b }) h k;
       done =
@@ -45,7 +45,7 @@ returns-then-last-eq0 c =
 pub remember-requires : goal.remember-requires
 remember-requires c =
     let r = c.args.self.now in let e = c.in-Ok.owner in let q = c.follow-last.result in let b = c.follow-last.new.self in let k = c.requires.kept in let own = c.in-Ok.ensures.found.0 in let at = c.owner_base-base in
-    let h : uncounted (record r { blocks = b }) ≡ uncounted r = λ i. record r { blocks = record { cells = c.follow-last.ensures.cells i; touches = 0; total = 0 } } in
+    let h = reads_only r b c.follow-last.ensures.cells in
     let between = at_last r k c.args.s c.requires.set e own at.result at.ensures.at q c.follow-last.ensures.word c.follow-last.ensures.there in
     let inn = last_in_it r c.args.s e.number q (record { place = r.system; number = 0 }) (members_of r.notes.lists c.args.s e.number) between c.if-last-eq0.false in
     record {
@@ -57,7 +57,7 @@ remember-requires c =
 pub cut_out-requires : goal.cut_out-requires
 cut_out-requires c =
     let r = c.args.self.now in let e = c.in-Ok.owner in let q = c.follow-last.result in let b = c.follow-last.new.self in let k = c.requires.kept in let own = c.in-Ok.ensures.found.0 in let at = c.owner_base-base in
-    let looked : uncounted (record r { blocks = b }) ≡ uncounted r = λ i. record r { blocks = record { cells = c.follow-last.ensures.cells i; touches = 0; total = 0 } } in let p = c.remember.new.self in let h : uncounted p ≡ uncounted r = ap uncounted c.remember.ensures ∙ looked in
+    let looked = reads_only r b c.follow-last.ensures.cells in let p = c.remember.new.self in let h : uncounted p ≡ uncounted r = ap uncounted c.remember.ensures ∙ looked in
     let between = at_last r k c.args.s c.requires.set e own at.result at.ensures.at q c.follow-last.ensures.word c.follow-last.ensures.there in
     let inn = last_in_it r c.args.s e.number q (record { place = r.system; number = 0 }) (members_of r.notes.lists c.args.s e.number) between c.if-last-eq0.false in
     record {
@@ -81,7 +81,7 @@ returns-else-last-eq0 c =
     record {
       kept = c.cut_out.ensures.kept;
       done =
-          let looked : uncounted (record r { blocks = b }) ≡ uncounted r = λ i. record r { blocks = record { cells = c.follow-last.ensures.cells i; touches = 0; total = 0 } } in let h : uncounted c.remember.new.self ≡ uncounted r = ap uncounted c.remember.ensures ∙ looked in
+          let looked = reads_only r b c.follow-last.ensures.cells in let h : uncounted c.remember.new.self ≡ uncounted r = ap uncounted c.remember.ensures ∙ looked in
           let between = at_last r k c.args.s c.requires.set e own at.result at.ensures.at q c.follow-last.ensures.word c.follow-last.ensures.there in
           let inn = last_in_it r c.args.s e.number q (record { place = r.system; number = 0 }) (members_of r.notes.lists c.args.s e.number) between c.if-last-eq0.false in let fits = c.ranges.o in
           let t = simp to_z-of_z at c.in-Ok.ensures.found in let found = sym (last_value r k c.args.s c.requires.set e t.0 at.result at.ensures.at q c.follow-last.ensures.word c.follow-last.ensures.there c.args.o t.1) in
