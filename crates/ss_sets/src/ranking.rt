@@ -13,7 +13,7 @@ use ss_records::Heap;
 use std::cmp::Ordering;
 
 // What the members of a set are compared to by an attribute. Where it is known to be a whole number, so are their values.
-#[derive(Clone, Copy)]
+#[derive(Drop)]
 enum OwnValue {
     Whole(i64),
     Any(Value),
@@ -191,7 +191,7 @@ fn first_after_key(
         Err(fault) => return Err(fault),
     };
     while let Some(y) = member {
-        let its = match look_at(heap, set, key.field, own, y) {
+        let its = match look_at(heap, set, key.field, &own, y) {
             Ok(its) => its,
             Err(fault) => return Err(fault),
         };
@@ -214,27 +214,27 @@ fn look_at(
     heap: &mut Heap,
     set: usize,
     field: usize,
-    own: OwnValue,
+    own: &OwnValue,
     y: i64,
 ) -> Result<Ranked, FaultKind>
     requires set { set < length heap.old.state.layout.sets }
     requires field { field < length (modes_of heap.old.state.layout (member_class heap.old.state.layout set)) }
-    requires whole { (n : ℤ) → own ≡ OwnValue.Whole n → slice_get (modes_of heap.old.state.layout (member_class heap.old.state.layout set)) field ≡ Some Mode.Integer }
-    ensures found { MatchResult result (λ m. (m.order ≡ value_cmp (value_of heap.old.state (member_class heap.old.state.layout set) field y) (value_own own)) × (next_in heap.old.state set y ≡ Ok m.next)) (λ e. next_in heap.old.state set y ≡ Err e) }
+    requires whole { (n : ℤ) → own.now ≡ OwnValue.Whole n → slice_get (modes_of heap.old.state.layout (member_class heap.old.state.layout set)) field ≡ Some Mode.Integer }
+    ensures found { MatchResult result (λ m. (m.order ≡ value_cmp (value_of heap.old.state (member_class heap.old.state.layout set) field y) (value_own own.now)) × (next_in heap.old.state set y ≡ Ok m.next)) (λ e. next_in heap.old.state set y ≡ Err e) }
     ensures same { heap.new.state ≡ heap.old.state }
     ensures touches { (heap.new.touches ≤ 1) × (heap.new.total ≡ heap.old.total + heap.new.touches) }
 {
     match own {
         OwnValue::Whole(own) => match heap.whole_member(set, field, y) {
             Ok(its) => Ok(Ranked {
-                order: order_of_numbers(its.value, own),
+                order: order_of_numbers(its.value, *own),
                 next: its.next,
             }),
             Err(fault) => Err(fault),
         },
         OwnValue::Any(own) => match heap.member(set, field, y) {
             Ok(its) => Ok(Ranked {
-                order: order_of(&its.value, &own),
+                order: order_of(&its.value, own),
                 next: its.next,
             }),
             Err(fault) => Err(fault),

@@ -7,12 +7,12 @@ use Rattle.ss_sets.specs.Walks.{value_own}
 use Rattle.ss_sets.proofs.ranking.look_at.Goals as goal
 
 pub whole_member-requires : goal.whole_member-requires
-whole_member-requires c = record { set = c.requires.set; mode = c.requires.whole c.in-Whole.own c.in-Whole.is }
+whole_member-requires c = record { set = c.requires.set; mode = c.requires.whole _ c.in-Whole.is }
 
 pub returns-in-Ok : goal.returns-in-Ok
 returns-in-Ok c =
     let fy = c.ranges.y in let f = simp to_z-of_z at c.in-Ok.ensures.found in let t = c.in-Ok.ensures.touches in
-    let its : to_z w64 (of_z w64 c.in-Ok.its.value) ≡ c.in-Ok.its.value = search rules in let own : to_z w64 (of_z w64 c.in-Whole.own) ≡ c.in-Whole.own = search rules in
+    let its : to_z w64 (of_z w64 c.in-Ok.its.value) ≡ c.in-Ok.its.value = search rules in let own : to_z w64 (of_z w64 c.in-Whole.own.now) ≡ c.in-Whole.own.now = search rules in
     let next : to_z w64 (of_z w64 c.in-Ok.its.next) ≡ c.in-Ok.its.next = search rules in
     record {
       found = (c.order_of_numbers.ensures ∙ (λ i. int_cmp (its i) (own i)) ∙ (λ i. value_cmp (sym (ap value_or_zero f.0) i) (sym (ap value_own c.in-Whole.is) i)), f.1 ∙ ap (λ (z : ℤ). Ok z) (sym next));
