@@ -177,7 +177,7 @@ module _ (st : State) (s : ℕ) (o x : ℤ) (m n : ℕ) (jn : joiner st s x ≡ 
       pub beside_done : (new : State) → is_filed st.lists s n ≡ false → contains (members_of st.lists s m) k ≡ true → new ≡ with_list_of st s m (put_by before k n (members_of st.lists s m)) → whole ≡ Ok new
       beside_done new h i e = side before ∙ rw (h, i) (ap Ok (sym e))
 
--- .. where one of the three is none
+-- where one of the three references is to none, so does filing fail
 pub beside_failed : (before : Bool) (st : State) (s : ℕ) (o x y : ℤ) (f : FaultKind)
     → ((g : ℕ → ℕ → ℕ → Result State FaultKind) → and_then (joiner st s x) (λ n. and_then (joiner st s y) (λ k. and_then (owner st s o) (g n k))) ≡ Err f)
     → (if before then filed_before else filed_after) st s o x y ≡ Err f

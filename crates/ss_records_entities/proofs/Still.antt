@@ -15,7 +15,7 @@ use Rattle.ss_records_blocks.proofs.Same.{false_is_not_true}
 pub reads_only : (r : Records) (b : Memory) → b.cells ≡ r.blocks.cells → uncounted (record r { blocks = b }) ≡ uncounted r
 reads_only r b e = λ i. record r { blocks = record { cells = e i; touches = 0; total = 0 } }
 
--- .. and so does a call that only reads
+-- a call that only reads changes nothing else either
 pub unmoved : (r q : Records) → q ≡ record r { blocks = q.blocks } → q.blocks.cells ≡ r.blocks.cells → uncounted q ≡ uncounted r
 unmoved r q h e = ap uncounted h ∙ reads_only r q.blocks e
 

@@ -153,7 +153,7 @@ impl Records {
 
     // The entity that x refers to, which may be in a set, and the member that follows it, or in reverse precedes it: a touch.
     #[inline(always)]
-    fn look_beside(&mut self, s: usize, x: i64, reverse: bool) -> Result<Beside, FaultKind>
+    fn read_beside(&mut self, s: usize, x: i64, reverse: bool) -> Result<Beside, FaultKind>
         requires kept { IsKept self.old }
         requires set { s < length self.old.layout.sets }
         requires touches { self.old.blocks.touches ≡ 0 }
@@ -185,7 +185,7 @@ impl Records {
         ensures same { state self.new ≡ state self.old }
         ensures touches { (self.new.blocks.touches ≤ 1) × (IsOk result → 1 ≤ self.new.blocks.touches) × (self.new.blocks.total ≡ self.old.blocks.total + self.new.blocks.touches) }
     {
-        match self.look_beside(s, x, reverse) {
+        match self.read_beside(s, x, reverse) {
             Ok(found) => Ok(found.next),
             Err(fault) => Err(fault),
         }
@@ -202,7 +202,7 @@ impl Records {
         ensures same { state self.new ≡ state self.old }
         ensures touches { (self.new.blocks.touches ≤ 1) × (IsOk result → 1 ≤ self.new.blocks.touches) × (self.new.blocks.total ≡ self.old.blocks.total + self.new.blocks.touches) }
     {
-        match self.look_beside(s, x, false) {
+        match self.read_beside(s, x, false) {
             Ok(found) => {
                 let class = self.layout.member_class(s);
                 let mode = self.layout.mode(class, field);
@@ -228,7 +228,7 @@ impl Records {
         ensures same { state self.new ≡ state self.old }
         ensures touches { (self.new.blocks.touches ≤ 1) × (IsOk result → 1 ≤ self.new.blocks.touches) × (self.new.blocks.total ≡ self.old.blocks.total + self.new.blocks.touches) }
     {
-        match self.look_beside(s, x, false) {
+        match self.read_beside(s, x, false) {
             Ok(found) => {
                 let k = value_start(field);
                 let value = attributes::whole(&self.blocks, found.member.place, k);

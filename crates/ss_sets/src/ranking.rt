@@ -191,7 +191,7 @@ fn first_after_key(
         Err(fault) => return Err(fault),
     };
     while let Some(y) = member {
-        let its = match look_at(heap, set, key.field, &own, y) {
+        let its = match read_ranked(heap, set, key.field, &own, y) {
             Ok(its) => its,
             Err(fault) => return Err(fault),
         };
@@ -210,7 +210,7 @@ fn first_after_key(
 
 // How a member ranks by an attribute to a value, and the member that follows it.
 #[inline(always)]
-fn look_at(
+fn read_ranked(
     heap: &mut Heap,
     set: usize,
     field: usize,

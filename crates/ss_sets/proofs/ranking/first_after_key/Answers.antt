@@ -33,8 +33,8 @@ loop-member-init c =
       touches = (c.first_member.ensures.touches.0, omega (arith, same, c.first_member.ensures.touches.1));
     }
 
-pub look_at-requires : goal.look_at-requires
-look_at-requires c =
+pub read_ranked-requires : goal.read_ranked-requires
+read_ranked-requires c =
     let st = c.args.heap.now.state in let same = sym c.loop-member.invariant.same in
     record {
       set = subst (λ (s : State). c.args.set < length s.layout.sets) same c.requires.set;
@@ -45,7 +45,7 @@ look_at-requires c =
 
 pub ranks_after_by-requires : goal.ranks_after_by-requires
 ranks_after_by-requires c = record {
-  keys = subst (λ (l : Layout). AreFields l c.class_of-class.result c.args.others.now) (ap (λ (t : State). t.layout) (sym (c.in-Ok-look_at.ensures.same ∙ c.loop-member.invariant.same)))
+  keys = subst (λ (l : Layout). AreFields l c.class_of-class.result c.args.others.now) (ap (λ (t : State). t.layout) (sym (c.in-Ok-read_ranked.ensures.same ∙ c.loop-member.invariant.same)))
       (other_fields c.args.heap.now.state.layout c.args.set c.class_of-class.result c.args.key c.args.others.now c.class_of-class.ensures c.requires.keys);
 }
 
@@ -54,35 +54,35 @@ returns-then-ranks_after_by-clause-found c =
     let st = c.args.heap.now.state in let o : ℤ = to_z w64 (of_z w64 c.args.o) in let x : ℤ = to_z w64 (of_z w64 c.args.x) in let y : ℤ = to_z w64 (of_z w64 c.in-Some.y) in
     let own : o ≡ c.args.o = search rules in let its : x ≡ c.args.x = search rules in let hand : y ≡ c.in-Some.y = search rules in
     let all : List ℕ = owned st c.args.set o in let class = member_class st.layout c.args.set in let ks : List RankKey = c.args.key ∷ c.args.others.now in let h = c.loop-member.invariant in
-    let p = looked st c.sets_are_apart.ensures c.args.set c.requires.set o x c.args.key c.args.others.now c.loop-member.member c.in-Some.y y c.in-Some.is h.here hand c.loop-member.heap.state c.look_at.new.heap.state h.same c.in-Ok-look_at.ensures.same c.class_of-class.result c.class_of-class.ensures (value_own c.own_value-own.result) c.in-Ok-look_at.its.next c.in-Ok-look_at.ensures.found.1 c.own_value-own.ensures.is c.in-Ok-look_at.its.order true c.in-Ok-look_at.ensures.found.0 c.if-ranks_after_by.ensures in (
+    let p = looked st c.sets_are_apart.ensures c.args.set c.requires.set o x c.args.key c.args.others.now c.loop-member.member c.in-Some.y y c.in-Some.is h.here hand c.loop-member.heap.state c.read_ranked.new.heap.state h.same c.in-Ok-read_ranked.ensures.same c.class_of-class.result c.class_of-class.ensures (value_own c.own_value-own.result) c.in-Ok-read_ranked.its.next c.in-Ok-read_ranked.ensures.found.1 c.own_value-own.ensures.is c.in-Ok-read_ranked.its.order true c.in-Ok-read_ranked.ensures.found.0 c.if-ranks_after_by.ensures in (
       subst (λ (n : ℤ). IsOk (owner st c.args.set n)) own (found_first st c.args.set c.in-Ok.first o c.in-Ok.ensures.first).0,
       ap Some (hand ∙ p.is) ∙ sym (stops st class ks x p.z p.zs p.ranks).0 ∙ sym (ap (first_after st class ks x) p.rest) ∙ h.found
           ∙ ap (λ (n : ℤ). first_after st class ks n all) its ∙ ap (λ (n : ℤ). first_after st class ks c.args.x (owned st c.args.set n)) own,
     )
 
 -- a member is there
-impossible : (c : goal.In-Err-look_at) → ⊥
+impossible : (c : goal.In-Err-read_ranked) → ⊥
 impossible c =
     let st = c.args.heap.now.state in let o : ℤ = to_z w64 (of_z w64 c.args.o) in let y : ℤ = to_z w64 (of_z w64 c.in-Some.y) in
     let hand : y ≡ c.in-Some.y = search rules in
     let all : List ℕ = owned st c.args.set o in let h = c.loop-member.invariant in
     let a = reached_member all c.loop-member.member c.in-Some.y c.in-Some.is h.here in
     let n = next_is st c.sets_are_apart.ensures c.args.set c.requires.set o a.0 a.1 a.4 in
-    never_lost c.loop-member.heap.state st c.args.set y (pos a.0) (pos (head0 a.1)) c.in-Err-look_at.fault c.in-Err-look_at.ensures.found h.same (hand ∙ a.3) n
+    never_lost c.loop-member.heap.state st c.args.set y (pos a.0) (pos (head0 a.1)) c.in-Err-read_ranked.fault c.in-Err-read_ranked.ensures.found h.same (hand ∙ a.3) n
 
-pub returns-in-Err-look_at : goal.returns-in-Err-look_at
-returns-in-Err-look_at c = record { found = absurd (impossible c); same = search rules; touches = absurd (impossible c) }
+pub returns-in-Err-read_ranked : goal.returns-in-Err-read_ranked
+returns-in-Err-read_ranked c = record { found = absurd (impossible c); same = search rules; touches = absurd (impossible c) }
 
 -- x passes this member
-passed_one : (c : goal.After-as_member-member) → Looked c.args.heap.now.state c.args.set (to_z w64 (of_z w64 c.args.o)) (to_z w64 (of_z w64 c.args.x)) (c.args.key ∷ c.args.others.now) c.loop-member.member c.in-Some.y c.in-Ok-look_at.its.next false
+passed_one : (c : goal.After-as_member-member) → Looked c.args.heap.now.state c.args.set (to_z w64 (of_z w64 c.args.o)) (to_z w64 (of_z w64 c.args.x)) (c.args.key ∷ c.args.others.now) c.loop-member.member c.in-Some.y c.in-Ok-read_ranked.its.next false
 passed_one c =
     let st = c.args.heap.now.state in let o : ℤ = to_z w64 (of_z w64 c.args.o) in let x : ℤ = to_z w64 (of_z w64 c.args.x) in let y : ℤ = to_z w64 (of_z w64 c.in-Some.y) in
     let hand : y ≡ c.in-Some.y = search rules in let h = c.loop-member.invariant in
-    looked st c.sets_are_apart.ensures c.args.set c.requires.set o x c.args.key c.args.others.now c.loop-member.member c.in-Some.y y c.in-Some.is h.here hand c.loop-member.heap.state c.look_at.new.heap.state h.same c.in-Ok-look_at.ensures.same c.class_of-class.result c.class_of-class.ensures (value_own c.own_value-own.result) c.in-Ok-look_at.its.next c.in-Ok-look_at.ensures.found.1 c.own_value-own.ensures.is c.in-Ok-look_at.its.order false c.in-Ok-look_at.ensures.found.0 c.if-ranks_after_by.ensures
+    looked st c.sets_are_apart.ensures c.args.set c.requires.set o x c.args.key c.args.others.now c.loop-member.member c.in-Some.y y c.in-Some.is h.here hand c.loop-member.heap.state c.read_ranked.new.heap.state h.same c.in-Ok-read_ranked.ensures.same c.class_of-class.result c.class_of-class.ensures (value_own c.own_value-own.result) c.in-Ok-read_ranked.its.next c.in-Ok-read_ranked.ensures.found.1 c.own_value-own.ensures.is c.in-Ok-read_ranked.its.order false c.in-Ok-read_ranked.ensures.found.0 c.if-ranks_after_by.ensures
 
 -- the member that is next
-next_one : (c : goal.After-as_member-member) → c.as_member-member.result ≡ as_member c.in-Ok-look_at.its.next
-next_one c = let e : to_z w64 (of_z w64 c.in-Ok-look_at.its.next) ≡ c.in-Ok-look_at.its.next = search rules in c.as_member-member.ensures ∙ ap as_member e
+next_one : (c : goal.After-as_member-member) → c.as_member-member.result ≡ as_member c.in-Ok-read_ranked.its.next
+next_one c = let e : to_z w64 (of_z w64 c.in-Ok-read_ranked.its.next) ≡ c.in-Ok-read_ranked.its.next = search rules in c.as_member-member.ensures ∙ ap as_member e
 
 pub loop-member-smaller : goal.loop-member-smaller
 loop-member-smaller c =
@@ -95,8 +95,8 @@ loop-member-preserved c =
     let p = passed_one c in let h = c.loop-member.invariant in let q = passes st class ks x p.z p.zs p.ranks in
     let rest = ap (λ m. onward m (owned st c.args.set o)) (next_one c) ∙ p.following in
     record {
-      same = c.in-Ok-look_at.ensures.same ∙ h.same;
+      same = c.in-Ok-read_ranked.ensures.same ∙ h.same;
       here = next_one c ∙ p.leads ∙ ap leader (sym rest);
       found = ap (first_after st class ks x) rest ∙ sym q.0 ∙ ap (first_after st class ks x) (sym p.rest) ∙ h.found;
-      touches = (omega (arith, c.in-Ok-look_at.ensures.touches.1, h.touches.0), omega (arith, ap (members_passed st class ks x) rest, q.1, ap (members_passed st class ks x) p.rest, c.in-Ok-look_at.ensures.touches.0, c.in-Ok-look_at.ensures.touches.1, h.touches.1));
+      touches = (omega (arith, c.in-Ok-read_ranked.ensures.touches.1, h.touches.0), omega (arith, ap (members_passed st class ks x) rest, q.1, ap (members_passed st class ks x) p.rest, c.in-Ok-read_ranked.ensures.touches.0, c.in-Ok-read_ranked.ensures.touches.1, h.touches.1));
     }

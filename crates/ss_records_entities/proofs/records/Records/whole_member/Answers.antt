@@ -11,21 +11,21 @@ use Rattle.ss_records_entities.proofs.Skims.{joiner_at, mode_still}
 use Rattle.ss_records_entities.proofs.Still.{unmoved, kept_still, joins_still, few_fields}
 use Rattle.ss_records_entities.proofs.records.Records.whole_member.Goals as goal
 
-pub look_beside-requires : goal.look_beside-requires
-look_beside-requires c = record { kept = c.requires.kept; set = c.requires.set; touches = c.requires.touches }
+pub read_beside-requires : goal.read_beside-requires
+read_beside-requires c = record { kept = c.requires.kept; set = c.requires.set; touches = c.requires.touches }
 
 pub value_start-k-requires : goal.value_start-k-requires
 value_start-k-requires c = let r = c.args.self.now in few_fields r.layout _ c.args.field Integer c.requires.kept.small c.requires.mode
 
 pub whole-value-requires : goal.whole-value-requires
 whole-value-requires c =
-    let r = c.args.self.now in let q = c.look_beside.new.self in let f = c.in-Ok.ensures in let h = unmoved r q f.same f.cells in
+    let r = c.args.self.now in let q = c.read_beside.new.self in let f = c.in-Ok.ensures in let h = unmoved r q f.same f.cells in
     is_number q (kept_still r q h c.requires.kept) c.args.s c.in-Ok.found.member (joins_still r q h c.args.s c.in-Ok.found.member f.found.0) c.args.field c.value_start-k.result c.value_start-k.ensures.at Integer
     (mode_still r q h c.args.s _ c.args.field refl c.requires.mode)
 
 pub returns-in-Ok : goal.returns-in-Ok
 returns-in-Ok c =
-    let r = c.args.self.now in let q = c.look_beside.new.self in let f = c.in-Ok.ensures in let h = unmoved r q f.same f.cells in
+    let r = c.args.self.now in let q = c.read_beside.new.self in let f = c.in-Ok.ensures in let h = unmoved r q f.same f.cells in
     record {
       found =
           let fits = c.ranges.x in let e = simp to_z-of_z at f.found in let m = c.in-Ok.found.member in
@@ -43,7 +43,7 @@ returns-in-Ok c =
 
 pub returns-in-Err : goal.returns-in-Err
 returns-in-Err c =
-    let r = c.args.self.now in let q = c.look_beside.new.self in let f = c.in-Err.ensures in let h = unmoved r q f.same f.cells in
+    let r = c.args.self.now in let q = c.read_beside.new.self in let f = c.in-Err.ensures in let h = unmoved r q f.same f.cells in
     record {
       found = let fits = c.ranges.x in let e = simp to_z-of_z at f.found in e;
       kept = kept_still r q h c.requires.kept;

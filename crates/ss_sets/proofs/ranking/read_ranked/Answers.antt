@@ -4,7 +4,7 @@ use Rattle.std.proofs.lemmas.Int.{to_z-of_z}
 use Rattle.ss_base.specs.Order.{value_cmp}
 use Rattle.ss_world.specs.Disciplines.{value_or_zero}
 use Rattle.ss_sets.specs.Walks.{value_own}
-use Rattle.ss_sets.proofs.ranking.look_at.Goals as goal
+use Rattle.ss_sets.proofs.ranking.read_ranked.Goals as goal
 
 pub whole_member-requires : goal.whole_member-requires
 whole_member-requires c = record { set = c.requires.set; mode = c.requires.whole _ c.in-Whole.is }

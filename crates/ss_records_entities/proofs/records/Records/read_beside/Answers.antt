@@ -6,7 +6,7 @@ use Rattle.ss_records_entities.specs.Parts.{state}
 use Rattle.ss_records_entities.proofs.Looks.{none_beside}
 use Rattle.ss_records_entities.proofs.Onward.{beside_leads, beside_fits, beside_is}
 use Rattle.ss_records_entities.proofs.Still.{room_first, one_touch, no_touch}
-use Rattle.ss_records_entities.proofs.records.Records.look_beside.Goals as goal
+use Rattle.ss_records_entities.proofs.records.Records.read_beside.Goals as goal
 
 pub joiner-requires : goal.joiner-requires
 joiner-requires c = record { kept = c.requires.kept; set = c.requires.set }
