@@ -43,19 +43,6 @@ pieces_of_field (byte ∷ bytes) some =
     ∙ ap (λ (rest : List Piece). Slot field ∷ rest) (pieces_after-drop (field.width - 1) bytes)
     ∙ ap (λ (rest : List ℕ). Slot field ∷ pieces_of rest) (drop_less field.width byte bytes (field_some (byte ∷ bytes) some))
 
--- another byte in front adds no field
-pub fields-byte_before : (byte : ℕ) (pieces : List Piece) → fields_among (byte_before byte pieces) ≡ fields_among pieces
-fields-byte_before byte [] = refl
-fields-byte_before byte (Literal bytes ∷ rest) = refl
-fields-byte_before byte (Slot field ∷ rest) = refl
-
--- another byte in front moves the fields by one
-pub starts-byte_before : (place byte : ℕ) (pieces : List Piece)
-    → starts_among place (byte_before byte pieces) ≡ starts_among (place + 1) pieces
-starts-byte_before place byte [] = refl
-starts-byte_before place byte (Literal bytes ∷ rest) = ap (λ at. starts_among at rest) (omega arith)
-starts-byte_before place byte (Slot field ∷ rest) = refl
-
 -- each field has one start
 pub length-starts_among : (place : ℕ) (pieces : List Piece) → length (starts_among place pieces) ≡ length (fields_among pieces)
 length-starts_among place [] = refl

@@ -147,9 +147,6 @@ module _ (r : Records) (K : IsKept r) (s : ℕ) (inside : s < length r.layout.se
       pub it_is : q.number ≡ first_where t f
       it_is = sym (sym S.found ∙ ap (first_where t) shape.1 ∙ (stops t q.number shape.0 e).0)
 
-      pub so_many : touches ≤ 1 + before_where t f
-      so_many = omega (arith, S.touched, S.passed)
-
     -- and is passed
     module _ (b : ℕ) (base : (u : SetLayout) → slice_get r.layout.sets s ≡ Some u → b ≡ member_base r.layout s u) where
       next_there : To r.blocks.cells at q.place.at b (succ q.number f)
