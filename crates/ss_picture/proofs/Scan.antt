@@ -17,8 +17,6 @@ pub scan_start : (picture : List ℕ) → Scan [] [] 0 picture picture
 unfolding starts picture_fields
 scan_start picture = record { starts_are = refl; fields_are = refl }
 
-}
-
 -- past a field
 scan_field : (found_starts : List ℕ) (found : List Field) (place : ℕ) (ahead picture : List ℕ) → 0 < stars ahead
     → Scan found_starts found place ahead picture

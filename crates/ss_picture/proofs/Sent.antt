@@ -43,5 +43,3 @@ sends_more contents first second third bytes rest at count before inside rest_is
       let counted_before : second.sent ≡ min (first.sent + length (take at bytes)) (2 ^ 128 - 1) = before.counted in
       omega (arith, counted, counted_before, so_far, in_all);
 }
-
-}

@@ -8,7 +8,7 @@ use Rattle.ss_base.specs.declared.layout.Layout.{Layout}
 use Rattle.ss_records_entities.specs.declared.records.Records.{Records}
 use Rattle.ss_records_blocks.specs.declared.store.Address.{Address}
 use Rattle.ss_records_blocks.specs.Cells.{Cells, words_at}
-use Rattle.ss_world.specs.State.{State, Members, and_then, numbered, of_class, entity_in, entity_of_kind, kind_of, indexed, indexed_record, records_in}
+use Rattle.ss_world.specs.State.{State, Members, entity_in, entity_of_kind, kind_of, indexed, indexed_record, records_in}
 use Rattle.ss_records_words.specs.Reading.{record_of, records_at}
 use Rattle.ss_records_words.specs.Places.{Made, Directory}
 use Rattle.ss_records_blocks.specs.Places.{row_in}
@@ -66,7 +66,3 @@ module _ (r : Records) (K : IsKept r) (c : ℕ) (x : ℤ) (kind : IsPermanent (k
   pub find_indexed : (v : Result Address FaultKind) → v ≡ indexed_place (row_in (slice_get (places r).classes c)) x → MatchResult v (λ p. Found r c x p) (λ e. entity_in (state r) c x ≡ Err e)
   find_indexed (Ok p) h = found_at p (sym h)
   find_indexed (Err e) h = by_index ∙ ap (read_place r.layout r.blocks.cells) (sym h)
-
--- ## One that is known by its number
-
-module _ (r : Records) (c : ℕ) (x : ℤ) (same : entity_in (state r) c x ≡ and_then (numbered (state r) x) (of_class c)) where
