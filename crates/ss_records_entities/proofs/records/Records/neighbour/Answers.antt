@@ -16,7 +16,7 @@ pub member_base-base-requires : goal.member_base-base-requires
 member_base-base-requires c = c.requires.set
 
 pub beside-requires : goal.beside-requires
-beside-requires c = c.member_base-base.ensures.bound
+beside-requires c = omega (arith, c.member_base-base.ensures.bound)
 
 pub follow-neighbour-requires-clause-leads : goal.follow-neighbour-requires-clause-leads
 follow-neighbour-requires-clause-leads c =
