@@ -6,9 +6,8 @@ use Rattle.ss_base.specs.declared.layout.Mode.TheVariants.{Integer}
 use Rattle.ss_base.specs.Arithmetic.{plus_of, minus_of}
 use Rattle.ss_world.specs.State.{and_then}
 use Rattle.ss_records_entities.specs.Attributes.{changed_number}
-use Rattle.ss_records_entities.specs.Parts.{places}
 use Rattle.ss_records_words.specs.Reading.{PutsValue}
-use Rattle.ss_records_entities.proofs.Assigns.{first_number, second_number, kept_assigned, length_assigned, is_assigned, reads_back, is_value}
+use Rattle.ss_records_entities.proofs.Attributes.{found_first, found_second, found_value, found_kept, found_length, found_assigned, found_reads}
 use Rattle.ss_records_entities.proofs.Still.{few_fields}
 use Rattle.ss_records_entities.proofs.records.Records.change_whole.Goals as goal
 
@@ -18,36 +17,36 @@ value_start-k-requires c = let r = c.args.self.now in few_fields r.layout c.args
 pub whole-requires : goal.whole-requires
 whole-requires c =
     let r = c.args.self.now in let f = c.in-Ok.ensures.found in
-    first_number r.layout r.blocks.cells r.system.at (places r) r.notes.lists c.requires.kept f.index c.in-Ok.place f.entry c.args.class f.class _ f.is f.entity c.args.field c.value_start-k.result c.value_start-k.ensures.at Integer c.requires.mode
+    found_first r c.requires.kept c.args.class _ c.in-Ok.place f c.args.field c.value_start-k.result c.value_start-k.ensures.at Integer c.requires.mode
 
 pub set_whole-requires : goal.set_whole-requires
 set_whole-requires c =
     let r = c.args.self.now in let f = c.in-Ok.ensures.found in
     record {
-      first = first_number r.layout r.blocks.cells r.system.at (places r) r.notes.lists c.requires.kept f.index c.in-Ok.place f.entry c.args.class f.class _ f.is f.entity c.args.field c.value_start-k.result c.value_start-k.ensures.at Integer c.requires.mode;
-      second = second_number r.layout r.blocks.cells r.system.at (places r) r.notes.lists c.requires.kept f.index c.in-Ok.place f.entry c.args.class f.class _ f.is f.entity c.args.field c.value_start-k.result c.value_start-k.ensures.at Integer c.requires.mode;
+      first = found_first r c.requires.kept c.args.class _ c.in-Ok.place f c.args.field c.value_start-k.result c.value_start-k.ensures.at Integer c.requires.mode;
+      second = found_second r c.requires.kept c.args.class _ c.in-Ok.place f c.args.field c.value_start-k.result c.value_start-k.ensures.at Integer c.requires.mode;
     }
 
 pub returns-in-Ok-changed : goal.returns-in-Ok-changed
 returns-in-Ok-changed c =
     let r = c.args.self.now in let f = c.in-Ok.ensures.found in
     record {
-      kept = kept_assigned r.layout r.blocks.cells r.system.at (places r) r.notes.lists c.requires.kept f.index c.in-Ok.place f.entry c.args.class f.class _ f.is f.entity c.args.field c.value_start-k.result c.value_start-k.ensures.at _ c.requires.mode c.set_whole.new.blocks.cells c.set_whole.ensures.written;
+      kept = found_kept r c.requires.kept c.args.class _ c.in-Ok.place f c.args.field c.value_start-k.result c.value_start-k.ensures.at _ c.requires.mode c.set_whole.new.blocks.cells c.set_whole.ensures.written;
       done =
           let fits = c.ranges.r in let f = simp to_z-of_z at c.in-Ok.ensures.found in let before : to_z w64 (of_z w64 c.whole.result) ≡ c.whole.result = search rules in
           let change = if c.args.subtract then minus_of else plus_of in let by : to_z w64 (of_z w64 c.args.n) ≡ c.args.n = search rules in let changed : to_z w64 (of_z w64 c.in-Ok-changed.number) ≡ c.in-Ok-changed.number = search rules in
           let written = subst (λ z. PutsValue r.blocks.cells c.set_whole.new.blocks.cells c.in-Ok.place.at c.value_start-k.result (Whole z)) changed c.set_whole.ensures.written in
-          let read = is_value r.layout r.blocks.cells r.system.at (places r) r.notes.lists c.requires.kept f.index c.in-Ok.place f.entry c.args.class f.class c.args.r f.is f.entity c.args.field c.value_start-k.result c.value_start-k.ensures.at Integer c.requires.mode ∙ ap Ok (sym c.whole.ensures) in
+          let read = found_value r c.requires.kept c.args.class c.args.r c.in-Ok.place f c.args.field c.value_start-k.result c.value_start-k.ensures.at Integer c.requires.mode ∙ ap Ok (sym c.whole.ensures) in
           record {
             number = c.in-Ok-changed.number;
             makes = ap (changed_number (λ z. change z c.args.n)) read ∙ (λ i. change (sym before i) (sym by i)) ∙ sym c.in-Ok-changed.ensures;
             is = record {
-              gives = is_assigned r.layout r.blocks.cells r.system.at (places r) r.notes.lists c.requires.kept f.index c.in-Ok.place f.entry c.args.class f.class c.args.r f.is f.entity c.args.field c.value_start-k.result c.value_start-k.ensures.at (Whole c.in-Ok-changed.number) c.requires.mode c.set_whole.new.blocks.cells written;
-              reads = reads_back r.layout r.blocks.cells r.system.at (places r) r.notes.lists c.requires.kept f.index c.in-Ok.place f.entry c.args.class f.class c.args.r f.is f.entity c.args.field c.value_start-k.result c.value_start-k.ensures.at (Whole c.in-Ok-changed.number) c.requires.mode c.set_whole.new.blocks.cells written;
+              gives = found_assigned r c.requires.kept c.args.class c.args.r c.in-Ok.place f c.args.field c.value_start-k.result c.value_start-k.ensures.at (Whole c.in-Ok-changed.number) c.requires.mode c.set_whole.new.blocks.cells written;
+              reads = found_reads r c.requires.kept c.args.class c.args.r c.in-Ok.place f c.args.field c.value_start-k.result c.value_start-k.ensures.at (Whole c.in-Ok-changed.number) c.requires.mode c.set_whole.new.blocks.cells written;
             };
           };
       touches = search rules;
-      blocks = length_assigned r.layout r.blocks.cells r.system.at (places r) r.notes.lists c.requires.kept f.index c.in-Ok.place f.entry c.args.class f.class _ f.is f.entity c.args.field c.value_start-k.result c.value_start-k.ensures.at _ c.requires.mode c.set_whole.new.blocks.cells c.set_whole.ensures.written;
+      blocks = found_length r c.requires.kept c.args.class _ c.in-Ok.place f c.args.field c.value_start-k.result c.value_start-k.ensures.at _ c.requires.mode c.set_whole.new.blocks.cells c.set_whole.ensures.written;
     }
 
 -- the number does not fit
@@ -56,7 +55,7 @@ returns-in-Err-changed-clause-done c =
     let r = c.args.self.now in let fits = c.ranges.r in let f = simp to_z-of_z at c.in-Ok.ensures.found in
     let before : to_z w64 (of_z w64 c.whole.result) ≡ c.whole.result = search rules in
     let change = if c.args.subtract then minus_of else plus_of in let by : to_z w64 (of_z w64 c.args.n) ≡ c.args.n = search rules in
-    let read = is_value r.layout r.blocks.cells r.system.at (places r) r.notes.lists c.requires.kept f.index c.in-Ok.place f.entry c.args.class f.class c.args.r f.is f.entity c.args.field c.value_start-k.result c.value_start-k.ensures.at Integer c.requires.mode ∙ ap Ok (sym c.whole.ensures) in
+    let read = found_value r c.requires.kept c.args.class c.args.r c.in-Ok.place f c.args.field c.value_start-k.result c.value_start-k.ensures.at Integer c.requires.mode ∙ ap Ok (sym c.whole.ensures) in
     (ap (changed_number (λ z. change z c.args.n)) read ∙ (λ i. change (sym before i) (sym by i)) ∙ sym c.in-Err-changed.ensures, refl)
 
 -- there is no such entity
