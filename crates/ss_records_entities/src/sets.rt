@@ -37,7 +37,7 @@ pub struct WholeMember {
 
 // One that may be in a set, and the member that comes next to it.
 #[derive(Clone, Copy)]
-struct Beside {
+struct FoundMember {
     member: Entry,
     // 0 where there is none.
     next: i64,
@@ -153,7 +153,7 @@ impl Records {
 
     // The entity that x refers to, which may be in a set, and the member that follows it, or in reverse precedes it: a touch.
     #[inline(always)]
-    fn read_beside(&mut self, s: usize, x: i64, reverse: bool) -> Result<Beside, FaultKind>
+    fn read_beside(&mut self, s: usize, x: i64, reverse: bool) -> Result<FoundMember, FaultKind>
         requires kept { IsKept self.old }
         requires set { s < length self.old.layout.sets }
         requires touches { self.old.blocks.touches ≡ 0 }
@@ -166,7 +166,7 @@ impl Records {
             Ok(member) => {
                 let base = self.layout.member_base(s);
                 let next = self.blocks.follow(member.place, beside(base, reverse));
-                Ok(Beside {
+                Ok(FoundMember {
                     member,
                     next: other_than(next.number, member.number) as i64,
                 })
