@@ -1,4 +1,4 @@
-use Rattle.std.proofs.Common.{rules, ◌≡◌, ◌*◌, length, ap, subst, ◌∙◌, arith}
+use Rattle.std.proofs.Common.{◌≡◌, ◌*◌, length, ap, subst, ◌∙◌, arith}
 use Rattle.ss_base.specs.declared.layout.Owner.TheVariants.{Class}
 use Rattle.ss_records_blocks.specs.Cells.{word_of}
 use Rattle.ss_records_words.specs.Shape.{set_places}
@@ -11,17 +11,19 @@ use Rattle.ss_records_words.proofs.placing.lay_all.Goals as goal
 pub loop-i-init : goal.loop-i-init
 loop-i-init c = record { laid = laid_none c.args.layout.now c.args.blocks.now.cells c.args.end.at c.args.places.now c.args.class; touches = (omega (arith, c.requires.touches), omega (arith, c.requires.touches), omega (arith, c.requires.touches)) }
 
-pub lay-requires : goal.lay-requires
-lay-requires c =
-    record {
-      small = search rules;
-      class = search rules;
-      room = let g = place_at c.args.places.now c.loop-i.i _ c.loop-i-test.true in ap length (c.loop-i.invariant.laid.rest c.loop-i.i _ g (omega arith) ∙ c.requires.blank c.loop-i.i _ g) ∙ length-blanks _;
-      blank = λ k.
-          let g = place_at c.args.places.now c.loop-i.i _ c.loop-i-test.true in
-          ap (λ us. word_of us k) (c.loop-i.invariant.laid.rest c.loop-i.i _ g (omega arith) ∙ c.requires.blank c.loop-i.i _ g) ∙ word_blank _ k;
-      touches = omega (arith, c.loop-i.invariant.touches.0, c.loop-i-test.true, c.requires.few);
-    }
+pub lay-requires-clause-room : goal.lay-requires-clause-room
+lay-requires-clause-room c =
+    let g = place_at c.args.places.now c.loop-i.i _ c.loop-i-test.true in
+    ap length (c.loop-i.invariant.laid.rest c.loop-i.i _ g (omega arith) ∙ c.requires.blank c.loop-i.i _ g) ∙ length-blanks _
+
+pub lay-requires-clause-blank : goal.lay-requires-clause-blank
+lay-requires-clause-blank c =
+    λ k.
+    let g = place_at c.args.places.now c.loop-i.i _ c.loop-i-test.true in
+    ap (λ us. word_of us k) (c.loop-i.invariant.laid.rest c.loop-i.i _ g (omega arith) ∙ c.requires.blank c.loop-i.i _ g) ∙ word_blank _ k
+
+pub lay-requires-clause-touches : goal.lay-requires-clause-touches
+lay-requires-clause-touches c = omega (arith, c.loop-i.invariant.touches.0, c.loop-i-test.true, c.requires.few)
 
 pub loop-i-preserved : goal.loop-i-preserved
 loop-i-preserved c =

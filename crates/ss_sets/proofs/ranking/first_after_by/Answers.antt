@@ -1,4 +1,4 @@
-use Rattle.std.proofs.Common.{rules, ◌≡◌, ◌+◌, ◌≤◌, List, ◌∷◌, Err, sym, subst, arith}
+use Rattle.std.proofs.Common.{◌≡◌, ◌+◌, ◌≤◌, List, ◌∷◌, Err, sym, subst, arith}
 use Rattle.std.specs.Prelude.{MatchResult, IsOk}
 use Rattle.std.proofs.lemmas.Int.{to_z-of_z}
 use Rattle.ss_base.specs.declared.layout.RankKey.{RankKey}
@@ -12,15 +12,17 @@ use Rattle.ss_sets.proofs.ranking.first_after_by.Goals as goal
 pub whole_of-requires : goal.whole_of-requires
 whole_of-requires c = record { field = first_field c.args.heap.now.state.layout c.args.set c.class_of-class.result c.args.key c.args.others.now c.class_of-class.ensures c.requires.keys }
 
-pub returns-in_default : goal.returns-in_default
-returns-in_default c =
-    let fo = c.ranges.o in let fx = c.ranges.x in
-    record { found = simp to_z-of_z at c.first_after_key.ensures.found; same = search rules; touches = simp to_z-of_z at c.first_after_key.ensures.touches }
+pub returns-in_default-clause-found : goal.returns-in_default-clause-found
+returns-in_default-clause-found c = let fo = c.ranges.o in let fx = c.ranges.x in simp to_z-of_z at c.first_after_key.ensures.found
 
-pub returns-in-None : goal.returns-in-None
-returns-in-None c =
-    let fo = c.ranges.o in let fx = c.ranges.x in
-    record { found = simp to_z-of_z at c.first_after_key-in-None.ensures.found; same = search rules; touches = simp to_z-of_z at c.first_after_key-in-None.ensures.touches }
+pub returns-in_default-clause-touches : goal.returns-in_default-clause-touches
+returns-in_default-clause-touches c = let fo = c.ranges.o in let fx = c.ranges.x in simp to_z-of_z at c.first_after_key.ensures.touches
+
+pub returns-in-None-clause-found : goal.returns-in-None-clause-found
+returns-in-None-clause-found c = let fo = c.ranges.o in let fx = c.ranges.x in simp to_z-of_z at c.first_after_key-in-None.ensures.found
+
+pub returns-in-None-clause-touches : goal.returns-in-None-clause-touches
+returns-in-None-clause-touches c = let fo = c.ranges.o in let fx = c.ranges.x in simp to_z-of_z at c.first_after_key-in-None.ensures.touches
 
 pub returns-in-empty-clause-found : goal.returns-in-empty-clause-found
 returns-in-empty-clause-found c =

@@ -70,8 +70,11 @@ impossible c =
     let n = next_is st c.sets_are_apart.ensures c.args.set c.requires.set o a.0 a.1 a.4 in
     never_lost c.loop-member.heap.state st c.args.set y (pos a.0) (pos (head0 a.1)) c.in-Err-read_ranked.fault c.in-Err-read_ranked.ensures.found h.same (hand ∙ a.3) n
 
-pub returns-in-Err-read_ranked : goal.returns-in-Err-read_ranked
-returns-in-Err-read_ranked c = record { found = absurd (impossible c); same = search rules; touches = absurd (impossible c) }
+pub returns-in-Err-read_ranked-clause-found : goal.returns-in-Err-read_ranked-clause-found
+returns-in-Err-read_ranked-clause-found c = absurd (impossible c)
+
+pub returns-in-Err-read_ranked-clause-touches : goal.returns-in-Err-read_ranked-clause-touches
+returns-in-Err-read_ranked-clause-touches c = absurd (impossible c)
 
 -- x passes this member
 passed_one : (c : goal.After-as_member-member) → Looked c.args.heap.now.state c.args.set (to_z w64 (of_z w64 c.args.o)) (to_z w64 (of_z w64 c.args.x)) (c.args.key ∷ c.args.others.now) c.loop-member.member c.in-Some.y c.in-Ok-read_ranked.its.next false

@@ -1,4 +1,4 @@
-use Rattle.std.proofs.Common.{rules, ◌≡◌, ap, subst, ◌∙◌}
+use Rattle.std.proofs.Common.{◌≡◌, ap, subst, ◌∙◌}
 use Rattle.std.specs.Prelude.{IfSome}
 use Rattle.std.proofs.lemmas.Int.{to_z-of_z}
 use Rattle.ss_world.specs.State.{Heaped, State}
@@ -6,14 +6,10 @@ use Rattle.ss_records_entities.specs.Parts.{state}
 use Rattle.ss_records_entities.specs.Skimming.{IsSkimmed}
 use Rattle.ss_records.proofs.heap.Heap.skim.Goals as goal
 
-pub returns : goal.returns
-returns c =
-    let e : state c.start.new.self ≡ c.args.self.now.state = ap state c.start.ensures ∙ ap (λ (w : Heaped). w.state) c.self.view_is in
-    record {
-      found =
-          let fx = c.ranges.x in let h = simp to_z-of_z at c.skim.ensures.found in
-          subst (λ (s : State). IfSome c.skim.result (λ k. IsSkimmed s c.args.walk.set c.args.walk.owner c.args.walk.reverse c.args.filter.now c.args.x k)) e h;
-      within = search rules;
-      same = c.skim.ensures.same ∙ e;
-      touches = search rules;
-    }
+pub returns-clause-found : goal.returns-clause-found
+returns-clause-found c =
+    let e : state c.start.new.self ≡ c.args.self.now.state = ap state c.start.ensures ∙ ap (λ (w : Heaped). w.state) c.self.view_is in let fx = c.ranges.x in let h = simp to_z-of_z at c.skim.ensures.found in
+    subst (λ (s : State). IfSome c.skim.result (λ k. IsSkimmed s c.args.walk.set c.args.walk.owner c.args.walk.reverse c.args.filter.now c.args.x k)) e h
+
+pub returns-clause-same : goal.returns-clause-same
+returns-clause-same c = let e : state c.start.new.self ≡ c.args.self.now.state = ap state c.start.ensures ∙ ap (λ (w : Heaped). w.state) c.self.view_is in c.skim.ensures.same ∙ e

@@ -27,27 +27,31 @@ set_whole-requires c =
       second = found_second r c.requires.kept c.args.class _ c.in-Ok.place f c.args.field c.value_start-k.result c.value_start-k.ensures.at Integer c.requires.mode;
     }
 
-pub returns-in-Ok-changed : goal.returns-in-Ok-changed
-returns-in-Ok-changed c =
+pub returns-in-Ok-changed-clause-kept : goal.returns-in-Ok-changed-clause-kept
+returns-in-Ok-changed-clause-kept c =
     let r = c.args.self.now in let f = c.in-Ok.ensures.found in
+    found_kept r c.requires.kept c.args.class _ c.in-Ok.place f c.args.field c.value_start-k.result c.value_start-k.ensures.at _ c.requires.mode c.set_whole.new.blocks.cells c.set_whole.ensures.written
+
+pub returns-in-Ok-changed-clause-done : goal.returns-in-Ok-changed-clause-done
+returns-in-Ok-changed-clause-done c =
+    let r = c.args.self.now in let f = c.in-Ok.ensures.found in let fits = c.ranges.r in let f = simp to_z-of_z at c.in-Ok.ensures.found in let before : to_z w64 (of_z w64 c.whole.result) ≡ c.whole.result = search rules in
+    let change = if c.args.subtract then minus_of else plus_of in let by : to_z w64 (of_z w64 c.args.n) ≡ c.args.n = search rules in
+    let changed : to_z w64 (of_z w64 c.in-Ok-changed.number) ≡ c.in-Ok-changed.number = search rules in
+    let written = subst (λ z. PutsValue r.blocks.cells c.set_whole.new.blocks.cells c.in-Ok.place.at c.value_start-k.result (Whole z)) changed c.set_whole.ensures.written in
+    let read = found_value r c.requires.kept c.args.class c.args.r c.in-Ok.place f c.args.field c.value_start-k.result c.value_start-k.ensures.at Integer c.requires.mode ∙ ap Ok (sym c.whole.ensures) in
     record {
-      kept = found_kept r c.requires.kept c.args.class _ c.in-Ok.place f c.args.field c.value_start-k.result c.value_start-k.ensures.at _ c.requires.mode c.set_whole.new.blocks.cells c.set_whole.ensures.written;
-      done =
-          let fits = c.ranges.r in let f = simp to_z-of_z at c.in-Ok.ensures.found in let before : to_z w64 (of_z w64 c.whole.result) ≡ c.whole.result = search rules in
-          let change = if c.args.subtract then minus_of else plus_of in let by : to_z w64 (of_z w64 c.args.n) ≡ c.args.n = search rules in let changed : to_z w64 (of_z w64 c.in-Ok-changed.number) ≡ c.in-Ok-changed.number = search rules in
-          let written = subst (λ z. PutsValue r.blocks.cells c.set_whole.new.blocks.cells c.in-Ok.place.at c.value_start-k.result (Whole z)) changed c.set_whole.ensures.written in
-          let read = found_value r c.requires.kept c.args.class c.args.r c.in-Ok.place f c.args.field c.value_start-k.result c.value_start-k.ensures.at Integer c.requires.mode ∙ ap Ok (sym c.whole.ensures) in
-          record {
-            number = c.in-Ok-changed.number;
-            makes = ap (changed_number (λ z. change z c.args.n)) read ∙ (λ i. change (sym before i) (sym by i)) ∙ sym c.in-Ok-changed.ensures;
-            is = record {
-              gives = found_assigned r c.requires.kept c.args.class c.args.r c.in-Ok.place f c.args.field c.value_start-k.result c.value_start-k.ensures.at (Whole c.in-Ok-changed.number) c.requires.mode c.set_whole.new.blocks.cells written;
-              reads = found_reads r c.requires.kept c.args.class c.args.r c.in-Ok.place f c.args.field c.value_start-k.result c.value_start-k.ensures.at (Whole c.in-Ok-changed.number) c.requires.mode c.set_whole.new.blocks.cells written;
-            };
-          };
-      touches = search rules;
-      blocks = found_length r c.requires.kept c.args.class _ c.in-Ok.place f c.args.field c.value_start-k.result c.value_start-k.ensures.at _ c.requires.mode c.set_whole.new.blocks.cells c.set_whole.ensures.written;
+      number = c.in-Ok-changed.number;
+      makes = ap (changed_number (λ z. change z c.args.n)) read ∙ (λ i. change (sym before i) (sym by i)) ∙ sym c.in-Ok-changed.ensures;
+      is = record {
+        gives = found_assigned r c.requires.kept c.args.class c.args.r c.in-Ok.place f c.args.field c.value_start-k.result c.value_start-k.ensures.at (Whole c.in-Ok-changed.number) c.requires.mode c.set_whole.new.blocks.cells written;
+        reads = found_reads r c.requires.kept c.args.class c.args.r c.in-Ok.place f c.args.field c.value_start-k.result c.value_start-k.ensures.at (Whole c.in-Ok-changed.number) c.requires.mode c.set_whole.new.blocks.cells written;
+      };
     }
+
+pub returns-in-Ok-changed-clause-blocks : goal.returns-in-Ok-changed-clause-blocks
+returns-in-Ok-changed-clause-blocks c =
+    let r = c.args.self.now in let f = c.in-Ok.ensures.found in
+    found_length r c.requires.kept c.args.class _ c.in-Ok.place f c.args.field c.value_start-k.result c.value_start-k.ensures.at _ c.requires.mode c.set_whole.new.blocks.cells c.set_whole.ensures.written
 
 -- the number does not fit
 pub returns-in-Err-changed-clause-done : goal.returns-in-Err-changed-clause-done

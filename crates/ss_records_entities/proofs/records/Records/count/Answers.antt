@@ -1,4 +1,4 @@
-use Rattle.std.proofs.Common.{rules, arith, refl, ap, ◌∙◌}
+use Rattle.std.proofs.Common.{arith, refl, ap, ◌∙◌}
 use Rattle.std.proofs.lemmas.Int.{ints, to_z-of_z}
 use Rattle.ss_records_blocks.proofs.Same.{false_is_not_true}
 use Rattle.ss_records_entities.specs.Parts.{state}
@@ -41,12 +41,11 @@ returns-in-Ok c =
       touches = let n = c.peek_count-count.ensures.touches in let at = c.start_at.ensures.touches in (omega (arith, at.0), λ _. omega (arith, at.0), omega (arith, n.1, at.0, at.1));
     }
 
-pub returns-in-Err : goal.returns-in-Err
-returns-in-Err c =
-    let r = c.args.self.now in
-    record {
-      value = search rules;
-      kept = let q = record r { blocks = c.start.new.self } in kept_still r q (unmoved r q refl c.start.ensures.cells) c.requires.kept;
-      same = ap state (unmoved r (record r { blocks = c.start.new.self }) refl c.start.ensures.cells);
-      touches = let f = c.start.ensures.touches in (omega (arith, f.0), λ e. absurd (false_is_not_true e), omega (arith, f.0, f.1));
-    }
+pub returns-in-Err-clause-kept : goal.returns-in-Err-clause-kept
+returns-in-Err-clause-kept c = let r = c.args.self.now in let q = record r { blocks = c.start.new.self } in kept_still r q (unmoved r q refl c.start.ensures.cells) c.requires.kept
+
+pub returns-in-Err-clause-same : goal.returns-in-Err-clause-same
+returns-in-Err-clause-same c = let r = c.args.self.now in ap state (unmoved r (record r { blocks = c.start.new.self }) refl c.start.ensures.cells)
+
+pub returns-in-Err-clause-touches : goal.returns-in-Err-clause-touches
+returns-in-Err-clause-touches c = let f = c.start.ensures.touches in (omega (arith, f.0), λ e. absurd (false_is_not_true e), omega (arith, f.0, f.1))

@@ -1,4 +1,4 @@
-use Rattle.std.proofs.Common.{rules, ◌*◌, Ok, Some, length, w64, to_z, of_z, refl, sym, ap, subst, ◌∙◌}
+use Rattle.std.proofs.Common.{◌*◌, Ok, Some, length, w64, to_z, of_z, refl, sym, ap, subst, ◌∙◌}
 use Rattle.std.specs.Prelude.{ℤ, nat_abs, IsOk}
 use Rattle.std.proofs.lemmas.Int.{to_z-of_z}
 use Rattle.std.proofs.lemmas.Option.{slice_get_read}
@@ -9,18 +9,22 @@ use Rattle.ss_records_entities.specs.Parts.{places, state}
 use Rattle.ss_records_entities.proofs.Issuing.{at_rest, none_is, made_twice, made_once}
 use Rattle.ss_records_entities.proofs.records.Records.create_all.Goals as goal
 
-pub make-requires : goal.make-requires
-make-requires c =
-    record {
-      kept = c.requires.kept;
-      class = c.requires.class;
-      kind = c.requires.kind;
-      free =
-          let r = c.args.self.now in let row = c.index.result.now in let there = slice_get_read r.permanents.items (length r.layout.classes) c.args.class row (sym c.requires.kept.width) c.requires.class c.index.ensures in
-          there ∙ ap Some (none_is row (sym c.is_made.ensures ∙ c.if-is_made.false));
-      few = search rules;
-      touches = c.requires.touches;
-    }
+pub make-requires-clause-kept : goal.make-requires-clause-kept
+make-requires-clause-kept c = c.requires.kept
+
+pub make-requires-clause-class : goal.make-requires-clause-class
+make-requires-clause-class c = c.requires.class
+
+pub make-requires-clause-kind : goal.make-requires-clause-kind
+make-requires-clause-kind c = c.requires.kind
+
+pub make-requires-clause-free : goal.make-requires-clause-free
+make-requires-clause-free c =
+    let r = c.args.self.now in let row = c.index.result.now in let there = slice_get_read r.permanents.items (length r.layout.classes) c.args.class row (sym c.requires.kept.width) c.requires.class c.index.ensures in
+    there ∙ ap Some (none_is row (sym c.is_made.ensures ∙ c.if-is_made.false))
+
+pub make-requires-clause-touches : goal.make-requires-clause-touches
+make-requires-clause-touches c = c.requires.touches
 
 pub returns-then-is_made : goal.returns-then-is_made
 returns-then-is_made c =

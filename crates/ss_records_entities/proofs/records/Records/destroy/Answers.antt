@@ -1,4 +1,4 @@
-use Rattle.std.proofs.Common.{rules, ◌≡◌, ◌≤◌, ◌-◌, Ok, Some, length, slice_get, slice_set, None, sym, ap, subst, ◌∙◌, arith}
+use Rattle.std.proofs.Common.{◌≡◌, ◌≤◌, ◌-◌, Ok, Some, length, slice_get, slice_set, None, sym, ap, subst, ◌∙◌, arith}
 use Rattle.std.specs.Prelude.{nat_abs}
 use Rattle.std.proofs.lemmas.Int.{to_z-of_z}
 use Rattle.std.specs.Int.{cast_signed, cast_unsigned}
@@ -16,8 +16,11 @@ use Rattle.ss_records_entities.proofs.Still.{kept_still, as_many, unmoved}
 use Rattle.ss_records_entities.proofs.Frees.{free_by, by_number}
 use Rattle.ss_records_entities.proofs.records.Records.destroy.Goals as goal
 
-pub find_free-requires : goal.find_free-requires
-find_free-requires c = record { kept = c.requires.kept; class = c.requires.class; kind = search rules; touches = search rules }
+pub find_free-requires-clause-kept : goal.find_free-requires-clause-kept
+find_free-requires-clause-kept c = c.requires.kept
+
+pub find_free-requires-clause-class : goal.find_free-requires-clause-class
+find_free-requires-clause-class c = c.requires.class
 
 pub clear-requires : goal.clear-requires
 clear-requires c =

@@ -1,4 +1,4 @@
-use Rattle.std.proofs.Common.{rules, ◌≡◌, sym, ap}
+use Rattle.std.proofs.Common.{◌≡◌, sym, ap}
 use Rattle.std.specs.Prelude.{Result as OkOr}
 use Rattle.std.proofs.lemmas.Int.{to_z-of_z}
 use Rattle.ss_base.specs.declared.fault.FaultKind.{FaultKind}
@@ -9,8 +9,11 @@ use Rattle.ss_records_entities.proofs.Still.{kept_still, unmoved}
 use Rattle.ss_records_entities.proofs.Frees.{by_number}
 use Rattle.ss_records_entities.proofs.records.Records.may_destroy.Goals as goal
 
-pub find_free-requires : goal.find_free-requires
-find_free-requires c = record { kept = c.requires.kept; class = c.requires.class; kind = search rules; touches = search rules }
+pub find_free-requires-clause-kept : goal.find_free-requires-clause-kept
+find_free-requires-clause-kept c = c.requires.kept
+
+pub find_free-requires-clause-class : goal.find_free-requires-clause-class
+find_free-requires-clause-class c = c.requires.class
 
 pub returns-in-Ok : goal.returns-in-Ok
 returns-in-Ok c =

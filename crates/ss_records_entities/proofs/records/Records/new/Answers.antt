@@ -1,4 +1,4 @@
-use Rattle.std.proofs.Common.{rules, ◌≡◌, ◌*◌, [], length, None, sym, ap, subst, ◌∙◌, arith}
+use Rattle.std.proofs.Common.{◌≡◌, ◌*◌, [], length, None, sym, ap, subst, ◌∙◌, arith}
 use Rattle.std.specs.Prelude.{replicate}
 use Rattle.std.proofs.lemmas.Result.{IfOk-at_ok, MatchResult-at_ok}
 use Rattle.ss_base.specs.declared.layout.Layout.{Layout}
@@ -12,18 +12,19 @@ use Rattle.ss_records_blocks.proofs.Puts.{words_new, word_blank, length-blanks}
 use Rattle.ss_records_entities.proofs.Living.{kept_first, none_made}
 use Rattle.ss_records_entities.proofs.records.Records.new.Goals as goal
 
-pub lay_system-requires : goal.lay_system-requires
-lay_system-requires c =
-    let x = c.in_ok-held.held in let n = c.block_words-words.result in
-    record {
-      small = search rules;
-      room =
-          let a = c.in_ok-tables.ensures in let b = c.in_ok-tables-2.ensures in let d = c.in_ok-held.ensures in let one = IfOk-at_ok _ d.1 c.with_one.ensures in
-          let plan : x.0.0.0 ≡ c.in_ok-layout.layout = (λ i. (d.0 i).0.0) ∙ (λ i. (b.0 i).0) ∙ a.0 in
-          rw (one.0, words_new [] x.1.1.at (blanks n)) (length-blanks n ∙ c.block_words-words.ensures.size ∙ ap (λ (l : Layout). block_words l System) (sym plan));
-      blank = let one = IfOk-at_ok _ (c.in_ok-held.ensures).1 c.with_one.ensures in λ k. rw (one.0, words_new [] x.1.1.at (blanks n)) (word_blank n k);
-      touches = (IfOk-at_ok _ (c.in_ok-held.ensures).1 c.with_one.ensures).1;
-    }
+pub lay_system-requires-clause-room : goal.lay_system-requires-clause-room
+lay_system-requires-clause-room c =
+    let x = c.in_ok-held.held in let n = c.block_words-words.result in let a = c.in_ok-tables.ensures in let b = c.in_ok-tables-2.ensures in let d = c.in_ok-held.ensures in let one = IfOk-at_ok _ d.1 c.with_one.ensures in
+    let plan : x.0.0.0 ≡ c.in_ok-layout.layout = (λ i. (d.0 i).0.0) ∙ (λ i. (b.0 i).0) ∙ a.0 in
+    rw (one.0, words_new [] x.1.1.at (blanks n)) (length-blanks n ∙ c.block_words-words.ensures.size ∙ ap (λ (l : Layout). block_words l System) (sym plan))
+
+pub lay_system-requires-clause-blank : goal.lay_system-requires-clause-blank
+lay_system-requires-clause-blank c =
+    let x = c.in_ok-held.held in let n = c.block_words-words.result in let one = IfOk-at_ok _ (c.in_ok-held.ensures).1 c.with_one.ensures in
+    λ k. rw (one.0, words_new [] x.1.1.at (blanks n)) (word_blank n k)
+
+pub lay_system-requires-clause-touches : goal.lay_system-requires-clause-touches
+lay_system-requires-clause-touches c = (IfOk-at_ok _ (c.in_ok-held.ensures).1 c.with_one.ensures).1
 
 pub returns : goal.returns
 returns c =

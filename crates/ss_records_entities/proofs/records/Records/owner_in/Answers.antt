@@ -1,4 +1,4 @@
-use Rattle.std.proofs.Common.{rules, ◌≡◌, ◌+◌, sym, ◌∙◌, arith, refl, ap}
+use Rattle.std.proofs.Common.{◌≡◌, ◌+◌, sym, ◌∙◌, arith, refl, ap}
 use Rattle.std.proofs.lemmas.Int.{ints, to_z-of_z}
 use Rattle.ss_records_blocks.specs.Cells.{link, number, word_at}
 use Rattle.ss_records_entities.proofs.Looks.{owner_leads, owner_small, owner_value}
@@ -52,15 +52,20 @@ is_filed-requires c =
       touches = let r = c.args.self.now in at_start r.blocks.touches r.blocks.total 0 0 c.requires.touches;
     }
 
-pub returns-then-not-is_filed : goal.returns-then-not-is_filed
-returns-then-not-is_filed c =
+pub returns-then-not-is_filed-clause-kept : goal.returns-then-not-is_filed-clause-kept
+returns-then-not-is_filed-clause-kept c =
     let r = c.args.self.now in let p = c.is_filed.new.self in let h : uncounted p ≡ uncounted r = unmoved r p c.is_filed.ensures.same c.is_filed.ensures.cells in
-    record {
-      value = search rules;
-      kept = kept_still r p h c.requires.kept;
-      same = ap state h;
-      touches = one_of_two r.blocks.touches r.blocks.total p.blocks.touches p.blocks.total c.requires.touches c.is_filed.ensures.touches;
-    }
+    kept_still r p h c.requires.kept
+
+pub returns-then-not-is_filed-clause-same : goal.returns-then-not-is_filed-clause-same
+returns-then-not-is_filed-clause-same c =
+    let r = c.args.self.now in let p = c.is_filed.new.self in let h : uncounted p ≡ uncounted r = unmoved r p c.is_filed.ensures.same c.is_filed.ensures.cells in
+    ap state h
+
+pub returns-then-not-is_filed-clause-touches : goal.returns-then-not-is_filed-clause-touches
+returns-then-not-is_filed-clause-touches c =
+    let r = c.args.self.now in let p = c.is_filed.new.self in
+    one_of_two r.blocks.touches r.blocks.total p.blocks.touches p.blocks.total c.requires.touches c.is_filed.ensures.touches
 
 pub member_base-base-requires : goal.member_base-base-requires
 member_base-base-requires c =

@@ -1,4 +1,4 @@
-use Rattle.std.proofs.Common.{rules, ◌≡◌, ℕ, ◌+◌, ◌<◌, Bool, drop, slice_get, Some, length, inl, refl, sym, ap, subst, ◌∙◌, arith}
+use Rattle.std.proofs.Common.{◌≡◌, ℕ, ◌+◌, ◌<◌, Bool, drop, slice_get, Some, length, inl, refl, sym, ap, subst, ◌∙◌, arith}
 use Rattle.ss_base.specs.declared.layout.Owner.TheVariants.{Class}
 use Rattle.ss_base.specs.declared.layout.SetLayout.{SetLayout}
 use Rattle.ss_records_entities.specs.declared.records.Records.{Records}
@@ -71,17 +71,19 @@ overflow_sub-left c =
     let r = c.args.self.now in let m = c.loop-s in let ts = r.layout.sets in let s = m.s in let h = m.invariant in let y = get_there ts s (omega (arith, c.loop-s-test.true, c.names-s-end.ensures)) in
     omega (arith, h.left, counts_one (owned_by (Class c.args.class)) ts s y.0 y.1 (sym (as_owner y.0.owner c.args.class) ∙ sym (c.if-is_owner.ensures y.0 (set_in r m.self h.same s y.0 y.1))))
 
-pub returns-then-left-eq0-2 : goal.returns-then-left-eq0-2
-returns-then-left-eq0-2 c =
+pub returns-then-left-eq0-2-clause-value : goal.returns-then-left-eq0-2-clause-value
+returns-then-left-eq0-2-clause-value c =
     let r = c.args.self.now in let m = c.loop-s in let ts = r.layout.sets in let s = m.s in let h = m.invariant in let y = get_there ts s (omega (arith, c.loop-s-test.true, c.names-s-end.ensures)) in
-    record {
-      value = sym (owns_none (drop (s + 1) ts) (s + 1) c.args.class c.args.number r.notes.lists (omega (arith, h.left, c.if-left-eq0-2.true, counts_one (owned_by (Class c.args.class)) ts s y.0 y.1 (sym (as_owner y.0.owner c.args.class) ∙ sym (c.if-is_owner.ensures y.0 (set_in r m.self h.same s y.0 y.1))))))
-          ∙ sym (owns_not ts s c.args.class c.args.number y.0 r.notes.lists y.1 (has_in r m.self h.same s c.args.number _ c.if-owns_in.ensures.value)) ∙ h.rest;
-      same = c.owns_in.ensures.same ∙ ap (λ (z : Records). record z { blocks = c.owns_in.new.self.blocks }) c.loop-s.invariant.same;
-      cells = search rules;
-      touches = search rules;
-      looked = omega (arith, h.looked, h.left, c.owns_in.ensures.touches.0, counts_one (owned_by (Class c.args.class)) ts s y.0 y.1 (sym (as_owner y.0.owner c.args.class) ∙ sym (c.if-is_owner.ensures y.0 (set_in r m.self h.same s y.0 y.1))));
-    }
+    sym (owns_none (drop (s + 1) ts) (s + 1) c.args.class c.args.number r.notes.lists (omega (arith, h.left, c.if-left-eq0-2.true, counts_one (owned_by (Class c.args.class)) ts s y.0 y.1 (sym (as_owner y.0.owner c.args.class) ∙ sym (c.if-is_owner.ensures y.0 (set_in r m.self h.same s y.0 y.1))))))
+    ∙ sym (owns_not ts s c.args.class c.args.number y.0 r.notes.lists y.1 (has_in r m.self h.same s c.args.number _ c.if-owns_in.ensures.value)) ∙ h.rest
+
+pub returns-then-left-eq0-2-clause-same : goal.returns-then-left-eq0-2-clause-same
+returns-then-left-eq0-2-clause-same c = c.owns_in.ensures.same ∙ ap (λ (z : Records). record z { blocks = c.owns_in.new.self.blocks }) c.loop-s.invariant.same
+
+pub returns-then-left-eq0-2-clause-looked : goal.returns-then-left-eq0-2-clause-looked
+returns-then-left-eq0-2-clause-looked c =
+    let r = c.args.self.now in let m = c.loop-s in let ts = r.layout.sets in let s = m.s in let h = m.invariant in let y = get_there ts s (omega (arith, c.loop-s-test.true, c.names-s-end.ensures)) in
+    omega (arith, h.looked, h.left, c.owns_in.ensures.touches.0, counts_one (owned_by (Class c.args.class)) ts s y.0 y.1 (sym (as_owner y.0.owner c.args.class) ∙ sym (c.if-is_owner.ensures y.0 (set_in r m.self h.same s y.0 y.1))))
 
 pub loop-s-preserved : goal.loop-s-preserved
 loop-s-preserved c =

@@ -38,21 +38,18 @@ is_past-requires-clause-joins c =
     joins_still r m.self (unmoved r m.self m.invariant.same m.invariant.cells) c.args.s m.member
     (joins r c.requires.kept c.args.s c.requires.set c.args.owner.number t m.member m.self.blocks.touches m.invariant.walk c.members-test.true)
 
-pub returns-then-is_past : goal.returns-then-is_past
-returns-then-is_past c =
+pub returns-then-is_past-clause-value : goal.returns-then-is_past-clause-value
+returns-then-is_past-clause-value c =
     let r = c.args.self.now in let m = c.members in let v : ℤ = to_z w64 (of_z w64 c.args.own) in let e : v ≡ c.args.own = search rules in
-    let t = ranks_past (state r) (member_class r.layout c.args.s) c.args.field c.args.high (Whole v) in
-    record {
-      value =
-          let fo = c.ranges.own in let h = simp to_z-of_z at c.if-is_past.ensures in
-          let test_result : true ≡ t m.member.number = h ∙ ap (λ (z : Records). ranks_past (state z) (member_class z.layout c.args.s) c.args.field c.args.high (Whole c.args.own) m.member.number) (unmoved r m.self m.invariant.same m.invariant.cells) ∙ ap (λ (z : ℤ). ranks_past (state r) (member_class r.layout c.args.s) c.args.field c.args.high (Whole z) m.member.number) (sym e) in
-          it_is r c.requires.kept c.args.s c.requires.set c.args.owner.number t m.member m.self.blocks.touches m.invariant.walk c.members-test.true (sym test_result)
-          ∙ ap (λ (z : ℤ). first_where (ranks_past (state r) (member_class r.layout c.args.s) c.args.field c.args.high (Whole z)) (members_of r.notes.lists c.args.s c.args.owner.number)) e;
-      small = small r c.requires.kept c.args.s c.requires.set c.args.owner.number t m.member m.self.blocks.touches m.invariant.walk c.members-test.true;
-      same = search rules;
-      cells = search rules;
-      touches = search rules;
-    }
+    let t = ranks_past (state r) (member_class r.layout c.args.s) c.args.field c.args.high (Whole v) in let fo = c.ranges.own in let h = simp to_z-of_z at c.if-is_past.ensures in
+    let test_result : true ≡ t m.member.number = h ∙ ap (λ (z : Records). ranks_past (state z) (member_class z.layout c.args.s) c.args.field c.args.high (Whole c.args.own) m.member.number) (unmoved r m.self m.invariant.same m.invariant.cells) ∙ ap (λ (z : ℤ). ranks_past (state r) (member_class r.layout c.args.s) c.args.field c.args.high (Whole z) m.member.number) (sym e) in
+    it_is r c.requires.kept c.args.s c.requires.set c.args.owner.number t m.member m.self.blocks.touches m.invariant.walk c.members-test.true (sym test_result)
+    ∙ ap (λ (z : ℤ). first_where (ranks_past (state r) (member_class r.layout c.args.s) c.args.field c.args.high (Whole z)) (members_of r.notes.lists c.args.s c.args.owner.number)) e
+
+pub returns-then-is_past-clause-small : goal.returns-then-is_past-clause-small
+returns-then-is_past-clause-small c =
+    let r = c.args.self.now in let m = c.members in let v : ℤ = to_z w64 (of_z w64 c.args.own) in let t = ranks_past (state r) (member_class r.layout c.args.s) c.args.field c.args.high (Whole v) in
+    small r c.requires.kept c.args.s c.requires.set c.args.owner.number t m.member m.self.blocks.touches m.invariant.walk c.members-test.true
 
 pub follow-member-requires-in-members-clause-leads : goal.follow-member-requires-in-members-clause-leads
 follow-member-requires-in-members-clause-leads c =

@@ -1,4 +1,4 @@
-use Rattle.std.proofs.Common.{rules, ◌≡◌, ap, ◌∙◌, refl}
+use Rattle.std.proofs.Common.{◌≡◌, ap, ◌∙◌, refl}
 use Rattle.std.specs.Int.{cast_signed}
 use Rattle.std.proofs.lemmas.Int.{to_z-of_z}
 use mir.Syntax.{w64}
@@ -27,5 +27,11 @@ returns-in-Ok c =
 pub find_notice-requires : goal.find_notice-requires
 find_notice-requires c = record { kept = c.requires.kept }
 
-pub returns-in-Err : goal.returns-in-Err
-returns-in-Err c = record { kept = c.requires.kept; done = search rules; touches = (refl, refl); blocks = refl }
+pub returns-in-Err-clause-kept : goal.returns-in-Err-clause-kept
+returns-in-Err-clause-kept c = c.requires.kept
+
+pub returns-in-Err-clause-touches : goal.returns-in-Err-clause-touches
+returns-in-Err-clause-touches c = (refl, refl)
+
+pub returns-in-Err-clause-blocks : goal.returns-in-Err-clause-blocks
+returns-in-Err-clause-blocks c = refl

@@ -1,6 +1,6 @@
 use Rattle.std.proofs.lemmas.Int.{to_z-of_z}
 use Rattle.ss_records_entities.proofs.Attributes.{found_first, found_second, found_kept, found_length, found_assigned}
-use Rattle.std.proofs.Common.{rules, refl, arith}
+use Rattle.std.proofs.Common.{refl, arith}
 use Rattle.ss_records_entities.proofs.Still.{few_fields}
 use Rattle.ss_records_entities.proofs.records.Records.set_value.Goals as goal
 
@@ -31,5 +31,11 @@ returns-in-Ok c =
 pub find-requires : goal.find-requires
 find-requires c = record { kept = c.requires.kept; class = c.requires.class }
 
-pub returns-in-Err : goal.returns-in-Err
-returns-in-Err c = record { kept = c.requires.kept; done = search rules; touches = (refl, refl); blocks = refl }
+pub returns-in-Err-clause-kept : goal.returns-in-Err-clause-kept
+returns-in-Err-clause-kept c = c.requires.kept
+
+pub returns-in-Err-clause-touches : goal.returns-in-Err-clause-touches
+returns-in-Err-clause-touches c = (refl, refl)
+
+pub returns-in-Err-clause-blocks : goal.returns-in-Err-clause-blocks
+returns-in-Err-clause-blocks c = refl

@@ -1,4 +1,3 @@
-use Rattle.std.proofs.Common.{rules}
 use Rattle.std.proofs.lemmas.Int.{to_z-of_z}
 use Rattle.ss_base.specs.declared.value.Value.TheVariants.{Whole}
 use Rattle.ss_base.specs.declared.layout.Mode.TheVariants.{Integer}
@@ -17,14 +16,17 @@ set_whole-requires c =
       second = found_second r c.requires.kept c.args.class _ c.in-Ok.place f c.args.field c.value_start-k.result c.value_start-k.ensures.at Integer c.requires.mode;
     }
 
-pub returns-in-Ok : goal.returns-in-Ok
-returns-in-Ok c =
+pub returns-in-Ok-clause-kept : goal.returns-in-Ok-clause-kept
+returns-in-Ok-clause-kept c =
     let r = c.args.self.now in let f = c.in-Ok.ensures.found in
-    record {
-      kept = found_kept r c.requires.kept c.args.class _ c.in-Ok.place f c.args.field c.value_start-k.result c.value_start-k.ensures.at _ c.requires.mode c.set_whole.new.blocks.cells c.set_whole.ensures.written;
-      done =
-          let fits = c.ranges.r in let few = c.ranges.n in let f = simp to_z-of_z at c.in-Ok.ensures.found in let w = simp to_z-of_z at c.set_whole.ensures.written in
-          record { gives = found_assigned r c.requires.kept c.args.class c.args.r c.in-Ok.place f c.args.field c.value_start-k.result c.value_start-k.ensures.at (Whole c.args.n) c.requires.mode c.set_whole.new.blocks.cells w; reads = found_reads r c.requires.kept c.args.class c.args.r c.in-Ok.place f c.args.field c.value_start-k.result c.value_start-k.ensures.at (Whole c.args.n) c.requires.mode c.set_whole.new.blocks.cells w };
-      touches = search rules;
-      blocks = found_length r c.requires.kept c.args.class _ c.in-Ok.place f c.args.field c.value_start-k.result c.value_start-k.ensures.at _ c.requires.mode c.set_whole.new.blocks.cells c.set_whole.ensures.written;
-    }
+    found_kept r c.requires.kept c.args.class _ c.in-Ok.place f c.args.field c.value_start-k.result c.value_start-k.ensures.at _ c.requires.mode c.set_whole.new.blocks.cells c.set_whole.ensures.written
+
+pub returns-in-Ok-clause-done : goal.returns-in-Ok-clause-done
+returns-in-Ok-clause-done c =
+    let r = c.args.self.now in let f = c.in-Ok.ensures.found in let fits = c.ranges.r in let few = c.ranges.n in let f = simp to_z-of_z at c.in-Ok.ensures.found in let w = simp to_z-of_z at c.set_whole.ensures.written in
+    record { gives = found_assigned r c.requires.kept c.args.class c.args.r c.in-Ok.place f c.args.field c.value_start-k.result c.value_start-k.ensures.at (Whole c.args.n) c.requires.mode c.set_whole.new.blocks.cells w; reads = found_reads r c.requires.kept c.args.class c.args.r c.in-Ok.place f c.args.field c.value_start-k.result c.value_start-k.ensures.at (Whole c.args.n) c.requires.mode c.set_whole.new.blocks.cells w }
+
+pub returns-in-Ok-clause-blocks : goal.returns-in-Ok-clause-blocks
+returns-in-Ok-clause-blocks c =
+    let r = c.args.self.now in let f = c.in-Ok.ensures.found in
+    found_length r c.requires.kept c.args.class _ c.in-Ok.place f c.args.field c.value_start-k.result c.value_start-k.ensures.at _ c.requires.mode c.set_whole.new.blocks.cells c.set_whole.ensures.written
