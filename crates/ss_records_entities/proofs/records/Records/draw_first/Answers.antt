@@ -57,27 +57,24 @@ unlink-requires-clause-member c =
     let r = c.args.self.now in let k = c.requires.kept in let e = c.args.home in let own = c.requires.owns in let set = c.owner_base-set in let mem = c.member_base-member in let q = c.look-first.result in
     let between = at_first r k c.args.s c.requires.set e own set.result set.ensures.at q c.look-first.ensures.word c.look-first.ensures.there in
     let inn = first_in_it r c.args.s e.number (record { place = r.system; number = 0 }) q (members_of r.notes.lists c.args.s e.number) between c.if-first-eq0.false in
-    let j = joins_it r k c.args.s c.requires.set e.number q between.after inn in let z = c.look-after.result in let cells = c.look-first.ensures.cells in
+    let j = joins_it r k c.args.s c.requires.set e.number q between.after inn in
+    let z = c.look-after.result in let cells = c.look-first.ensures.cells in let both = c.look-after.ensures.cells ∙ cells in
     let w : word_at r.blocks.cells q.place.at mem.result ≡ link z.place.at = (λ i. word_at (sym cells i) q.place.at mem.result) ∙ c.look-after.ensures.word in
-    let v : word_at r.blocks.cells z.place.at 1 ≡ number z.number = (λ i. word_at (sym cells i) z.place.at 1) ∙ c.look-after.ensures.there in let ys = (following r k c.args.s c.requires.set e.number q j inn between.first).0 in
+    let v : word_at r.blocks.cells z.place.at 1 ≡ number z.number = (λ i. word_at (sym cells i) z.place.at 1) ∙ c.look-after.ensures.there in
+    let ys = (following r k c.args.s c.requires.set e.number q j inn between.first).0 in
     let around = around_first r k c.args.s c.requires.set e.number q j inn between.first mem.result mem.ensures.at z w v in
     rw (c.start_at-2.ensures.cells, c.peek_count-count.ensures.cells, c.look-after.ensures.cells, c.look-first.ensures.cells) (member_words' r k c.args.s c.requires.set e q own mem.result set.result mem.ensures.at set.ensures.at j (record { place = r.system; number = 0 }) z [] ys around)
 
 pub unlink-requires-clause-owner : goal.unlink-requires-clause-owner
 unlink-requires-clause-owner c =
     let r = c.args.self.now in let k = c.requires.kept in let e = c.args.home in let own = c.requires.owns in let set = c.owner_base-set in let mem = c.member_base-member in let q = c.look-first.result in
+    let between = at_first r k c.args.s c.requires.set e own set.result set.ensures.at q c.look-first.ensures.word c.look-first.ensures.there in
+    let inn = first_in_it r c.args.s e.number (record { place = r.system; number = 0 }) q (members_of r.notes.lists c.args.s e.number) between c.if-first-eq0.false in
+    let j = joins_it r k c.args.s c.requires.set e.number q between.after inn in
     rw (c.start_at-2.ensures.cells, c.peek_count-count.ensures.cells, c.look-after.ensures.cells, c.look-first.ensures.cells) (owner_words r k c.args.s c.requires.set e q own mem.result set.result mem.ensures.at set.ensures.at)
 
 pub unlink-requires-clause-after : goal.unlink-requires-clause-after
-unlink-requires-clause-after c =
-    let r = c.args.self.now in let k = c.requires.kept in let e = c.args.home in let own = c.requires.owns in let set = c.owner_base-set in let mem = c.member_base-member in let q = c.look-first.result in
-    let between = at_first r k c.args.s c.requires.set e own set.result set.ensures.at q c.look-first.ensures.word c.look-first.ensures.there in
-    let inn = first_in_it r c.args.s e.number (record { place = r.system; number = 0 }) q (members_of r.notes.lists c.args.s e.number) between c.if-first-eq0.false in
-    let j = joins_it r k c.args.s c.requires.set e.number q between.after inn in let z = c.look-after.result in let cells = c.look-first.ensures.cells in let both = c.look-after.ensures.cells ∙ cells in
-    let w : word_at r.blocks.cells q.place.at mem.result ≡ link z.place.at = (λ i. word_at (sym cells i) q.place.at mem.result) ∙ c.look-after.ensures.word in
-    let v : word_at r.blocks.cells z.place.at 1 ≡ number z.number = (λ i. word_at (sym cells i) z.place.at 1) ∙ c.look-after.ensures.there in let ys = (following r k c.args.s c.requires.set e.number q j inn between.first).0 in
-    let around = around_first r k c.args.s c.requires.set e.number q j inn between.first mem.result mem.ensures.at z w v in
-    λ no.
+unlink-requires-clause-after c = λ no.
     let r = c.args.self.now in let k = c.requires.kept in let e = c.args.home in let own = c.requires.owns in let set = c.owner_base-set in let mem = c.member_base-member in let q = c.look-first.result in
     let between = at_first r k c.args.s c.requires.set e own set.result set.ensures.at q c.look-first.ensures.word c.look-first.ensures.there in
     let inn = first_in_it r c.args.s e.number (record { place = r.system; number = 0 }) q (members_of r.notes.lists c.args.s e.number) between c.if-first-eq0.false in
@@ -94,9 +91,11 @@ unlink-requires-clause-counts c =
     let r = c.args.self.now in let k = c.requires.kept in let e = c.args.home in let own = c.requires.owns in let set = c.owner_base-set in let mem = c.member_base-member in let q = c.look-first.result in
     let between = at_first r k c.args.s c.requires.set e own set.result set.ensures.at q c.look-first.ensures.word c.look-first.ensures.there in
     let inn = first_in_it r c.args.s e.number (record { place = r.system; number = 0 }) q (members_of r.notes.lists c.args.s e.number) between c.if-first-eq0.false in
-    let j = joins_it r k c.args.s c.requires.set e.number q between.after inn in let z = c.look-after.result in let cells = c.look-first.ensures.cells in let both = c.look-after.ensures.cells ∙ cells in
+    let j = joins_it r k c.args.s c.requires.set e.number q between.after inn in
+    let z = c.look-after.result in let cells = c.look-first.ensures.cells in let both = c.look-after.ensures.cells ∙ cells in
     let w : word_at r.blocks.cells q.place.at mem.result ≡ link z.place.at = (λ i. word_at (sym cells i) q.place.at mem.result) ∙ c.look-after.ensures.word in
-    let v : word_at r.blocks.cells z.place.at 1 ≡ number z.number = (λ i. word_at (sym cells i) z.place.at 1) ∙ c.look-after.ensures.there in let ys = (following r k c.args.s c.requires.set e.number q j inn between.first).0 in
+    let v : word_at r.blocks.cells z.place.at 1 ≡ number z.number = (λ i. word_at (sym cells i) z.place.at 1) ∙ c.look-after.ensures.there in
+    let ys = (following r k c.args.s c.requires.set e.number q j inn between.first).0 in
     let around = around_first r k c.args.s c.requires.set e.number q j inn between.first mem.result mem.ensures.at z w v in
     let n : word_at r.blocks.cells e.place.at (set.result + 2) ≡ counter c.peek_count-count.result = (λ i. word_at (sym both i) e.place.at (set.result + 2)) ∙ c.peek_count-count.ensures.word in
     let many = how_many r k c.args.s c.requires.set e own set.result set.ensures.at c.peek_count-count.result n in
