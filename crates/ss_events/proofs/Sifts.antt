@@ -1,8 +1,9 @@
 -- Each step of an entry that rises or sinks in a heap.
-use Rattle.std.proofs.Common.{◌≡◌, ◌∙◌, ℕ, ◌+◌, ◌-◌, ◌*◌, ◌/◌, ◌<◌, ◌≤◌, ◌^◌, zero, suc, true, false, List, length, get_or, set, swap, refl, sym, ap, subst, ⊎_elim, arith, [], ◌∷◌, ◌++◌, length-append, pow-suc, pow_mono, pow-add}
+use Rattle.std.proofs.Common.{◌≡◌, ◌≢◌, ◌∙◌, ℕ, ◌+◌, ◌-◌, ◌*◌, ◌/◌, ◌<◌, ◌≤◌, ◌^◌, zero, suc, Bool, true, false, List, length, get_or, set, swap, refl, sym, ap, subst, ⊎_elim, arith, [], ◌∷◌, ◌++◌, length-append, pow-suc, pow_mono, pow-add}
 use Rattle.std.specs.List.Sorted.{IsPermutation}
-use Rattle.std.specs.List.{swap_remove}
-use Rattle.std.proofs.lemmas.List.Sorted.{IsPermutation-sym, IsPermutation-to_front, IsPermutation-cons, IsPermutation-swap_remove, IsPermutation-refl, IsPermutation-swap, IsPermutation-trans, length_permutation}
+use Rattle.std.specs.List.{swap_remove, list_any}
+use Rattle.std.specs.Ordering.{int_eq}
+use Rattle.std.proofs.lemmas.List.Sorted.{IsPermutation-append_left, IsPermutation-sym, IsPermutation-to_front, IsPermutation-cons, IsPermutation-swap_remove, IsPermutation-refl, IsPermutation-swap, IsPermutation-trans, length_permutation}
 use Rattle.std.proofs.lemmas.List.{length-set}
 use Rattle.std.proofs.lemmas.List.Edits.{length-swap}
 use Rattle.std.proofs.lemmas.Nat.{pow_below}
@@ -10,10 +11,12 @@ use Rattle.std.proofs.lemmas.Grind.{pow_more}
 use Rattle.std.proofs.lemmas.Bool.{cases_lt}
 use Rattle.std.proofs.Math.Nat.{mul-le-mul_right}
 use Rattle.ss_events_entries.specs.declared.entry.Entry.{Entry}
-use Rattle.ss_events_entries.specs.HeapEntries.{HeapEntries, but_one}
+use Rattle.ss_events_entries.specs.CountedList.{Work}
+use Rattle.ss_events_entries.specs.HeapEntries.{HeapEntries, HeadsAndFollowers, heap_lines, all_of, notices_of, but_one}
 use Rattle.ss_events_entries.specs.HeapOrder.{IsChild, IsHeap, IsUnderParent, IsOverChildren, IsHeapBut, IsFirstChild}
 use Rattle.ss_world.specs.Order.{comes_before}
-use Rattle.ss_events.specs.Sifting.{Raises, CostsToRaise, Lowers, CostsToLower, Mends, CostsToMend, IsLogarithmic}
+use Rattle.ss_world.specs.PendingList.{scheduling_limit}
+use Rattle.ss_events.specs.Sifting.{Raises, CostsToRaise, Lowers, CostsToLower, Mends, CostsToMend, IsLogarithmic, IsTried, GoesIn, StaysOut, Inserts}
 use Rattle.ss_events_entries.specs.Digits.{binary_digits}
 use Rattle.std.specs.Int.Digits.{digits_of, number_from_digits}
 use Rattle.std.proofs.lemmas.Int.Digits.{number_lt, number_digits_of, all_below_base_digits_of, length-digits_of-le}
@@ -359,19 +362,48 @@ insert_work old new held from to none one moved last u =
       moves = omega (arith, u.moves);
     }
 
--- one that was not put anywhere
-pub tried_work : (new : HeapEntries) (held : ℕ) → new.comparisons ≤ held → new.comparisons ≤ 1 → new.moves ≡ 0 → IsLogarithmic held new
-tried_work new held none one moved = record {
+pub tried_work : (h : HeapEntries) → IsTried h → IsLogarithmic (length h.entries) h
+tried_work h t = record {
   comparisons = ⊎_elim
-      (λ lt. omega (arith, one_digit held (omega arith)))
-      (λ le. omega arith)
-      (cases_lt 0 held);
-  moves = omega arith;
+      (λ lt. omega (arith, t.one, one_digit (length h.entries) (omega arith)))
+      (λ le. omega (arith, t.few))
+      (cases_lt 0 (length h.entries));
+  moves = omega (arith, t.unmoved);
 }
 
 -- where the new entry only follows another
 pub append_work : (new : HeapEntries) (held : ℕ) → 0 < held → new.comparisons ≡ 1 → new.moves ≡ 1 → IsLogarithmic held new
 append_work new held some one moved = record { comparisons = omega (arith, one_digit held some); moves = omega arith }
+
+-- no entry goes in by itself
+pub stays : (h : HeapEntries) → IsTried h → StaysOut (heap_lines h) h.before h
+stays h t = record { lines = refl; tried = t; before = refl }
+
+-- after an attempt in vain
+pub retried : (e : Entry) (old : HeadsAndFollowers) (work : Work) (mid new : HeapEntries) (b : Bool) → StaysOut old work mid → Inserts e (heap_lines mid) mid.before new b → Inserts e old work new b
+retried e old work mid new b s it = subst (λ (p : HeadsAndFollowers × Work). Inserts e p.0 p.1 new b) (λ i. (s.lines i, s.before i)) it
+
+-- an entry that was put after all heads, and rose
+module _ (e : Entry) (mid put new : HeapEntries) (from to : ℕ) (pushed : put ≡ record mid { entries = mid.entries ++ e ∷ []; moves = mid.moves + 1 }) (last : from ≡ length mid.entries) (raised : Raises put.entries new.entries from to) (cost : CostsToRaise put new from to) where
+  pub goes_in : IsTried mid → IsHeap comes_before mid.entries → list_any (int_eq e.notice) (notices_of (all_of mid)) ≡ false → e.number ≢ scheduling_limit → GoesIn e (heap_lines mid) mid.before new
+  goes_in tried ordered apart room =
+      let heads = ap (λ h. h.entries) pushed in
+      let others : new.followers ≡ mid.followers = cost.followers ∙ ap (λ h. h.followers) pushed in
+      record {
+        order = inserted mid.entries put.entries new.entries e from to heads last raised ordered;
+        all = subst (λ fs. IsPermutation (e ∷ all_of mid) (new.entries ++ fs)) (sym others)
+            (IsPermutation-append_left mid.followers (e ∷ mid.entries) new.entries (inserted_all mid.entries put.entries new.entries e from to heads last raised));
+        apart = apart;
+        room = room;
+        cost = insert_work put new (length mid.entries) from to
+            (omega (arith, ap (λ h. h.comparisons) pushed, tried.few, last))
+            (omega (arith, ap (λ h. h.comparisons) pushed, tried.one))
+            (omega (arith, ap (λ h. h.moves) pushed, tried.unmoved))
+            last cost;
+        moved = omega (arith, ap (λ h. h.moves) pushed, cost.grows);
+        compared = λ some. omega (arith, cost.comparisons, cost.some (omega (arith, last, some)));
+        before = cost.before ∙ ap (λ h. h.before) pushed;
+      }
 
 -- an entry that was taken out of a heap, where the last entry took its place
 module _ (old mid : List Entry) (at : ℕ) (entry : Entry) (within : at < length old) (is : entry ≡ get_or old at entry) (rest : mid ≡ swap_remove old at entry) where
