@@ -1,5 +1,5 @@
 -- How far a number of 64 bits has risen.
-use Rattle.std.proofs.Common.{◌≡◌, ℕ, ◌+◌, ◌-◌, ◌%◌, ◌^◌, ◌<◌, arith}
+use Rattle.std.proofs.Common.{◌≡◌, ℕ, ◌+◌, ◌%◌, ◌^◌, ◌<◌, arith}
 use Rattle.ss_events_entries.specs.CallWork.{rise}
 
 -- not at all

@@ -1,4 +1,4 @@
-use Rattle.std.proofs.Common.{◌≡◌, ◌<◌, ◌∙◌, Some, length, get_or, ap, sym, subst, arith}
+use Rattle.std.proofs.Common.{◌<◌, ◌∙◌, Some, length, get_or, ap, sym, subst, arith}
 use Rattle.ss_events_entries.specs.CountedList.{with_work}
 use Rattle.ss_events_entries.specs.HeapEntries.{HeapEntries, AreAfterHeads, event_of}
 use Rattle.ss_events.proofs.Agendas.{next-none, next-first, at_top}

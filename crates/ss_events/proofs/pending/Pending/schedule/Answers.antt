@@ -1,4 +1,4 @@
-use Rattle.std.proofs.Common.{◌≡◌, ◌≢◌, true, false, ◌+◌, ◌++◌, ◌∙◌, map, ℤ, Bool, w64, to_z, of_z, Ok, length, ap, refl, sym, subst, to_z-of_z, arith}
+use Rattle.std.proofs.Common.{◌≡◌, ◌≢◌, true, false, ◌+◌, ◌++◌, ◌∙◌, map, ℤ, Bool, w64, to_z, of_z, Ok, ap, refl, sym, subst, to_z-of_z, arith}
 use Rattle.ss_world.specs.PendingList.{PendingList, scheduling_limit, with_entry, is_pending, scheduled, IsRefusal}
 use Rattle.ss_events_entries.specs.declared.entry.Entry.{Entry}
 use Rattle.ss_events_entries.specs.HeapEntries.{HeapEntries, HeadsAndFollowers, heap_lines, all_of, AreAfterHeads}
