@@ -14,7 +14,7 @@ its c z = record { key = c.args.key; number = c.args.number; notice = z }
 
 -- the quick attempt in vain
 stayed : (c : After-insert_at_once) → c.insert_at_once.result ≡ false → StaysOut (heap_lines c.args.heap.now) c.args.heap.now.before c.insert_at_once.new.heap
-stayed c no = subst (λ (b : Bool). Inserts (its c (to_z w64 (of_z w64 c.args.notice))) (heap_lines c.args.heap.now) c.args.heap.now.before c.insert_at_once.new.heap b) no c.insert_at_once.ensures
+stayed c not = subst (λ (b : Bool). Inserts (its c (to_z w64 (of_z w64 c.args.notice))) (heap_lines c.args.heap.now) c.args.heap.now.before c.insert_at_once.new.heap b) not c.insert_at_once.ensures
 
 pub insert_slowly-requires-clause-order : goal.insert_slowly-requires-clause-order
 insert_slowly-requires-clause-order c =

@@ -21,7 +21,7 @@ attempt : (c : After-insert_at_once) → Inserts (its c (to_z w64 (of_z w64 c.ar
 attempt c = subst (λ (h : HeapEntries). Inserts (its c (to_z w64 (of_z w64 c.args.notice))) (heap_lines h) h.before c.insert_at_once.new.heap c.insert_at_once.result) c.make_room.ensures c.insert_at_once.ensures
 
 stayed : (c : After-insert_at_once) → c.insert_at_once.result ≡ false → StaysOut (heap_lines c.args.heap.now) c.args.heap.now.before c.insert_at_once.new.heap
-stayed c no = subst (λ (b : Bool). Inserts (its c (to_z w64 (of_z w64 c.args.notice))) (heap_lines c.args.heap.now) c.args.heap.now.before c.insert_at_once.new.heap b) no (attempt c)
+stayed c not = subst (λ (b : Bool). Inserts (its c (to_z w64 (of_z w64 c.args.notice))) (heap_lines c.args.heap.now) c.args.heap.now.before c.insert_at_once.new.heap b) not (attempt c)
 
 -- ---- it doesn't go in
 
@@ -31,10 +31,10 @@ returns-then-number-eq-MOST_SCHEDULINGS c = stays c.args.heap.now c.requires.tri
 pub returns-in_default : goal.returns-in_default
 returns-in_default c = subst (λ (h : HeapEntries). StaysOut (heap_lines c.args.heap.now) c.args.heap.now.before h) (sym c.make_room.ensures) (stays c.args.heap.now c.requires.tried)
 
-pub returns-in_default-2 : goal.returns-in_default-2
-returns-in_default-2 c =
-    let s = stayed (goal.at.returns-in_default-2 c).After-insert_at_once c.if-insert_at_once.false in
-    subst (λ (h : HeapEntries). StaysOut (heap_lines c.args.heap.now) c.args.heap.now.before h) (sym c.in_default.ensures.err) s
+pub returns-in_default-push : goal.returns-in_default-push
+returns-in_default-push c =
+    let s = stayed (goal.at.returns-in_default-push c).After-insert_at_once c.if-insert_at_once.false in
+    subst (λ (h : HeapEntries). StaysOut (heap_lines c.args.heap.now) c.args.heap.now.before h) (sym c.in_default-push.ensures.err) s
 
 -- ---- it goes in
 
@@ -54,10 +54,10 @@ returns-then-insert_at_once c =
 -- no entry has the notice
 apart : (c : After-insert_at_once) → StaysOut (heap_lines c.args.heap.now) c.args.heap.now.before c.insert_at_once.new.heap → c.holds.result ≡ false
     → (list_any (int_eq (to_z w64 (of_z w64 c.args.notice))) (notices_of c.insert_at_once.new.heap.entries) ≡ false) × (list_any (int_eq (to_z w64 (of_z w64 c.args.notice))) (notices_of c.insert_at_once.new.heap.followers) ≡ false)
-apart c s no =
+apart c s free =
     let n = to_z w64 (of_z w64 c.args.notice) in let old = c.args.heap.now in
     subst (λ (l : HeadsAndFollowers). (list_any (int_eq n) (notices_of l.heads) ≡ false) × (list_any (int_eq n) (notices_of l.followers) ≡ false)) (sym s.lines)
-    (or_parts (list_any (int_eq n) (notices_of old.entries)) (list_any (int_eq n) (notices_of old.followers)) (sym c.holds.ensures ∙ no))
+    (or_parts (list_any (int_eq n) (notices_of old.entries)) (list_any (int_eq n) (notices_of old.followers)) (sym c.holds.ensures ∙ free))
 
 pub push-requires-clause-apart : goal.push-requires-clause-apart
 push-requires-clause-apart c =
@@ -73,11 +73,11 @@ push-requires-clause-countable c =
 
 pub raise-requires-clause-comparisons : goal.raise-requires-clause-comparisons
 raise-requires-clause-comparisons c =
-    let s = stayed (goal.at.raise-requires-clause-comparisons c).After-insert_at_once c.if-insert_at_once.false in omega (arith, ap (λ h. h.comparisons) c.in-Ok-2.ensures.ok, s.tried.one)
+    let s = stayed (goal.at.raise-requires-clause-comparisons c).After-insert_at_once c.if-insert_at_once.false in omega (arith, ap (λ h. h.comparisons) c.in-Ok-push.ensures.ok, s.tried.one)
 
 pub raise-requires-clause-moves : goal.raise-requires-clause-moves
 raise-requires-clause-moves c =
-    let s = stayed (goal.at.raise-requires-clause-moves c).After-insert_at_once c.if-insert_at_once.false in omega (arith, ap (λ h. h.moves) c.in-Ok-2.ensures.ok, s.tried.unmoved)
+    let s = stayed (goal.at.raise-requires-clause-moves c).After-insert_at_once c.if-insert_at_once.false in omega (arith, ap (λ h. h.moves) c.in-Ok-push.ensures.ok, s.tried.unmoved)
 
 pub returns : goal.returns
 returns c =
@@ -90,6 +90,6 @@ returns c =
     let room : c.args.number ≢ scheduling_limit = omega arith in
     subst (λ (z : ℤ). GoesIn (its a z) (heap_lines old) old.before new) (to_z-of_z c.ranges.notice)
     (retried (its a n) (heap_lines old) old.before mid new true s
-    (goes_in (its a n) mid c.push.new.self new c.len-place.result c.raise.result c.in-Ok-2.ensures.ok c.len-place.ensures c.raise.ensures.raises c.raise.ensures.cost s.tried ordered
+    (goes_in (its a n) mid c.push.new.self new c.len-place.result c.raise.result c.in-Ok-push.ensures.ok c.len-place.ensures c.raise.ensures.raises c.raise.ensures.cost s.tried ordered
     (any-append n mid.entries mid.followers ∙ or_from (list_any (int_eq n) (notices_of mid.entries)) (list_any (int_eq n) (notices_of mid.followers)) free.0 free.1)
     room))

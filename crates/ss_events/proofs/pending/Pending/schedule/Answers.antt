@@ -30,7 +30,7 @@ went : (c : After-insert) → c.insert.result ≡ true → GoesIn (its c c.args.
 went c did = subst (λ (b : Bool). Inserts (its c c.args.notice) (heap_lines c.self.inside.heap) c.args.self.now.total c.insert.new.heap b) did (outcome c)
 
 stayed : (c : After-insert) → c.insert.result ≡ false → StaysOut (heap_lines c.self.inside.heap) c.args.self.now.total c.insert.new.heap
-stayed c no = subst (λ (b : Bool). Inserts (its c c.args.notice) (heap_lines c.self.inside.heap) c.args.self.now.total c.insert.new.heap b) no (outcome c)
+stayed c not = subst (λ (b : Bool). Inserts (its c c.args.notice) (heap_lines c.self.inside.heap) c.args.self.now.total c.insert.new.heap b) not (outcome c)
 
 pub insert-requires-clause-order : goal.insert-requires-clause-order
 insert-requires-clause-order c = subst (λ (h : HeapEntries). IsHeap comes_before h.entries) (sym c.reset_counts.ensures) c.self.invariant.order
@@ -78,14 +78,14 @@ returns-then-insert c =
 -- the list is what it was
 same : (c : After-insert) → c.insert.result ≡ false
     → record { entries = in_order (all_of c.insert.new.heap); schedulings = c.self.inside.schedulings; classes = map (λ shapes. shapes.items) c.self.inside.classes.items } ≡ c.args.self.now.list
-same c no =
+same c not =
     let i = c.self.inside in
-    ap (λ (l : HeadsAndFollowers). record { entries = in_order (l.heads ++ l.followers); schedulings = i.schedulings; classes = map (λ shapes. shapes.items) i.classes.items }) (stayed c no).lines
+    ap (λ (l : HeadsAndFollowers). record { entries = in_order (l.heads ++ l.followers); schedulings = i.schedulings; classes = map (λ shapes. shapes.items) i.classes.items }) (stayed c not).lines
     ∙ ap (λ v. v.list) c.self.view_is
 
-pub invariant_of-self-2 : goal.invariant_of-self-2
-invariant_of-self-2 c =
-    let s = stayed (goal.at.invariant_of-self-2 c).After-insert c.if-insert.false in
+pub invariant_of-self-else-insert : goal.invariant_of-self-else-insert
+invariant_of-self-else-insert c =
+    let s = stayed (goal.at.invariant_of-self-else-insert c).After-insert c.if-insert.false in
     subst (λ (l : HeadsAndFollowers). IsAgenda l.heads (l.heads ++ l.followers) c.self.inside.schedulings) (sym s.lines) c.self.invariant
 
 pub returns : goal.returns
