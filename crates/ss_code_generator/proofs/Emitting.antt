@@ -112,7 +112,7 @@ pub none_there : (f : Final) (p : Lined) (c : List Placed) → Adds f nothing p 
 none_there f p [] h e = refl
 none_there f p (x ∷ c) h e = absurd (omega (arith, e, piece_long f p (x ∷ c) h))
 
--- the same code, said otherwise
+-- what was added, for another code that is the same
 pub adds_same : (f : Final) (a b : Lined) (c d : List Placed) → c ≡ d → Adds f a b c → Adds f a b d
 adds_same f a b c d e h = subst (Adds f a b) e h
 

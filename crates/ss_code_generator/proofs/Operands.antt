@@ -102,7 +102,7 @@ entity_bears old new p q here e o m = record {
       record { at = r.at; high = r.high; deep = r.deep };
 }
 
--- the same of a call
+-- an operand that a call gives is one of an owner
 pub entity_ok : {E : Type 0} (r : Result Read E) (old new : Generator) (p q : Lined) (here : Here) (e : Expression) → IfOk r (λ o. Reads old new p q here e o) → IfOk r (λ o. Bears old new p q here (Some e) o)
 entity_ok (Ok o) old new p q here e h = entity_bears old new p q here e o h
 entity_ok (Err x) old new p q here e h = tt

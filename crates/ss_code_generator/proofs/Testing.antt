@@ -75,28 +75,6 @@ emptiness_tested old new p q v here skip negated set o owner m is ls = record {
   more = λ f t u around located good. tt;
 }
 
--- whether an entity is in a set
-pub membership_tested : (old mid new : Generator) (p q s v : Lined) (here higher : Here) (skip : ℕ) (negated : Bool) (set : ℕ) (e : Expression) (o : SetOwner) (member owner : Read) → ReadsBy old mid p q here (IsNumber e) e member (λ t. member_code t (may_fault (expression_of o)) set e) → higher.line ≡ here.line → (here.height + member.cells < 2 ^ 64 → higher.height ≡ here.height + member.cells) → Bears mid new q s higher (expression_of o) owner → v.instructions ≡ s.instructions ++ r.UnlessMember set member.address owner.address skip negated ∷ [] → v.lines ≡ s.lines ++ here.line ∷ [] → Emits old new p v here (λ k. GoodTest k (Member negated set e o)) (λ t. test_code t skip (Member negated set e o))
-membership_tested old mid new p q s v here higher skip negated set e o member owner m line above n is ls = record {
-  grows = grows_then old mid new m.grows n.grows;
-  adds = λ f t u around located good.
-      let y : Option Expression = expression_of o in
-      let t1 : Site = after t e in
-      let t2 : Site = after_bearer t1 y in
-      let mine = around_old f mid new n.grows around in
-      let there = stands_old f mid new here t n.grows located in
-      let number = owner_number t.scope set o good.1 in
-      let read = m.more f t tt mine there good.0 in
-      let above_e = read_stands f new here higher t e member around located read line above in
-      let borne = n.more f t1 tt around above_e number in
-      let ins : Instruction = i.UnlessMember negated set (operand t e) (bearer t1 y) skip in
-      adds_then f p q v (member_code t (may_fault y) set e) (bearer_code t1 y ++ place t2 ins ∷ []) (m.adds f t tt mine there good.0)
-      (adds_then f q s v (bearer_code t1 y) (place t2 ins ∷ []) (n.adds f t1 tt around above_e number)
-      (adds_one f s v here.line (place t2 ins) (r.UnlessMember set member.address owner.address skip negated) is ls located.line
-      (record { carries = (operand t e, read.at, (bearer t1 y, bearer_at f t1 t2 (bearer t1 y) owner.address refl borne.at, refl)); deep = borne.deep; shown = tt })));
-  more = λ f t u around located good. tt;
-}
-
 -- ## Pieces that are made from the end
 
 -- A piece comes before another one, by whose length it may go. The first is made last
@@ -111,7 +89,7 @@ before_made old mid new front back whole here Front Back c d past m n is ls more
   more = λ f t u around located good. tt;
 }
 
--- the same before a piece around which code is made
+-- a piece comes before another one, around which code is made, by whose length it may go
 pub before_around : (old mid new : Generator) (front back whole inner : Lined) (here : Here) (Front Back : Scope → Type 0) (c : ℕ → Site → List Placed) (d : Site → List Placed → List Placed) (past : ℕ) → EmitsAround old mid nothing back here inner Back d → Emits mid new nothing front here Front (c past) → whole.instructions ≡ front.instructions ++ back.instructions → whole.lines ≡ front.lines ++ back.lines → (more : ℕ) → past ≡ length back.instructions + more → EmitsAround old new nothing whole here inner (λ k. Front k × Back k) (λ t b. c (length (d t b) + more) t ++ d t b)
 before_around old mid new front back whole inner here Front Back c d past m n is ls more same = record {
   grows = grows_then old mid new m.grows n.grows;
@@ -132,7 +110,7 @@ then_made old mid new front back whole here Front Back c d m n is ls = record {
   more = λ f t u around located good. tt;
 }
 
--- the same code, where other things are well typed
+-- what was made, for another code that is the same at each site, where other things are well typed
 pub emits_for : (old new : Generator) (p q : Lined) (here : Here) (Good Other : Scope → Type 0) (c d : Site → List Placed) → ((k : Scope) → Other k → Good k) → ((t : Site) → c t ≡ d t) → Emits old new p q here Good c → Emits old new p q here Other d
 emits_for old new p q here Good Other c d so same m = record {
   grows = m.grows;

@@ -32,20 +32,19 @@ expression-returns-in_ok-from-in-Fetch t c =
     rw c.in-Fetch.is (put_ok c.put-in-Fetch.result code c.put-in-Fetch.new.self c.args.site.line c.move_of-in-Fetch.result _ c.move_of-in-Fetch.ensures c.put-in-Fetch.ensures.instructions c.put-in-Fetch.ensures.lines
     (λ is ls. fetch_emitted g g code c.args.site to c.put-in-Fetch.new.self x m from (grows_same g) c.in_ok-from-in-Fetch.ensures (λ f t around located. variable_known g g x m (grows_same g) mode f t c.args.site around located) is ls))
 
-pub attribute-returns : goal.attribute-returns
-attribute-returns t c =
-    let of = c.args.of.now in
+pub expression-returns-in_ok-field-in-Attribute : goal.expression-returns-in_ok-field-in-Attribute
+unfolding view_expression
+expression-returns-in_ok-field-in-Attribute t c =
+    let x = c.in-Attribute in
+    let put = c.put-in-Attribute in
+    let to = c.args.to in
     let g = c.operand.new.self in
     let code = c.operand.new.code in
-    let o = c.in_ok-entity.field-0 in
+    let o = c.in_ok-entity-in-Attribute.field-0 in
     let m = c.attribute_mode-mode.result in
-    let made = c.attribute_of.ensures ∙ ap (λ k. fetching m k c.in_ok-field.field o.address c.args.to) c.in_ok-class.ensures ∙ ap (λ k. fetching m c.args.class k o.address c.args.to) c.in_ok-field.ensures in
-    put_ok c.put.result code c.put.new.self c.args.site.line c.attribute_of.result _ made c.put.ensures.instructions c.put.ensures.lines
-    (λ is ls. attribute_emitted c.args.self.now g c.args.code.now c.args.site c.args.to code c.put.new.self (view_expression of) o g (grows_same g) c.in_ok-entity.ensures ls c.args.class c.args.field m (λ f t around located. field_known g g c.args.class c.args.field m (grows_same g) c.attribute_mode-mode.ensures f t c.args.site around located) is)
-
-pub expression-returns-in-Attribute : goal.expression-returns-in-Attribute
-unfolding view_expression
-expression-returns-in-Attribute t c = rw c.in-Attribute.is (rw c.deref-in-Attribute.ensures at c.attribute.ensures)
+    let made = c.attribute_of.ensures ∙ ap (λ k. fetching m k c.in_ok-field-in-Attribute.field o.address to) c.in_ok-class-in-Attribute.ensures ∙ ap (λ k. fetching m x.class k o.address to) c.in_ok-field-in-Attribute.ensures in
+    rw x.is (put_ok put.result code put.new.self c.args.site.line c.attribute_of.result _ made put.ensures.instructions put.ensures.lines
+    (λ is ls. attribute_emitted c.args.self.now g c.args.code.now c.args.site to code put.new.self (view_expression x.of.value) o g (grows_same g) (rw c.deref-in-Attribute.ensures at c.in_ok-entity-in-Attribute.ensures) ls x.class x.field m (λ f t around located. field_known g g x.class x.field m (grows_same g) c.attribute_mode-mode.ensures f t c.args.site around located) is))
 
 pub expression-returns-in_ok-as_index-in-OfSystemSet : goal.expression-returns-in_ok-as_index-in-OfSystemSet
 unfolding view_expression
@@ -57,40 +56,36 @@ expression-returns-in_ok-as_index-in-OfSystemSet t c =
     rw c.in-OfSystemSet.is (put_ok c.put-in-OfSystemSet.result code c.put-in-OfSystemSet.new.self c.args.site.line c.ask_set.result _ made c.put-in-OfSystemSet.ensures.instructions c.put-in-OfSystemSet.ensures.lines
     (λ is ls. system_set_emitted g g code c.args.site c.args.to c.put-in-OfSystemSet.new.self c.in-OfSystemSet.query c.in-OfSystemSet.set zero (grows_same g) c.in_ok-owner-in-OfSystemSet.ensures is ls))
 
-pub of_set-returns : goal.of_set-returns
-of_set-returns t c =
-    let of = c.args.of.now in
-    let g = c.operand.new.self in
-    let code = c.operand.new.code in
-    let o = c.in_ok-owner.field-0 in
-    let made = c.ask_set.ensures ∙ ap (λ k. asking_set c.args.query k o.address c.args.to) c.in_ok-as_index.ensures in
-    put_ok c.put.result code c.put.new.self c.args.site.line c.ask_set.result _ made c.put.ensures.instructions c.put.ensures.lines
-    (λ is ls. set_emitted c.args.self.now g c.args.code.now c.args.site c.args.to code c.put.new.self (view_expression of) o g (grows_same g) c.in_ok-owner.ensures ls c.args.query c.args.set is)
-
-pub expression-returns-in-OfSet : goal.expression-returns-in-OfSet
+pub expression-returns-in_ok-as_index-in-OfSet : goal.expression-returns-in_ok-as_index-in-OfSet
 unfolding view_expression
-expression-returns-in-OfSet t c = rw c.in-OfSet.is (rw c.deref-in-OfSet.ensures at c.of_set.ensures)
+expression-returns-in_ok-as_index-in-OfSet t c =
+    let x = c.in-OfSet in
+    let put = c.put-in-OfSet in
+    let g = c.operand-in-OfSet.new.self in
+    let code = c.operand-in-OfSet.new.code in
+    let o = c.in_ok-owner-in-OfSet.field-0 in
+    let made = c.ask_set-in-OfSet.ensures ∙ ap (λ k. asking_set x.query k o.address c.args.to) c.in_ok-as_index-in-OfSet.ensures in
+    rw x.is (put_ok put.result code put.new.self c.args.site.line c.ask_set-in-OfSet.result _ made put.ensures.instructions put.ensures.lines
+    (λ is ls. set_emitted c.args.self.now g c.args.code.now c.args.site c.args.to code put.new.self (view_expression x.owner.value) o g (grows_same g) (rw c.deref-in-OfSet.ensures at c.in_ok-owner-in-OfSet.ensures) ls x.query x.set is))
 
-pub of_member-returns : goal.of_member-returns
-of_member-returns t c =
-    let of = c.args.of.now in
-    let g = c.operand.new.self in
-    let code = c.operand.new.code in
-    let o = c.in_ok-member.field-0 in
-    let made = c.ask_member.ensures ∙ ap (λ k. asking_member c.args.query k o.address c.args.to) c.in_ok-as_index.ensures in
-    put_ok c.put.result code c.put.new.self c.args.site.line c.ask_member.result _ made c.put.ensures.instructions c.put.ensures.lines
-    (λ is ls. member_emitted c.args.self.now g c.args.code.now c.args.site c.args.to code c.put.new.self (view_expression of) o g (grows_same g) c.in_ok-member.ensures ls c.args.query c.args.set is)
-
-pub expression-returns-in-OfMember : goal.expression-returns-in-OfMember
+pub expression-returns-in_ok-as_index-in-OfMember : goal.expression-returns-in_ok-as_index-in-OfMember
 unfolding view_expression
-expression-returns-in-OfMember t c = rw c.in-OfMember.is (rw c.deref-in-OfMember.ensures at c.of_member.ensures)
+expression-returns-in_ok-as_index-in-OfMember t c =
+    let x = c.in-OfMember in
+    let put = c.put-in-OfMember in
+    let g = c.operand-in-OfMember.new.self in
+    let code = c.operand-in-OfMember.new.code in
+    let o = c.in_ok-member-in-OfMember.field-0 in
+    let made = c.ask_member.ensures ∙ ap (λ k. asking_member x.query k o.address c.args.to) c.in_ok-as_index-in-OfMember.ensures in
+    rw x.is (put_ok put.result code put.new.self c.args.site.line c.ask_member.result _ made put.ensures.instructions put.ensures.lines
+    (λ is ls. member_emitted c.args.self.now g c.args.code.now c.args.site c.args.to code put.new.self (view_expression x.member.value) o g (grows_same g) (rw c.deref-in-OfMember.ensures at c.in_ok-member-in-OfMember.ensures) ls x.query x.set is))
 
 pub expression-returns-in_ok-notice-in-TimeOf : goal.expression-returns-in_ok-notice-in-TimeOf
 unfolding view_expression
 expression-returns-in_ok-notice-in-TimeOf t c =
     let of = c.in-TimeOf.notice.value in
-    let g = c.operand.new.self in
-    let code = c.operand.new.code in
+    let g = c.operand-in-TimeOf.new.self in
+    let code = c.operand-in-TimeOf.new.code in
     let o = c.in_ok-notice-in-TimeOf.field-0 in
     rw c.in-TimeOf.is (put_ok c.put-in-TimeOf.result code c.put-in-TimeOf.new.self c.args.site.line (r.TimeOf o.address c.args.to) (r.TimeOf o.address c.args.to) refl c.put-in-TimeOf.ensures.instructions c.put-in-TimeOf.ensures.lines
     (λ is ls. time_emitted c.args.self.now g c.args.code.now c.args.site c.args.to code c.put-in-TimeOf.new.self (view_expression of) o g (grows_same g) (rw c.deref-in-TimeOf.ensures at c.in_ok-notice-in-TimeOf.ensures) ls is))
@@ -105,33 +100,29 @@ expression-returns-in_ok-as_index-in-Figure t c =
     rw c.in-Figure.is (put_ok c.put-in-Figure.result code c.put-in-Figure.new.self c.args.site.line c.figure_of.result _ made c.put-in-Figure.ensures.instructions c.put-in-Figure.ensures.lines
     (λ is ls. figure_emitted g g code c.args.site c.args.to c.put-in-Figure.new.self c.in-Figure.fold c.in-Figure.statistic zero (grows_same g) c.in_ok-entity-in-Figure.ensures is ls))
 
-pub figure_of-returns : goal.figure_of-returns
-figure_of-returns t c =
-    let of = c.args.of.now in
-    let g = c.operand.new.self in
-    let code = c.operand.new.code in
-    let o = c.in_ok-entity.field-0 in
-    let made = c.figure_of.ensures ∙ ap (λ k. r.Figure k o.address c.args.to c.args.fold) c.in_ok-as_index.ensures in
-    put_ok c.put.result code c.put.new.self c.args.site.line c.figure_of.result _ made c.put.ensures.instructions c.put.ensures.lines
-    (λ is ls. figure_of_emitted c.args.self.now g c.args.code.now c.args.site c.args.to code c.put.new.self (view_expression of) o g (grows_same g) c.in_ok-entity.ensures ls c.args.fold c.args.statistic is)
-
-pub expression-returns-in-FigureOf : goal.expression-returns-in-FigureOf
+pub expression-returns-in_ok-as_index-in-FigureOf : goal.expression-returns-in_ok-as_index-in-FigureOf
 unfolding view_expression
-expression-returns-in-FigureOf t c = rw c.in-FigureOf.is (rw c.deref-in-FigureOf.ensures at c.figure_of-in-FigureOf.ensures)
+expression-returns-in_ok-as_index-in-FigureOf t c =
+    let x = c.in-FigureOf in
+    let put = c.put-in-FigureOf in
+    let g = c.operand-in-FigureOf.new.self in
+    let code = c.operand-in-FigureOf.new.code in
+    let o = c.in_ok-entity-in-FigureOf.field-0 in
+    let made = c.figure_of-in-FigureOf.ensures ∙ ap (λ k. r.Figure k o.address c.args.to x.fold) c.in_ok-as_index-in-FigureOf.ensures in
+    rw x.is (put_ok put.result code put.new.self c.args.site.line c.figure_of-in-FigureOf.result _ made put.ensures.instructions put.ensures.lines
+    (λ is ls. figure_of_emitted c.args.self.now g c.args.code.now c.args.site c.args.to code put.new.self (view_expression x.entity.value) o g (grows_same g) (rw c.deref-in-FigureOf.ensures at c.in_ok-entity-in-FigureOf.ensures) ls x.fold x.statistic is))
 
-pub signed-returns : goal.signed-returns
-signed-returns t c =
-    let of = c.args.term.now in
-    let g = c.operand.new.self in
-    let code = c.operand.new.code in
-    let o = c.in_ok-right.field-0 in
-    let zero = c.in_ok-left.left in
-    put_ok c.put.result code c.put.new.self c.args.site.line c.signed.result _ c.signed.ensures c.put.ensures.instructions c.put.ensures.lines
-    (λ is ls. signed_emitted c.args.self.now g c.args.code.now c.args.site c.args.to code c.put.new.self (view_expression of) o g (grows_same g) c.in_ok-right.ensures ls c.args.sign zero c.in_ok-left.ensures is)
-
-pub expression-returns-in-Signed : goal.expression-returns-in-Signed
+pub expression-returns-in_ok-left-in-Signed : goal.expression-returns-in_ok-left-in-Signed
 unfolding view_expression
-expression-returns-in-Signed t c = rw c.in-Signed.is (rw c.deref-in-Signed.ensures at c.signed.ensures)
+expression-returns-in_ok-left-in-Signed t c =
+    let x = c.in-Signed in
+    let put = c.put-in-Signed in
+    let g = c.operand-in-Signed.new.self in
+    let code = c.operand-in-Signed.new.code in
+    let o = c.in_ok-right-in-Signed.field-0 in
+    let zero = c.in_ok-left-in-Signed.left in
+    rw x.is (put_ok put.result code put.new.self c.args.site.line c.signed.result _ c.signed.ensures put.ensures.instructions put.ensures.lines
+    (λ is ls. signed_emitted c.args.self.now g c.args.code.now c.args.site c.args.to code put.new.self (view_expression x.term.value) o g (grows_same g) (rw c.deref-in-Signed.ensures at c.in_ok-right-in-Signed.ensures) ls x.sign zero c.in_ok-left-in-Signed.ensures is))
 
 pub expression-returns-in_ok-of-in-Unary : goal.expression-returns-in_ok-of-in-Unary
 unfolding view_expression

@@ -21,14 +21,12 @@ use Rattle.ss_code_generator.proofs.generator.Generator.+statements.Goals as goa
 pub statement-returns-in-Let : goal.statement-returns-in-Let
 statement-returns-in-Let t' c =
     let i' = c.in-Let in
-    let site : Here = record { line = c.line_of.result; height = c.args.height } in
     on_ok_weaker c.assignment.result (λ m.
     said c.args.self.now c.assignment.new.self c.args.code.now c.assignment.new.code c.args.height c.line_of.result c.args.prints.now.items c.args.s.now _ _ (λ k. Good k (p.Let c.line_of.result (view_place i'.target) (view_expression i'.value))) (λ t. let_code t (view_place i'.target) (view_expression i'.value)) m i'.is (let_seen i'.line i'.target i'.value) c.line_of.ensures (λ k h. h) refl (λ first t. refl)) c.assignment.ensures
 
 pub statement-returns-in-Change : goal.statement-returns-in-Change
 statement-returns-in-Change t' c =
     let i' = c.in-Change in
-    let site : Here = record { line = c.line_of.result; height = c.args.height } in
     on_ok_weaker c.change.result (λ m.
     said c.args.self.now c.change.new.self c.args.code.now c.change.new.code c.args.height c.line_of.result c.args.prints.now.items c.args.s.now _ _ (λ k. Good k (p.Change c.line_of.result i'.sign (view_place i'.target) (view_expression i'.value))) (λ t. change_code t i'.sign (view_place i'.target) (view_expression i'.value)) m i'.is (change_seen i'.line i'.sign i'.target i'.value) c.line_of.ensures (λ k h. h) refl (λ first t. refl)) c.change.ensures
 
@@ -69,14 +67,12 @@ statement-returns-in-Read t' c =
 pub statement-returns-in-Simulate : goal.statement-returns-in-Simulate
 statement-returns-in-Simulate t' c =
     let i' = c.in-Simulate in
-    let site : Here = record { line = c.line_of.result; height = c.args.height } in
     on_ok_weaker c.simulate.result (λ m.
     said c.args.self.now c.args.self.now c.args.code.now c.simulate.new.code c.args.height c.line_of.result c.args.prints.now.items c.args.s.now _ _ (λ k. Unit {0}) (λ t. simulate_code t) m i'.is simulate_seen c.line_of.ensures (λ k h. tt) refl (λ first t. refl)) c.simulate.ensures
 
 pub statement-returns-in-Create : goal.statement-returns-in-Create
 statement-returns-in-Create t' c =
     let i' = c.in-Create in
-    let site : Here = record { line = c.line_of.result; height = c.args.height } in
     on_ok_weaker c.create.result (λ m.
     said c.args.self.now c.create.new.self c.args.code.now c.create.new.code c.args.height c.line_of.result c.args.prints.now.items c.args.s.now _ _ (λ k. TakesMode k (view_place i'.into) Integer) (λ t. to_place_code t (view_place i'.into) Integer (λ u to. place u (i.Create i'.class to) ∷ [])) m i'.is (create_seen i'.line i'.class i'.into) c.line_of.ensures (λ k h. h.1) refl (λ first t. refl)) c.create.ensures
 
@@ -90,28 +86,24 @@ statement-returns-in-CreateEvery t' c =
 pub statement-returns-in-Destroy : goal.statement-returns-in-Destroy
 statement-returns-in-Destroy t' c =
     let i' = c.in-Destroy in
-    let site : Here = record { line = c.line_of.result; height = c.args.height } in
     on_ok_weaker c.destroy.result (λ m.
     said c.args.self.now c.destroy.new.self c.args.code.now c.destroy.new.code c.args.height c.line_of.result c.args.prints.now.items c.args.s.now _ _ (λ k. Good k (p.Destroy c.line_of.result i'.class (view_expression i'.entity))) (λ t. with_operand t (view_expression i'.entity) (i.Destroy i'.class)) m i'.is (destroy_seen i'.line i'.class i'.entity) c.line_of.ensures (λ k h. h) refl (λ first t. refl)) c.destroy.ensures
 
 pub statement-returns-in-File : goal.statement-returns-in-File
 statement-returns-in-File t' c =
     let i' = c.in-File in
-    let site : Here = record { line = c.line_of.result; height = c.args.height } in
     on_ok_weaker c.file.result (λ m.
     said c.args.self.now c.file.new.self c.args.code.now c.file.new.code c.args.height c.line_of.result c.args.prints.now.items c.args.s.now _ _ (λ k. Good k (p.File c.line_of.result i'.set (view_expression i'.member) (view_position i'.position) (view_owner i'.owner))) (λ t. file_code t i'.set (view_expression i'.member) (view_position i'.position) (view_owner i'.owner)) m i'.is (file_seen i'.line i'.set i'.member i'.position i'.owner) c.line_of.ensures (λ k h. h) refl (λ first t. refl)) c.file.ensures
 
 pub statement-returns-in-RemoveEnd : goal.statement-returns-in-RemoveEnd
 statement-returns-in-RemoveEnd t' c =
     let i' = c.in-RemoveEnd in
-    let site : Here = record { line = c.line_of.result; height = c.args.height } in
     on_ok_weaker c.remove_end.result (λ m.
     said c.args.self.now c.remove_end.new.self c.args.code.now c.remove_end.new.code c.args.height c.line_of.result c.args.prints.now.items c.args.s.now _ _ (λ k. Good k (p.RemoveEnd c.line_of.result i'.end i'.set (view_place i'.into) (view_owner i'.owner))) (λ t. remove_end_code t i'.end i'.set (view_place i'.into) (view_owner i'.owner)) m i'.is (remove_end_seen i'.line i'.end i'.set i'.into i'.owner) c.line_of.ensures (λ k h. h) refl (λ first t. refl)) c.remove_end.ensures
 
 pub statement-returns-in-Remove : goal.statement-returns-in-Remove
 statement-returns-in-Remove t' c =
     let i' = c.in-Remove in
-    let site : Here = record { line = c.line_of.result; height = c.args.height } in
     on_ok_weaker c.remove.result (λ m.
     said c.args.self.now c.remove.new.self c.args.code.now c.remove.new.code c.args.height c.line_of.result c.args.prints.now.items c.args.s.now _ _ (λ k. Good k (p.Remove c.line_of.result i'.set (view_expression i'.member) (view_owner i'.owner))) (λ t. remove_code t i'.set (view_expression i'.member) (view_owner i'.owner)) m i'.is (remove_seen i'.line i'.set i'.member i'.owner) c.line_of.ensures (λ k h. h) refl (λ first t. refl)) c.remove.ensures
 
@@ -132,7 +124,6 @@ statement-returns-in-Schedule t' c =
 pub statement-returns-in-Cancel : goal.statement-returns-in-Cancel
 statement-returns-in-Cancel t' c =
     let i' = c.in-Cancel in
-    let site : Here = record { line = c.line_of.result; height = c.args.height } in
     on_ok_weaker c.cancel.result (λ m.
     said c.args.self.now c.cancel.new.self c.args.code.now c.cancel.new.code c.args.height c.line_of.result c.args.prints.now.items c.args.s.now _ _ (λ k. Good k (p.Cancel c.line_of.result i'.class (view_expression i'.notice))) (λ t. with_operand t (view_expression i'.notice) (i.Cancel i'.class)) m i'.is (cancel_seen i'.line i'.class i'.notice) c.line_of.ensures (λ k h. h) refl (λ first t. refl)) c.cancel.ensures
 
@@ -146,7 +137,6 @@ statement-returns-in-Reset t' c =
 pub statement-returns-in-Skip : goal.statement-returns-in-Skip
 statement-returns-in-Skip t' c =
     let i' = c.in-Skip in
-    let site : Here = record { line = c.line_of.result; height = c.args.height } in
     on_ok_weaker c.skip.result (λ m.
     said c.args.self.now c.skip.new.self c.args.code.now c.skip.new.code c.args.height c.line_of.result c.args.prints.now.items c.args.s.now _ _ (λ k. Good k (p.Skip c.line_of.result (view_expression i'.count))) (λ t. with_operand t (view_expression i'.count) i.Skip) m i'.is (skip_seen i'.line i'.count) c.line_of.ensures (λ k h. h) refl (λ first t. refl)) c.skip.ensures
 
@@ -238,7 +228,7 @@ statement-returns-in_ok-second-in-Find t' c =
     let m : EmitsBlock g0 g1 one c.args.height p0 p1 a = subst (λ ss. EmitsBlock g0 g1 one c.args.height p0 p1 (view_body ss)) c.deref-in-Find.ensures.value c.in_ok-first-in-Find.ensures in
     let n : EmitsBlock g1 g2 two c.args.height p1 p2 b = subst (λ ss. EmitsBlock g1 g2 two c.args.height p1 p2 (view_body ss)) c.deref-in-Find-2.ensures.value c.in_ok-second-in-Find.ensures in
     on_ok_weaker c.find.result (λ o.
-    let q = subst (λ phrases. EmitsAroundBoth g2 c.find.new.self c.args.code.now c.find.new.code site one two (λ s. GoodHead s (view_head i'.head) × Every (GoodPhrase s) (map view_phrase phrases)) (λ t b. find_code t (view_head i'.head) (map view_phrase phrases) b.first b.second)) c.deref-in-Find-3.ensures.value o in
+    let q = subst (λ phrases. EmitsAroundBoth g2 c.find.new.self c.args.code.now c.find.new.code site one two (λ s. GoodHead s (view_head i'.head) × Every (GoodPhrase s) (map view_phrase phrases)) (λ t b. find_code t (view_head i'.head) (map view_phrase phrases) b.first b.second)) c.as_slice-phrases.ensures.value o in
     subst (λ x. EmitsStatement g0 c.find.new.self c.args.code.now c.find.new.code c.args.height p0 p2 x) (sym seen)
     (find_said g0 g1 g2 c.args.height one two p0 p1 p2 a b m n c.find.new.self c.args.code.now c.find.new.code c.line_of.result i'.line (view_head i'.head) ps (c.line_of.ensures ∙ ap line_or_none seen) q)) c.find.ensures
 

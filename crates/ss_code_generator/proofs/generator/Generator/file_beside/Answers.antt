@@ -11,6 +11,6 @@ returns c =
     let y = c.in_ok-beside.beside in
     let w = c.in_ok-owner.field-0 in
     let noted = c.is_count_watched.result in
-    member_beside c.args.self.now c.member.new.self c.member-2.new.self c.owner.new.self c.args.code.now c.member.new.code c.member-2.new.code c.owner.new.code c.put.new.self c.args.site c.above-above.result c.above.result c.args.set (view_expression c.args.member.now) (view_expression c.args.beside.now) (view_owner c.args.owner.now) x y w c.args.after noted
+    member_beside c.args.self.now c.member.new.self c.member-2.new.self c.owner.new.self c.args.code.now c.member.new.code c.member-2.new.code c.owner.new.code c.put.new.self c.args.site c.above-above.result c.above.result c.args.of.set (view_expression c.args.of.member.now) (view_expression c.args.beside.now) (view_owner c.args.of.owner.now) x y w c.args.after noted
     c.in_ok-member.ensures c.above-above.ensures.line c.above-above.ensures.height c.in_ok-beside.ensures c.above.ensures.line c.above.ensures.height c.in_ok-owner.ensures c.is_count_watched.ensures
-    (put_as c.owner.new.code c.put.new.self (r.FileBeside noted c.args.after c.in_ok-as_index.field-0 x.address y.address w.address) (r.FileBeside noted c.args.after c.args.set x.address y.address w.address) (ap (λ k. r.FileBeside noted c.args.after k x.address y.address w.address) c.in_ok-as_index.ensures) c.in_ok-put.ensures.instructions) c.in_ok-put.ensures.lines
+    (put_as c.owner.new.code c.put.new.self (r.FileBeside noted c.args.after c.in_ok-as_index.field-0 x.address y.address w.address) (r.FileBeside noted c.args.after c.args.of.set x.address y.address w.address) (ap (λ k. r.FileBeside noted c.args.after k x.address y.address w.address) c.in_ok-as_index.ensures) c.in_ok-put.ensures.instructions) c.in_ok-put.ensures.lines
