@@ -152,10 +152,6 @@ put_said g a b here x y is ls carries shown = record {
   more = λ f t u around located good. tt;
 }
 
--- what was made for a thing, for another name of it
-pub emits_same : {A : Type 0} (x y : A) (old new : Generator) (a b : Lined) (here : Here) (G : A → Scope → Type 0) (c : A → Site → List Placed) → x ≡ y → Emits old new a b here (G x) (c x) → Emits old new a b here (G y) (c y)
-emits_same x y old new a b here G c e m = subst (λ z. Emits old new a b here (G z) (c z)) e m
-
 -- ## Bodies
 
 -- the code of a statement around a body

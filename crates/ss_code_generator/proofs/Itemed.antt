@@ -9,7 +9,7 @@ use Rattle.ss_program.specs.WellTyped.{Scope}
 use Rattle.ss_code_instructions.specs.declared.address.Address.{Address}
 use Rattle.ss_code_instructions.specs.declared.instruction.Instruction.TheVariants as r
 use Rattle.ss_code_instructions.specs.declared.item.ItemKind.{ItemKind}
-use Rattle.ss_code_instructions.specs.Instructions.{Constant, Stays, Instruction, Placed}
+use Rattle.ss_code_instructions.specs.Instructions.{Stays, Instruction, Placed}
 use Rattle.ss_code_instructions.specs.Instructions as i
 use Rattle.ss_code_instructions.specs.Translation.{Site, height, place, above, next, expression_mode, expression_code, item_code, item_cells, items_code, items_cells, after_items, item_kind, lines_of as lines_said, with_cells}
 use Rattle.ss_code_instructions.specs.Carried.{RunningLines, InFrame, lines_of, kind_of_item, item_modes, onto}

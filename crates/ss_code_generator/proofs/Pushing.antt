@@ -8,7 +8,7 @@ use Rattle.ss_program.specs.Program.{Expression}
 use Rattle.ss_program.specs.View.{view_expression}
 use Rattle.ss_code_instructions.specs.declared.address.Address.{Address}
 use Rattle.ss_code_instructions.specs.declared.instruction.Instruction.TheVariants as r
-use Rattle.ss_code_instructions.specs.Instructions.{Constant, Stays, Instruction, Placed}
+use Rattle.ss_code_instructions.specs.Instructions.{Constant, Instruction, Placed}
 use Rattle.ss_code_instructions.specs.Instructions as i
 use Rattle.ss_code_instructions.specs.Translation.{Site, height, place, next, above, expression_mode, expression_code, values_code, after_values, take_code}
 use Rattle.ss_code_instructions.specs.Carried.{InFrame}

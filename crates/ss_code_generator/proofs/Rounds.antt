@@ -12,7 +12,7 @@ use Rattle.ss_program.specs.WellTyped.{Scope, OwnerFits, GoodHead, GoodPhrase, G
 use Rattle.ss_code_instructions.specs.declared.address.Address.{Address}
 use Rattle.ss_code_instructions.specs.declared.instruction.Instruction.{Instruction as Running}
 use Rattle.ss_code_instructions.specs.declared.instruction.Instruction.TheVariants as r
-use Rattle.ss_code_instructions.specs.Instructions.{Bearer, Target, Placed}
+use Rattle.ss_code_instructions.specs.Instructions.{Bearer, Placed}
 use Rattle.ss_code_instructions.specs.Instructions as i
 use Rattle.ss_code_instructions.specs.Facts.{expression_of}
 use Rattle.ss_code_instructions.specs.Translation.{Site, height, place, next, above, forget, forget_to, expression_code, guards_code, loop_code, take_code, turns_code, step_code, range_code, number_loop, walk_loop, owner_code, owner_cell, owner_kept, start_code, begin_code, in_loop, phrases_code, for_code, find_code, code_of}

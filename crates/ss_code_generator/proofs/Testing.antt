@@ -3,20 +3,20 @@ use Rattle.std.proofs.Common.{◌≡◌, ℕ, ◌+◌, ◌<◌, ◌^◌, Bool, L
 use Rattle.ss_base.specs.declared.layout.Mode.{Mode}
 use Rattle.ss_base.specs.declared.words.Relation.{Relation}
 use Rattle.std.specs.List.{AllByRecursion as Every}
-use Rattle.ss_program.specs.Program.{Expression, SetOwner, TheSystem, Entity, Test, Compare, Empty, Member, Condition, Guard, Phrase}
+use Rattle.ss_program.specs.Program.{Expression, SetOwner, TheSystem, Entity, Test, Compare, Empty, Condition, Guard, Phrase}
 use Rattle.ss_program.specs.WellTyped.{Scope, HasMode, OwnerFits, GoodTest, GoodCondition, GoodPhrase}
 use Rattle.ss_code_instructions.specs.declared.address.Address.{Address}
 use Rattle.ss_code_instructions.specs.declared.instruction.Instruction.TheVariants as r
 use Rattle.ss_code_instructions.specs.Instructions.{Bearer, Instruction, Placed}
 use Rattle.ss_code_instructions.specs.Instructions as i
-use Rattle.ss_code_instructions.specs.Facts.{expression_of, may_fault}
-use Rattle.ss_code_instructions.specs.Translation.{Site, place, operand, operand_code, after, bearer, bearer_code, after_bearer, member_code, test_code, tests_code, condition_code, negated_code, guard_code, guards_code, phrase_code, phrases_code, code_of}
+use Rattle.ss_code_instructions.specs.Facts.{expression_of}
+use Rattle.ss_code_instructions.specs.Translation.{Site, place, operand, operand_code, after, bearer, bearer_code, after_bearer, test_code, tests_code, condition_code, negated_code, guard_code, guards_code, phrase_code, phrases_code, code_of}
 use Rattle.ss_code_generator.specs.declared.expressions.Operand.{Operand as Read}
 use Rattle.ss_code_generator.specs.declared.generator.Generator.{Generator}
 use Rattle.ss_code_generator.specs.declared.generator.Site.{Site as Here}
 use Rattle.ss_code_pieces.specs.Lined.{Lined, nothing}
 use Rattle.ss_code_instructions.specs.Forms.{comparing}
-use Rattle.ss_code_generator.specs.Emitted.{Final, Around, IsLocated, Emits, EmitsAround, AtBearer, Typed, IsNumber, AreNumbers, Reads, ReadsBy, Bears}
+use Rattle.ss_code_generator.specs.Emitted.{Final, Around, IsLocated, Emits, EmitsAround, AtBearer, Typed, AreNumbers, Reads, Bears}
 use Rattle.ss_code_generator.proofs.Emitting.{around_old, grows_then, stands_old, adds_then, adds_one, adds_apart, adds_same, piece_long}
 use Rattle.ss_code_generator.proofs.Forms as forms
 use Rattle.ss_code_generator.proofs.Modes.{operand_mode, mode_after}

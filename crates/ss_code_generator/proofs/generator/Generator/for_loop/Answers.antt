@@ -12,7 +12,7 @@ use Rattle.ss_code_generator.proofs.generator.Generator.for_loop.Goals as goal
 pub returns-in_ok-range-in-Numbers : goal.returns-in_ok-range-in-Numbers
 returns-in_ok-range-in-Numbers c =
     let head = c.in-Numbers in
-    rw head.is (on_ok_weaker c.item_loop.result (λ m. range_looped c.args.self.now c.range.new.self c.item_loop.new.self c.args.code.now c.range.new.code c.item_loop.new.code c.args.turn c.args.site head.variable (view_expression head.first) (view_expression head.limit) (view_option view_expression head.step) c.in_ok-range-in-Numbers.ensures m) c.item_loop.ensures)
+    rw head.is (on_ok_weaker c.item_loop.result (range_looped c.args.self.now c.range.new.self c.item_loop.new.self c.args.code.now c.range.new.code c.item_loop.new.code c.args.turn c.args.site head.variable (view_expression head.first) (view_expression head.limit) (view_option view_expression head.step) c.in_ok-range-in-Numbers.ensures) c.item_loop.ensures)
 
 pub returns-in_ok-class-in-Each : goal.returns-in_ok-class-in-Each
 returns-in_ok-class-in-Each c =

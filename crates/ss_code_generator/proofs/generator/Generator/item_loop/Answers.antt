@@ -1,14 +1,13 @@
 use Rattle.std.proofs.Common.{◌∙◌}
 use Rattle.std.proofs.lemmas.Result.{on_ok_weaker}
 use Rattle.ss_code_generator.specs.Looped.{items_begin}
-use Rattle.ss_code_generator.proofs.Emitting.{put_as}
 use Rattle.ss_code_generator.proofs.Rounds.{Puts, Joins, items_looped}
 use Rattle.ss_code_generator.proofs.generator.Generator.item_loop.Goals as goal
 
 pub returns : goal.returns
 returns c =
     let put : Puts c.args.code.now c.put.new.self c.args.site (items_begin c.args.class c.in_ok-cell.cell c.in_ok-skip.skip) = record {
-      instructions = put_as c.args.code.now c.put.new.self c.begin_items.result _ c.begin_items.ensures c.in_ok-put.ensures.instructions;
+      instructions = rw c.begin_items.ensures at c.in_ok-put.ensures.instructions;
       lines = c.in_ok-put.ensures.lines;
     } in
     let join : Joins c.put.new.self c.append.new.self c.in_ok-items.items = record { instructions = c.in_ok-append.ensures.instructions; lines = c.in_ok-append.ensures.lines } in
