@@ -1,5 +1,5 @@
 -- Statements and bodies, from what was emitted for their parts.
-use Rattle.std.proofs.Common.{◌≡◌, ℕ, zero, suc, ◌+◌, ◌<◌, ◌≤◌, ◌^◌, List, [], ◌∷◌, ◌++◌, length, map, Result, Ok, Err, OnOk, refl, sym, ap, ◌∙◌, subst, arith, append_assoc, append-nil, length-append}
+use Rattle.std.proofs.Common.{◌≡◌, ℕ, zero, suc, ◌+◌, ◌<◌, ◌≤◌, ◌^◌, List, [], ◌∷◌, ◌++◌, length, map, refl, sym, ap, ◌∙◌, subst, arith, append_assoc, append-nil, length-append}
 use Rattle.std.specs.List.{AllZip, AllByRecursion as Every}
 use Rattle.ss_base.specs.declared.line.Line.{Line}
 use Rattle.ss_base.specs.declared.layout.Mode.{Mode}
@@ -26,12 +26,6 @@ use Rattle.ss_code_generator.specs.Printed.{Prints, line_or_none, statement_site
 use Rattle.ss_code_generator.proofs.Emitting.{around_old, grows_same, grows_then, stands_old, adds_none, adds_then, adds_one, adds_piece, adds_apart, adds_same, piece_long, none_there}
 use Rattle.ss_code_generator.proofs.PrintLines.{prints_then, prints_long}
 use Rattle.ss_code_generator.proofs.Rounds.{for_looped}
-
--- ## Results
-
-pub on_both : {T E : Type 0} (P Q : Type 0) (o : Result T E) → OnOk o P → OnOk o Q → OnOk o (P × Q)
-on_both P Q (Ok x) h k = (h, k)
-on_both P Q (Err e) h k = tt
 
 -- ## What is seen of each statement
 

@@ -1,15 +1,15 @@
 -- What the generator emits for members of sets.
-use Rattle.std.proofs.Common.{◌≡◌, ℕ, ◌+◌, ◌<◌, ◌^◌, Bool, true, false, [], ◌∷◌, ◌++◌, List, refl, sym, ap, ◌∙◌, if◌then◌else◌}
+use Rattle.std.proofs.Common.{◌≡◌, ℕ, ◌+◌, ◌<◌, ◌^◌, Bool, true, false, [], ◌∷◌, ◌++◌, refl, sym, ap, ◌∙◌, if◌then◌else◌}
 use Rattle.std.specs.Prelude.{slice_get}
 use Rattle.ss_base.specs.declared.layout.Mode.TheVariants.{Integer}
 use Rattle.ss_program.specs.declared.sections.Subject.TheVariants.{OfCount}
 use Rattle.ss_program.specs.Program.{Program, Expression, SetOwner, ByDiscipline, AsFirst, AsLast, BeforeMember, AfterMember, File, Member}
 use Rattle.ss_program.specs.View.{view_program}
-use Rattle.ss_program.specs.WellTyped.{Scope, OwnerFits, GoodTest, Good}
+use Rattle.ss_program.specs.WellTyped.{OwnerFits, GoodTest, Good}
 use Rattle.ss_code_instructions.specs.declared.instruction.Instruction.{Instruction as Running}
 use Rattle.ss_code_instructions.specs.declared.instruction.Instruction.TheVariants as r
 use Rattle.ss_code_instructions.specs.Facts.{watch, expression_of, may_fault}
-use Rattle.ss_code_instructions.specs.Instructions.{Operand, Bearer, Filing, Instruction, Placed}
+use Rattle.ss_code_instructions.specs.Instructions.{Operand, Bearer, Filing, Instruction}
 use Rattle.ss_code_instructions.specs.Instructions as i
 use Rattle.ss_code_instructions.specs.Translation.{Site, place, operand, after, stay, bearer, bearer_code, after_bearer, with_owner, member_code, file_code, remove_code, test_code, filing_by, code_of}
 use Rattle.ss_code_instructions.specs.Carried.{Carries}
@@ -21,19 +21,11 @@ use Rattle.ss_code_generator.specs.declared.generator.Site.{Site as Here}
 use Rattle.ss_code_pieces.specs.Lined.{Lined}
 use Rattle.ss_code_pieces.specs.Preamble.{filing_of}
 use Rattle.ss_code_generator.specs.Filings.{filing}
-use Rattle.ss_code_generator.specs.Emitted.{Final, Around, IsLocated, Shown, Emits, AtOperand, AtBearer, IsNumber, Reads, ReadsBy, Bears}
+use Rattle.ss_code_generator.specs.Emitted.{Final, Around, Shown, Emits, AtOperand, AtBearer, IsNumber, Reads, ReadsBy, Bears}
 use Rattle.ss_code_generator.proofs.Emitting.{around_old, grows_then, stands_old, adds_then, adds_one, adds_same}
 use Rattle.ss_code_generator.proofs.Forms as forms
 use Rattle.ss_code_generator.proofs.Operands.{read_stands, stays_at, looked_reads}
-use Rattle.ss_code_generator.proofs.Testing.{owner_number}
-
--- what was made, for another code that is the same at each site at which the generator may be, where other things are well typed
-pub emits_where : (old new : Generator) (p q : Lined) (here : Here) (Good Other : Scope → Type 0) (c d : Site → List Placed) → ((k : Scope) → Other k → Good k) → ((f : Final) (t : Site) → Around f new → IsLocated f new here t → c t ≡ d t) → Emits old new p q here Good c → Emits old new p q here Other d
-emits_where old new p q here Good Other c d good same m = record {
-  grows = m.grows;
-  adds = λ f t u around located other. adds_same f p q (c t) (d t) (same f t around located) (m.adds f t u around located (good t.scope other));
-  more = λ f t u around located other. tt;
-}
+use Rattle.ss_code_generator.proofs.Testing.{owner_number, emits_where}
 
 -- whether a statistic watches a set, as the generator knows it
 pub counts_noted : (f : Final) (g : Generator) (set : ℕ) (noted : Bool) → Around f g → noted ≡ watch g.program.now.statistics.items (OfCount set) → noted ≡ false → watch (code_of f.program).setting.statistics (OfCount set) ≡ false

@@ -23,13 +23,10 @@ use Rattle.ss_code_generator.specs.Printed.{PrintsLines}
 use Rattle.ss_code_generator.proofs.Emitting.{around_old, grows_same, grows_then, stands_old, stands_above, adds_none, adds_then, adds_one, adds_same}
 use Rattle.ss_code_generator.proofs.Modes.{mode_by}
 use Rattle.ss_code_generator.proofs.Operands.{cell_at_site}
+use Rattle.ss_code_generator.proofs.Listed.{every_split}
 use Rattle.ss_code_generator.proofs.Spotted.{program_at}
 
 -- ## Items
-
--- the generator grew before
-pub later_made : (old mid new : Generator) (p q : Lined) (here : Here) (Good : Scope → Type 0) (c : Site → List Placed) → Grows old mid → Emits mid new p q here Good c → Emits old new p q here Good c
-later_made old mid new p q here Good c g m = record { grows = grows_then old mid new g m.grows; adds = m.adds; more = m.more }
 
 pub mean_of_looked : (old mid new : Generator) (p q v : Lined) (here : Here) (k : ℕ) (e : Expression) (cell : Address) → Emits old mid p q here (Typed e) (λ t. expression_code t (next t) e) → Grows mid new → InFrame (length new.locals.items + here.height) cell → here.height < new.deepest → v.instructions ≡ q.instructions ++ r.LookMean k cell ∷ [] → v.lines ≡ q.lines ++ here.line ∷ [] → Emits old new p v here (GoodItem (AMeanOf k e)) (λ t. item_code t (AMeanOf k e))
 mean_of_looked old mid new p q v here k e cell m g at room is ls = record {
@@ -54,7 +51,7 @@ abbrev pub MakesItems : (old new : Generator) → (before after : Lined) → (he
 MakesItems old new before after here next xs =
     Makes old new before after here (λ f t (u : Unit {0}). Every (λ x. GoodItem x t.scope) xs) (λ t u. items_code t xs) (λ f t u. IsLocated f new next (after_items t xs))
 
--- the same without where
+-- code of items, without where it goes on
 abbrev pub MakesAll : (old new : Generator) → (before after : Lined) → Here → List Item → Type 0
 MakesAll old new before after here xs =
     Makes old new before after here (λ f t (u : Unit {0}). Every (λ x. GoodItem x t.scope) xs) (λ t u. items_code t xs) (λ f t u. height (after_items t xs) ≤ f.depth)
@@ -81,17 +78,13 @@ item_high s (AValue e) ms = let n : suc (length ms) ≡ length ms + 1 = omega ar
 item_high s (AMean k) ms = let n : length ms ≡ length ms + 0 = omega arith in n
 item_high s (AMeanOf k e) ms = let n : suc (length ms) ≡ length ms + 1 = omega arith in n
 
-items_split : (s : Scope) (xs : List Item) (x : Item) → Every (λ y. GoodItem y s) (xs ++ x ∷ []) → Every (λ y. GoodItem y s) xs × GoodItem x s
-items_split s [] x h = (tt, h.0)
-items_split s (y ∷ xs) x h = let k = items_split s xs x h.1 in ((h.0, k.0), k.1)
-
 pub items_more : (old mid new : Generator) (p q v : Lined) (here one two : Here) (xs : List Item) (x : Item) (n : ℕ) → MakesItems old mid p q here one xs → Emits mid new q v one (GoodItem x) (λ t. item_code t x) → n ≡ item_width x → one.height + n ≤ new.deepest → two.line ≡ one.line → (one.height + n < 2 ^ 64 → two.height ≡ one.height + n) → MakesItems old new p v here two (xs ++ x ∷ [])
 items_more old mid new p q v here one two xs x n m k wide room line up = record {
   grows = grows_then old mid new m.grows k.grows;
   adds = λ f t u around located good.
       let mine = around_old f mid new k.grows around in
       let there = stands_old f mid new here t k.grows located in
-      let both = items_split t.scope xs x good in
+      let both = every_split (λ (y : Item). GoodItem y t.scope) xs x good in
       let on = m.more f t tt mine there both.0 in
       adds_same f p v (items_code t xs ++ item_code (after_items t xs) x) (items_code t (xs ++ x ∷ [])) (sym (items_code_more t xs x))
       (adds_then f p q v (items_code t xs) (item_code (after_items t xs) x) (m.adds f t tt mine there both.0)
@@ -99,7 +92,7 @@ items_more old mid new p q v here one two xs x n m k wide room line up = record 
   more = λ f t u around located good.
       let mine = around_old f mid new k.grows around in
       let there = stands_old f mid new here t k.grows located in
-      let both = items_split t.scope xs x good in
+      let both = every_split (λ (y : Item). GoodItem y t.scope) xs x good in
       let on = m.more f t tt mine there both.0 in
       let w : Site = after_items t xs in
       let z : Site = after_items t (xs ++ x ∷ []) in

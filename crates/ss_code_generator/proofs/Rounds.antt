@@ -8,7 +8,7 @@ use Rattle.ss_base.specs.declared.layout.Mode.{Mode}
 use Rattle.ss_base.specs.declared.layout.Mode.TheVariants.{Integer}
 use Rattle.ss_program.specs.declared.expression.Variable.{Variable}
 use Rattle.ss_program.specs.Program.{Expression, SetOwner, TheSystem, Entity, Start, AtEnd, From, After, Head, Numbers, Members, Each, Guard, Phrase}
-use Rattle.ss_program.specs.WellTyped.{Scope, OwnerFits, GoodHead, GoodPhrase, GoodCondition, HasMode}
+use Rattle.ss_program.specs.WellTyped.{Scope, GoodHead, GoodPhrase, GoodCondition, HasMode}
 use Rattle.ss_code_instructions.specs.declared.address.Address.{Address}
 use Rattle.ss_code_instructions.specs.declared.instruction.Instruction.{Instruction as Running}
 use Rattle.ss_code_instructions.specs.declared.instruction.Instruction.TheVariants as r
@@ -29,6 +29,7 @@ use Rattle.ss_code_generator.specs.Spots.{IsVariable}
 use Rattle.ss_code_generator.specs.Looped.{loop_width, is_after, begin_of, items_begin, begins_items, item_loop_code, TakesItem, TakesItems, TakesMembers, KeepsOwner, StartsWalk, Walking}
 use Rattle.ss_code_generator.proofs.Emitting.{around_old, grows_same, grows_then, stands_old, stands_new, stands_above, adds_none, adds_then, adds_one, adds_piece, adds_same, piece_long}
 use Rattle.ss_code_generator.proofs.Operands.{cell_at_site}
+use Rattle.ss_code_generator.proofs.Testing.{owner_number}
 
 -- ## Instructions one after another
 
@@ -198,11 +199,6 @@ range_looped g0 g1 g2 p q s turn here x a b c m n = record {
 
 -- ## FOR over members
 
--- an owner that is well typed
-owner_numbers : (o : SetOwner) (s : Scope) (set : ℕ) → OwnerFits s set o → AreNumbers (expression_of o) s
-owner_numbers TheSystem s set h = tt
-owner_numbers (Entity e) s set h = h.1
-
 -- the owner stays in a cell
 pub system_kept : (g0 g1 : Generator) (p q : Lined) (here : Here) (o : Read) → Bears g0 g1 p q here None o → KeepsOwner g0 g1 p q here TheSystem o
 system_kept g0 g1 p q here o m = record {
@@ -245,30 +241,25 @@ starts_at g0 g p q s here w e put m = record {
 pub starts_after : (g0 g : Generator) (p s : Lined) (here : Here) (w : Walk) (e : Expression) → StartsWalk g0 g p s here w (From e) → StartsWalk g0 g p s here w (After e)
 starts_after g0 g p s here w e m = record { grows = m.grows; adds = λ f u x around located fits. m.adds f u x around located fits; more = λ f u x around located fits. tt }
 
+-- the instruction that begins a walk from a member, or after it
+begins_at : (f : Final) (g : Generator) (here : Here) (u : Site) (w : Walk) (set : ℕ) (owner : Bearer) (after : Bool) (skip n : ℕ) (reverse : Bool) (p q : Lined) → IsLocated f g here u → height u + 1 ≤ f.depth → w.set ≡ set → AtBearer f u owner w.owner → w.cell ≡ length u.scope.locals + height u → w.reverse ≡ reverse → skip ≡ n → Puts p q here (r.BeginAt w.set w.owner w.cell skip w.reverse after) → Adds f p q (place (above u Integer) (i.BeginAt reverse after set owner (height u) n) ∷ [])
+begins_at f g here u w set owner after skip n reverse p q located deep is at cell turned long put =
+    let ins : i.Instruction = i.BeginAt reverse after set owner (height u) n in
+    let up : Site = above u Integer in
+    let tall : length up.cells ≤ f.depth = omega (arith, deep) in
+    let same : ins ≡ i.BeginAt w.reverse after w.set owner (height u) skip = cc in
+    adds_one f p q here.line (place up ins) (r.BeginAt w.set w.owner w.cell skip w.reverse after) put.instructions put.lines located.line
+    (record { carries = (owner, bearer_here (code_of f.program) f.constants (place u i.Leave) (place up ins) owner w.owner refl at, (height u, cell, same)); deep = tall; shown = tt })
+
 -- the instruction that begins a walk
-begins : (f : Final) (g : Generator) (here : Here) (u : Site) (w : Walk) (x : Variable) (set : ℕ) (owner : Bearer) (start : Start) (skip n : ℕ) (reverse : Bool) (p q : Lined) → IsLocated f g here u → height u + 1 ≤ f.depth → w.set ≡ set → AtBearer f u owner w.owner → w.cell ≡ length u.scope.locals + height u → w.reverse ≡ reverse → skip ≡ n → Puts p q here (begin_of w (is_after start) skip) → Adds f p q (begin_code u reverse set owner start n ∷ [])
-begins f g here u w x set owner AtEnd skip n reverse p q located deep is at cell turned long put =
+begins : (f : Final) (g : Generator) (here : Here) (u : Site) (w : Walk) (set : ℕ) (owner : Bearer) (start : Start) (skip n : ℕ) (reverse : Bool) (p q : Lined) → IsLocated f g here u → height u + 1 ≤ f.depth → w.set ≡ set → AtBearer f u owner w.owner → w.cell ≡ length u.scope.locals + height u → w.reverse ≡ reverse → skip ≡ n → Puts p q here (begin_of w (is_after start) skip) → Adds f p q (begin_code u reverse set owner start n ∷ [])
+begins f g here u w set owner AtEnd skip n reverse p q located deep is at cell turned long put =
     let ins : i.Instruction = i.BeginSet reverse set owner (height u) n in
-    let same : ins ≡ i.BeginSet w.reverse w.set owner (height u) skip =
-    ap (λ (b : Bool). i.BeginSet b set owner (height u) n) (sym turned) ∙ ap (λ k. i.BeginSet w.reverse k owner (height u) n) (sym is) ∙ ap (i.BeginSet w.reverse w.set owner (height u)) (sym long) in
+    let same : ins ≡ i.BeginSet w.reverse w.set owner (height u) skip = cc in
     put_one f g here u p q ins (r.BeginSet w.set w.owner w.cell skip w.reverse) located put
     (record { carries = (owner, bearer_here (code_of f.program) f.constants (place u i.Leave) (place u ins) owner w.owner refl at, (height u, cell, same)); deep = located.deep; shown = tt })
-begins f g here u w x set owner (From e) skip n reverse p q located deep is at cell turned long put =
-    let ins : i.Instruction = i.BeginAt reverse false set owner (height u) n in
-    let up : Site = above u Integer in
-    let tall : length up.cells ≤ f.depth = omega (arith, deep) in
-    let same : ins ≡ i.BeginAt w.reverse false w.set owner (height u) skip =
-    ap (λ (b : Bool). i.BeginAt b false set owner (height u) n) (sym turned) ∙ ap (λ k. i.BeginAt w.reverse false k owner (height u) n) (sym is) ∙ ap (i.BeginAt w.reverse false w.set owner (height u)) (sym long) in
-    adds_one f p q here.line (place up ins) (r.BeginAt w.set w.owner w.cell skip w.reverse false) put.instructions put.lines located.line
-    (record { carries = (owner, bearer_here (code_of f.program) f.constants (place u i.Leave) (place up ins) owner w.owner refl at, (height u, cell, same)); deep = tall; shown = tt })
-begins f g here u w x set owner (After e) skip n reverse p q located deep is at cell turned long put =
-    let ins : i.Instruction = i.BeginAt reverse true set owner (height u) n in
-    let up : Site = above u Integer in
-    let tall : length up.cells ≤ f.depth = omega (arith, deep) in
-    let same : ins ≡ i.BeginAt w.reverse true w.set owner (height u) skip =
-    ap (λ (b : Bool). i.BeginAt b true set owner (height u) n) (sym turned) ∙ ap (λ k. i.BeginAt w.reverse true k owner (height u) n) (sym is) ∙ ap (i.BeginAt w.reverse true w.set owner (height u)) (sym long) in
-    adds_one f p q here.line (place up ins) (r.BeginAt w.set w.owner w.cell skip w.reverse true) put.instructions put.lines located.line
-    (record { carries = (owner, bearer_here (code_of f.program) f.constants (place u i.Leave) (place up ins) owner w.owner refl at, (height u, cell, same)); deep = tall; shown = tt })
+begins f g here u w set owner (From e) skip n reverse p q located deep is at cell turned long put = begins_at f g here u w set owner false skip n reverse p q located deep is at cell turned long put
+begins f g here u w set owner (After e) skip n reverse p q located deep is at cell turned long put = begins_at f g here u w set owner true skip n reverse p q located deep is at cell turned long put
 
 -- how a walk is put together
 pub record Walks (g0 g1 g2 g3 : Generator) (p q q1 q2 q3 q4 : Lined) (here below_here above_here : Here) (w : Walk) (kept : Read) (turn members : Lined) (x : Variable) (set : ℕ) (o : SetOwner) (start : Start) (reverse : Bool) : Type 0 where
@@ -303,7 +294,7 @@ members_walked g0 g1 g2 g3 p q q1 q2 q3 q4 here below_here above_here w kept tur
       let stands2 = stands_old f g2 g3 here t k.reaches located in
       let stands1 = stands_old f g1 g2 here t k.starts.grows stands2 in
       let good : GoodHead t.scope (Members x set o start reverse) = fits.1 in
-      let numbers : AreNumbers (expression_of o) t.scope = owner_numbers o t.scope set good.1 in
+      let numbers : AreNumbers (expression_of o) t.scope = owner_number t.scope set o good.1 in
       let keep = k.keeps.more f t tt around1 stands1 numbers in
       let u : Site = owner_cell t o in
       let v : Site = walk_loop t o in
@@ -331,7 +322,7 @@ members_walked g0 g1 g2 g3 p q q1 q2 q3 q4 here below_here above_here w kept tur
       let room : height u + 1 ≤ f.depth = omega (arith, deep, tall) in
       let put : Puts q1 q2 below_here (begin_of w (is_after start) k.skip) = record { instructions = k.put.instructions; lines = k.put.lines ∙ ap (λ (l : Line). q1.lines ++ l ∷ []) (sym k.below_line) } in
       let begin : Adds f q1 q2 (begin_code u reverse set bearer start (length turns) ∷ []) =
-      begins f g3 below_here u w x set bearer start k.skip (length turns) reverse q1 q2 low3 room k.of_set owner_u cell k.turned long put in
+      begins f g3 below_here u w set bearer start k.skip (length turns) reverse q1 q2 low3 room k.of_set owner_u cell k.turned long put in
       let few : kept.cells + 2 < 2 ^ 64 = omega (arith, keep.1, keep.2, around.small) in
       let count : k.count ≡ height v - height t = omega (arith, k.counts few, tall, keep.1) in
       let gone : Adds f q3 q4 (forget_to t v) = adds_same f q3 q4 (forget v k.count) (forget_to t v) (ap (forget v) count) (k.forgets.adds f v tt around high3 tt) in

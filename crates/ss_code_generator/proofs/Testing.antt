@@ -110,14 +110,15 @@ then_made old mid new front back whole here Front Back c d m n is ls = record {
   more = λ f t u around located good. tt;
 }
 
--- what was made, for another code that is the same at each site, where other things are well typed
-pub emits_for : (old new : Generator) (p q : Lined) (here : Here) (Good Other : Scope → Type 0) (c d : Site → List Placed) → ((k : Scope) → Other k → Good k) → ((t : Site) → c t ≡ d t) → Emits old new p q here Good c → Emits old new p q here Other d
-emits_for old new p q here Good Other c d so same m = record {
+-- what was made, for another code that is the same at each site at which the generator may be, where other things are well typed
+pub emits_where : (old new : Generator) (p q : Lined) (here : Here) (Good Other : Scope → Type 0) (c d : Site → List Placed) → ((k : Scope) → Other k → Good k) → ((f : Final) (t : Site) → Around f new → IsLocated f new here t → c t ≡ d t) → Emits old new p q here Good c → Emits old new p q here Other d
+emits_where old new p q here Good Other c d good same m = record {
   grows = m.grows;
-  adds = λ f t u around located good. adds_same f p q (c t) (d t) (same t) (m.adds f t u around located (so t.scope good));
-  more = λ f t u around located good. tt;
+  adds = λ f t u around located other. adds_same f p q (c t) (d t) (same f t around located) (m.adds f t u around located (good t.scope other));
+  more = λ f t u around located other. tt;
 }
 
+-- and around a piece
 pub around_for : (old new : Generator) (p q inner : Lined) (here : Here) (Good Other : Scope → Type 0) (c d : Site → List Placed → List Placed) → ((k : Scope) → Other k → Good k) → ((t : Site) (b : List Placed) → c t b ≡ d t b) → EmitsAround old new p q here inner Good c → EmitsAround old new p q here inner Other d
 around_for old new p q inner here Good Other c d so same m = record {
   grows = m.grows;
@@ -148,13 +149,13 @@ alternatives_step old mid new rest front jump both whole here skip past xs ys ot
     let past_is : past ≡ length rest.instructions + 0 = long ∙ sym (plus (length rest.instructions)) in
     let two = then_made mid new new front jump both here (λ s. Every (GoodTest s) xs) (λ s. Unit {0}) (λ t. tests_code t 1 xs) (λ t. place t (i.Jump past) ∷ []) n j both_is both_ls in
     let all = before_made old mid new both rest whole here (λ s. Every (GoodTest s) xs × Unit {0}) (λ s. GoodCondition s (ys ∷ others)) first code past m two is ls 0 past_is in
-    emits_for old new nothing whole here (λ s. (Every (GoodTest s) xs × Unit {0}) × GoodCondition s (ys ∷ others)) (λ s. GoodCondition s (xs ∷ (ys ∷ others))) (λ t. first (length (code t) + 0) t ++ code t) (λ t. condition_code t skip (xs ∷ (ys ∷ others))) (λ s h. ((h.0, tt), h.1))
-    (λ t. ap (λ (k : ℕ). first k t ++ code t) (plus (length (code t))) ∙ append_assoc (tests_code t 1 xs) (place t (i.Jump (length (code t))) ∷ []) (code t)) all
+    emits_where old new nothing whole here (λ s. (Every (GoodTest s) xs × Unit {0}) × GoodCondition s (ys ∷ others)) (λ s. GoodCondition s (xs ∷ (ys ∷ others))) (λ t. first (length (code t) + 0) t ++ code t) (λ t. condition_code t skip (xs ∷ (ys ∷ others))) (λ s h. ((h.0, tt), h.1))
+    (λ f t around located. ap (λ (k : ℕ). first k t ++ code t) (plus (length (code t))) ∙ append_assoc (tests_code t 1 xs) (place t (i.Jump (length (code t))) ∷ []) (code t)) all
 
 pub negated_made : (old new : Generator) (front jump whole : Lined) (here : Here) (skip : ℕ) (c : Condition) → Emits old new nothing front here (λ s. GoodCondition s c) (λ t. condition_code t 1 c) → Emits new new nothing jump here (λ s. Unit {0}) (λ t. place t (i.Jump skip) ∷ []) → whole.instructions ≡ front.instructions ++ jump.instructions → whole.lines ≡ front.lines ++ jump.lines → Emits old new nothing whole here (λ s. GoodCondition s c) (λ t. negated_code t skip c)
 negated_made old new front jump whole here skip c m j is ls =
     let both = then_made old new new front jump whole here (λ s. GoodCondition s c) (λ s. Unit {0}) (λ t. condition_code t 1 c) (λ t. place t (i.Jump skip) ∷ []) m j is ls in
-    emits_for old new nothing whole here (λ s. GoodCondition s c × Unit {0}) (λ s. GoodCondition s c) (λ t. negated_code t skip c) (λ t. negated_code t skip c) (λ s h. (h, tt)) (λ t. refl) both
+    emits_where old new nothing whole here (λ s. GoodCondition s c × Unit {0}) (λ s. GoodCondition s c) (λ t. negated_code t skip c) (λ t. negated_code t skip c) (λ s h. (h, tt)) (λ f t around located. refl) both
 
 pub guards_step : (old mid new : Generator) (rest front whole inner : Lined) (here : Here) (more past : ℕ) (g : Guard) (gs : List Guard) → EmitsAround old mid nothing rest here inner (λ s. Every (λ g. GoodCondition s g.condition) gs) (λ t b. guards_code t (length b + more) gs ++ b) → Emits mid new nothing front here (λ s. GoodCondition s g.condition) (λ t. guard_code t past g.kind g.condition) → past ≡ length rest.instructions + more → whole.instructions ≡ front.instructions ++ rest.instructions → whole.lines ≡ front.lines ++ rest.lines → EmitsAround old new nothing whole here inner (λ s. Every (λ g. GoodCondition s g.condition) (g ∷ gs)) (λ t b. guards_code t (length b + more) (g ∷ gs) ++ b)
 guards_step old mid new rest front whole inner here more past g gs m n long is ls =
@@ -180,4 +181,4 @@ pub last_alternative : (old new : Generator) (last whole : Lined) (here : Here) 
 last_alternative old new last whole here skip xs m is ls =
     let same : last ≡ whole = same_piece last whole (sym (is ∙ append-nil last.instructions)) (sym (ls ∙ append-nil last.lines)) in
     let made = subst (λ (p : Lined). Emits old new nothing p here (λ s. Every (GoodTest s) xs) (λ t. tests_code t skip xs)) same m in
-    emits_for old new nothing whole here (λ s. Every (GoodTest s) xs) (λ s. GoodCondition s (xs ∷ [])) (λ t. tests_code t skip xs) (λ t. condition_code t skip (xs ∷ [])) (λ s h. h.0) (λ t. refl) made
+    emits_where old new nothing whole here (λ s. Every (GoodTest s) xs) (λ s. GoodCondition s (xs ∷ [])) (λ t. tests_code t skip xs) (λ t. condition_code t skip (xs ∷ [])) (λ s h. h.0) (λ f t around located. refl) made
