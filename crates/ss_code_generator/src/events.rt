@@ -33,6 +33,7 @@ fn notice_at(spot: Spot, to: Address) -> Address
 }
 
 /// An event that is scheduled: the class of its notice, and for when.
+#[derive(Clone, Copy)]
 pub struct Planned<'a> {
     pub class: usize,
     pub when: &'a When,

@@ -91,6 +91,7 @@ fn begin_items(class: Option<u32>, cell: u32, skip: u32) -> Instruction
 }
 
 /// A FOR over the members of a set: the variable, the set, its owner, where it starts and the order.
+#[derive(Clone, Copy)]
 pub struct SetLoop<'a> {
     pub variable: Variable,
     pub set: usize,
@@ -100,6 +101,7 @@ pub struct SetLoop<'a> {
 }
 
 /// The cases of a FIND: the head of its loop, and the phrases.
+#[derive(Clone, Copy)]
 pub struct Cases<'a> {
     pub head: &'a Head,
     pub phrases: &'a [Phrase],

@@ -76,6 +76,7 @@ fn remove_by(end: End, set: u32, owner: Address, to: Address, noted: bool) -> In
 }
 
 /// An entity as a member of a set: the set, the reference to the entity, and the owner of the set.
+#[derive(Clone, Copy)]
 pub struct MemberOf<'a> {
     pub set: usize,
     pub member: &'a Expression,
