@@ -33,7 +33,6 @@ use Rattle.ss_code_generator.specs.Notices.{any_watched, named_at, named_code, N
 use Rattle.ss_code_generator.proofs.Emitting.{around_old, grows_same, grows_then, stands_old, stands_above, adds_then, adds_one, adds_same}
 use Rattle.ss_code_generator.proofs.Modes.{on_top}
 use Rattle.ss_code_generator.proofs.Operands.{read_stands, cell_at_site, operand_at, stays_at}
-use Rattle.ss_code_generator.proofs.Testing.{bearer_at}
 use Rattle.ss_code_generator.proofs.Spotted.{stored}
 use Rattle.ss_code_generator.proofs.Letting.{MakesSpot, Lands, spot_stands, holds_mode}
 
@@ -322,6 +321,6 @@ restarted old new p q v here x o m is ls = record {
       adds_same f p v (bearer_code t x.of ++ place u ins ∷ []) (restarts_code t (x ∷ [])) (sym (append-nil (bearer_code t x.of ++ place u ins ∷ [])))
       (adds_then f p q v (bearer_code t x.of) (place u ins ∷ []) (m.adds f t tt around located numbers)
       (adds_one f q v here.line (place u ins) (r.Reset x.statistic o.address) is ls located.line
-      (record { carries = (bearer t x.of, bearer_at f t u (bearer t x.of) o.address refl read.at, refl); deep = read.deep; shown = tt })));
+      (record { carries = (bearer t x.of, read.at, refl); deep = read.deep; shown = tt })));
   more = λ f t u around located good. tt;
 }

@@ -3,8 +3,6 @@ use Rattle.std.proofs.Common.{◌≡◌, ℕ, ◌+◌, ◌-◌, ◌<◌, ◌≤�
 use Rattle.std.specs.Prelude.{IfSome}
 use Rattle.std.specs.List.{AllByRecursion as Every}
 use Rattle.ss_base.specs.declared.line.Line.{Line}
-use Rattle.ss_base.specs.declared.value.Value.{Value}
-use Rattle.ss_base.specs.declared.layout.Mode.{Mode}
 use Rattle.ss_base.specs.declared.layout.Mode.TheVariants.{Integer}
 use Rattle.ss_program.specs.declared.expression.Variable.{Variable}
 use Rattle.ss_program.specs.Program.{Expression, SetOwner, TheSystem, Entity, Start, AtEnd, From, After, Head, Numbers, Members, Each, Guard, Phrase}
@@ -15,9 +13,8 @@ use Rattle.ss_code_instructions.specs.declared.instruction.Instruction.TheVarian
 use Rattle.ss_code_instructions.specs.Instructions.{Bearer, Placed}
 use Rattle.ss_code_instructions.specs.Instructions as i
 use Rattle.ss_code_instructions.specs.Facts.{expression_of}
-use Rattle.ss_code_instructions.specs.Translation.{Site, height, place, next, above, forget, forget_to, expression_code, guards_code, loop_code, take_code, turns_code, step_code, range_code, number_loop, walk_loop, owner_code, owner_cell, owner_kept, start_code, begin_code, in_loop, phrases_code, for_code, find_code, code_of}
-use Rattle.ss_code_instructions.specs.Machine.{Code}
-use Rattle.ss_code_instructions.specs.Carried.{OperandAt, BearerAt, InFrame}
+use Rattle.ss_code_instructions.specs.Translation.{Site, height, place, next, above, forget, forget_to, expression_code, guards_code, loop_code, take_code, turns_code, step_code, range_code, number_loop, walk_loop, owner_code, owner_cell, owner_kept, start_code, begin_code, in_loop, phrases_code, for_code, find_code}
+use Rattle.ss_code_instructions.specs.Carried.{InFrame}
 use Rattle.ss_code_generator.specs.declared.expressions.Operand.{Operand as Read}
 use Rattle.ss_code_generator.specs.declared.generator.Generator.{Generator}
 use Rattle.ss_code_generator.specs.declared.generator.Site.{Site as Here}
@@ -51,18 +48,6 @@ join_one f p q following c j h = adds_piece f p q following c j.instructions j.l
 -- a site that located where the generator is, and one some cells above it
 higher : (f : Final) (g : Generator) (here above_here : Here) (t u : Site) (k : ℕ) → Around f g → IsLocated f g here t → above_here.line ≡ here.line → (here.height + k < 2 ^ 64 → above_here.height ≡ here.height + k) → u.scope ≡ t.scope → u.line ≡ t.line → height u ≡ height t + k → height u ≤ f.depth → IsLocated f g above_here u
 higher f g here above_here t u k around located line up scope same high deep = stands_above f g here above_here t u k around.small located line up scope same high deep
-
--- ## Addresses: they go by the section alone
-
-pub operand_here : (code : Code) (constants : List Value) (x z : Placed) (y : i.Operand) (a : Address) → z.locals ≡ x.locals → OperandAt code constants x y a → OperandAt code constants z y a
-operand_here code constants x z (i.Constant v) a e h = h
-operand_here code constants x z (i.Held k) a e h = h
-operand_here code constants x z (i.Taken k) a e h = (h.0, h.1 ∙ sym (ap (λ (l : List Mode). length l + k) e))
-operand_here code constants x z (i.Stays k) a e h = (h.0, h.1 ∙ sym (ap (λ (l : List Mode). length l + k) e))
-
-pub bearer_here : (code : Code) (constants : List Value) (x z : Placed) (y : Bearer) (a : Address) → z.locals ≡ x.locals → BearerAt code constants x y a → BearerAt code constants z y a
-bearer_here code constants x z None a e h = h
-bearer_here code constants x z (Some y) a e h = operand_here code constants x z y a e h
 
 -- ## WHILE and UNTIL
 
@@ -118,7 +103,7 @@ members_taken g a b c turn here w back m both back_is last = record {
       ap (λ s. i.NextMember w.reverse s x.owner x.cell (length head + length x.turn)) (sym set) ∙ ap (i.NextMember w.reverse w.set x.owner x.cell) (sym back_long) in
       adds_then f nothing a c head (x.turn ++ place u again ∷ []) one
       (adds_then f a b c x.turn (place u again ∷ []) two
-      (put_one f g here u b c again (r.NextMember w.set w.owner w.cell back w.reverse false) located last (record { carries = (x.owner, bearer_here (code_of f.program) f.constants (place u i.Leave) (place u again) x.owner w.owner refl owner, (x.cell, fits.0.3, is_that)); deep = located.deep; shown = tt })));
+      (put_one f g here u b c again (r.NextMember w.set w.owner w.cell back w.reverse false) located last (record { carries = (x.owner, owner, (x.cell, fits.0.3, is_that)); deep = located.deep; shown = tt })));
   more = λ f u x around located fits. tt;
 }
 
@@ -232,7 +217,7 @@ starts_at g0 g p q s here w e put m = record {
       let member : Typed e u.scope = (Integer, fits.1) in
       adds_then f p q s (place u look ∷ []) (expression_code u (next u) e)
       (put_one f g here u p q look (r.LookOwner w.set w.owner) located put
-      (record { carries = (x.owner, bearer_here (code_of f.program) f.constants (place u i.Leave) (place u look) x.owner w.owner refl owner, ap (λ k. i.LookOwner k x.owner) (sym fits.0.1)); deep = located.deep; shown = tt }))
+      (record { carries = (x.owner, owner, ap (λ k. i.LookOwner k x.owner) (sym fits.0.1)); deep = located.deep; shown = tt }))
       (m.adds f u tt around located member);
   more = λ f u x around located fits. tt;
 }
@@ -249,7 +234,7 @@ begins_at f g here u w set owner after skip n reverse p q located deep is at cel
     let tall : length up.cells ≤ f.depth = omega (arith, deep) in
     let same : ins ≡ i.BeginAt w.reverse after w.set owner (height u) skip = cc in
     adds_one f p q here.line (place up ins) (r.BeginAt w.set w.owner w.cell skip w.reverse after) put.instructions put.lines located.line
-    (record { carries = (owner, bearer_here (code_of f.program) f.constants (place u i.Leave) (place up ins) owner w.owner refl at, (height u, cell, same)); deep = tall; shown = tt })
+    (record { carries = (owner, at, (height u, cell, same)); deep = tall; shown = tt })
 
 -- the instruction that begins a walk
 begins : (f : Final) (g : Generator) (here : Here) (u : Site) (w : Walk) (set : ℕ) (owner : Bearer) (start : Start) (skip n : ℕ) (reverse : Bool) (p q : Lined) → IsLocated f g here u → height u + 1 ≤ f.depth → w.set ≡ set → AtBearer f u owner w.owner → w.cell ≡ length u.scope.locals + height u → w.reverse ≡ reverse → skip ≡ n → Puts p q here (begin_of w (is_after start) skip) → Adds f p q (begin_code u reverse set owner start n ∷ [])
@@ -257,7 +242,7 @@ begins f g here u w set owner AtEnd skip n reverse p q located deep is at cell t
     let ins : i.Instruction = i.BeginSet reverse set owner (height u) n in
     let same : ins ≡ i.BeginSet w.reverse w.set owner (height u) skip = cc in
     put_one f g here u p q ins (r.BeginSet w.set w.owner w.cell skip w.reverse) located put
-    (record { carries = (owner, bearer_here (code_of f.program) f.constants (place u i.Leave) (place u ins) owner w.owner refl at, (height u, cell, same)); deep = located.deep; shown = tt })
+    (record { carries = (owner, at, (height u, cell, same)); deep = located.deep; shown = tt })
 begins f g here u w set owner (From e) skip n reverse p q located deep is at cell turned long put = begins_at f g here u w set owner false skip n reverse p q located deep is at cell turned long put
 begins f g here u w set owner (After e) skip n reverse p q located deep is at cell turned long put = begins_at f g here u w set owner true skip n reverse p q located deep is at cell turned long put
 
@@ -308,21 +293,19 @@ members_walked g0 g1 g2 g3 p q q1 q2 q3 q4 here below_here above_here w kept tur
       let high3 : IsLocated f g3 above_here v = higher f g3 below_here above_here u v 2 around low3 k.above_line k.above_height refl refl tall deep in
       let high1 : IsLocated f g1 above_here v = stands_old f g1 g3 above_here v (grows_then g1 g2 g3 k.starts.grows k.reaches) high3 in
       let owner : AtBearer f t bearer w.owner = subst (AtBearer f t bearer) (sym k.of_owner) keep.0 in
-      let owner_u : AtBearer f u bearer w.owner = bearer_here (code_of f.program) f.constants (place t i.Leave) (place u i.Leave) bearer w.owner refl owner in
-      let owner_v : AtBearer f v bearer w.owner = bearer_here (code_of f.program) f.constants (place t i.Leave) (place v i.Leave) bearer w.owner refl owner in
       let locals : length u.scope.locals ≡ length g1.locals.items = ap length low1.locals in
       let cell : w.cell ≡ length u.scope.locals + height u = omega (arith, k.cell, locals, low1.high) in
       let walk : Walking = record { variable = x; set = set; owner = bearer; cell = height u; turn = b } in
-      let begun : Adds f q q1 (start_code u set bearer start) = k.starts.adds f u walk around2 low2 ((k.variable f below_here u around1 low1, k.of_set, owner_u, cell), good.2) in
+      let begun : Adds f q q1 (start_code u set bearer start) = k.starts.adds f u walk around2 low2 ((k.variable f below_here u around1 low1, k.of_set, owner, cell), good.2) in
       let turns : List Placed = turns_code v (height u) x b (i.NextMember reverse set bearer (height u)) in
       let same : turns_code v (height u) x b (i.NextMember w.reverse set bearer (height u)) ≡ turns = ap (λ (back : Bool). turns_code v (height u) x b (i.NextMember back set bearer (height u))) k.turned in
       let taken : Adds f nothing members turns =
-      adds_same f nothing members (turns_code v (height u) x b (i.NextMember w.reverse set bearer (height u))) turns same (k.takes.adds f v walk around high3 ((k.variable f above_here v around1 high1, k.of_set, owner_v, cell), fits.0)) in
+      adds_same f nothing members (turns_code v (height u) x b (i.NextMember w.reverse set bearer (height u))) turns same (k.takes.adds f v walk around high3 ((k.variable f above_here v around1 high1, k.of_set, owner, cell), fits.0)) in
       let long : k.skip ≡ length turns = k.skips ∙ piece_long f members turns taken in
       let room : height u + 1 ≤ f.depth = omega (arith, deep, tall) in
       let put : Puts q1 q2 below_here (begin_of w (is_after start) k.skip) = record { instructions = k.put.instructions; lines = k.put.lines ∙ ap (λ (l : Line). q1.lines ++ l ∷ []) (sym k.below_line) } in
       let begin : Adds f q1 q2 (begin_code u reverse set bearer start (length turns) ∷ []) =
-      begins f g3 below_here u w set bearer start k.skip (length turns) reverse q1 q2 low3 room k.of_set owner_u cell k.turned long put in
+      begins f g3 below_here u w set bearer start k.skip (length turns) reverse q1 q2 low3 room k.of_set owner cell k.turned long put in
       let few : kept.cells + 2 < 2 ^ 64 = omega (arith, keep.1, keep.2, around.small) in
       let count : k.count ≡ height v - height t = omega (arith, k.counts few, tall, keep.1) in
       let gone : Adds f q3 q4 (forget_to t v) = adds_same f q3 q4 (forget v k.count) (forget_to t v) (ap (forget v) count) (k.forgets.adds f v tt around high3 tt) in

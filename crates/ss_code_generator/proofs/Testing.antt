@@ -1,13 +1,12 @@
 -- What the generator emits for conditions.
-use Rattle.std.proofs.Common.{◌≡◌, ℕ, ◌+◌, ◌<◌, ◌^◌, Bool, List, [], ◌∷◌, ◌++◌, length, Option, Some, None, refl, sym, ap, ◌∙◌, subst, arith, append_assoc, append-nil, length-append}
+use Rattle.std.proofs.Common.{◌≡◌, ℕ, ◌+◌, ◌<◌, ◌^◌, Bool, List, [], ◌∷◌, ◌++◌, length, Option, Some, refl, sym, ap, ◌∙◌, subst, arith, append_assoc, append-nil, length-append}
 use Rattle.ss_base.specs.declared.layout.Mode.{Mode}
 use Rattle.ss_base.specs.declared.words.Relation.{Relation}
 use Rattle.std.specs.List.{AllByRecursion as Every}
 use Rattle.ss_program.specs.Program.{Expression, SetOwner, TheSystem, Entity, Test, Compare, Empty, Condition, Guard, Phrase}
 use Rattle.ss_program.specs.WellTyped.{Scope, HasMode, OwnerFits, GoodTest, GoodCondition, GoodPhrase}
-use Rattle.ss_code_instructions.specs.declared.address.Address.{Address}
 use Rattle.ss_code_instructions.specs.declared.instruction.Instruction.TheVariants as r
-use Rattle.ss_code_instructions.specs.Instructions.{Bearer, Instruction, Placed}
+use Rattle.ss_code_instructions.specs.Instructions.{Instruction, Placed}
 use Rattle.ss_code_instructions.specs.Instructions as i
 use Rattle.ss_code_instructions.specs.Facts.{expression_of}
 use Rattle.ss_code_instructions.specs.Translation.{Site, place, operand, operand_code, after, bearer, bearer_code, after_bearer, test_code, tests_code, condition_code, negated_code, guard_code, guards_code, phrase_code, phrases_code, code_of}
@@ -16,21 +15,16 @@ use Rattle.ss_code_generator.specs.declared.generator.Generator.{Generator}
 use Rattle.ss_code_generator.specs.declared.generator.Site.{Site as Here}
 use Rattle.ss_code_pieces.specs.Lined.{Lined, nothing}
 use Rattle.ss_code_instructions.specs.Forms.{comparing}
-use Rattle.ss_code_generator.specs.Emitted.{Final, Around, IsLocated, Emits, EmitsAround, AtBearer, Typed, AreNumbers, Reads, Bears}
+use Rattle.ss_code_generator.specs.Emitted.{Final, Around, IsLocated, Emits, EmitsAround, Typed, AreNumbers, Reads, Bears}
 use Rattle.ss_code_generator.proofs.Emitting.{around_old, grows_then, stands_old, adds_then, adds_one, adds_apart, adds_same, piece_long}
 use Rattle.ss_code_generator.proofs.Forms as forms
 use Rattle.ss_code_generator.proofs.Modes.{operand_mode, mode_after}
-use Rattle.ss_code_generator.proofs.Operands.{read_stands, operand_at}
+use Rattle.ss_code_generator.proofs.Operands.{read_stands}
 
 -- the owner of a set is a number
 pub owner_number : (s : Scope) (set : ℕ) (o : SetOwner) → OwnerFits s set o → AreNumbers (expression_of o) s
 owner_number s set TheSystem h = tt
 owner_number s set (Entity e) h = h.1
-
--- an owner has the same address at all sites of a section
-pub bearer_at : (f : Final) (t u : Site) (o : Bearer) (a : Address) → u.scope ≡ t.scope → AtBearer f t o a → AtBearer f u o a
-bearer_at f t u None a e h = h
-bearer_at f t u (Some y) a e h = operand_at f t u y a e h
 
 -- ## Tests
 
@@ -69,9 +63,8 @@ emptiness_tested old new p q v here skip negated set o owner m is ls = record {
       let number = owner_number t.scope set o good in
       let read = m.more f t tt around located number in
       let ins : Instruction = i.UnlessEmpty negated set (bearer t e) skip in
-      let at = bearer_at f t (after_bearer t e) (bearer t e) owner.address refl read.at in
       adds_then f p q v (bearer_code t e) (place (after_bearer t e) ins ∷ []) (m.adds f t tt around located number)
-      (adds_one f q v here.line (place (after_bearer t e) ins) (r.UnlessEmpty set owner.address skip negated) is ls located.line (record { carries = (bearer t e, at, refl); deep = read.deep; shown = tt }));
+      (adds_one f q v here.line (place (after_bearer t e) ins) (r.UnlessEmpty set owner.address skip negated) is ls located.line (record { carries = (bearer t e, read.at, refl); deep = read.deep; shown = tt }));
   more = λ f t u around located good. tt;
 }
 
