@@ -222,19 +222,19 @@ impl Generator<'_> {
         &mut self,
         code: &mut Piece,
         site: Site,
-        at: SetEnd,
+        from: SetEnd,
         place: &Place,
         owner: &SetOwner,
     ) -> Result<(), AllocError>
-        ensures { OnOk result (Emits self.old self.new code.old code.new site (λ s. Good s (RemoveEnd site.line at.end at.set (view_place place.now) (view_owner owner.now))) (λ t. remove_end_code t at.end at.set (view_place place.now) (view_owner owner.now))) }
+        ensures { OnOk result (Emits self.old self.new code.old code.new site (λ s. Good s (RemoveEnd site.line from.end from.set (view_place place.now) (view_owner owner.now))) (λ t. remove_end_code t from.end from.set (view_place place.now) (view_owner owner.now))) }
     {
         let spot = self.looked_spot(code, site, place)?;
         let above = site.above(spot.cells());
         let owner = self.owner(code, above, owner)?.address;
         let to = self.landing(above, spot)?;
-        let noted = is_count_watched(self.program, at.set);
-        let set = as_index(at.set)?;
-        code.put(site.line, remove_by(at.end, set, owner, to, noted))?;
+        let noted = is_count_watched(self.program, from.set);
+        let set = as_index(from.set)?;
+        code.put(site.line, remove_by(from.end, set, owner, to, noted))?;
         self.take(code, above, spot, to)
     }
 }
