@@ -128,9 +128,8 @@ impl Generator<'_> {
         ensures { OnOk result (Emits self.old self.new code.old code.new site (λ s. IsNumber (view_expression of.entry.member.now) s × OwnerFits s of.entry.set (view_owner of.entry.owner.now)) (λ t. member_code t (may_fault (expression_of (view_owner of.entry.owner.now))) of.entry.set (view_expression of.entry.member.now) ++ with_owner (beyond t (view_expression of.entry.member.now)) (view_owner of.entry.owner.now) (Files (filing_of ordering) of.entry.set (operand t (view_expression of.entry.member.now))))) }
     {
         let member = self.member(code, site, of.set, of.member, owner_may_fault(of.owner))?;
-        let owner = self
-            .owner(code, site.above(member.cells), of.owner)?
-            .address;
+        let above = site.above(member.cells);
+        let owner = self.owner(code, above, of.owner)?.address;
         let noted = is_count_watched(self.program, of.set);
         code.put(
             site.line,
@@ -153,9 +152,8 @@ impl Generator<'_> {
         let member = self.member(code, site, of.set, of.member, true)?;
         let above = site.above(member.cells);
         let beside = self.member(code, above, of.set, beside, true)?;
-        let owner = self
-            .owner(code, above.above(beside.cells), of.owner)?
-            .address;
+        let higher = above.above(beside.cells);
+        let owner = self.owner(code, higher, of.owner)?.address;
         code.put(
             site.line,
             Instruction::FileBeside {
@@ -202,9 +200,8 @@ impl Generator<'_> {
         ensures { OnOk result (Emits self.old self.new code.old code.new site (λ s. Good s (Remove site.line of.entry.set (view_expression of.entry.member.now) (view_owner of.entry.owner.now))) (λ t. remove_code t of.entry.set (view_expression of.entry.member.now) (view_owner of.entry.owner.now))) }
     {
         let member = self.member(code, site, of.set, of.member, owner_may_fault(of.owner))?;
-        let owner = self
-            .owner(code, site.above(member.cells), of.owner)?
-            .address;
+        let above = site.above(member.cells);
+        let owner = self.owner(code, above, of.owner)?.address;
         code.put(
             site.line,
             Instruction::Remove {
