@@ -56,7 +56,8 @@ fn stops(
     };
     let mut data = Source::new(reader);
     let (ticks, stop, steps) = piece;
-    machine.run(ticks, &mut data, report) == stop && machine.steps() == steps
+    let stopped = machine.run(ticks, &mut data, report);
+    stopped == stop && machine.steps() == steps
 }
 
 // Whether runs stop so in turn.
@@ -81,9 +82,10 @@ fn machine_stops(
     report: &mut Sink<MemoryWrite>,
     pieces: &[Piece],
 ) -> bool {
-    let stops = machine.steps() == 0 && all_stop(alloc, &mut machine, report, pieces);
+    let before = machine.steps();
+    let all_stop = all_stop(alloc, &mut machine, report, pieces);
     machine.release();
-    stops
+    before == 0 && all_stop
 }
 
 // Whether the runs of a text do.
@@ -102,7 +104,10 @@ fn text_stops(
 // Whether they do, where the writer goes by this plan.
 fn stop_so(alloc: Global, text: &[u8], plan: Plan, pieces: &[Piece]) -> bool {
     match MemoryWrite::new(alloc, 100, plan, WriteFailure::Error) {
-        Ok(writer) => text_stops(alloc, text, &mut Sink::new(writer), pieces),
+        Ok(writer) => {
+            let mut report = Sink::new(writer);
+            text_stops(alloc, text, &mut report, pieces)
+        }
         Err(_) => false,
     }
 }

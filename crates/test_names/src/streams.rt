@@ -80,7 +80,8 @@ fn a_report_is_cut_off(rt: HostRuntime) -> Result<(), Fail> {
 fn stalls(mut report: Sink<MemoryWrite>) -> bool {
     let answer = report.write(b"ANSWER");
     let sent = report.sent();
-    answer == Err(SinkError::Stalled) && sent == 3 && faults(&report.into_inner()) == 1000
+    let writer = report.into_inner();
+    answer == Err(SinkError::Stalled) && sent == 3 && faults(&writer) == 1000
 }
 
 #[test]
@@ -117,7 +118,9 @@ fn words_are_read(rt: HostRuntime) {
 
 // Whether it can't be read, which its reader counts.
 fn is_unreadable(mut data: Source<MemoryRead>) -> bool {
-    data.integer() == Err(Missed::Input) && faults(&data.into_inner()) == 1
+    let answer = data.integer();
+    let reader = data.into_inner();
+    answer == Err(Missed::Input) && faults(&reader) == 1
 }
 
 #[test]
