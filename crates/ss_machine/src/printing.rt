@@ -22,7 +22,7 @@ use ss_code_instructions::instruction::Instruction;
 use ss_code_pieces::lines::Lines;
 use ss_machine_instructions::flow::{Ending, Here};
 use ss_machine_instructions::state::State;
-use ss_picture::{FieldValue, Picture, Sink};
+use ss_picture::{Item, Picture, Sink};
 
 /// The most empty lines of a SKIP.
 const MOST_LINES: i64 = 1000;
@@ -31,7 +31,7 @@ const MOST_LINES: i64 = 1000;
 fn print_line<W: FaultyWrite>(
     line: &mut Vec<u8>,
     picture: &Picture,
-    items: &[FieldValue],
+    items: &[Item],
     sink: &mut Sink<W>,
 ) -> Result<(), Ending>
     requires fields { length items.now ≤ field_count picture.now }
@@ -56,7 +56,7 @@ fn print_line<W: FaultyWrite>(
 fn print_lines<W: FaultyWrite>(
     line: &mut Vec<u8>,
     pictures: &[Picture],
-    items: &[FieldValue],
+    items: &[Item],
     sink: &mut Sink<W>,
 ) -> Result<(), Ending>
     requires suited { EachSuits (flat_map picture_fields pictures.now) items.now }

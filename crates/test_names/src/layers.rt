@@ -6,7 +6,7 @@ use ss_base::{
     Refused, SetLayout, Value, div_f, minus, mod_f, plus, times,
 };
 use ss_events::{Key, Pending, Tie, TieShape};
-use ss_picture::{FieldValue, Picture};
+use ss_picture::{Item, Picture};
 use ss_records::Heap;
 use ss_sets::{file, fits, is_in, remove_first, remove_last};
 use ss_stats::Totals;
@@ -19,7 +19,8 @@ fn numbers_are_calculated(rt: HostRuntime) {
     assert_eq!(rt; plus(i64::MAX, 1), Err(FaultKind::Overflow));
     assert_eq!(rt; minus(i64::MIN, 1), Err(FaultKind::Overflow));
     assert_eq!(rt; div_f(7, 0), Err(FaultKind::ZeroDivisor));
-    assert_eq!(rt; (div_f(-7, 2), mod_f(-7, 2)), (Ok(-3), Ok(-1)));
+    assert_eq!(rt; div_f(-7, 2), Ok(-3));
+    assert_eq!(rt; mod_f(-7, 2), Ok(-1));
 }
 
 #[test]
@@ -47,6 +48,11 @@ fn a_text_loses_the_blanks_at_its_end(rt: HostRuntime) {
 fn faults_have_numbers_and_words(rt: HostRuntime) {
     assert_eq!(rt; FaultKind::BadCount.number(), 22);
     assert_eq!(rt; FaultKind::BadCount.text(), "BAD COUNT");
+}
+
+#[test]
+fn refused_memory_is_no_fault(rt: HostRuntime) {
+    assert_eq!(rt; Refused::from(AllocError), Refused::Memory);
 }
 
 const BY_RANK: RankKey = RankKey {
@@ -123,22 +129,27 @@ fn take(heap: &mut Heap, first: bool) -> Option<Result<i64, FaultKind>> {
     }
 }
 
-#[test]
-fn the_last_filed_comes_first(rt: HostRuntime) -> Result<(), Fail> {
-    let mut heap = with_jobs(rt.alloc()).ok_or("no heap")?;
-    assert_eq!(rt; put(&mut heap, 1), Some(Ok(())));
-    assert_eq!(rt; put(&mut heap, 2), Some(Ok(())));
-    assert_eq!(rt; take(&mut heap, true), Some(Ok(2)));
-    assert_eq!(rt; take(&mut heap, false), Some(Ok(1)));
-    Ok(())
+// Whether the last filed comes first.
+fn is_last_first(heap: &mut Heap) -> bool {
+    put(heap, 1) == Some(Ok(()))
+        && put(heap, 2) == Some(Ok(()))
+        && is_there(heap, 2) == Some(Ok(true))
+        && take(heap, true) == Some(Ok(2))
+        && take(heap, false) == Some(Ok(1))
+        && take(heap, true) == Some(Err(FaultKind::EmptySet))
+}
+
+// Whether it does in a heap of its own.
+fn comes_last_first(alloc: Global) -> bool {
+    match with_jobs(alloc) {
+        Some(mut heap) => is_last_first(&mut heap),
+        None => false,
+    }
 }
 
 #[test]
-fn a_member_is_looked_for(rt: HostRuntime) -> Result<(), Fail> {
-    let mut heap = with_jobs(rt.alloc()).ok_or("no heap")?;
-    assert_eq!(rt; take(&mut heap, true), Some(Err(FaultKind::EmptySet)));
-    assert_eq!(rt; is_there(&mut heap, 1), Some(Ok(false)));
-    Ok(())
+fn the_last_filed_comes_first(rt: HostRuntime) {
+    assert!(rt; comes_last_first(rt.alloc()));
 }
 
 // Schedules a notice of the only class at a time, where the ties are that class's.
@@ -165,47 +176,104 @@ fn of_one_class(alloc: Global) -> Result<Pending, AllocError> {
     Pending::new(alloc, &classes)
 }
 
-#[test]
-fn the_earliest_notice_is_next(rt: HostRuntime) -> Result<(), Fail> {
-    let mut pending = of_one_class(rt.alloc())?;
-    assert_eq!(rt; (pending.least(), pending.take()), (None, None));
-    assert_eq!(rt; pending.cancel(1), Err(FaultKind::NotScheduled));
-    assert_eq!(rt; schedule(rt.alloc(), &mut pending, 9, 1), Ok(()));
-    assert_eq!(rt; schedule(rt.alloc(), &mut pending, 5, 2), Ok(()));
-    assert_eq!(rt; pending.take(), Some((5, 2)));
-    Ok(())
+// What is looked at in a list.
+#[derive(Clone, Copy)]
+enum Look {
+    Nothing,
+    Next,
+    Counts,
+    Again,
 }
 
-// The first notice is compared with none, and put into a place; the second is compared with the first, and stays after it.
-#[test]
-fn comparisons_and_moves_are_counted(rt: HostRuntime) -> Result<(), Fail> {
-    let mut pending = of_one_class(rt.alloc())?;
-    assert_eq!(rt; schedule(rt.alloc(), &mut pending, 5, 1), Ok(()));
-    assert_eq!(rt; (pending.comparisons(), pending.moves()), (0, 1));
-    assert_eq!(rt; schedule(rt.alloc(), &mut pending, 9, 2), Ok(()));
-    assert_eq!(rt; (pending.comparisons(), pending.moves()), (1, 1));
-    Ok(())
+// Whether nothing is next, and nothing can be cancelled.
+fn is_empty(pending: &mut Pending) -> bool {
+    pending.least().is_none()
+        && pending.take().is_none()
+        && pending.cancel(1) == Err(FaultKind::NotScheduled)
 }
 
-#[test]
-fn a_notice_is_scheduled_once(rt: HostRuntime) -> Result<(), Fail> {
-    let mut pending = of_one_class(rt.alloc())?;
-    assert_eq!(rt; pending.is_scheduled(1), false);
-    assert_eq!(rt; schedule(rt.alloc(), &mut pending, 5, 1), Ok(()));
-    assert_eq!(rt; pending.is_scheduled(1), true);
+// Whether the earliest notice is next.
+fn is_next(alloc: Global, pending: &mut Pending) -> bool {
+    schedule(alloc, pending, 9, 1) == Ok(())
+        && schedule(alloc, pending, 5, 2) == Ok(())
+        && pending.least() == Some((5, 2))
+        && pending.take() == Some((5, 2))
+}
+
+// Whether the last call made so many comparisons and moves.
+fn has_counted(pending: &Pending, comparisons: u64, moves: u64) -> bool {
+    pending.comparisons() == comparisons && pending.moves() == moves
+}
+
+// Whether the first notice is compared with none, and put into a place, and the second is compared with the first, and stays after it.
+fn are_counted(alloc: Global, pending: &mut Pending) -> bool {
+    schedule(alloc, pending, 5, 1) == Ok(())
+        && has_counted(pending, 0, 1)
+        && schedule(alloc, pending, 9, 2) == Ok(())
+        && has_counted(pending, 1, 1)
+}
+
+// Whether a notice is scheduled once.
+fn is_once(alloc: Global, pending: &mut Pending) -> bool {
     let twice = Refused::Fault(FaultKind::AlreadyScheduled);
-    assert_eq!(rt; schedule(rt.alloc(), &mut pending, 5, 1), Err(twice));
-    Ok(())
+    !pending.is_scheduled(1)
+        && schedule(alloc, pending, 5, 1) == Ok(())
+        && pending.is_scheduled(1)
+        && schedule(alloc, pending, 9, 1) == Err(twice)
+}
+
+// Whether it is as it should be.
+fn is_right(alloc: Global, pending: &mut Pending, look: Look) -> bool {
+    match look {
+        Look::Nothing => is_empty(pending),
+        Look::Next => is_next(alloc, pending),
+        Look::Counts => are_counted(alloc, pending),
+        Look::Again => is_once(alloc, pending),
+    }
+}
+
+// Whether it is in a list of its own.
+fn looks_right(alloc: Global, look: Look) -> bool {
+    match of_one_class(alloc) {
+        Ok(mut pending) => is_right(alloc, &mut pending, look),
+        Err(_) => false,
+    }
+}
+
+#[test]
+fn the_earliest_notice_is_next(rt: HostRuntime) {
+    assert!(rt; looks_right(rt.alloc(), Look::Nothing));
+    assert!(rt; looks_right(rt.alloc(), Look::Next));
+}
+
+#[test]
+fn comparisons_and_moves_are_counted(rt: HostRuntime) {
+    assert!(rt; looks_right(rt.alloc(), Look::Counts));
+}
+
+#[test]
+fn a_notice_is_scheduled_once(rt: HostRuntime) {
+    assert!(rt; looks_right(rt.alloc(), Look::Again));
+}
+
+// Whether three values are counted and summed up.
+fn is_tallied() -> bool {
+    let mut totals = Totals::tally();
+    let first = totals.note(0, 4);
+    let second = totals.note(0, -2);
+    let third = totals.note(0, 7);
+    first.is_ok()
+        && second.is_ok()
+        && third.is_ok()
+        && totals.number(0) == 3
+        && totals.sum(0) == Ok(9)
+        && totals.maximum() == 7
+        && totals.minimum() == -2
 }
 
 #[test]
 fn a_tally_counts_and_sums(rt: HostRuntime) {
-    let mut totals = Totals::tally();
-    assert_eq!(rt; totals.note(0, 4), Ok(()));
-    assert_eq!(rt; totals.note(0, -2), Ok(()));
-    assert_eq!(rt; totals.note(0, 7), Ok(()));
-    assert_eq!(rt; (totals.number(0), totals.sum(0)), (3, Ok(9)));
-    assert_eq!(rt; (totals.maximum(), totals.minimum()), (7, -2));
+    assert!(rt; is_tallied());
 }
 
 // 2 for 5 units of time, and 4 for 5 more.
@@ -224,12 +292,12 @@ fn a_reset_begins_anew(rt: HostRuntime) {
     assert_eq!(rt; (totals.number(10), totals.sum(10)), (4, Ok(12)));
 }
 
-// A picture with these items, one for each of its fields.
+// A picture of one field, two wide, with this number in it.
 fn filled(alloc: Global, picture: &Picture, number: i64) -> Result<Vec<u8>, AllocError> {
     match picture.fields() {
-        [field] if field.decimals == 0 => picture.fill(
+        [field] if field.width == 2 && field.decimals == 0 => picture.fill(
             alloc,
-            &[FieldValue::Is(Value::Whole(number))],
+            &[Item::Is(Value::Whole(number))],
         ),
         _ => Err(AllocError),
     }

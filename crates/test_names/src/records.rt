@@ -3,7 +3,6 @@
 use ss_base::{ClassKind, ClassLayout, FaultKind, Layout, Mode, Owner, Refused, SetLayout, Value};
 use ss_records::Heap;
 use std::alloc::{AllocError, Global};
-use std::test::Fail;
 
 const JOB: usize = 0;
 
@@ -191,51 +190,38 @@ pub(crate) fn with_jobs(alloc: Global) -> Option<Heap> {
     }
 }
 
-#[test]
-fn permanent_entities_are_created_at_once(rt: HostRuntime) -> Result<(), Fail> {
-    let mut heap = empty(rt.alloc()).ok_or("no heap")?;
-    assert_eq!(rt; known(&heap, MACHINE, 2), Some(Err(FaultKind::Index)));
-    assert_eq!(rt; create_all(&mut heap, 2), Some(Ok(())));
-    assert_eq!(rt; known(&heap, MACHINE, 2), Some(Ok(())));
+// Whether machines are made at once, and only once.
+fn are_made_once(heap: &mut Heap) -> bool {
     let twice = Refused::Fault(FaultKind::CreatedTwice);
-    assert_eq!(rt; create_all(&mut heap, 2), Some(Err(twice)));
-    Ok(())
+    known(heap, MACHINE, 2) == Some(Err(FaultKind::Index))
+        && create_all(heap, 2) == Some(Ok(()))
+        && known(heap, MACHINE, 2) == Some(Ok(()))
+        && create_all(heap, 2) == Some(Err(twice))
 }
 
-#[test]
-fn a_number_is_never_used_again(rt: HostRuntime) -> Result<(), Fail> {
-    let mut heap = with_jobs(rt.alloc()).ok_or("no heap")?;
-    assert_eq!(rt; destroy(&mut heap, 4), Some(Ok(())));
-    assert_eq!(rt; create(&mut heap, JOB), Some(6));
-    assert_eq!(rt; value(&heap, 4), Some(Err(FaultKind::DestroyedEntity)));
-    Ok(())
+// Whether the number of a job that is destroyed is never used again.
+fn is_never_used_again(heap: &mut Heap) -> bool {
+    destroy(heap, 4) == Some(Ok(()))
+        && create(heap, JOB) == Some(6)
+        && value(heap, 4) == Some(Err(FaultKind::DestroyedEntity))
 }
 
-#[test]
-fn a_notice_has_a_time(rt: HostRuntime) -> Result<(), Fail> {
-    let mut heap = with_jobs(rt.alloc()).ok_or("no heap")?;
-    assert_eq!(rt; heap.known_notice(5), Ok(()));
-    assert_eq!(rt; heap.known_notice(4), Err(FaultKind::WrongClass));
-    assert_eq!(rt; heap.set_time_a(5, 7), Ok(()));
-    assert_eq!(rt; heap.time_a(5), Ok(7));
-    Ok(())
+// Whether a notice keeps its time.
+fn has_a_time(heap: &mut Heap) -> bool {
+    heap.known_notice(5) == Ok(())
+        && heap.known_notice(4) == Err(FaultKind::WrongClass)
+        && heap.set_time_a(5, 7) == Ok(())
+        && heap.time_a(5) == Ok(7)
 }
 
-#[test]
-fn an_attribute_is_set(rt: HostRuntime) -> Result<(), Fail> {
-    let mut heap = with_jobs(rt.alloc()).ok_or("no heap")?;
-    assert_eq!(rt; set_value(&mut heap, 3, -8), Some(Ok(())));
-    assert_eq!(rt; value(&heap, 3), Some(Ok(Value::Whole(-8))));
-    Ok(())
+// Whether a job keeps its attribute.
+fn has_a_value(heap: &mut Heap) -> bool {
+    set_value(heap, 3, -8) == Some(Ok(())) && value(heap, 3) == Some(Ok(Value::Whole(-8)))
 }
 
-// A block for each job, one for the bell and one for the system. The numbers up to 5 are on one page of 256.
-#[test]
-fn an_entity_takes_a_block(rt: HostRuntime) -> Result<(), Fail> {
-    let heap = with_jobs(rt.alloc()).ok_or("no heap")?;
-    assert_eq!(rt; heap.blocks(), 6);
-    assert_eq!(rt; heap.pages(), 1);
-    Ok(())
+// Whether there is a block for each job, one for the bell and one for the system. The numbers up to 5 are on one page of 256.
+fn takes_blocks(heap: &Heap) -> bool {
+    heap.blocks() == 6 && heap.pages() == 1
 }
 
 // The pool is 1, then 2 1, then 2 3 1, then 2 3 4 1, and at last 2 4 1.
@@ -267,43 +253,96 @@ fn with_pool(alloc: Global) -> Option<Heap> {
     }
 }
 
-#[test]
-fn members_are_in_a_row(rt: HostRuntime) -> Result<(), Fail> {
-    let mut heap = with_pool(rt.alloc()).ok_or("no heap")?;
-    assert_eq!(rt; answer_to(&mut heap, Ask::First), Some(Ok(2)));
-    assert_eq!(rt; answer_to(&mut heap, Ask::Next(2)), Some(Ok(4)));
-    assert_eq!(rt; answer_to(&mut heap, Ask::Previous(1)), Some(Ok(4)));
-    assert_eq!(rt; answer_to(&mut heap, Ask::Last), Some(Ok(1)));
-    Ok(())
+// Whether 2 4 1 stand in that order.
+fn are_in_a_row(heap: &mut Heap) -> bool {
+    answer_to(heap, Ask::First) == Some(Ok(2))
+        && answer_to(heap, Ask::Next(2)) == Some(Ok(4))
+        && answer_to(heap, Ask::Previous(1)) == Some(Ok(4))
+        && answer_to(heap, Ask::Last) == Some(Ok(1))
 }
 
-// To ask for the count reads that one word.
-#[test]
-fn members_are_counted(rt: HostRuntime) -> Result<(), Fail> {
-    let mut heap = with_pool(rt.alloc()).ok_or("no heap")?;
-    assert_eq!(rt; answer_to(&mut heap, Ask::Count), Some(Ok(3)));
-    assert_eq!(rt; heap.touches(), 1);
-    Ok(())
+// Whether they are counted, which reads one word.
+fn are_counted(heap: &mut Heap) -> bool {
+    answer_to(heap, Ask::Count) == Some(Ok(3)) && heap.touches() == 1
+}
+
+// Whether the system owns the pool with 4 in it, and 3 is in none.
+fn have_an_owner(heap: &mut Heap) -> bool {
+    owner_in(heap, 4) == Some(Ok(Some(0))) && owner_in(heap, 3) == Some(Ok(None))
+}
+
+// Whether a member is filed once, and removed once.
+fn are_filed_once(heap: &mut Heap) -> bool {
+    move_job(heap, Move::Last(4)) == Some(Err(FaultKind::FiledTwice))
+        && move_job(heap, Move::Remove(3)) == Some(Err(FaultKind::NotFiled))
+}
+
+// What is looked at.
+#[derive(Clone, Copy)]
+enum Look {
+    Machines,
+    Numbers,
+    Times,
+    Values,
+    Blocks,
+    Row,
+    Count,
+    Owner,
+    Filing,
+}
+
+// Whether it is as it should be.
+fn is_right(heap: &mut Heap, look: Look) -> bool {
+    match look {
+        Look::Machines => are_made_once(heap),
+        Look::Numbers => is_never_used_again(heap),
+        Look::Times => has_a_time(heap),
+        Look::Values => has_a_value(heap),
+        Look::Blocks => takes_blocks(heap),
+        Look::Row => are_in_a_row(heap),
+        Look::Count => are_counted(heap),
+        Look::Owner => have_an_owner(heap),
+        Look::Filing => are_filed_once(heap),
+    }
+}
+
+// Whether it is in a heap of its own.
+fn looks_right(heap: Option<Heap>, look: Look) -> bool {
+    match heap {
+        Some(mut heap) => is_right(&mut heap, look),
+        None => false,
+    }
 }
 
 #[test]
-fn a_member_has_an_owner(rt: HostRuntime) -> Result<(), Fail> {
-    let mut heap = with_pool(rt.alloc()).ok_or("no heap")?;
-    assert_eq!(rt; owner_in(&mut heap, 4), Some(Ok(Some(0))));
-    assert_eq!(rt; owner_in(&mut heap, 3), Some(Ok(None)));
-    Ok(())
+fn permanent_entities_are_created_at_once(rt: HostRuntime) {
+    assert!(rt; looks_right(empty(rt.alloc()), Look::Machines));
 }
 
 #[test]
-fn a_member_is_filed_once(rt: HostRuntime) -> Result<(), Fail> {
-    let mut heap = with_pool(rt.alloc()).ok_or("no heap")?;
-    assert_eq!(rt;
-        move_job(&mut heap, Move::Last(4)),
-        Some(Err(FaultKind::FiledTwice))
-    );
-    assert_eq!(rt;
-        move_job(&mut heap, Move::Remove(3)),
-        Some(Err(FaultKind::NotFiled))
-    );
-    Ok(())
+fn a_number_is_never_used_again(rt: HostRuntime) {
+    assert!(rt; looks_right(with_jobs(rt.alloc()), Look::Numbers));
+}
+
+#[test]
+fn times_and_values_are_kept(rt: HostRuntime) {
+    assert!(rt; looks_right(with_jobs(rt.alloc()), Look::Times));
+    assert!(rt; looks_right(with_jobs(rt.alloc()), Look::Values));
+}
+
+#[test]
+fn an_entity_takes_a_block(rt: HostRuntime) {
+    assert!(rt; looks_right(with_jobs(rt.alloc()), Look::Blocks));
+}
+
+#[test]
+fn members_are_in_a_row(rt: HostRuntime) {
+    assert!(rt; looks_right(with_pool(rt.alloc()), Look::Row));
+    assert!(rt; looks_right(with_pool(rt.alloc()), Look::Count));
+}
+
+#[test]
+fn members_have_an_owner(rt: HostRuntime) {
+    assert!(rt; looks_right(with_pool(rt.alloc()), Look::Owner));
+    assert!(rt; looks_right(with_pool(rt.alloc()), Look::Filing));
 }

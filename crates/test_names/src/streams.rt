@@ -9,14 +9,13 @@ use ss_picture::{Sink, SinkError};
 use std::alloc::{AllocError, Global};
 use std::test::Fail;
 
-// How many bytes of four a reader gives; None is an error.
-fn read<R: FaultyRead>(reader: &mut R, buf: &mut [u8; 4]) -> Option<usize> {
-    reader.read_some(buf).ok()
-}
-
-// How many bytes a writer takes; None is an error.
-fn write<W: FaultyWrite>(writer: &mut W, bytes: &[u8]) -> Option<usize> {
-    writer.write_some(bytes).ok()
+// Whether a read of four bytes gives these; None is an error.
+fn reads<R: FaultyRead>(reader: &mut R, wanted: Option<&[u8]>) -> bool {
+    let mut buf = [0; 4];
+    match reader.read_some(&mut buf) {
+        Ok(count) => buf.get(..count) == wanted,
+        Err(_) => wanted.is_none(),
+    }
 }
 
 // How often a reader or a writer failed.
@@ -27,19 +26,19 @@ fn faults<T: Faulty>(stream: &T) -> u64 {
 #[test]
 fn a_reader_of_the_library_is_counted(rt: HostRuntime) {
     let mut reader = Counted::new(b"HELLO".as_slice());
-    let mut buf = [0; 4];
-    assert_eq!(rt; read(&mut reader, &mut buf), Some(4));
-    assert_eq!(rt; buf.as_slice(), b"HELL".as_slice());
+    assert!(rt; reads(&mut reader, Some(b"HELL")));
     assert_eq!(rt; reader.into_inner(), b"O".as_slice());
+}
+
+// Whether a reader gives three bytes, and fails then.
+fn is_broken_off<R: FaultyRead>(reader: &mut R) -> bool {
+    reads(reader, Some(b"HEL")) && reads(reader, None) && faults(reader) == 1
 }
 
 #[test]
 fn a_reader_fails(rt: HostRuntime) -> Result<(), Fail> {
     let mut reader = MemoryRead::new(rt.alloc(), b"HELLO", Plan::wrong_from_call(3, 2))?;
-    let mut buf = [0; 4];
-    assert_eq!(rt; read(&mut reader, &mut buf), Some(3));
-    assert_eq!(rt; read(&mut reader, &mut buf), None);
-    assert_eq!(rt; faults(&reader), 1);
+    assert!(rt; is_broken_off(&mut reader));
     Ok(())
 }
 
@@ -48,59 +47,85 @@ fn of_three(alloc: Global, failure: WriteFailure) -> Result<MemoryWrite, AllocEr
     MemoryWrite::new(alloc, 100, Plan::wrong_after_bytes(4096, 3), failure)
 }
 
+// Whether a writer takes three bytes, and fails then.
+fn breaks_off<W: FaultyWrite>(writer: &mut W) -> bool {
+    writer.write_some(b"HELLO").ok() == Some(3)
+        && writer.write_some(b"LO").is_err()
+        && faults(writer) == 1
+}
+
 #[test]
 fn a_writer_fails(rt: HostRuntime) -> Result<(), Fail> {
     let mut writer = of_three(rt.alloc(), WriteFailure::Error)?;
-    assert_eq!(rt; write(&mut writer, b"HELLO"), Some(3));
-    assert_eq!(rt; write(&mut writer, b"LO"), None);
-    assert_eq!(rt; faults(&writer), 1);
+    assert!(rt; breaks_off(&mut writer));
     Ok(())
 }
 
-// The second line goes out but for its end.
+// Whether the second line goes out but for its end.
+fn is_cut_off(report: &mut Sink<MemoryWrite>) -> bool {
+    report.write(b"1\n") == Ok(())
+        && report.write(b"2\n") == Err(SinkError::Failed)
+        && report.sent() == 3
+}
+
 #[test]
 fn a_report_is_cut_off(rt: HostRuntime) -> Result<(), Fail> {
-    let mut sink = Sink::new(of_three(rt.alloc(), WriteFailure::Error)?);
-    assert_eq!(rt; sink.write(b"1\n"), Ok(()));
-    assert_eq!(rt; sink.write(b"2\n"), Err(SinkError::Failed));
-    assert_eq!(rt; sink.sent(), 3);
-    assert_eq!(rt; sink.into_inner().bytes(), b"1\n2".as_slice());
+    let mut report = Sink::new(of_three(rt.alloc(), WriteFailure::Error)?);
+    assert!(rt; is_cut_off(&mut report));
+    assert_eq!(rt; report.into_inner().bytes(), b"1\n2".as_slice());
     Ok(())
 }
 
-// It is given up after a thousand writes that take nothing.
+// Whether the report is given up after a thousand writes that take nothing.
+fn stalls(mut report: Sink<MemoryWrite>) -> bool {
+    let answer = report.write(b"ANSWER");
+    let sent = report.sent();
+    let writer = report.into_inner();
+    answer == Err(SinkError::Stalled) && sent == 3 && faults(&writer) == 1000
+}
+
 #[test]
 fn a_report_stalls(rt: HostRuntime) -> Result<(), Fail> {
-    let mut sink = Sink::new(of_three(rt.alloc(), WriteFailure::NoByte)?);
-    assert_eq!(rt; sink.write(b"ANSWER"), Err(SinkError::Stalled));
-    assert_eq!(rt; sink.sent(), 3);
-    assert_eq!(rt; faults(&sink.into_inner()), 1000);
+    let writer = of_three(rt.alloc(), WriteFailure::NoByte)?;
+    assert!(rt; stalls(Sink::new(writer)));
     Ok(())
+}
+
+// Whether 7 is all that is there.
+fn is_seven<R: FaultyRead>(data: &mut Source<R>) -> bool {
+    data.ended() == Ok(false) && data.integer() == Ok(7) && data.ended() == Ok(true)
 }
 
 #[test]
 fn data_end(rt: HostRuntime) {
-    let mut source = Source::new(Counted::new(b" 7 ".as_slice()));
-    assert_eq!(rt; source.ended(), Ok(false));
-    assert_eq!(rt; source.integer(), Ok(7));
-    assert_eq!(rt; source.ended(), Ok(true));
-    assert_eq!(rt; source.into_inner().into_inner(), b"".as_slice());
+    let mut data = Source::new(Counted::new(b" 7 ".as_slice()));
+    assert!(rt; is_seven(&mut data));
+    assert_eq!(rt; data.into_inner().into_inner(), b"".as_slice());
+}
+
+// Whether a text and 5 are all that is there.
+fn are_words<R: FaultyRead>(data: &mut Source<R>) -> bool {
+    data.alpha().ok() == Alpha::of(b"BOX")
+        && data.integer() == Ok(5)
+        && data.integer() == Err(Missed::Fault(FaultKind::EndOfData))
 }
 
 #[test]
-fn a_word_is_read(rt: HostRuntime) -> Result<(), Fail> {
-    let mut source = Source::new(MemoryRead::new(rt.alloc(), b"BOX 5", Plan::smooth(2))?);
-    assert_eq!(rt; source.alpha().ok(), Alpha::of(b"BOX"));
-    assert_eq!(rt; source.integer(), Ok(5));
-    assert_eq!(rt; source.integer(), Err(Missed::Fault(FaultKind::EndOfData)));
-    Ok(())
+fn words_are_read(rt: HostRuntime) {
+    let mut data = Source::new(Counted::new(b"BOX 5".as_slice()));
+    assert!(rt; are_words(&mut data));
+}
+
+// Whether it can't be read, which its reader counts.
+fn is_unreadable(mut data: Source<MemoryRead>) -> bool {
+    let answer = data.integer();
+    let reader = data.into_inner();
+    answer == Err(Missed::Input) && faults(&reader) == 1
 }
 
 #[test]
 fn data_cannot_be_read(rt: HostRuntime) -> Result<(), Fail> {
     let reader = MemoryRead::new(rt.alloc(), b"5", Plan::wrong_from_call(1, 1))?;
-    let mut source = Source::new(reader);
-    assert_eq!(rt; source.integer(), Err(Missed::Input));
-    assert_eq!(rt; faults(&source.into_inner()), 1);
+    assert!(rt; is_unreadable(Source::new(reader)));
     Ok(())
 }
