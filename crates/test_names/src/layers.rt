@@ -290,6 +290,7 @@ fn a_reset_begins_anew(rt: HostRuntime) {
     let mut totals = Totals::accumulate(0, 2);
     totals.reset(6, 3);
     assert_eq!(rt; (totals.number(10), totals.sum(10)), (4, Ok(12)));
+    assert_eq!(rt; totals.mean(10), (12, 4));
 }
 
 // A picture of one field, two wide, with this number in it.
