@@ -62,7 +62,7 @@ module _ (p : ProgramTree) (kept : refusal_of_declarations p ≡ None) (cs : Lis
       let place = attribute_there (declarations p) name a h in
       let c = class_at a.class place.0 in
       let mode = each_at (field_mode (table p)) (get_or (table p).fields a.class []) c.0.fields a.field name c.3 place.1 in
-      let known : field_mode (table p) name ≡ Some a.mode = ap (λ (o : Option Attribute). o >>= λ (y : Attribute). Some y.mode) h in
+      let known : field_mode (table p) name ≡ Some a.mode = ap (λ (o : Option Attribute). option_map (λ (y : Attribute). y.mode) o) h in
       (c.0, c.1, mode.1 ∙ sym mode.2 ∙ known)
 
   set_at : (set : ℕ) → set < length (set_names (declarations p)) → IsSetAt (table p) x set
