@@ -21,7 +21,7 @@ use Rattle.ss_names.specs.declared.entry.Set.{Set}
 use Rattle.ss_names.specs.Entries.{attribute_after, attribute_classes, attributes, attributes_after, attributes_of_class, classes, fields, mode_of_name, set_names, set_of}
 use Rattle.ss_names.specs.Table.{Table, field_mode, table}
 use Rattle.ss_tables_rules.specs.Broken.{refusal_of_declarations}
-use Rattle.ss_names_meaning.specs.Answers.{◌>>=◌, each, upto}
+use Rattle.ss_names_meaning.specs.Answers.{each, upto}
 use Rattle.ss_names_meaning.specs.Layouts.{class_layout, layout, set_layout}
 use Rattle.ss_names_laws.specs.Laws.{LayoutsAreThere}
 use Rattle.ss_names_laws.proofs.Each.{every_image, every_passed}

@@ -35,7 +35,7 @@ use Rattle.ss_names_laws.proofs.Bodies.{IsSilent, body_silent, declares_local, p
 use Rattle.ss_names_laws.proofs.Each.{at_number, at_place, each_empty, every_first, every_image, every_listed, every_piece, in_parts, joined}
 use Rattle.ss_names_laws.proofs.Items.{at_item, each_item, in_image, in_pieces}
 use Rattle.ss_names_laws.proofs.Kept.{none_broken, none_unmoded}
-use Rattle.ss_names_laws.proofs.Results.{each_made, goes, upto_every}
+use Rattle.ss_names_laws.proofs.Results.{each_made, upto_every}
 use Rattle.ss_names_laws.proofs.Unbroken.{fits, none_breaks, two_fit}
 
 -- ---- entries

@@ -25,7 +25,7 @@ use Rattle.ss_names.specs.Entries.{class_by, classes, given_by, routines, set_na
 use Rattle.ss_names.specs.Table.{field_mode, numbered, subject_of, table}
 use Rattle.ss_names_scopes.specs.Scopes.{mode_of}
 use Rattle.ss_tables_rules.specs.Broken.{refusal_of_declarations}
-use Rattle.ss_names_meaning.specs.Answers.{◌>>=◌, each, upto}
+use Rattle.ss_names_meaning.specs.Answers.{each, upto}
 use Rattle.ss_names_meaning.specs.Layouts.{ResolvedLayout, class_layout, count_by, counts, resolved_layout, set_layout, resolved_statistic, statistics}
 use Rattle.ss_names_laws.specs.Laws.{TablesAreValid}
 use Rattle.ss_names_laws.specs.ValidTables.{IsClassAt, IsMeant, IsNamedClass, IsPlainAt, IsSetAt, IsValidTable, IsWatched}
