@@ -213,7 +213,7 @@ module _ (p : tree.ProgramTree) (x : ResolvedLayout) (k : IsUnbroken p x) where
         ∙ ap Some (sym (get_or-take (length given) (keys_of locals) i g.0 lt) ∙ ap (λ l. get_or l i g.0) first ∙ get_or_from_slice_get given i g.0 g.0 g.1) in
         let entry = entry_of_key locals i g.0 key in
         let mode = numbers_at (local_mode locals) (length locals) ms i moded (omega arith) in
-        let known : entry.0 ≡ Some mode.0 = sym (ap (λ (o : Option (Option Mode)). o >>= λ z. z) (value_at locals i g.0 entry.0 entry.1)) ∙ mode.2 in
+        let known : entry.0 ≡ Some mode.0 = sym (ap (λ (o : Option (Option Mode)). option_and_then (λ (m : Option Mode). m) o) (value_at locals i g.0 entry.0 entry.1)) ∙ mode.2 in
         let place = place_from locals i g.0 entry.0 once entry.1 in
         let value = value_from_place locals i g.0 entry.0 once entry.1 in
         let named : mode_of_use sc (modes.Named g.0) ≡ Some mode.0 =

@@ -198,7 +198,7 @@ module _ (s : Scope) (g : Place) (k : IsLinked s g) where
   local_here name n e =
       let v = value_by_place s.locals name n e in
       let at = numbers_at (local_mode s.locals) (length s.locals) g.locals n k.moded (slice_get_within s.locals n (name, v.0) v.2) in
-      let known : v.0 ≡ Some at.0 = sym (ap (λ (o : Option (Option Mode)). o >>= λ mode. mode) (value_at s.locals n name v.0 v.2)) ∙ at.2 in
+      let known : v.0 ≡ Some at.0 = sym (ap (λ (o : Option (Option Mode)). option_and_then (λ (m : Option Mode). m) o) (value_at s.locals n name v.0 v.2)) ∙ at.2 in
       at.1 ∙ ap Some (sym (ap known_mode (v.1 ∙ ap Some known)))
 
   pub seen : (name : NameBytes) (o : Option ℕ) → place_in s.locals name ≡ o → meaning_of_name s name ≡ hidden_by s.locals name o (value_for s.table.meanings name)

@@ -59,16 +59,12 @@ both_same : (a b x y : ℕ) → a ≡ x → b ≡ y → ((a == x) && (b == y)) �
 both_same a b x y h g = rw (eq-eqb a x h, eq-eqb b y g) refl
 
 -- the mode of a local variable, by its number
-given_there : (o : Option (Option Mode)) (m : Mode) → (o >>= λ known. known) ≡ Some m → mode_given o ≡ Some m
-given_there None m h = h
-given_there (Some known) m h = h
-
 local_there : (locals : Moded) (all : List Mode) (i : ℕ) (m : Mode) → local_modes locals ≡ Some all → slice_get all i ≡ Some m → mode_given (slice_get (values_of locals) i) ≡ Some m
 local_there locals all i m h e =
     let within = slice_get_within all i m e in
     let lt : i < length locals = omega (arith, within, each_length (local_mode locals) (upto (length locals)) all h, upto_length (length locals)) in
     let at = numbers_at (local_mode locals) (length locals) all i h lt in
-    given_there (slice_get (values_of locals) i) at.0 at.2 ∙ (sym at.1 ∙ e)
+    at.2 ∙ (sym at.1 ∙ e)
 
 parameter_there : (s : Scope) (g : Place) (k : ℕ) (known : RoutineSection) (r : IsRoutineAt s g.program k known) (i : ℕ) (m : Mode) → slice_get r.modes i ≡ Some m → parameter_mode s known.section i ≡ Some m
 parameter_there s g k known r i m e = ap (λ (o : Option Moded). mode_at o i) r.section ∙ local_there r.locals r.modes i m r.moded e

@@ -1,5 +1,5 @@
 -- A program that breaks no rule on declarations has a layout.
-use Rattle.std.proofs.Common.{◌≡◌, ℕ, ◌<◌, ◌≤◌, ◌&&◌, nat_eq, nat_le, nat_lt, Bool, true, List, [], ◌∷◌, ◌++◌, length, get_or, Option, Some, None, inl, inr, refl, sym, ap, subst, ◌∙◌, arith}
+use Rattle.std.proofs.Common.{◌≡◌, ℕ, ◌<◌, ◌≤◌, ◌&&◌, nat_eq, nat_le, nat_lt, Bool, true, List, [], ◌∷◌, ◌++◌, length, get_or, Option, Some, None, option_map, inl, inr, refl, sym, ap, subst, ◌∙◌, arith}
 use Rattle.std.specs.Prelude.{slice_get}
 use Rattle.std.specs.List.{AllByRecursion as Every, filter, list_all}
 use Rattle.std.specs.Map.{values_of}
@@ -21,7 +21,7 @@ use Rattle.ss_names.specs.declared.entry.Set.{Set}
 use Rattle.ss_names.specs.Entries.{attribute_after, attribute_classes, attributes, attributes_after, attributes_of_class, classes, fields, mode_of_name, set_names, set_of}
 use Rattle.ss_names.specs.Table.{Table, field_mode, table}
 use Rattle.ss_tables_rules.specs.Broken.{refusal_of_declarations}
-use Rattle.ss_names_meaning.specs.Answers.{◌>>=◌, each, upto}
+use Rattle.ss_names_meaning.specs.Answers.{each, upto}
 use Rattle.ss_names_meaning.specs.Layouts.{class_layout, layout, set_layout}
 use Rattle.ss_names_laws.specs.Laws.{LayoutsAreThere}
 use Rattle.ss_names_laws.proofs.Each.{every_image, every_passed}
@@ -69,7 +69,7 @@ class_there : (t : Table) (n : ℕ) (kind : ClassKind) → slice_get (values_of 
 class_there t n kind class known few =
     let modes = each_made (field_mode t) (λ (mode : Mode). Unit {0}) (get_or t.fields n []) (each_item (λ (name : NameBytes). (mode : Mode) × (field_mode t name ≡ Some mode) × Unit {0}) (get_or t.fields n []) (λ name a.
     let k = at_item (IsKnown t) (get_or t.fields n []) name known a in
-    (k.0.mode, ap (λ (o : Option Attribute). o >>= λ (x : Attribute). Some x.mode) k.1, tt))) in
+    (k.0.mode, ap (λ (o : Option Attribute). option_map (λ (x : Attribute). x.mode) o) k.1, tt))) in
     let laid : PlainClass = record { kind = kind; fields = modes.0 } in
     (laid, rw (class, modes.1) refl, le-leb (length modes.0) 1048576 (omega (arith, modes.2, few)))
 

@@ -1,5 +1,5 @@
 -- The local variables of a section: each has a mode, and none hides what may not be hidden.
-use Rattle.std.proofs.Common.{◌≡◌, ℕ, Bool, true, false, List, [], ◌++◌, length, map, Option, Some, None, refl, sym, ap, subst, ◌∙◌}
+use Rattle.std.proofs.Common.{◌≡◌, ℕ, Bool, true, false, List, [], ◌++◌, length, map, Option, Some, None, option_and_then, refl, sym, ap, subst, ◌∙◌}
 use Rattle.std.specs.Prelude.{not, ◌&&◌, ◌==◌, is_none, is_some, slice_get}
 use Rattle.std.specs.List.{AllByRecursion as Every, flat_map}
 use Rattle.std.specs.Map.{lookup, values_of}
@@ -35,7 +35,7 @@ use Rattle.ss_names_laws.proofs.Bodies.{IsSilent, body_silent, declares_local, p
 use Rattle.ss_names_laws.proofs.Each.{at_number, at_place, each_empty, every_first, every_image, every_listed, every_piece, in_parts, joined}
 use Rattle.ss_names_laws.proofs.Items.{at_item, each_item, in_image, in_pieces}
 use Rattle.ss_names_laws.proofs.Kept.{none_broken, none_unmoded}
-use Rattle.ss_names_laws.proofs.Results.{each_made, goes, upto_every}
+use Rattle.ss_names_laws.proofs.Results.{each_made, upto_every}
 use Rattle.ss_names_laws.proofs.Unbroken.{fits, none_breaks, two_fit}
 
 -- ---- entries
@@ -181,5 +181,5 @@ module _ (p : ProgramTree) (kept : refusal_of_declarations p ≡ None) where
       (λ n lt.
       let x = there ls n lt in
       let mode = have_modes k s at n x.0.0 x.0.1 x.1 in
-      (mode.0, goes (slice_get (values_of ls) n) (λ known. known) x.0.1 mode.0 (value_at ls n x.0.0 x.0.1 x.1) mode.1, tt))) in
+      (mode.0, ap (λ (o : Option (Option Mode)). option_and_then (λ (m : Option Mode). m) o) (value_at ls n x.0.0 x.0.1 x.1) ∙ mode.1, tt))) in
       (made.0, made.1)

@@ -25,7 +25,7 @@ use Rattle.ss_names.specs.Entries.{class_by, classes, given_by, routines, set_na
 use Rattle.ss_names.specs.Table.{field_mode, numbered, subject_of, table}
 use Rattle.ss_names_scopes.specs.Scopes.{mode_of}
 use Rattle.ss_tables_rules.specs.Broken.{refusal_of_declarations}
-use Rattle.ss_names_meaning.specs.Answers.{◌>>=◌, each, upto}
+use Rattle.ss_names_meaning.specs.Answers.{each, upto}
 use Rattle.ss_names_meaning.specs.Layouts.{ResolvedLayout, class_layout, count_by, counts, resolved_layout, set_layout, resolved_statistic, statistics}
 use Rattle.ss_names_laws.specs.Laws.{TablesAreValid}
 use Rattle.ss_names_laws.specs.ValidTables.{IsClassAt, IsMeant, IsNamedClass, IsPlainAt, IsSetAt, IsValidTable, IsWatched}
@@ -62,7 +62,7 @@ module _ (p : ProgramTree) (kept : refusal_of_declarations p ≡ None) (cs : Lis
       let place = attribute_there (declarations p) name a h in
       let c = class_at a.class place.0 in
       let mode = each_at (field_mode (table p)) (get_or (table p).fields a.class []) c.0.fields a.field name c.3 place.1 in
-      let known : field_mode (table p) name ≡ Some a.mode = ap (λ (o : Option Attribute). o >>= λ (y : Attribute). Some y.mode) h in
+      let known : field_mode (table p) name ≡ Some a.mode = ap (λ (o : Option Attribute). option_map (λ (y : Attribute). y.mode) o) h in
       (c.0, c.1, mode.1 ∙ sym mode.2 ∙ known)
 
   set_at : (set : ℕ) → set < length (set_names (declarations p)) → IsSetAt (table p) x set

@@ -95,7 +95,7 @@ module _ (p : ProgramTree) (cs : List PlainClass) (ss : List SetLayout) (orders 
       let place = attribute_there (declarations p) name a is in
       let c = class_at a.class place.0 in
       let mode = each_at (field_mode (table p)) (get_or (table p).fields a.class []) c.0.fields a.field name c.3 place.1 in
-      let known : field_mode (table p) name ≡ Some a.mode = ap (λ (o : Option Attribute). o >>= λ (x : Attribute). Some x.mode) is in
+      let known : field_mode (table p) name ≡ Some a.mode = ap (λ (o : Option Attribute). option_map (λ (x : Attribute). x.mode) o) is in
       ap (λ (o : Option PlainClass). option_and_then (λ modes. slice_get modes a.field) (option_map (λ (x : PlainClass). x.fields) o)) c.1 ∙ mode.1 ∙ sym mode.2 ∙ known
 
   -- ---- keys
