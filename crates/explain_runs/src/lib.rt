@@ -1,0 +1,20 @@
+//! Runs of models that are shown: a line for each tick, values that change, and what is known of a fault.
+#![tactic(auto)]
+
+mod endings;
+mod faults;
+mod guide;
+mod kept;
+mod progress;
+mod references;
+mod shows;
+mod ticks;
+mod watches;
+
+pub use endings::add_fault;
+pub use guide::{Guide, Section, compile_with_names, line_at, section_at};
+pub use kept::{DataWord, Kept};
+pub use progress::{Progress, Silent};
+pub use shows::{Shown, Subject, Unshown, run_in_pieces, run_shown};
+pub use ticks::{Tick, next_tick};
+pub use watches::{Watch, watches_of};

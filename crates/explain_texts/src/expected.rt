@@ -1,0 +1,141 @@
+//! What was expected at a place, in words.
+
+use crate::candidates::{
+    Candidate, has_declaration, has_phrase, has_relation, has_statement, has_value, is_grouped,
+};
+use crate::page::Page;
+use crate::spellings::spelling_of;
+use ss_lex::{Symbol, Word};
+use std::alloc::{AllocError, Global};
+
+// What candidates are called together, if they are there.
+fn add_groups(
+    alloc: Global,
+    all: &mut Vec<&'static str>,
+    candidates: &[Candidate],
+) -> Result<(), AllocError> {
+    let _ = alloc;
+    if has_relation(candidates) {
+        all.push("a relation as =, NE, LT, GT, LE or GE")?;
+    }
+    if has_value(candidates) {
+        all.push("a value")?;
+    } else if candidates.contains(&Candidate::Name) {
+        all.push("a name")?;
+    } else if candidates.contains(&Candidate::Number) {
+        all.push("a number")?;
+    }
+    if has_statement(candidates) {
+        all.push("a statement")?;
+    }
+    if has_declaration(candidates) {
+        all.push("a declaration as EVERY, DEFINE or TALLY")?;
+    }
+    if has_phrase(candidates) && !has_statement(candidates) {
+        all.push("a phrase as WITH or WHILE")?;
+    }
+    if candidates.contains(&Candidate::Picture) {
+        all.push("a line of picture")?;
+    }
+    Ok(())
+}
+
+// Whether the word may go on with what is complete without it.
+fn is_optional(word: Word) -> bool {
+    matches!(word, Word::And | Word::Or | Word::By | Word::Not)
+}
+
+// The words that are expected and have no name together.
+fn add_words(
+    all: &mut Vec<&'static str>,
+    candidates: &[Candidate],
+    optional: bool,
+) -> Result<(), AllocError> {
+    for candidate in candidates {
+        if let Candidate::Word(word) = candidate {
+            if !is_grouped(candidates, *word) && is_optional(*word) == optional {
+                all.push(spelling_of(*word))?;
+            }
+        }
+    }
+    Ok(())
+}
+
+// How a sign that is expected is spelled.
+fn sign_of(symbol: Symbol) -> &'static str {
+    match symbol {
+        Symbol::OpenParenthesis => "(",
+        Symbol::CloseParenthesis => ")",
+        Symbol::Comma => "a comma",
+        Symbol::Plus => "+",
+        Symbol::Minus => "-",
+        Symbol::Star => "*",
+        Symbol::Equals => "=",
+        Symbol::Other(_) => "",
+    }
+}
+
+// The signs that are expected where nothing else is.
+fn add_signs(all: &mut Vec<&'static str>, candidates: &[Candidate]) -> Result<(), AllocError> {
+    for candidate in candidates {
+        if let Candidate::Symbol(symbol) = candidate {
+            all.push(sign_of(*symbol))?;
+        }
+    }
+    Ok(())
+}
+
+// The signs that close or assign, which nothing else stands for.
+fn add_needed_signs(
+    all: &mut Vec<&'static str>,
+    candidates: &[Candidate],
+) -> Result<(), AllocError> {
+    if candidates.contains(&Candidate::Symbol(Symbol::CloseParenthesis)) {
+        all.push(")")?;
+    }
+    if candidates.contains(&Candidate::Symbol(Symbol::Equals)) && !has_relation(candidates) {
+        all.push("=")?;
+    }
+    Ok(())
+}
+
+// What is expected, by its names: words first, then what they are called together, then what may also go on.
+fn names_of(
+    alloc: Global,
+    candidates: &[Candidate],
+) -> Result<Vec<&'static str>, AllocError> {
+    let mut all = Vec::new(alloc);
+    add_words(&mut all, candidates, false)?;
+    add_needed_signs(&mut all, candidates)?;
+    add_groups(alloc, &mut all, candidates)?;
+    if candidates.contains(&Candidate::End) {
+        all.push("the end of the text")?;
+    }
+    if all.is_empty() {
+        add_words(&mut all, candidates, true)?;
+    }
+    if all.is_empty() {
+        add_signs(&mut all, candidates)?;
+    }
+    Ok(all)
+}
+
+/// The most things that a message names.
+const NAMED: usize = 9;
+
+/// Adds what was expected, as `A, AN or THE`. Nothing where there is no candidate.
+pub fn add_expected(
+    alloc: Global,
+    page: &mut Page,
+    candidates: &[Candidate],
+) -> Result<(), AllocError> {
+    let all = names_of(alloc, candidates)?;
+    let count = all.len().min(NAMED);
+    for (place, name) in all.iter().take(count).enumerate() {
+        if place > 0 {
+            page.words(if place + 1 == count { " or " } else { ", " })?;
+        }
+        page.words(name)?;
+    }
+    Ok(())
+}

@@ -1,0 +1,208 @@
+//! Constructs that are open at a place of a text: sections, IFs and loops that begin before it and end after it.
+
+ghost use Rattle.std.specs.Prelude.{◌≤◌, length, IsTrue, ◌↔◌};
+
+use crate::spellings::begins_statement;
+use ss_lex::{Token, TokenKind, Word};
+use std::alloc::{AllocError, Global};
+
+/// What can be open.
+#[derive(Clone, Copy, Debug, PartialEq, Eq)]
+pub enum Construct {
+    Preamble,
+    Main,
+    Routine,
+    Event,
+    If,
+    Loop,
+}
+
+/// An open construct, with the index of the token with which it begins.
+#[derive(Clone, Copy, Debug, PartialEq, Eq)]
+pub struct Open {
+    pub construct: Construct,
+    pub token: usize,
+}
+
+impl Construct {
+    /// The word with which it begins.
+    pub fn word(self) -> &'static str {
+        match self {
+            Construct::Preamble => "PREAMBLE",
+            Construct::Main => "MAIN",
+            Construct::Routine => "ROUTINE",
+            Construct::Event => "EVENT",
+            Construct::If => "IF",
+            Construct::Loop => "loop",
+        }
+    }
+
+    /// The word that closes it.
+    pub fn closer(self) -> &'static str {
+        match self {
+            Construct::If => "ALWAYS",
+            Construct::Loop => "LOOP",
+            _ => "END",
+        }
+    }
+}
+
+/// The reserved word that a token is.
+pub fn word_at(tokens: &[Token], index: usize) -> Option<Word> {
+    match tokens.get(index) {
+        Some(token) => match &token.kind {
+            TokenKind::Word(word) => Some(*word),
+            _ => None,
+        },
+        None => None,
+    }
+}
+
+/// The line of a token, or of the last one where there are not so many; 0 where there is none.
+pub fn line_of(tokens: &[Token], index: usize) -> u32 {
+    match tokens.get(index) {
+        Some(token) => token.line.0,
+        None => match tokens.last() {
+            Some(token) => token.line.0,
+            None => 0,
+        },
+    }
+}
+
+/// Whether a token is the first of its line.
+pub fn is_first_of_line(tokens: &[Token], index: usize) -> bool {
+    if index == 0 {
+        return true;
+    }
+    match (tokens.get(index - 1), tokens.get(index)) {
+        (Some(before), Some(token)) => before.line.0 != token.line.0,
+        _ => true,
+    }
+}
+
+/// What a section that begins with this token is; None where none does.
+pub fn head_at(tokens: &[Token], index: usize) -> Option<Construct> {
+    let after_end = index > 0 && word_at(tokens, index - 1) == Some(Word::End);
+    if !is_first_of_line(tokens, index) && !after_end {
+        return None;
+    }
+    match word_at(tokens, index) {
+        Some(Word::Main) => Some(Construct::Main),
+        Some(Word::Routine) => Some(Construct::Routine),
+        Some(Word::Event) => match word_at(tokens, index + 1) {
+            Some(Word::Notices | Word::Notice) => None,
+            _ => Some(Construct::Event),
+        },
+        _ => None,
+    }
+}
+
+/// The index of the token with which the section begins that a place is in; 0 in a preamble.
+pub fn section_before(tokens: &[Token], at: usize) -> usize
+    ensures { result ≤ at }
+{
+    let mut found = 0;
+    for index in 0..at.min(tokens.len()) {
+        if head_at(tokens, index).is_some() {
+            found = index;
+        }
+    }
+    found
+}
+
+// What is open, and the first token of the head of a loop whose DO has not come.
+#[derive(Drop)]
+struct Walk {
+    opens: Vec<Open>,
+    head: Option<usize>,
+}
+
+// Forgets the constructs down to the last of this kind, that one too.
+fn close(opens: &mut Vec<Open>, construct: Construct) {
+    if let Some(last) = opens.last() {
+        if last.construct == construct {
+            let _ = opens.pop();
+        }
+    }
+}
+
+// Opens a construct.
+fn open(opens: &mut Vec<Open>, construct: Construct, token: usize) -> Result<(), AllocError> {
+    opens.push(Open { construct, token })?;
+    Ok(())
+}
+
+// Goes past a token that is a reserved word.
+fn pass(walk: &mut Walk, tokens: &[Token], index: usize, word: Word) -> Result<(), AllocError> {
+    if let Some(section) = head_at(tokens, index) {
+        walk.opens.clear();
+        return open(&mut walk.opens, section, index);
+    }
+    match word {
+        Word::Preamble => open(&mut walk.opens, Construct::Preamble, index),
+        Word::End => {
+            walk.opens.clear();
+            Ok(())
+        }
+        Word::If => {
+            walk.head = None;
+            open(&mut walk.opens, Construct::If, index)
+        }
+        Word::Always => {
+            close(&mut walk.opens, Construct::If);
+            Ok(())
+        }
+        Word::Do => {
+            let head = walk.head.unwrap_or(index);
+            walk.head = None;
+            open(&mut walk.opens, Construct::Loop, head)
+        }
+        Word::Loop => {
+            close(&mut walk.opens, Construct::Loop);
+            Ok(())
+        }
+        Word::For => {
+            walk.head = Some(index);
+            Ok(())
+        }
+        Word::While | Word::Until => {
+            walk.head = Some(walk.head.unwrap_or(index));
+            Ok(())
+        }
+        _ => {
+            if begins_statement(word) {
+                walk.head = None;
+            }
+            Ok(())
+        }
+    }
+}
+
+/// The constructs that are open before a token, the outermost first, where the walk begins at another one.
+pub fn opens_at(
+    alloc: Global,
+    tokens: &[Token],
+    from: usize,
+    at: usize,
+) -> Result<Vec<Open>, AllocError> {
+    let mut walk = Walk {
+        opens: Vec::new(alloc),
+        head: None,
+    };
+    for index in from..at.min(tokens.len()) {
+        if let Some(word) = word_at(tokens, index) {
+            pass(&mut walk, tokens, index, word)?;
+        }
+    }
+    let Walk { opens, head: _ } = walk;
+    Ok(opens)
+}
+
+/// Whether a word of the statements' frame is there: one that ends, divides or begins a construct.
+pub fn is_frame_word(tokens: &[Token], index: usize) -> bool {
+    match word_at(tokens, index) {
+        Some(Word::End | Word::Loop | Word::Else | Word::Always) => true,
+        Some(_) => head_at(tokens, index).is_some(),
+        None => index >= tokens.len(),
+    }
+}

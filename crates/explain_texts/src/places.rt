@@ -1,0 +1,129 @@
+//! Places in a text: its lines, and the spellings of tokens.
+
+ghost use Rattle.std.specs.Prelude.{◌≤◌, ◌×◌, length};
+
+use crate::page::Page;
+use ss_lex::Token;
+use std::alloc::AllocError;
+
+/// A part of a text, from one byte up to another.
+#[derive(Clone, Copy, Debug, PartialEq, Eq)]
+pub struct Stretch {
+    pub start: usize,
+    pub end: usize,
+}
+
+/// The bytes of a stretch, as far as the text has them.
+pub fn bytes_of(text: &[u8], stretch: Stretch) -> &[u8] {
+    let end = stretch.end.min(text.len());
+    let start = stretch.start.min(end);
+    &text[start..end]
+}
+
+/// The stretch of a line, without its end. Lines count from 1; an empty one at the end of the text where there are fewer.
+pub fn line_at(text: &[u8], line: u32) -> Stretch
+    ensures { (result.start ≤ result.end) × (result.end ≤ length text.now) }
+{
+    let mut start = 0;
+    let mut number = 1;
+    for (at, byte) in text.iter().enumerate() {
+        if *byte == b'\n' {
+            if number == line {
+                return Stretch { start, end: at };
+            }
+            number += 1;
+            start = at + 1;
+        }
+    }
+    if number == line {
+        Stretch {
+            start,
+            end: text.len(),
+        }
+    } else {
+        Stretch {
+            start: text.len(),
+            end: text.len(),
+        }
+    }
+}
+
+/// The bytes of a line, without its end and without a carriage return there.
+pub fn line_bytes(text: &[u8], line: u32) -> &[u8] {
+    let bytes = bytes_of(text, line_at(text, line));
+    match bytes {
+        [before @ .., b'\r'] => before,
+        _ => bytes,
+    }
+}
+
+/// How many blanks and tabs a line begins with.
+pub fn indentation(line: &[u8]) -> usize
+    ensures { result ≤ length line.now }
+{
+    line.iter()
+        .take_while(|byte| **byte == b' ' || **byte == b'\t')
+        .count()
+}
+
+/// Whether a line has nothing but blanks, or nothing but a comment.
+pub fn is_blank(line: &[u8]) -> bool {
+    let rest = &line[indentation(line)..];
+    match rest {
+        [] => true,
+        [b'\r'] => true,
+        [b'\'', b'\'', ..] => true,
+        _ => false,
+    }
+}
+
+/// The stretch of a token's spelling.
+pub fn stretch_of(token: &Token) -> Stretch {
+    Stretch {
+        start: token.span.start,
+        end: token.span.start.saturating_add(token.span.length),
+    }
+}
+
+/// How a token is spelled in the text.
+pub fn spelled<'a>(text: &'a [u8], token: &Token) -> &'a [u8] {
+    bytes_of(text, stretch_of(token))
+}
+
+/// Adds a line of the text under its number, with tabs as blanks, and below it a row of marks under a stretch of it.
+pub fn show_marked(
+    page: &mut Page,
+    text: &[u8],
+    line: u32,
+    mark: Option<Stretch>,
+) -> Result<(), AllocError> {
+    let place = line_at(text, line);
+    show_line(page, text, line)?;
+    match mark {
+        Some(mark) if mark.start >= place.start && mark.start <= place.end => {
+            let before = mark.start - place.start;
+            let count = mark.end.min(place.end).saturating_sub(mark.start).max(1);
+            page.blanks(before.saturating_add(7))?;
+            for _ in 0..count {
+                page.bytes(b"^")?;
+            }
+            page.end_line()
+        }
+        _ => Ok(()),
+    }
+}
+
+/// Adds a line of the text under its number, with tabs as blanks.
+pub fn show_line(page: &mut Page, text: &[u8], line: u32) -> Result<(), AllocError> {
+    page.padded(u64::from(line), 5)?;
+    page.blanks(2)?;
+    for byte in line_bytes(text, line) {
+        let shown = if *byte < 32 || *byte > 126 {
+            b' '
+        } else {
+            *byte
+        };
+        page.bytes(&[shown])?;
+    }
+    page.end_line()
+}

@@ -1,0 +1,169 @@
+//! Texts that are no programs: refusals 41 and 42.
+
+use crate::candidates::{candidates_after, has_word};
+use crate::expected::add_expected;
+use crate::fixes::{Fix, Window, best_of, left_after};
+use crate::forms::{form_of, leader_before};
+use crate::frames::add_frames;
+use crate::opens::{Construct, is_frame_word, line_of, opens_at, section_before, word_at};
+use crate::page::Page;
+use crate::places::{show_line, show_marked};
+use crate::prints::add_prints;
+use crate::trouble::Trouble;
+use crate::words::add_words;
+use ss_base::Line;
+use ss_lex::{Token, Word};
+use std::alloc::{AllocError, Global};
+
+// All changes that are worth a trial, those first that say most.
+fn fixes_of(alloc: Global, trouble: &Trouble<'_>) -> Result<Vec<Fix>, AllocError> {
+    let mut fixes = Vec::new(alloc);
+    add_prints(alloc, &mut fixes, trouble)?;
+    if is_frame_word(trouble.tokens, trouble.at) {
+        add_frames(alloc, &mut fixes, trouble)?;
+    }
+    add_words(alloc, &mut fixes, trouble)?;
+    Ok(fixes)
+}
+
+// How many bytes of a window may be left, and one more, where a change is good: it is read past the token after the place.
+fn good_enough(trouble: &Trouble<'_>, window: Window<'_>, left: usize) -> usize {
+    let end = window.start.saturating_add(window.bytes.len());
+    let past = match trouble.tokens.get(trouble.at.saturating_add(2)) {
+        Some(token) => end.saturating_sub(token.span.start).saturating_add(1),
+        None => 0,
+    };
+    past.min(left.saturating_sub(1))
+}
+
+// Adds the cure that was found by trial, and says whether there is one.
+fn add_cure(alloc: Global, page: &mut Page, trouble: &Trouble<'_>) -> Result<bool, AllocError> {
+    let Some(window) = trouble.window() else {
+        return Ok(false);
+    };
+    let Some(left) = left_after(alloc, window.bytes)? else {
+        return Ok(false);
+    };
+    let most = good_enough(trouble, window, left);
+    let fixes = fixes_of(alloc, trouble)?;
+    match best_of(alloc, window, fixes.as_slice(), most)? {
+        Some(fix) => {
+            page.words("Cure: ")?;
+            page.bytes(fix.say.text.as_slice())?;
+            page.end_line()?;
+            Ok(true)
+        }
+        None => Ok(false),
+    }
+}
+
+// Adds the form of the statement or the declaration in which the place is.
+fn add_form(page: &mut Page, trouble: &Trouble<'_>) -> Result<(), AllocError> {
+    let Some(leader) = leader_before(trouble.tokens, trouble.section, trouble.at) else {
+        return Ok(());
+    };
+    if has_word(trouble.candidates, Word::Let) && trouble.begins_line() {
+        return Ok(());
+    }
+    let Some(word) = word_at(trouble.tokens, leader) else {
+        return Ok(());
+    };
+    match form_of(word) {
+        Some(form) => {
+            page.words("Form: ")?;
+            page.words(form)?;
+            page.end_line()
+        }
+        None => Ok(()),
+    }
+}
+
+// Adds the constructs that are open at the place, each with its line, the last first.
+fn add_opens(page: &mut Page, trouble: &Trouble<'_>) -> Result<(), AllocError> {
+    if !is_frame_word(trouble.tokens, trouble.at) || trouble.opens.is_empty() {
+        return Ok(());
+    }
+    page.words("Open there, the last first:")?;
+    page.end_line()?;
+    for open in trouble.opens.iter().rev() {
+        show_line(page, trouble.text, line_of(trouble.tokens, open.token))?;
+    }
+    Ok(())
+}
+
+// Adds the place and what was expected there.
+fn add_place(alloc: Global, page: &mut Page, trouble: &Trouble<'_>) -> Result<(), AllocError> {
+    page.words("line ")?;
+    page.number(u64::from(trouble.line()))?;
+    page.words(", ")?;
+    trouble.add_found(page)?;
+    page.words(": ")?;
+    if trouble.candidates.is_empty() {
+        page.words("it doesn't fit here")?;
+    } else {
+        page.words("expected ")?;
+        add_expected(alloc, page, trouble.candidates)?;
+    }
+    page.end_line()?;
+    show_marked(page, trouble.text, trouble.line(), Some(trouble.stretch()))
+}
+
+/// Explains a text whose tokens are read no further than to one of them.
+pub fn explain_syntax(
+    alloc: Global,
+    page: &mut Page,
+    text: &[u8],
+    tokens: &[Token],
+    at: usize,
+) -> Result<(), AllocError> {
+    let section = section_before(tokens, at);
+    let line = Line(line_of(tokens, at));
+    let before = match tokens.get(section..at) {
+        Some(before) => before,
+        None => &[],
+    };
+    let candidates = candidates_after(alloc, before, line)?;
+    let opens = opens_at(alloc, tokens, section, at)?;
+    let trouble = Trouble {
+        text,
+        tokens,
+        at,
+        section,
+        candidates: candidates.as_slice(),
+        opens: opens.as_slice(),
+    };
+    add_place(alloc, page, &trouble)?;
+    add_opens(page, &trouble)?;
+    let cured = add_cure(alloc, page, &trouble)?;
+    if !cured {
+        add_form(page, &trouble)?;
+    }
+    Ok(())
+}
+
+/// Explains a text in which more levels of nesting are open than may be.
+pub fn explain_depth(
+    alloc: Global,
+    page: &mut Page,
+    text: &[u8],
+    tokens: &[Token],
+    at: usize,
+) -> Result<(), AllocError> {
+    let line = line_of(tokens, at);
+    page.words("line ")?;
+    page.number(u64::from(line))?;
+    page.words(": more than 64 parentheses, IFs and loops are open")?;
+    page.end_line()?;
+    show_line(page, text, line)?;
+    let opens = opens_at(alloc, tokens, section_before(tokens, at), at)?;
+    let mut ifs: u64 = 0;
+    for open in &opens {
+        if open.construct == Construct::If {
+            ifs = ifs.saturating_add(1);
+        }
+    }
+    page.words("Cure: put the inner statements into a ROUTINE, or close what is open: ")?;
+    page.number(ifs)?;
+    page.words(" IFs have no ALWAYS yet.")?;
+    page.end_line()
+}

@@ -1,0 +1,637 @@
+//! Texts that are refused for what they do with their names: refusals 71 to 79.
+
+use crate::counts::{explain_arguments, explain_fields};
+use crate::finding::{add_cure, add_nearest, begin_with_name, show_name};
+use crate::page::Page;
+use crate::places::show_marked;
+use crate::sections::{Sections, is_of_system, meaning_words, mode_in, name_of, spelling_of_place};
+use ss_base::{ClassKind, Line, Mode, Name};
+use ss_check_rules::CheckError;
+use ss_names::{Meaning, Names};
+use ss_names_scopes::{Scope, mode_of, variable_of};
+use ss_names_uses::{ClassNeed, Role, Use, Used};
+use ss_tree::expression::Designator;
+use ss_tree::preamble::PreambleStatement;
+use ss_tree::program::{Program, SectionKind};
+use std::alloc::{AllocError, Global};
+
+/// A text with its program, its table and its sections.
+#[derive(Clone, Copy)]
+pub struct Read<'a> {
+    pub text: &'a [u8],
+    pub program: &'a Program,
+    pub names: &'a Names,
+    pub sections: &'a Sections,
+}
+
+// The names that mean something of a kind.
+fn names_that<F: Fn(Meaning) -> bool>(
+    alloc: Global,
+    names: &Names,
+    is: F,
+) -> Result<Vec<Name>, AllocError> {
+    let mut found = Vec::new(alloc);
+    for place in 0..names.meanings.len() {
+        let meaning = names.meanings.values().get(place);
+        if let (Some(meaning), Some(name)) = (meaning, Name::of(names.meanings.spelling(place))) {
+            if is(*meaning) {
+                found.push(name)?;
+            }
+        }
+    }
+    Ok(found)
+}
+
+/// Adds the line of a refusal with these words, where no name is known to be wrong.
+pub fn plain(page: &mut Page, text: &[u8], line: u32, words: &str) -> Result<(), AllocError> {
+    page.words("line ")?;
+    page.number(u64::from(line))?;
+    page.words(": ")?;
+    page.words(words)?;
+    page.end_line()?;
+    show_marked(page, text, line, None)
+}
+
+// What a class has to be in its place.
+fn need_words(need: ClassNeed) -> &'static str {
+    match need {
+        ClassNeed::Single => "a class of temporary entities or an event notice",
+        ClassNeed::Permanent => "a class of permanent entities",
+        ClassNeed::Notice => "an event notice",
+    }
+}
+
+// Whether a class of this kind may be in its place.
+fn serves(need: ClassNeed, kind: ClassKind) -> bool {
+    match need {
+        ClassNeed::Single => kind != ClassKind::Permanent,
+        ClassNeed::Permanent => kind == ClassKind::Permanent,
+        ClassNeed::Notice => kind == ClassKind::Notice,
+    }
+}
+
+// Says what a name is and what it has to be, and what helps.
+fn explain_kind<F: Fn(Meaning) -> bool>(
+    alloc: Global,
+    page: &mut Page,
+    read: &Read<'_>,
+    line: Line,
+    name: &[u8],
+    found: Option<Meaning>,
+    wanted: (&str, &str),
+    is: F,
+) -> Result<(), AllocError> {
+    begin_with_name(page, line.0, name)?;
+    match found {
+        Some(meaning) => {
+            page.words("it is ")?;
+            page.words(meaning_words(meaning))?;
+            page.words(", and ")?;
+        }
+        None => page.words("it is not declared, and ")?,
+    }
+    page.words(wanted.0)?;
+    page.words(" is needed here")?;
+    show_name(alloc, page, read.text, line.0, name)?;
+    let known = names_that(alloc, read.names, is)?;
+    if add_nearest(alloc, page, name, known.as_slice())? {
+        return Ok(());
+    }
+    add_cure(page, "", name, wanted.1)
+}
+
+// Whether a class is not what its place needs, which is then explained.
+fn explain_class(
+    alloc: Global,
+    page: &mut Page,
+    read: &Read<'_>,
+    line: Line,
+    class: &Name,
+    need: ClassNeed,
+) -> Result<bool, AllocError> {
+    let meaning = read.names.meaning(class);
+    if let Some(Meaning::Class { kind, .. }) = meaning {
+        if serves(need, kind) {
+            return Ok(false);
+        }
+    }
+    let help = match need {
+        ClassNeed::Single => " has to be an EVERY under TEMPORARY ENTITIES, or under EVENT NOTICES.",
+        ClassNeed::Permanent => " has to be an EVERY under PERMANENT ENTITIES.",
+        ClassNeed::Notice => " has to be declared under EVENT NOTICES, by INCLUDE or by an EVERY.",
+    };
+    let wanted = (need_words(need), help);
+    let is = |meaning: Meaning| match meaning {
+        Meaning::Class { kind, .. } => serves(need, kind),
+        _ => false,
+    };
+    explain_kind(alloc, page, read, line, class.bytes(), meaning, wanted, is)?;
+    Ok(true)
+}
+
+// Whether a routine is none, which is then explained.
+fn explain_routine(
+    alloc: Global,
+    page: &mut Page,
+    read: &Read<'_>,
+    line: Line,
+    routine: &Name,
+) -> Result<bool, AllocError> {
+    if read.names.routines.get(routine).is_some() {
+        return Ok(false);
+    }
+    let meaning = read.names.meaning(routine);
+    let help = match meaning {
+        Some(Meaning::Class {
+            kind: ClassKind::Notice,
+            ..
+        }) => " is an event: SCHEDULE it, or write what it shares with others as a ROUTINE.",
+        _ => " has to be a section: write ROUTINE and this name, statements, and END.",
+    };
+    let is = |meaning: Meaning| matches!(meaning, Meaning::Routine { .. });
+    let wanted = ("a routine", help);
+    explain_kind(alloc, page, read, line, routine.bytes(), meaning, wanted, is)?;
+    Ok(true)
+}
+
+// Whether something can be a value, a target or a variable of a loop.
+fn fits(role: Role, meaning: Option<Meaning>) -> bool {
+    match (role, meaning) {
+        (_, None) => false,
+        (Role::Set, Some(meaning)) => matches!(meaning, Meaning::Set { .. }),
+        (Role::LoopVariable, Some(meaning)) => variable_of(meaning).is_some(),
+        (Role::Reset, Some(_)) => true,
+        (_, Some(meaning)) => !matches!(meaning, Meaning::Set { .. } | Meaning::Routine { .. }),
+    }
+}
+
+// Whether a place is not what its role needs, which is then explained.
+fn explain_place(
+    alloc: Global,
+    page: &mut Page,
+    read: &Read<'_>,
+    scope: &Scope<'_>,
+    line: Line,
+    role: Role,
+    place: Designator,
+) -> Result<bool, AllocError> {
+    let meaning = scope.meaning(place);
+    if fits(role, meaning) {
+        return Ok(false);
+    }
+    let spelling = spelling_of_place(&place);
+    match role {
+        Role::Set => {
+            let is = |meaning: Meaning| matches!(meaning, Meaning::Set { .. });
+            let wanted = (
+                "a set",
+                " has to be owned by THE SYSTEM or an EVERY, and entities have to belong to it.",
+            );
+            explain_kind(alloc, page, read, line, spelling, meaning, wanted, is)?;
+        }
+        _ => {
+            let is = |meaning: Meaning| mode_of(meaning).is_some();
+            let help = match meaning {
+                Some(Meaning::Set { .. }) => {
+                    " is a set: F. before its name is its first member, N. how many it has."
+                }
+                Some(Meaning::Routine { .. }) => {
+                    " is a routine: CALL it, and take what it yields by YIELDING."
+                }
+                _ => " has to be an attribute or a variable: declare it, or mend its spelling.",
+            };
+            explain_kind(alloc, page, read, line, spelling, meaning, ("a value", help), is)?;
+        }
+    }
+    Ok(true)
+}
+
+// Whether a use of the line names what is unknown, which is then explained.
+fn explain_use(
+    alloc: Global,
+    page: &mut Page,
+    read: &Read<'_>,
+    scope: &Scope<'_>,
+    one: &Use,
+) -> Result<bool, AllocError> {
+    match &one.what {
+        Used::Class { need, class, .. } => {
+            explain_class(alloc, page, read, one.line, class, *need)
+        }
+        Used::Routine { routine } => explain_routine(alloc, page, read, one.line, routine),
+        Used::Place { role, place, .. } => {
+            explain_place(alloc, page, read, scope, one.line, *role, *place)
+        }
+        _ => Ok(false),
+    }
+}
+
+// Whether a section or a statistic of the preamble in this line names what is unknown, which is then explained.
+fn explain_head(
+    alloc: Global,
+    page: &mut Page,
+    read: &Read<'_>,
+    line: Line,
+) -> Result<bool, AllocError> {
+    for section in &read.program.sections {
+        if let SectionKind::Event { name, .. } = &section.kind {
+            if section.line.0 == line.0
+                && explain_class(alloc, page, read, line, name, ClassNeed::Notice)?
+            {
+                return Ok(true);
+            }
+        }
+    }
+    for statement in &read.program.preamble {
+        if let PreambleStatement::Statistics {
+            line: here,
+            subject,
+            ..
+        } = statement
+        {
+            if here.0 == line.0 {
+                let meaning = read.names.meaning(subject);
+                let is = |meaning: Meaning| {
+                    matches!(
+                        meaning,
+                        Meaning::Variable { .. } | Meaning::Attribute { .. } | Meaning::OfSet { .. }
+                    )
+                };
+                let wanted = (
+                    "a variable of a DEFINE, an attribute or N. of a set",
+                    " has to be declared, as by DEFINE .. AS AN INTEGER VARIABLE.",
+                );
+                let name = subject.bytes();
+                explain_kind(alloc, page, read, line, name, meaning, wanted, is)?;
+                return Ok(true);
+            }
+        }
+    }
+    Ok(false)
+}
+
+// 79.
+fn explain_unknown(
+    alloc: Global,
+    page: &mut Page,
+    read: &Read<'_>,
+    line: Line,
+) -> Result<(), AllocError> {
+    if explain_head(alloc, page, read, line)? {
+        return Ok(());
+    }
+    for (number, uses) in read.sections.uses.iter().enumerate() {
+        let Some(scope) = read.sections.scope(read.names, number) else {
+            continue;
+        };
+        for one in uses {
+            if one.line.0 == line.0 && explain_use(alloc, page, read, &scope, one)? {
+                return Ok(());
+            }
+        }
+    }
+    plain(page, read.text, line.0, "a name here is of the wrong kind")
+}
+
+// 72.
+fn explain_event(
+    alloc: Global,
+    page: &mut Page,
+    read: &Read<'_>,
+    line: Line,
+) -> Result<(), AllocError> {
+    let mut heads = Vec::new(alloc);
+    for section in &read.program.sections {
+        if let SectionKind::Event { name, .. } = &section.kind {
+            heads.push(*name)?;
+        }
+    }
+    for class in read.names.classes.keys() {
+        if !read.names.is_notice(class) || heads.contains(class) {
+            continue;
+        }
+        begin_with_name(page, line.0, class.bytes())?;
+        page.words("this event notice has no section EVENT")?;
+        show_name(alloc, page, read.text, line.0, class.bytes())?;
+        if let Some(place) = crate::similar::nearest(alloc, class.bytes(), heads.as_slice())? {
+            if let Some(found) = heads.get(place) {
+                if !read.names.is_notice(found) {
+                    page.words("Cure: the section EVENT ")?;
+                    page.bytes(found.bytes())?;
+                    page.words(" is of no notice: give both the same name.")?;
+                    return page.end_line();
+                }
+            }
+        }
+        page.words("Cure: write a section EVENT ")?;
+        page.bytes(class.bytes())?;
+        page.words(" with its statements and END, or leave the notice out.")?;
+        return page.end_line();
+    }
+    plain(page, read.text, line.0, "this event notice has no section EVENT")
+}
+
+// How many subscripts what a name means may have: the least and the most.
+fn subscripts_of(scope: &Scope<'_>, meaning: Meaning) -> (usize, usize) {
+    match meaning {
+        Meaning::NoticeTime => (1, 1),
+        Meaning::Attribute { .. } | Meaning::OfMember { .. } => (0, 1),
+        Meaning::Set { .. } | Meaning::OfSet { .. } | Meaning::Statistic { .. } => {
+            if is_of_system(scope, meaning) {
+                (0, 0)
+            } else {
+                (0, 1)
+            }
+        }
+        _ => (0, 0),
+    }
+}
+
+// 75.
+fn explain_subscript(
+    alloc: Global,
+    page: &mut Page,
+    read: &Read<'_>,
+    scope: &Scope<'_>,
+    one: &Use,
+) -> Result<bool, AllocError> {
+    let Used::Place {
+        place, subscripts, ..
+    } = &one.what
+    else {
+        return Ok(false);
+    };
+    let Some(meaning) = scope.meaning(*place) else {
+        return Ok(false);
+    };
+    let (least, most) = subscripts_of(scope, meaning);
+    if *subscripts >= least && *subscripts <= most {
+        return Ok(false);
+    }
+    let spelling = spelling_of_place(place);
+    begin_with_name(page, one.line.0, spelling)?;
+    page.words("it is ")?;
+    page.words(meaning_words(meaning))?;
+    page.words(if *subscripts < least {
+        ", and takes a subscript"
+    } else if most == 0 {
+        ", and takes no subscript"
+    } else {
+        ", and takes one subscript at most"
+    })?;
+    show_name(alloc, page, read.text, one.line.0, spelling)?;
+    if *subscripts < least {
+        add_cure(page, "write the notice after it, as ", spelling, "(ARRIVAL).")?;
+    } else if most == 0 {
+        add_cure(
+            page,
+            "leave the parentheses after ",
+            spelling,
+            " out. A value for each entity is an attribute: declare it by EVERY .. HAS.",
+        )?;
+    } else {
+        add_cure(page, "keep one number in the parentheses after ", spelling, ".")?;
+    }
+    Ok(true)
+}
+
+// 76.
+fn explain_target(
+    alloc: Global,
+    page: &mut Page,
+    read: &Read<'_>,
+    scope: &Scope<'_>,
+    one: &Use,
+) -> Result<bool, AllocError> {
+    let Used::Place {
+        role: Role::Target,
+        place,
+        ..
+    } = &one.what
+    else {
+        return Ok(false);
+    };
+    let Some(meaning) = scope.meaning(*place) else {
+        return Ok(false);
+    };
+    let may = matches!(
+        meaning,
+        Meaning::Variable { .. }
+            | Meaning::Class { .. }
+            | Meaning::Attribute { .. }
+            | Meaning::Count { .. }
+    );
+    if may {
+        return Ok(false);
+    }
+    let spelling = spelling_of_place(place);
+    begin_with_name(page, one.line.0, spelling)?;
+    page.words("it is ")?;
+    page.words(meaning_words(meaning))?;
+    page.words(", and takes no value")?;
+    show_name(alloc, page, read.text, one.line.0, spelling)?;
+    page.words(match meaning {
+        Meaning::Clock => {
+            "Cure: the time goes on by events alone: SCHEDULE an event IN so many UNITS, and RETURN."
+        }
+        Meaning::NoticeTime => "Cure: CANCEL the notice, and SCHEDULE THE it for the other time.",
+        Meaning::Statistic { .. } => {
+            "Cure: a statistic is kept by its TALLY or ACCUMULATE: assign its variable, or start it afresh by RESET."
+        }
+        Meaning::OfSet { .. } | Meaning::OfMember { .. } => {
+            "Cure: members of a set change by FILE and REMOVE alone."
+        }
+        _ => "Cure: assign a variable, an attribute or N. of a permanent class.",
+    })?;
+    page.end_line()?;
+    Ok(true)
+}
+
+// The word for a mode.
+fn mode_word(mode: Mode) -> &'static str {
+    match mode {
+        Mode::Integer => "INTEGER",
+        Mode::Alpha => "ALPHA",
+    }
+}
+
+// 73.
+fn explain_mode(
+    alloc: Global,
+    page: &mut Page,
+    read: &Read<'_>,
+    scope: &Scope<'_>,
+    one: &Use,
+) -> Result<bool, AllocError> {
+    match &one.what {
+        Used::Place {
+            place,
+            number: true,
+            ..
+        } => {
+            let meaning = match scope.meaning(*place) {
+                Some(meaning) => meaning,
+                None => return Ok(false),
+            };
+            if mode_of(meaning) != Some(Mode::Alpha) {
+                return Ok(false);
+            }
+            let spelling = spelling_of_place(place);
+            begin_with_name(page, one.line.0, spelling)?;
+            page.words("it is ALPHA, a text, and a number is needed here")?;
+            show_name(alloc, page, read.text, one.line.0, spelling)?;
+            add_cure(
+                page,
+                "texts can be read, assigned, compared and printed alone. Declare ",
+                spelling,
+                " as INTEGER, or use another name here.",
+            )?;
+            Ok(true)
+        }
+        Used::Same { found, wanted } => {
+            let (found, wanted) = (mode_in(scope, found), mode_in(scope, wanted));
+            match (found, wanted) {
+                (Some(found), Some(wanted)) if found != wanted => {
+                    page.words("line ")?;
+                    page.number(u64::from(one.line.0))?;
+                    page.words(": a value is ")?;
+                    page.words(mode_word(found))?;
+                    page.words(" where ")?;
+                    page.words(mode_word(wanted))?;
+                    page.words(" is needed")?;
+                    page.end_line()?;
+                    show_marked(page, read.text, one.line.0, None)?;
+                    page.words(
+                        "Cure: numbers are INTEGER and texts in quotes are ALPHA: DEFINE the variable or the attribute in the other mode, as DEFINE NAME AS AN ALPHA VARIABLE.",
+                    )?;
+                    page.end_line()?;
+                    Ok(true)
+                }
+                _ => Ok(false),
+            }
+        }
+        Used::Mean { place } => {
+            let spelling = spelling_of_place(place);
+            begin_with_name(page, one.line.0, spelling)?;
+            page.words("a MEAN is printed alone, and has no other use")?;
+            show_name(alloc, page, read.text, one.line.0, spelling)?;
+            page.words(
+                "Cure: divide the SUM by the NUMBER with DIV.F, or print the MEAN as an item of its own.",
+            )?;
+            page.end_line()?;
+            Ok(true)
+        }
+        _ => Ok(false),
+    }
+}
+
+// Explains the first use of the line that breaks a rule.
+fn explain_each(
+    alloc: Global,
+    page: &mut Page,
+    read: &Read<'_>,
+    error: &CheckError,
+    line: Line,
+) -> Result<bool, AllocError> {
+    for (number, uses) in read.sections.uses.iter().enumerate() {
+        let Some(scope) = read.sections.scope(read.names, number) else {
+            continue;
+        };
+        for one in uses {
+            if one.line.0 != line.0 {
+                continue;
+            }
+            let explained = match error {
+                CheckError::Subscript(_) => explain_subscript(alloc, page, read, &scope, one)?,
+                CheckError::NotAssignable(_) => explain_target(alloc, page, read, &scope, one)?,
+                CheckError::Mode(_) => explain_mode(alloc, page, read, &scope, one)?,
+                CheckError::Arguments(_) => explain_arguments(alloc, page, read, one)?,
+                _ => false,
+            };
+            if explained {
+                return Ok(true);
+            }
+        }
+    }
+    Ok(false)
+}
+
+// The words for a rule where no name is known to be wrong, and what helps.
+fn general(error: &CheckError) -> (&'static str, &'static str) {
+    match error {
+        CheckError::Subscript(_) => (
+            "a subscript is wrong here",
+            "Cure: give a subscript to attributes and to sets of entities alone, and one at most.",
+        ),
+        CheckError::NotAssignable(_) => (
+            "nothing can be assigned to a name here",
+            "Cure: assign a variable, an attribute or N. of a permanent class.",
+        ),
+        CheckError::Mode(_) => (
+            "a number and a text are mixed here",
+            "Cure: numbers are INTEGER and texts in quotes are ALPHA: DEFINE the variable or the attribute in the other mode. A MEAN can be printed alone.",
+        ),
+        CheckError::Arguments(_) => (
+            "other counts of values are given here than are taken",
+            "Cure: give as many values as the ROUTINE, the function or the event takes.",
+        ),
+        _ => ("", ""),
+    }
+}
+
+// Explains a rule that is about uses in a line.
+fn explain_in_line(
+    alloc: Global,
+    page: &mut Page,
+    read: &Read<'_>,
+    error: &CheckError,
+    line: Line,
+) -> Result<(), AllocError> {
+    if explain_each(alloc, page, read, error, line)? {
+        return Ok(());
+    }
+    let (words, cure) = general(error);
+    plain(page, read.text, line.0, words)?;
+    page.words(cure)?;
+    page.end_line()
+}
+
+/// Explains a text that is refused for what it does with its names.
+pub fn explain_used(
+    alloc: Global,
+    page: &mut Page,
+    read: &Read<'_>,
+    error: &CheckError,
+) -> Result<(), AllocError> {
+    match error {
+        CheckError::NoMain(_) => {
+            page.words("there is no section MAIN, with which a run begins")?;
+            page.end_line()?;
+            page.words(
+                "Cure: write MAIN, the statements with which the run begins, and END after the preamble.",
+            )?;
+            page.end_line()
+        }
+        CheckError::NoEventRoutine(line) => explain_event(alloc, page, read, *line),
+        CheckError::StartPlace(line) => {
+            plain(page, read.text, line.0, "START SIMULATION is in an EVENT or a ROUTINE")?;
+            page.words("Cure: write START SIMULATION in MAIN, and SCHEDULE what comes next here.")?;
+            page.end_line()
+        }
+        CheckError::Unknown(line) => explain_unknown(alloc, page, read, *line),
+        CheckError::Subscript(line)
+        | CheckError::NotAssignable(line)
+        | CheckError::Mode(line)
+        | CheckError::Arguments(line) => explain_in_line(alloc, page, read, error, *line),
+        CheckError::Fields(line) => explain_fields(alloc, page, read.text, *line),
+        CheckError::Memory => Ok(()),
+    }
+}
+
+/// The name of the section of a number, for words.
+pub fn section_name(read: &Read<'_>, number: usize) -> Option<Name> {
+    match read.program.sections.get(number) {
+        Some(section) => name_of(section),
+        None => None,
+    }
+}

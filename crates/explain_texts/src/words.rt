@@ -1,0 +1,549 @@
+//! Changes of single words: one is put in, left out, or gives way to another.
+
+use crate::candidates::{Candidate, has_word};
+use crate::fixes::Fix;
+use crate::forms::leader_before;
+use crate::opens::{head_at, line_of, word_at};
+use crate::page::Page;
+use crate::places::{Stretch, spelled};
+use crate::similar::is_like;
+use crate::spellings::{WORDS, spelling_of};
+use crate::trouble::Trouble;
+use ss_lex::{Symbol, Token, TokenKind, Word};
+use std::alloc::{AllocError, Global};
+
+/// Words of other languages, and what this one has for them.
+static CONFUSIONS: [(&[&str], &str); 52] = [
+    (&["BELONGS", "TO"], "MAY BELONG TO"),
+    (&["BELONG", "TO"], "MAY BELONG TO"),
+    (&["CAN", "BELONG", "TO"], "MAY BELONG TO"),
+    (&["MAY", "BELONGS", "TO"], "MAY BELONG TO"),
+    (&["END", "IF"], "ALWAYS"),
+    (&["ENDIF"], "ALWAYS"),
+    (&["FI"], "ALWAYS"),
+    (&["END", "FOR"], "LOOP"),
+    (&["END", "LOOP"], "LOOP"),
+    (&["END", "WHILE"], "LOOP"),
+    (&["END", "DO"], "LOOP"),
+    (&["ENDDO"], "LOOP"),
+    (&["ENDFOR"], "LOOP"),
+    (&["ENDWHILE"], "LOOP"),
+    (&["WEND"], "LOOP"),
+    (&["NEXT"], "LOOP"),
+    (&["ELSEIF"], "ELSE IF"),
+    (&["ELSIF"], "ELSE IF"),
+    (&["ELIF"], "ELSE IF"),
+    (&[">", "="], "GE"),
+    (&["=", ">"], "GE"),
+    (&["<", "="], "LE"),
+    (&["=", "<"], "LE"),
+    (&["<", ">"], "NE"),
+    (&["!", "="], "NE"),
+    (&["/", "="], "NE"),
+    (&["=", "="], "="),
+    (&[":", "="], "="),
+    (&[">"], "GT"),
+    (&["<"], "LT"),
+    (&["IS", "GREATER", "OR", "EQUAL", "TO"], "GE"),
+    (&["IS", "LESS", "OR", "EQUAL", "TO"], "LE"),
+    (&["NOT", "EQUAL"], "NE"),
+    (&["GIVING"], "GIVEN"),
+    (&["WITH"], "GIVEN"),
+    (&["USING"], "GIVEN"),
+    (&["HAVE"], "HAS"),
+    (&["OWN"], "OWNS"),
+    (&["WRITE"], "PRINT"),
+    (&["SIMULATE"], "START SIMULATION"),
+    (&["DELETE"], "DESTROY THE"),
+    (&["INSERT"], "FILE THE"),
+    (&["PUT"], "FILE THE"),
+    (&["INTO"], "IN"),
+    (&["ENTITY"], "ENTITIES"),
+    (&["PROCESSES"], "EVENT NOTICES"),
+    (&["SUBROUTINE"], "ROUTINE"),
+    (&["PROCEDURE"], "ROUTINE"),
+    (&["FUNCTION"], "ROUTINE"),
+    (&["INT"], "INTEGER"),
+    (&["TEXT"], "ALPHA"),
+    (&["STRING"], "ALPHA"),
+];
+
+// Whether a token is spelled so, in capitals.
+fn is_spelled(text: &[u8], token: &Token, wanted: &str) -> bool {
+    spelled(text, token).eq_ignore_ascii_case(wanted.as_bytes())
+}
+
+// Whether the tokens from this one on are spelled so.
+fn are_spelled(trouble: &Trouble<'_>, from: usize, wanted: &[&str]) -> bool {
+    for (place, word) in wanted.iter().enumerate() {
+        match trouble.tokens.get(from.saturating_add(place)) {
+            Some(token) if is_spelled(trouble.text, token, word) => {}
+            _ => return false,
+        }
+    }
+    true
+}
+
+// The stretch from one token to another.
+fn stretch_between(trouble: &Trouble<'_>, first: usize, last: usize) -> Stretch {
+    let start = match trouble.tokens.get(first) {
+        Some(token) => token.span.start,
+        None => trouble.text.len(),
+    };
+    let end = match trouble.tokens.get(last) {
+        Some(token) => token.span.start.saturating_add(token.span.length),
+        None => trouble.text.len(),
+    };
+    Stretch { start, end }
+}
+
+// Bytes with a blank on each side.
+fn with_blanks(alloc: Global, words: &[u8]) -> Result<Vec<u8>, AllocError> {
+    let mut with = Vec::from_slice(alloc, b" ")?;
+    with.extend_from_slice(words)?;
+    with.extend_from_slice(b" ")?;
+    Ok(with)
+}
+
+// Tokens give way to words.
+fn in_place(
+    alloc: Global,
+    trouble: &Trouble<'_>,
+    first: usize,
+    last: usize,
+    word: &[u8],
+) -> Result<Fix, AllocError> {
+    let stretch = stretch_between(trouble, first, last);
+    let mut say = Page::new(alloc);
+    say.words("Write ")?;
+    say.bytes(word)?;
+    say.words(" in place of ")?;
+    say.capitals(crate::places::bytes_of(trouble.text, stretch))?;
+    say.in_line(line_of(trouble.tokens, first))?;
+    say.words(".")?;
+    Ok(Fix {
+        stretch,
+        with: with_blanks(alloc, word)?,
+        say,
+    })
+}
+
+// Words of other languages that begin at the place or just before it.
+fn add_confusions(
+    alloc: Global,
+    fixes: &mut Vec<Fix>,
+    trouble: &Trouble<'_>,
+) -> Result<(), AllocError> {
+    for back in 0..4 {
+        if back > trouble.at {
+            break;
+        }
+        let first = trouble.at - back;
+        for (wrong, right) in &CONFUSIONS {
+            let last = first.saturating_add(wrong.len()).saturating_sub(1);
+            if last >= trouble.at.saturating_sub(1) && are_spelled(trouble, first, wrong) {
+                fixes.push(in_place(alloc, trouble, first, last, right.as_bytes())?)?;
+            }
+        }
+    }
+    Ok(())
+}
+
+// The token that does not fit, or the one before it, gives way to a word that is spelled alike.
+fn add_misspelled(
+    alloc: Global,
+    fixes: &mut Vec<Fix>,
+    trouble: &Trouble<'_>,
+) -> Result<(), AllocError> {
+    for back in 0..3 {
+        if back > trouble.at {
+            break;
+        }
+        let index = trouble.at - back;
+        let Some(token) = trouble.tokens.get(index) else {
+            continue;
+        };
+        let TokenKind::Name(name) = &token.kind else {
+            continue;
+        };
+        for (spelling, _) in &WORDS {
+            if is_like(alloc, name.bytes(), spelling.as_bytes())? {
+                fixes.push(in_place(alloc, trouble, index, index, spelling.as_bytes())?)?;
+            }
+        }
+    }
+    Ok(())
+}
+
+// A reserved word that is used as a name gives way to a name.
+fn add_renamed(
+    alloc: Global,
+    fixes: &mut Vec<Fix>,
+    trouble: &Trouble<'_>,
+    index: usize,
+) -> Result<(), AllocError> {
+    let Some(token) = trouble.tokens.get(index) else {
+        return Ok(());
+    };
+    if word_at(trouble.tokens, index).is_none() || head_at(trouble.tokens, index).is_some() {
+        return Ok(());
+    }
+    let spelling = spelled(trouble.text, token);
+    let mut with = Page::new(alloc);
+    with.capitals(spelling)?;
+    with.words(".1")?;
+    let mut say = Page::new(alloc);
+    say.capitals(spelling)?;
+    say.words(" is a word of the language and no name: use another name, as ")?;
+    say.bytes(with.text.as_slice())?;
+    say.words(", in every line.")?;
+    fixes.push(Fix {
+        stretch: stretch_between(trouble, index, index),
+        with: with_blanks(alloc, with.text.as_slice())?,
+        say,
+    })?;
+    Ok(())
+}
+
+// Whether a spelling begins with a vowel.
+fn begins_with_vowel(spelling: &[u8]) -> bool {
+    match spelling {
+        [first, ..] => matches!(
+            first.to_ascii_uppercase(),
+            b'A' | b'E' | b'I' | b'O' | b'U'
+        ),
+        [] => false,
+    }
+}
+
+// Whether an article is the wrong one of A and AN for what follows.
+fn is_wrong_article(trouble: &Trouble<'_>, word: Word) -> bool {
+    let vowel = begins_with_vowel(trouble.found_spelling());
+    match word {
+        Word::A => vowel && has_word(trouble.candidates, Word::An),
+        Word::An => !vowel && has_word(trouble.candidates, Word::A),
+        _ => false,
+    }
+}
+
+// A word is put in before the place; after the token before it, where that is in another line.
+fn put_in(alloc: Global, trouble: &Trouble<'_>, word: &str) -> Result<Fix, AllocError> {
+    let mut say = Page::new(alloc);
+    say.words("Write ")?;
+    say.words(word)?;
+    let at = match trouble.before() {
+        Some(before) if trouble.begins_line() => {
+            say.words(" after ")?;
+            say.capitals(spelled(trouble.text, before))?;
+            say.words(" at the end of line ")?;
+            say.number(u64::from(before.line.0))?;
+            before.span.start.saturating_add(before.span.length)
+        }
+        _ => {
+            say.words(" before ")?;
+            trouble.add_found(&mut say)?;
+            say.in_line(trouble.line())?;
+            trouble.stretch().start
+        }
+    };
+    say.words(".")?;
+    Ok(Fix {
+        stretch: Stretch { start: at, end: at },
+        with: with_blanks(alloc, word.as_bytes())?,
+        say,
+    })
+}
+
+// Each expected word is put in.
+fn add_put_in(
+    alloc: Global,
+    fixes: &mut Vec<Fix>,
+    trouble: &Trouble<'_>,
+) -> Result<(), AllocError> {
+    for candidate in trouble.candidates {
+        if let Candidate::Word(word) = candidate {
+            if !is_wrong_article(trouble, *word) {
+                fixes.push(put_in(alloc, trouble, spelling_of(*word))?)?;
+            }
+        }
+    }
+    Ok(())
+}
+
+// Each expected word takes the place of what is there.
+fn add_in_place(
+    alloc: Global,
+    fixes: &mut Vec<Fix>,
+    trouble: &Trouble<'_>,
+) -> Result<(), AllocError> {
+    if trouble.found().is_none() {
+        return Ok(());
+    }
+    for candidate in trouble.candidates {
+        if let Candidate::Word(word) = candidate {
+            if !is_wrong_article(trouble, *word) {
+                let spelling = spelling_of(*word).as_bytes();
+                fixes.push(in_place(alloc, trouble, trouble.at, trouble.at, spelling)?)?;
+            }
+        }
+    }
+    Ok(())
+}
+
+// What is there is left out.
+fn add_left_out(
+    alloc: Global,
+    fixes: &mut Vec<Fix>,
+    trouble: &Trouble<'_>,
+    index: usize,
+) -> Result<(), AllocError> {
+    let Some(token) = trouble.tokens.get(index) else {
+        return Ok(());
+    };
+    let mut say = Page::new(alloc);
+    say.words("Leave ")?;
+    say.capitals(spelled(trouble.text, token))?;
+    say.words(" out")?;
+    say.in_line(token.line.0)?;
+    say.words(".")?;
+    fixes.push(Fix {
+        stretch: stretch_between(trouble, index, index),
+        with: with_blanks(alloc, b"")?,
+        say,
+    })?;
+    Ok(())
+}
+
+// A sign is put in.
+fn add_signs(
+    alloc: Global,
+    fixes: &mut Vec<Fix>,
+    trouble: &Trouble<'_>,
+) -> Result<(), AllocError> {
+    for candidate in trouble.candidates {
+        match candidate {
+            Candidate::Symbol(Symbol::CloseParenthesis) => {
+                fixes.push(put_in(alloc, trouble, ")")?)?;
+            }
+            Candidate::Symbol(Symbol::OpenParenthesis) => {
+                fixes.push(put_in(alloc, trouble, "(")?)?;
+            }
+            Candidate::Symbol(Symbol::Equals) => fixes.push(put_in(alloc, trouble, "=")?)?,
+            Candidate::Separator => fixes.push(put_in(alloc, trouble, "a comma")?)?,
+            _ => {}
+        }
+    }
+    Ok(())
+}
+
+// The first token of the product that ends before the place, with its parentheses.
+fn product_before(trouble: &Trouble<'_>) -> usize {
+    let mut depth: usize = 0;
+    let mut first = trouble.at;
+    for index in (trouble.section..trouble.at).rev() {
+        let Some(token) = trouble.tokens.get(index) else {
+            break;
+        };
+        let goes_on = match &token.kind {
+            TokenKind::Symbol(Symbol::CloseParenthesis) => {
+                depth = depth.saturating_add(1);
+                true
+            }
+            TokenKind::Symbol(Symbol::OpenParenthesis) => {
+                let inside = depth > 0;
+                depth = depth.saturating_sub(1);
+                inside
+            }
+            TokenKind::Symbol(Symbol::Star) | TokenKind::Number(_) | TokenKind::Name(_) => true,
+            TokenKind::Word(word) => depth > 0 || matches!(word, Word::TimeV | Word::TimeA),
+            _ => depth > 0,
+        };
+        if !goes_on {
+            break;
+        }
+        first = index;
+    }
+    first
+}
+
+// The last token of the factor after the place, with its parentheses.
+fn factor_after(trouble: &Trouble<'_>) -> usize {
+    let mut depth: usize = 0;
+    let mut last = trouble.at.saturating_add(1);
+    for index in last..trouble.tokens.len() {
+        let Some(token) = trouble.tokens.get(index) else {
+            break;
+        };
+        let opens = matches!(
+            &token.kind,
+            TokenKind::Symbol(Symbol::OpenParenthesis)
+        );
+        let closes = matches!(
+            &token.kind,
+            TokenKind::Symbol(Symbol::CloseParenthesis)
+        );
+        let is_first = index == trouble.at.saturating_add(1);
+        if !is_first && depth == 0 && !opens {
+            break;
+        }
+        if opens {
+            depth = depth.saturating_add(1);
+        }
+        if closes {
+            depth = depth.saturating_sub(1);
+        }
+        last = index;
+        if closes && depth == 0 {
+            break;
+        }
+    }
+    last
+}
+
+// A stroke gives way to DIV.F.
+fn add_division(
+    alloc: Global,
+    fixes: &mut Vec<Fix>,
+    trouble: &Trouble<'_>,
+) -> Result<(), AllocError> {
+    if trouble.found_spelling() != b"/".as_slice() || trouble.at == 0 {
+        return Ok(());
+    }
+    let first = product_before(trouble);
+    let last = factor_after(trouble);
+    let left = stretch_between(trouble, first, trouble.at - 1);
+    let right = stretch_between(trouble, trouble.at.saturating_add(1), last);
+    let mut with = Page::new(alloc);
+    with.words("DIV.F(")?;
+    with.bytes(crate::places::bytes_of(trouble.text, left))?;
+    with.words(", ")?;
+    with.bytes(crate::places::bytes_of(trouble.text, right))?;
+    with.words(")")?;
+    let mut say = Page::new(alloc);
+    say.words("There is no sign for a division: write ")?;
+    say.capitals(with.text.as_slice())?;
+    say.in_line(trouble.line())?;
+    say.words(", which drops what is left over.")?;
+    fixes.push(Fix {
+        stretch: Stretch {
+            start: left.start,
+            end: right.end,
+        },
+        with: with.text,
+        say,
+    })?;
+    Ok(())
+}
+
+// What is given comes before the time of a SCHEDULE.
+fn add_given_first(
+    alloc: Global,
+    fixes: &mut Vec<Fix>,
+    trouble: &Trouble<'_>,
+) -> Result<(), AllocError> {
+    let is_given = matches!(
+        word_at(trouble.tokens, trouble.at),
+        Some(Word::Given | Word::Giving | Word::Called)
+    );
+    let leader = leader_before(trouble.tokens, trouble.section, trouble.at);
+    let Some(leader) = leader else {
+        return Ok(());
+    };
+    if !is_given || word_at(trouble.tokens, leader) != Some(Word::Schedule) {
+        return Ok(());
+    }
+    let mut time = None;
+    for index in leader..trouble.at {
+        if let Some(Word::At | Word::In | Word::Now) = word_at(trouble.tokens, index) {
+            time = Some(index);
+        }
+    }
+    let Some(time) = time else {
+        return Ok(());
+    };
+    let last = trouble.last_of_line(trouble.at);
+    let late = stretch_between(trouble, trouble.at, last);
+    let early = stretch_between(trouble, time, trouble.at.saturating_sub(1));
+    let mut with = Page::new(alloc);
+    with.bytes(crate::places::bytes_of(trouble.text, late))?;
+    with.words(" ")?;
+    with.bytes(crate::places::bytes_of(trouble.text, early))?;
+    let mut say = Page::new(alloc);
+    say.words("The time comes last: write ")?;
+    say.capitals(with.text.as_slice())?;
+    say.in_line(trouble.line())?;
+    say.words(".")?;
+    fixes.push(Fix {
+        stretch: Stretch {
+            start: early.start,
+            end: late.end,
+        },
+        with: with.text,
+        say,
+    })?;
+    Ok(())
+}
+
+// A DEFINE after statements moves up to where its section begins.
+fn add_define_first(
+    alloc: Global,
+    fixes: &mut Vec<Fix>,
+    trouble: &Trouble<'_>,
+) -> Result<(), AllocError> {
+    if word_at(trouble.tokens, trouble.at) != Some(Word::Define) || trouble.opens.is_empty() {
+        return Ok(());
+    }
+    if head_at(trouble.tokens, trouble.section).is_none() || !trouble.begins_line() {
+        return Ok(());
+    }
+    let head = line_of(trouble.tokens, trouble.section);
+    let line = trouble.line();
+    let start = trouble.line_end(head);
+    let before = crate::places::line_at(trouble.text, line).start;
+    let end = trouble.line_end(line);
+    let mut with = Page::new(alloc);
+    with.words("\n")?;
+    with.bytes(crate::places::bytes_of(
+        trouble.text,
+        Stretch { start: before, end },
+    ))?;
+    with.bytes(crate::places::bytes_of(
+        trouble.text,
+        Stretch { start, end: before },
+    ))?;
+    let mut say = Page::new(alloc);
+    say.words("A DEFINE comes before the statements of its section: move line ")?;
+    say.number(u64::from(line))?;
+    say.words(" up, directly after line ")?;
+    say.number(u64::from(head))?;
+    say.words(".")?;
+    fixes.push(Fix {
+        stretch: Stretch { start, end },
+        with: with.text,
+        say,
+    })?;
+    Ok(())
+}
+
+/// Adds the changes of single words, those first that say most.
+pub fn add_words(
+    alloc: Global,
+    fixes: &mut Vec<Fix>,
+    trouble: &Trouble<'_>,
+) -> Result<(), AllocError> {
+    add_division(alloc, fixes, trouble)?;
+    add_confusions(alloc, fixes, trouble)?;
+    add_given_first(alloc, fixes, trouble)?;
+    add_define_first(alloc, fixes, trouble)?;
+    add_misspelled(alloc, fixes, trouble)?;
+    if trouble.candidates.contains(&Candidate::Name) {
+        add_renamed(alloc, fixes, trouble, trouble.at)?;
+    }
+    add_put_in(alloc, fixes, trouble)?;
+    add_signs(alloc, fixes, trouble)?;
+    add_in_place(alloc, fixes, trouble)?;
+    if trouble.at > 0 {
+        add_renamed(alloc, fixes, trouble, trouble.at - 1)?;
+    }
+    add_left_out(alloc, fixes, trouble, trouble.at)
+}
