@@ -15,5 +15,12 @@ fn main(rt: HostRuntime) -> ExitCode {
         output: rt.stdout(),
         errors: rt.stderr(),
     };
-    ExitCode::from(perform(rt.alloc(), &words, &Disk::new(&rt), &rt, streams))
+    ExitCode::from(perform(
+        rt.alloc(),
+        &words,
+        &Disk::new(&rt),
+        &rt,
+        rt.stderr(),
+        streams,
+    ))
 }

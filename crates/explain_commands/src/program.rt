@@ -3,8 +3,8 @@
 use crate::order::{Order, RunOrder};
 use crate::told::Told;
 use explain_runs::{
-    Guide, Kept, Shown, Subject, Unshown, add_fault, compile_with_names, run_in_pieces, run_shown,
-    watches_of,
+    Kept, Parts, Shown, Subject, Unshown, Watch, add_fault, compile_with_names, run_in_pieces,
+    run_shown, watches_of,
 };
 use explain_texts::{Page, explain_text};
 use simscript_order::{
@@ -18,21 +18,34 @@ use std::convert::AsStr;
 use std::io::{BufReader, BufWriter, Read, Write};
 use std::rt::Clock;
 
+/// A run that is asked for, of a text.
+#[derive(Drop)]
+struct Job<'a, C> {
+    subject: Subject<'a>,
+    order: RunOrder<'a>,
+    clock: &'a C,
+}
+
 /// Does what the words of a command line ask for, the program's name first, and answers the exit status: 0 where all is
 /// right, or the help or the version was asked for, 1 for a refused text, 2 for wrong words, 3 for a fault of the
 /// run, 4 for a pause, 5 where it ran out of memory, 6 where a file or a stream failed.
+///
+/// What is explained goes to the output, and so does the report of a run, unless its ticks or values are shown: then it goes to
+/// the errors. `told` gets a line each second that says how far the run is, where that is asked for.
 pub fn perform<
     F: FileStore,
-    C: Clock,
+    C: Clock + Drop,
     S: AsStr,
     I: Read + Drop,
     O: Write + Drop,
     E: Write + Drop,
+    T: Write + Drop,
 >(
     alloc: Global,
     words: &[S],
     files: &F,
     clock: &C,
+    told: T,
     streams: Streams<I, O, E>,
 ) -> u8 {
     let Streams {
@@ -40,9 +53,11 @@ pub fn perform<
         mut output,
         mut errors,
     } = streams;
+    let mut told = told;
     match Order::of(alloc, words) {
         Ok(order) => {
-            let ended = obey(alloc, &order, files, clock, &mut output, &mut errors);
+            let ways = (&mut output, &mut errors, &mut told);
+            let ended = obey(alloc, &order, files, clock, ways);
             report_ending(alloc, ended, errors)
         }
         Err(misuse) => explain(&misuse, output, errors),
@@ -50,31 +65,32 @@ pub fn perform<
 }
 
 // Does what an order says.
-fn obey<F: FileStore, C: Clock, O: Write, E: Write>(
+fn obey<F: FileStore, C: Clock + Drop, O: Write, E: Write, T: Write>(
     alloc: Global,
     order: &Order<'_>,
     files: &F,
     clock: &C,
-    output: &mut O,
-    errors: &mut E,
+    ways: (&mut O, &mut E, &mut T),
 ) -> Result<Outcome, ProgramFailure> {
+    let (output, errors, told) = ways;
     let text = read_file(alloc, files, order.model)?;
-    match &order.run {
-        None => check(alloc, text.as_slice(), output),
-        Some(run) => match compile_with_names(alloc, text.as_slice()) {
-            Ok((model, guide)) => run_model(
-                alloc,
-                text.as_slice(),
-                model,
-                &guide,
-                run,
-                files,
+    let Some(run) = order.run else {
+        return check(alloc, text.as_slice(), output);
+    };
+    match compile_with_names(alloc, text.as_slice()) {
+        Ok((model, guide)) => {
+            let job = Job {
+                subject: Subject {
+                    alloc,
+                    text: text.as_slice(),
+                    guide: &guide,
+                },
+                order: run,
                 clock,
-                output,
-                errors,
-            ),
-            Err(refusal) => refuse(alloc, text.as_slice(), refusal, output),
-        },
+            };
+            run_model(&job, model, files, output, errors, told)
+        }
+        Err(refusal) => refuse(alloc, text.as_slice(), refusal, output),
     }
 }
 
@@ -136,36 +152,29 @@ fn check<O: Write>(
 }
 
 // Runs a model with the data in the file of an order, or with none.
-fn run_model<F: FileStore, C: Clock, O: Write, E: Write>(
-    alloc: Global,
-    text: &[u8],
+fn run_model<F: FileStore, C: Clock + Drop, O: Write, E: Write, T: Write>(
+    job: &Job<'_, C>,
     model: Model,
-    guide: &Guide,
-    run: &RunOrder<'_>,
     files: &F,
-    clock: &C,
     output: &mut O,
     errors: &mut E,
+    told: &mut T,
 ) -> Result<Outcome, ProgramFailure> {
-    match run.input {
-        None => run_with(alloc, text, model, guide, run, &[][..], clock, output, errors),
-        Some(name) => {
-            let file = match open(files, name, ProgramFailure::Input) {
-                Ok(file) => file,
-                Err(trouble) => {
-                    model.release();
-                    return Err(trouble);
-                }
-            };
-            match BufReader::new(alloc, Retrying::new(file)) {
-                Ok(reader) => {
-                    run_with(alloc, text, model, guide, run, reader, clock, output, errors)
-                }
-                Err(_) => {
-                    model.release();
-                    Err(ProgramFailure::Memory)
-                }
-            }
+    let Some(name) = job.order.input else {
+        return run_with(job, model, &[][..], output, errors, told);
+    };
+    let file = match open(files, name, ProgramFailure::Input) {
+        Ok(file) => file,
+        Err(trouble) => {
+            model.release();
+            return Err(trouble);
+        }
+    };
+    match BufReader::new(job.subject.alloc, Retrying::new(file)) {
+        Ok(reader) => run_with(job, model, reader, output, errors, told),
+        Err(_) => {
+            model.release();
+            Err(ProgramFailure::Memory)
         }
     }
 }
@@ -176,142 +185,158 @@ fn shows_lines(run: &RunOrder<'_>) -> bool {
 }
 
 // Runs a model with the data of this reader. Its report goes to the output, or to the errors where lines are shown.
-fn run_with<R: Read + Drop, C: Clock, O: Write, E: Write>(
-    alloc: Global,
-    text: &[u8],
+fn run_with<R: Read + Drop, C: Clock + Drop, O: Write, E: Write, T: Write>(
+    job: &Job<'_, C>,
     model: Model,
-    guide: &Guide,
-    run: &RunOrder<'_>,
     reader: R,
-    clock: &C,
     output: &mut O,
     errors: &mut E,
+    told: &mut T,
 ) -> Result<Outcome, ProgramFailure> {
-    let subject = Subject { alloc, text, guide };
-    let mut gathered = Vec::new(alloc);
-    let outcome = if shows_lines(run) {
-        let outcome = show_run(&subject, model, run, reader, clock, output, errors, &mut gathered);
-        let _ = errors.write_all(gathered.as_slice());
-        outcome
-    } else {
-        let (page, outcome) = plain_run(&subject, model, run, reader, clock, output, errors)?;
-        write_whole(output, page.text.as_slice())?;
-        outcome
-    };
-    outcome
-}
-
-// Runs a model whose ticks or values are shown. Its report is gathered.
-fn show_run<R: Read + Drop, C: Clock, O: Write, E: Write>(
-    subject: &Subject<'_>,
-    model: Model,
-    run: &RunOrder<'_>,
-    reader: R,
-    clock: &C,
-    output: &mut O,
-    errors: &mut E,
-    gathered: &mut Vec<u8>,
-) -> Result<Outcome, ProgramFailure> {
-    let mut watches = match run.watch {
-        None => Vec::new(subject.alloc),
-        Some(names) => match watches_of(subject.alloc, subject.guide, names.as_bytes()) {
-            Ok(Ok(watches)) => watches,
-            Ok(Err(name)) => {
-                model.release();
-                return refuse_watch(name, errors);
-            }
-            Err(_) => {
-                model.release();
-                return Err(ProgramFailure::Memory);
-            }
-        },
-    };
-    let reader = Kept::new(Counted::new(reader));
-    let writer = Counted::new(gathered);
-    let mut session = match Session::start(subject.alloc, model, reader, writer) {
-        Ok(session) => session,
-        Err(_) => return Ok(Outcome::Stopped(Stop::Memory, 0)),
-    };
-    let Ok(mut lines) = BufWriter::new(subject.alloc, output) else {
+    let alloc = job.subject.alloc;
+    if shows_lines(&job.order) {
+        return run_in_lines(job, model, reader, output, errors, told);
+    }
+    let Ok(report) = BufWriter::new(alloc, Retrying::new(output)) else {
+        model.release();
         return Err(ProgramFailure::Memory);
     };
-    let shown = Shown {
-        ticks: run.trace,
-        events: run.events,
+    let mut session = match started(job, model, reader, report) {
+        Ok(session) => session,
+        Err(outcome) => return Ok(outcome),
     };
-    let mut told = Told::new(subject.alloc, clock, errors, run.ticks, run.progress);
-    let stop = run_shown(
-        subject,
-        &mut session,
-        run.ticks,
-        shown,
-        &mut watches,
-        &mut lines,
-        &mut told,
+    let mut told = Told::new(alloc, job.clock, told, job.order.ticks, job.order.progress);
+    let stop = run_in_pieces(&mut session, job.order.ticks, &mut told);
+    told.end();
+    let page = ending_of(&job.subject, &session, stop);
+    let outcome = Outcome::Stopped(stop, session.used());
+    let (_reader, writer) = session.close();
+    let mut report = writer.into_inner();
+    let Ok(page) = page else {
+        return Err(ProgramFailure::Memory);
+    };
+    if report.write_all(page.text.as_slice()).is_err() || report.flush().is_err() {
+        return Err(ProgramFailure::Report);
+    }
+    Ok(outcome)
+}
+
+// A session of a model with this reader and this writer; the outcome where memory was refused.
+fn started<R: Read + Drop, W: Write + Drop, C>(
+    job: &Job<'_, C>,
+    model: Model,
+    reader: R,
+    report: W,
+) -> Result<Session<Kept<Counted<R>>, Counted<W>>, Outcome> {
+    let reader = Kept::new(Counted::new(reader));
+    let writer = Counted::new(report);
+    match Session::start(job.subject.alloc, model, reader, writer) {
+        Ok(session) => Ok(session),
+        Err(_) => Err(Outcome::Stopped(Stop::Memory, 0)),
+    }
+}
+
+// The watches of an order; none where a name can't be watched, which is said.
+fn watches_in<C, E: Write>(
+    job: &Job<'_, C>,
+    errors: &mut E,
+) -> Result<Option<Vec<Watch>>, ProgramFailure> {
+    let Some(names) = job.order.watch else {
+        return Ok(Some(Vec::new(job.subject.alloc)));
+    };
+    match watches_of(job.subject.alloc, job.subject.guide, names.as_bytes()) {
+        Ok(Ok(watches)) => Ok(Some(watches)),
+        Ok(Err(name)) => {
+            refuse_watch(name, errors);
+            Ok(None)
+        }
+        Err(_) => Err(ProgramFailure::Memory),
+    }
+}
+
+// Says that a name can't be watched.
+fn refuse_watch<E: Write>(name: &[u8], errors: &mut E) {
+    let _ = errors.write_all(b"cannot watch ");
+    let _ = errors.write_all(name);
+    let _ = errors.write_all(
+        b": name a global variable, N. of a set, a statistic, or what an entity has with its number, as N.QUEUE(3)\n",
     );
+}
+
+// Runs a model whose ticks or values are shown. Its report goes to the errors.
+fn run_in_lines<R: Read + Drop, C: Clock + Drop, O: Write, E: Write, T: Write>(
+    job: &Job<'_, C>,
+    model: Model,
+    reader: R,
+    output: &mut O,
+    errors: &mut E,
+    told: &mut T,
+) -> Result<Outcome, ProgramFailure> {
+    let watches = match watches_in(job, errors) {
+        Ok(Some(watches)) => watches,
+        Ok(None) => {
+            model.release();
+            return Err(ProgramFailure::Input);
+        }
+        Err(trouble) => {
+            model.release();
+            return Err(trouble);
+        }
+    };
+    let Ok(mut lines) = BufWriter::new(job.subject.alloc, Retrying::new(output)) else {
+        model.release();
+        return Err(ProgramFailure::Memory);
+    };
+    let session = match started(job, model, reader, errors) {
+        Ok(session) => session,
+        Err(outcome) => return Ok(outcome),
+    };
+    let ended = shown_lines(job, session, watches, &mut lines, told);
+    if lines.flush().is_err() {
+        return Err(ProgramFailure::Report);
+    }
+    ended
+}
+
+// Runs a session whose ticks or values are shown.
+fn shown_lines<R: Read + Drop, W: Write + Drop, C: Clock + Drop, L: Write, T: Write>(
+    job: &Job<'_, C>,
+    session: Session<Kept<Counted<R>>, Counted<W>>,
+    watches: Vec<Watch>,
+    lines: &mut L,
+    told: &mut T,
+) -> Result<Outcome, ProgramFailure> {
+    let mut session = session;
+    let mut watches = watches;
+    let shown = Shown {
+        ticks: job.order.trace,
+        events: job.order.events,
+    };
+    let mut told = Told::new(
+        job.subject.alloc,
+        job.clock,
+        told,
+        job.order.ticks,
+        job.order.progress,
+    );
+    let parts = Parts {
+        ticks: job.order.ticks,
+        shown,
+    };
+    let stop = run_shown(&job.subject, &mut session, parts, &mut watches, lines, &mut told);
     told.end();
     let stop = match stop {
         Ok(stop) => stop,
         Err(Unshown::Memory) => return Err(ProgramFailure::Memory),
         Err(Unshown::Output) => return Err(ProgramFailure::Report),
     };
-    let page = ending_of(subject, &session, stop);
-    let sent = match page {
-        Ok(page) => lines.write_all(page.text.as_slice()).is_ok(),
-        Err(_) => return Err(ProgramFailure::Memory),
+    let Ok(page) = ending_of(&job.subject, &session, stop) else {
+        return Err(ProgramFailure::Memory);
     };
-    if !sent || lines.flush().is_err() {
+    if lines.write_all(page.text.as_slice()).is_err() {
         return Err(ProgramFailure::Report);
     }
     Ok(Outcome::Stopped(stop, session.used()))
-}
-
-// Says that a name can't be watched.
-fn refuse_watch<E: Write>(name: &[u8], errors: &mut E) -> Result<Outcome, ProgramFailure> {
-    let _ = errors.write_all(b"cannot watch ");
-    let _ = errors.write_all(name);
-    let _ = errors.write_all(
-        b": name a global variable, N. of a set, a statistic, or what an entity has with its number, as N.QUEUE(3)\n",
-    );
-    Err(ProgramFailure::Input)
-}
-
-// Runs a model of which nothing but its ending is shown.
-fn plain_run<R: Read + Drop, C: Clock, O: Write, E: Write>(
-    subject: &Subject<'_>,
-    model: Model,
-    run: &RunOrder<'_>,
-    reader: R,
-    clock: &C,
-    output: &mut O,
-    errors: &mut E,
-) -> Result<(Page, Result<Outcome, ProgramFailure>), ProgramFailure> {
-    let Ok(report) = BufWriter::new(subject.alloc, Retrying::new(output)) else {
-        model.release();
-        return Err(ProgramFailure::Memory);
-    };
-    let reader = Kept::new(Counted::new(reader));
-    let writer = Counted::new(report);
-    let mut session = match Session::start(subject.alloc, model, reader, writer) {
-        Ok(session) => session,
-        Err(_) => {
-            let outcome = Outcome::Stopped(Stop::Memory, 0);
-            return Ok((Page::new(subject.alloc), Ok(outcome)));
-        }
-    };
-    let mut told = Told::new(subject.alloc, clock, errors, run.ticks, run.progress);
-    let stop = run_in_pieces(&mut session, run.ticks, &mut told);
-    told.end();
-    let page = match ending_of(subject, &session, stop) {
-        Ok(page) => page,
-        Err(_) => return Err(ProgramFailure::Memory),
-    };
-    let used = session.used();
-    let (_reader, writer) = session.close();
-    match writer.into_inner().flush() {
-        Ok(()) => Ok((page, Ok(Outcome::Stopped(stop, used)))),
-        Err(_) => Err(ProgramFailure::Report),
-    }
 }
 
 // What is said of how a run ended.

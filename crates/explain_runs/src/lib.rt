@@ -15,6 +15,6 @@ pub use endings::add_fault;
 pub use guide::{Guide, Section, compile_with_names, line_at, section_at};
 pub use kept::{DataWord, Kept};
 pub use progress::{Progress, Silent};
-pub use shows::{Shown, Subject, Unshown, run_in_pieces, run_shown};
+pub use shows::{Parts, Shown, Subject, Unshown, run_in_pieces, run_shown};
 pub use ticks::{Tick, next_tick};
 pub use watches::{Watch, watches_of};

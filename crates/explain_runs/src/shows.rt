@@ -21,6 +21,13 @@ pub struct Shown {
     pub events: bool,
 }
 
+/// The ticks that a run is given, and what is shown of them.
+#[derive(Clone, Copy, Debug, PartialEq, Eq)]
+pub struct Parts {
+    pub ticks: u64,
+    pub shown: Shown,
+}
+
 /// Why a run was not shown to its end.
 #[derive(Clone, Copy, Debug, PartialEq, Eq)]
 pub enum Unshown {
@@ -121,12 +128,12 @@ fn show_heads<O: Write>(
 pub fn run_shown<R: FaultyRead, W: FaultyWrite, O: Write, P: Progress>(
     subject: &Subject<'_>,
     session: &mut Session<R, W>,
-    ticks: u64,
-    shown: Shown,
+    parts: Parts,
     watches: &mut Vec<Watch>,
     output: &mut O,
     progress: &mut P,
 ) -> Result<Stop, Unshown> {
+    let Parts { ticks, shown } = parts;
     show_heads(subject, shown, output)?;
     let mut stop = session.run(0);
     show_changes(subject, session, watches, output)?;

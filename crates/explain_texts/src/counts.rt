@@ -222,7 +222,7 @@ pub fn explain_fields(
         if line_of(list, index) == line.0 && word_at(list, index) == Some(Word::Print) {
             let items = item_count(list, index);
             let fields = field_count(alloc, list, index)?;
-            let only = next_print(list, index, line) == None;
+            let only = next_print(list, index, line).is_none();
             if items != fields || only {
                 return explain_print(alloc, page, text, list, index);
             }

@@ -1,7 +1,7 @@
 //! What is said of a name in a line: what is wrong with it, and a name that is spelled alike.
 
 use crate::page::Page;
-use crate::places::{show_marked, spelled, stretch_of};
+use crate::places::{show_marked, stretch_of};
 use crate::similar::nearest;
 use ss_base::Name;
 use ss_lex::{Token, TokenKind, tokens};
@@ -42,10 +42,7 @@ pub fn show_name(
     match tokens(alloc, text) {
         Err(_) => show_marked(page, text, line, None),
         Ok(all) => match token_of(all.list(), line, name) {
-            Some(token) => {
-                let _ = spelled(text, token);
-                show_marked(page, text, token.line.0, Some(stretch_of(token)))
-            }
+            Some(token) => show_marked(page, text, token.line.0, Some(stretch_of(token))),
             None => show_marked(page, text, line, None),
         },
     }

@@ -52,8 +52,8 @@ pub fn name_of(section: &Section) -> Option<Name> {
 pub fn spelling_of_place<'a>(place: &'a Designator) -> &'a [u8] {
     match place {
         Designator::Name(name) => name.bytes(),
-        Designator::TimeV => b"TIME.V",
-        Designator::TimeA => b"TIME.A",
+        Designator::TimeV => b"TIME.V".as_slice(),
+        Designator::TimeA => b"TIME.A".as_slice(),
     }
 }
 

@@ -1,6 +1,6 @@
 //! Texts that are no programs: refusals 41 and 42.
 
-use crate::candidates::{candidates_after, has_word};
+use crate::candidates::{candidates_after, has_statement};
 use crate::expected::add_expected;
 use crate::fixes::{Fix, Window, best_of, left_after};
 use crate::forms::{form_of, leader_before};
@@ -12,7 +12,7 @@ use crate::prints::add_prints;
 use crate::trouble::Trouble;
 use crate::words::add_words;
 use ss_base::Line;
-use ss_lex::{Token, Word};
+use ss_lex::Token;
 use std::alloc::{AllocError, Global};
 
 // All changes that are worth a trial, those first that say most.
@@ -59,12 +59,15 @@ fn add_cure(alloc: Global, page: &mut Page, trouble: &Trouble<'_>) -> Result<boo
 
 // Adds the form of the statement or the declaration in which the place is.
 fn add_form(page: &mut Page, trouble: &Trouble<'_>) -> Result<(), AllocError> {
+    if has_statement(trouble.candidates) && trouble.begins_line() {
+        page.words(
+            "Form: a statement begins with LET, ADD, SUBTRACT, READ, PRINT, SKIP, IF, FOR, WHILE, UNTIL, CALL, RETURN, STOP, START, CREATE, DESTROY, FILE, REMOVE, SCHEDULE, CANCEL or RESET",
+        )?;
+        return page.end_line();
+    }
     let Some(leader) = leader_before(trouble.tokens, trouble.section, trouble.at) else {
         return Ok(());
     };
-    if has_word(trouble.candidates, Word::Let) && trouble.begins_line() {
-        return Ok(());
-    }
     let Some(word) = word_at(trouble.tokens, leader) else {
         return Ok(());
     };
@@ -80,7 +83,8 @@ fn add_form(page: &mut Page, trouble: &Trouble<'_>) -> Result<(), AllocError> {
 
 // Adds the constructs that are open at the place, each with its line, the last first.
 fn add_opens(page: &mut Page, trouble: &Trouble<'_>) -> Result<(), AllocError> {
-    if !is_frame_word(trouble.tokens, trouble.at) || trouble.opens.is_empty() {
+    let is_between = has_statement(trouble.candidates) || trouble.candidates.is_empty();
+    if !is_frame_word(trouble.tokens, trouble.at) || trouble.opens.is_empty() || !is_between {
         return Ok(());
     }
     page.words("Open there, the last first:")?;
