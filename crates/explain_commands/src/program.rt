@@ -3,7 +3,8 @@
 use crate::order::{Order, RunOrder};
 use crate::told::Told;
 use explain_runs::{
-    Kept, Parts, Shown, Subject, Unshown, Watch, add_fault, compile_with_names, run_in_pieces,
+    Kept, Parts, Shown, Subject, Unshown, Watch, add_fault, add_pause, compile_with_names,
+    run_in_pieces,
     run_shown, watches_of,
 };
 use explain_texts::{Page, explain_text};
@@ -208,7 +209,7 @@ fn run_with<R: Read + Drop, C: Clock + Drop, O: Write, E: Write, T: Write>(
     let mut told = Told::new(alloc, job.clock, told, job.order.ticks, job.order.progress);
     let stop = run_in_pieces(&mut session, job.order.ticks, &mut told);
     told.end();
-    let page = ending_of(&job.subject, &session, stop);
+    let page = ending_of(&job.subject, &mut session, stop);
     let outcome = Outcome::Stopped(stop, session.used());
     let (_reader, writer) = session.close();
     let mut report = writer.into_inner();
@@ -330,7 +331,7 @@ fn shown_lines<R: Read + Drop, W: Write + Drop, C: Clock + Drop, L: Write, T: Wr
         Err(Unshown::Memory) => return Err(ProgramFailure::Memory),
         Err(Unshown::Output) => return Err(ProgramFailure::Report),
     };
-    let Ok(page) = ending_of(&job.subject, &session, stop) else {
+    let Ok(page) = ending_of(&job.subject, &mut session, stop) else {
         return Err(ProgramFailure::Memory);
     };
     if lines.write_all(page.text.as_slice()).is_err() {
@@ -342,12 +343,16 @@ fn shown_lines<R: Read + Drop, W: Write + Drop, C: Clock + Drop, L: Write, T: Wr
 // What is said of how a run ended.
 fn ending_of<R: Read + Drop, W: Write + Drop>(
     subject: &Subject<'_>,
-    session: &Session<Kept<Counted<R>>, Counted<W>>,
+    session: &mut Session<Kept<Counted<R>>, Counted<W>>,
     stop: Stop,
 ) -> Result<Page, AllocError> {
     let mut page = Page::new(subject.alloc);
-    if let Stop::Fault(kind, line) = stop {
-        add_fault(&mut page, session, subject.guide, subject.text, kind, line)?;
+    match stop {
+        Stop::Fault(kind, line) => {
+            add_fault(&mut page, session, subject.guide, subject.text, kind, line)?;
+        }
+        Stop::Paused => add_pause(&mut page, session, subject.guide, subject.text)?,
+        _ => {}
     }
     Ok(page)
 }

@@ -4,9 +4,10 @@ use crate::faults::{cure_of, meaning_of};
 use crate::guide::{Guide, section_at};
 use crate::kept::Kept;
 use crate::references::{Reference, references_of};
-use crate::ticks::add_section;
+use crate::ticks::{add_section, next_tick};
 use explain_texts::{Page, show_line};
-use ss_base::{FaultKind, FaultyRead, FaultyWrite, Line};
+use ss_base::{ClassKind, FaultKind, FaultyRead, FaultyWrite, Line, Name};
+use ss_code_instructions::instruction::Instruction;
 use ss_engine::Session;
 use std::alloc::AllocError;
 
@@ -114,6 +115,104 @@ fn has_entity(kind: FaultKind) -> bool {
     )
 }
 
+// Whether a class is one of notices.
+fn is_notice(guide: &Guide, class: usize) -> bool {
+    matches!(
+        guide.names.classes.values().get(class),
+        Some(ClassKind::Notice)
+    )
+}
+
+// The reference of the instruction at which a run rests, to an entity.
+fn subject_at<R: FaultyRead, W: FaultyWrite>(session: &Session<R, W>) -> Option<Reference> {
+    let instruction = session.code().instruction(session.place())?;
+    let code = session.code();
+    let (subject, _) = references_of(code.layout(), code.statistics(), &instruction);
+    subject
+}
+
+// The class of the entity that an instruction refers to, where it is another than it has to be.
+fn other_class<R: FaultyRead, W: FaultyWrite>(
+    session: &Session<R, W>,
+    guide: &Guide,
+) -> Option<Name> {
+    let subject = subject_at(session)?;
+    let number = session.number(&subject.address)?;
+    let found = session.class_of(number)?;
+    if Some(found) == subject.class {
+        return None;
+    }
+    guide.class_name(found)
+}
+
+// Whether the instruction at which a run rests schedules or cancels a notice that is there.
+fn uses_notice<R: FaultyRead, W: FaultyWrite>(session: &Session<R, W>, guide: &Guide) -> bool {
+    match subject_at(session) {
+        Some(Reference {
+            class: Some(class), ..
+        }) => is_notice(guide, class),
+        _ => false,
+    }
+}
+
+// Whether the instruction at which a run rests asks for a statistic.
+fn asks_statistic<R: FaultyRead, W: FaultyWrite>(session: &Session<R, W>) -> bool {
+    matches!(
+        session.code().instruction(session.place()),
+        Some(Instruction::Figure { .. } | Instruction::LookMean { .. })
+    )
+}
+
+// Adds what helps against a fault, by what the instruction does.
+fn add_cure<R: FaultyRead, W: FaultyWrite>(
+    page: &mut Page,
+    session: &Session<R, W>,
+    guide: &Guide,
+    kind: FaultKind,
+) -> Result<(), AllocError> {
+    page.words("Cure: ")?;
+    match kind {
+        FaultKind::DestroyedEntity if uses_notice(session, guide) => page.words(
+            "an event destroys its notice as it begins. Write SCHEDULE A or AN for a new notice, or SAVING THE EVENT NOTICE in the head of its EVENT.",
+        ),
+        FaultKind::DestroyedEntity | FaultKind::NoEntity if asks_statistic(session) => page.words(
+            "this statistic is of an attribute, so each entity has its own, which goes with it. For figures of all, TALLY a variable that is no attribute.",
+        ),
+        FaultKind::Index | FaultKind::WrongClass => match other_class(session, guide) {
+            Some(name) => {
+                page.words("the number is that of a ")?;
+                page.bytes(name.bytes())?;
+                page.words(". Look whether values are GIVEN in the order in which they are taken, and which variable holds the reference here.")
+            }
+            None => page.words(cure_of(kind.number())),
+        },
+        _ => page.words(cure_of(kind.number())),
+    }?;
+    page.end_line()
+}
+
+/// Adds what is known of a run whose ticks are used up.
+pub fn add_pause<R: FaultyRead, W: FaultyWrite>(
+    page: &mut Page,
+    session: &mut Session<R, W>,
+    guide: &Guide,
+    text: &[u8],
+) -> Result<(), AllocError> {
+    let tick = next_tick(session, guide);
+    page.words("The ticks are used up, and the next would be due")?;
+    page.in_line(tick.line)?;
+    page.words(":")?;
+    page.end_line()?;
+    show_line(page, text, tick.line)?;
+    add_place(page, session, guide)?;
+    page.words(if tick.is_event {
+        "Cure: give more --ticks. If the run should have ended, look for an event that schedules itself each time: put its SCHEDULE into an IF, as IF TIME.V LT 480 .. ALWAYS."
+    } else {
+        "Cure: give more --ticks. If the run should have ended, look whether something in the loop changes what it ends by. A loop takes no time."
+    })?;
+    page.end_line()
+}
+
 /// Adds what is known of a fault to which a run came.
 pub fn add_fault<R: FaultyRead, W: FaultyWrite>(
     page: &mut Page,
@@ -136,9 +235,7 @@ pub fn add_fault<R: FaultyRead, W: FaultyWrite>(
         add_references(page, session, guide)?;
     }
     add_word(page, session)?;
-    page.words("Cure: ")?;
-    page.words(cure_of(kind.number()))?;
-    page.end_line()?;
+    add_cure(page, session, guide, kind)?;
     page.words("Read: docs/LANGUAGE.md, ")?;
     page.number(u64::from(kind.number()))?;
     page.words(" ")?;

@@ -99,7 +99,7 @@ static FAULTS: [(u32, &str, &str); 22] = [
     (
         20,
         "the word of the data is no value of what is read",
-        "write a whole number in the data, or DEFINE the variable as ALPHA. Count the words: one too many shifts all others.",
+        "look whether READ names its variables in the order of the data, and whether a word is missing or too many there. A variable for texts needs a DEFINE as ALPHA.",
     ),
     (
         21,

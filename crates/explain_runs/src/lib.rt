@@ -11,7 +11,7 @@ mod shows;
 mod ticks;
 mod watches;
 
-pub use endings::add_fault;
+pub use endings::{add_fault, add_pause};
 pub use guide::{Guide, Section, compile_with_names, line_at, section_at};
 pub use kept::{DataWord, Kept};
 pub use progress::{Progress, Silent};

@@ -173,6 +173,50 @@ fn show_pictures(
     Ok(())
 }
 
+// The first field with decimals of the pictures of a PRINT, as it is written.
+fn decimal_field<'a>(list: &'a [Token], print: usize) -> Option<&'a [u8]> {
+    let mut begun = false;
+    for index in print..list.len() {
+        match &list.get(index)?.kind {
+            TokenKind::Picture(line) => {
+                begun = true;
+                if let Some(field) = decimals_in(line.bytes()) {
+                    return Some(field);
+                }
+            }
+            _ => {
+                if begun {
+                    return None;
+                }
+            }
+        }
+    }
+    None
+}
+
+// The first field with decimals of a line.
+fn decimals_in(line: &[u8]) -> Option<&[u8]> {
+    let point = line.windows(3).position(|three| three == b"*.*".as_slice())?;
+    let (before, after) = line.split_at(point.saturating_add(1));
+    let whole = before.iter().rev().take_while(|byte| **byte == b'*').count();
+    let part = after
+        .iter()
+        .skip(1)
+        .take_while(|byte| **byte == b'*')
+        .count();
+    let start = before.len().saturating_sub(whole);
+    let end = before.len().saturating_add(1).saturating_add(part).min(line.len());
+    Some(&line[start..end])
+}
+
+// Says that a period makes one field of two.
+fn add_period(page: &mut Page, field: &[u8]) -> Result<(), AllocError> {
+    page.words("Cure: ")?;
+    page.bytes(field)?;
+    page.words(" is one field, for a MEAN alone. For two numbers write a blank or a colon between the asterisks, as **:**.")?;
+    page.end_line()
+}
+
 // Says how many fields and values a PRINT has.
 fn explain_print(
     alloc: Global,
@@ -197,6 +241,9 @@ fn explain_print(
     page.end_line()?;
     show_line(page, text, line_of(list, print))?;
     show_pictures(page, text, list, print)?;
+    if let (true, Some(field)) = (items > fields, decimal_field(list, print)) {
+        return add_period(page, field);
+    }
     page.words(if items > fields {
         "Cure: write a field of asterisks for each value into the pictures, with blanks between, or leave a value out."
     } else if items < fields {

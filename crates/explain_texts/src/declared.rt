@@ -5,7 +5,9 @@ use crate::page::Page;
 use crate::places::show_marked;
 use ss_base::{Line, Name};
 use ss_names_declarations::{Declaration, Declared, declarations_of};
+use ss_names_uses::{Used, uses_of};
 use ss_tables_rules::TableError;
+use ss_tree::expression::Designator;
 use ss_tree::preamble::{ClassKind, Mode};
 use ss_tree::program::Program;
 use std::alloc::{AllocError, Global};
@@ -162,6 +164,7 @@ fn explain_mode(
     alloc: Global,
     page: &mut Page,
     text: &[u8],
+    program: &Program,
     all: &[Declaration],
     line: Line,
 ) -> Result<(), AllocError> {
@@ -192,13 +195,85 @@ fn explain_mode(
             return page.end_line();
         }
     }
-    plain(page, text, line, "a name here has no mode")?;
+    match name_without_mode(alloc, program, all, line)? {
+        Some(name) => {
+            begin_with_name(page, line.0, name.bytes())?;
+            page.words("this name has no mode")?;
+            show_name(alloc, page, text, line.0, name.bytes())?;
+        }
+        None => plain(page, text, line, "a name here has no mode")?,
+    }
     page.words(if usual {
         "Cure: write NORMALLY, MODE IS INTEGER: there is no REAL."
     } else {
-        "Cure: write NORMALLY, MODE IS INTEGER in the line after PREAMBLE."
+        "Cure: write NORMALLY, MODE IS INTEGER in the line after PREAMBLE, which gives a mode to all names, or a DEFINE for this one."
     })?;
     page.end_line()
+}
+
+// Whether a declaration gives a name a meaning or a mode in all sections.
+fn is_global(all: &[Declaration], name: &Name) -> bool {
+    all.iter().any(|one| match slot_of(&one.what) {
+        Some((other, slot)) => {
+            other == *name && !matches!(slot, Slot::Inside(_) | Slot::Subject | Slot::Other)
+        }
+        None => false,
+    })
+}
+
+// Whether a DEFINE of a section or of the preamble gives a name a mode.
+fn is_defined(all: &[Declaration], name: &Name) -> bool {
+    all.iter().any(|one| match &one.what {
+        Declared::Variable { variable, .. } | Declared::Local { variable, .. } => variable == name,
+        _ => false,
+    })
+}
+
+// The first name of a line that has no mode.
+fn name_without_mode(
+    alloc: Global,
+    program: &Program,
+    all: &[Declaration],
+    line: Line,
+) -> Result<Option<Name>, AllocError> {
+    for one in all {
+        if one.line.0 != line.0 {
+            continue;
+        }
+        match &one.what {
+            Declared::Attribute {
+                attribute: name,
+                ..
+            }
+            | Declared::Parameter {
+                parameter: name,
+                ..
+            } => {
+                if !is_defined(all, name) {
+                    return Ok(Some(*name));
+                }
+            }
+            _ => {}
+        }
+    }
+    for section in &program.sections {
+        for one in &uses_of(alloc, section)? {
+            if one.line.0 != line.0 {
+                continue;
+            }
+            if let Used::Place {
+                place: Designator::Name(name),
+                subscripts: 0,
+                ..
+            } = &one.what
+            {
+                if !is_global(all, name) && !is_defined(all, name) {
+                    return Ok(Some(*name));
+                }
+            }
+        }
+    }
+    Ok(None)
 }
 
 // The names of one kind.
@@ -399,7 +474,9 @@ pub fn explain_declared(
     let all = declarations_of(alloc, program)?;
     match error {
         TableError::Twice(line) => explain_twice(alloc, page, text, all.as_slice(), *line),
-        TableError::RealMode(line) => explain_mode(alloc, page, text, all.as_slice(), *line),
+        TableError::RealMode(line) => {
+            explain_mode(alloc, page, text, program, all.as_slice(), *line)
+        }
         TableError::UnknownClass(line) => explain_class(alloc, page, text, all.as_slice(), *line),
         TableError::UnknownSet(_) | TableError::NoOwner(_) | TableError::NoMember(_) => {
             explain_set(alloc, page, text, all.as_slice(), error)

@@ -1,7 +1,8 @@
 //! What was expected at a place, in words.
 
 use crate::candidates::{
-    Candidate, has_declaration, has_phrase, has_relation, has_statement, has_value, is_grouped,
+    Candidate, has_declaration, has_phrase, has_relation, has_statement, has_value, has_word,
+    is_grouped,
 };
 use crate::page::Page;
 use crate::spellings::spelling_of;
@@ -42,7 +43,10 @@ fn add_groups(
 
 // Whether the word may go on with what is complete without it.
 fn is_optional(word: Word) -> bool {
-    matches!(word, Word::And | Word::Or | Word::By | Word::Not)
+    matches!(
+        word,
+        Word::And | Word::Or | Word::By | Word::Not | Word::Called | Word::Yielding | Word::Giving
+    )
 }
 
 // The words that are expected and have no name together.
@@ -53,7 +57,9 @@ fn add_words(
 ) -> Result<(), AllocError> {
     for candidate in candidates {
         if let Candidate::Word(word) = candidate {
-            if !is_grouped(candidates, *word) && is_optional(*word) == optional {
+            let is_bare_test = matches!(word, Word::Empty | Word::In)
+                && has_word(candidates, Word::Is);
+            if !is_grouped(candidates, *word) && is_optional(*word) == optional && !is_bare_test {
                 all.push(spelling_of(*word))?;
             }
         }

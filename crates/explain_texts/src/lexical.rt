@@ -132,6 +132,18 @@ fn foreign_byte(line: &[u8]) -> Option<Piece> {
     })
 }
 
+// What a character is called that no text may have.
+fn foreign_words(bytes: &[u8]) -> &'static str {
+    match bytes {
+        [0xE2, 0x80, 0x9C..=0x9F, ..] => "a quotation mark of a word processor, which is not ASCII",
+        [0xE2, 0x80, 0x98..=0x9B, ..] => "an apostrophe of a word processor, which is not ASCII",
+        [0xE2, 0x80, 0x90..=0x95, ..] => "a dash of a word processor, which is not ASCII",
+        [0xC2, 0xA0, ..] => "a blank of a word processor, which is not ASCII",
+        [first, ..] if *first < 32 => "a control character",
+        _ => "a character that is not ASCII",
+    }
+}
+
 // What helps against the refusal.
 fn cure_of(error: &LexError) -> &'static str {
     match error {
@@ -162,7 +174,10 @@ fn add_found(
     piece: Option<Piece>,
 ) -> Result<(), AllocError> {
     match (error, piece) {
-        (LexError::NotAscii(_), Some(_)) => page.words("a character that is not ASCII"),
+        (LexError::NotAscii(_), Some(piece)) => {
+            let bytes = &line[piece.start.min(line.len())..piece.end.min(line.len())];
+            page.words(foreign_words(bytes))
+        }
         (_, Some(piece)) => {
             page.bytes(&line[piece.start.min(line.len())..piece.end.min(line.len())])?;
             page.words(match error {

@@ -1,14 +1,17 @@
 //! Notes on a text that is accepted: names and statements that are right, and look like a mistake.
 
 use crate::page::Page;
-use crate::places::{show_line, show_marked};
+use crate::places::{indentation, line_bytes, show_line, show_marked};
 use crate::sections::{Sections, name_of};
 use crate::similar::nearest;
-use ss_base::{Line, Name};
+use ss_base::{ClassKind, Line, Name};
+use ss_lex::{LexError, TokenKind, Word, tokens};
 use ss_names::{Meaning, Names};
 use ss_names_scopes::Locals;
 use ss_names_uses::{Role, Use, Used};
+use ss_parse::{Reach, reach_of};
 use ss_tree::expression::Designator;
+use ss_tree::preamble::PreambleStatement;
 use ss_tree::program::{Program, SectionKind};
 use ss_tree::statement::Statement;
 use std::alloc::{AllocError, Global};
@@ -198,28 +201,345 @@ fn parts_of(statement: &Statement) -> (&[Statement], &[Statement]) {
     }
 }
 
-// The line of the first STOP of some statements, those inside others too.
-fn stop_in(alloc: Global, body: &[Statement]) -> Result<Option<Line>, AllocError> {
+// Some statements and the lists of statements inside them, each list before those inside it.
+fn lists_of(alloc: Global, body: &[Statement]) -> Result<Vec<&[Statement]>, AllocError> {
     let mut lists = Vec::new(alloc);
     lists.push(body)?;
-    for _ in 0..1_000_000 {
-        let Some(list) = lists.pop() else {
-            return Ok(None);
+    let mut next = 0;
+    for _ in 0..u64::MAX {
+        let Some(list) = lists.get(next).copied() else {
+            break;
         };
+        next += 1;
         for statement in list {
-            if let Statement::Stop { line } = statement {
-                return Ok(Some(*line));
-            }
             let (first, second) = parts_of(statement);
+            if !first.is_empty() {
+                lists.push(first)?;
+            }
             if !second.is_empty() {
                 lists.push(second)?;
             }
-            if !first.is_empty() {
-                lists.push(first)?;
+        }
+    }
+    Ok(lists)
+}
+
+// The line of the first STOP of some statements, those inside others too.
+fn stop_in(alloc: Global, body: &[Statement]) -> Result<Option<Line>, AllocError> {
+    for list in &lists_of(alloc, body)? {
+        for statement in *list {
+            if let Statement::Stop { line } = statement {
+                return Ok(Some(*line));
             }
         }
     }
     Ok(None)
+}
+
+// Whether START SIMULATION is among some statements.
+fn has_start(alloc: Global, program: &Program) -> Result<bool, AllocError> {
+    for section in &program.sections {
+        for list in &lists_of(alloc, section.body.as_slice())? {
+            for statement in *list {
+                if let Statement::StartSimulation { .. } = statement {
+                    return Ok(true);
+                }
+            }
+        }
+    }
+    Ok(false)
+}
+
+// A note on a program with events that are never started.
+fn add_start(
+    alloc: Global,
+    page: &mut Page,
+    text: &[u8],
+    program: &Program,
+) -> Result<(), AllocError> {
+    let has_events = program
+        .sections
+        .iter()
+        .any(|section| matches!(section.kind, SectionKind::Event { .. }));
+    if !has_events || has_start(alloc, program)? {
+        return Ok(());
+    }
+    for section in &program.sections {
+        if let SectionKind::Main = &section.kind {
+            page.words("note: line ")?;
+            page.number(u64::from(section.line.0))?;
+            page.words(
+                ", MAIN: there are events, and no START SIMULATION, so none of them comes. Write START SIMULATION in MAIN, after what it schedules",
+            )?;
+            page.end_line()?;
+            show_line(page, text, section.line.0)?;
+        }
+    }
+    Ok(())
+}
+
+// Whether a line of picture is a statement, or closes one.
+fn is_statement(alloc: Global, bytes: &[u8]) -> Result<bool, AllocError> {
+    if bytes.windows(2).any(|two| two == b"**".as_slice()) {
+        return Ok(false);
+    }
+    let mut page = Page::new(alloc);
+    page.words("MAIN ")?;
+    page.bytes(bytes)?;
+    page.words(" END")?;
+    match tokens(alloc, page.text.as_slice()) {
+        Ok(all) => {
+            let has_words = all.list().len() > 2;
+            Ok(has_words && reach_of(alloc, all.list())? == Reach::Whole)
+        }
+        Err(LexError::Memory) => Err(AllocError),
+        Err(_) => Ok(false),
+    }
+}
+
+// Notes on lines that are printed and look like statements.
+fn add_pictures(alloc: Global, page: &mut Page, text: &[u8]) -> Result<(), AllocError> {
+    let all = match tokens(alloc, text) {
+        Ok(all) => all,
+        Err(LexError::Memory) => return Err(AllocError),
+        Err(_) => return Ok(()),
+    };
+    let mut print = Line(0);
+    for token in all.list() {
+        match &token.kind {
+            TokenKind::Word(Word::Print) => print = token.line,
+            TokenKind::Picture(line) => {
+                if is_statement(alloc, line.bytes())? {
+                    page.words("note: line ")?;
+                    page.number(u64::from(token.line.0))?;
+                    page.words(
+                        ": it looks like a statement, and it is printed: the PRINT of line ",
+                    )?;
+                    page.number(u64::from(print.0))?;
+                    page.words(" counts it as one of its pictures. Write a smaller number of LINES there, if it is to be carried out")?;
+                    page.end_line()?;
+                    show_line(page, text, token.line.0)?;
+                }
+            }
+            _ => {}
+        }
+    }
+    Ok(())
+}
+
+// The line of a statement.
+fn line_of(statement: &Statement) -> Line {
+    match statement {
+        Statement::Let { line, .. }
+        | Statement::Add { line, .. }
+        | Statement::Subtract { line, .. }
+        | Statement::Call { line, .. }
+        | Statement::Return { line }
+        | Statement::Stop { line }
+        | Statement::Read { line, .. }
+        | Statement::StartSimulation { line }
+        | Statement::If { line, .. }
+        | Statement::Loop { line, .. }
+        | Statement::Find { line, .. }
+        | Statement::FindIf { line, .. }
+        | Statement::Create { line, .. }
+        | Statement::CreateEvery { line, .. }
+        | Statement::Destroy { line, .. }
+        | Statement::File { line, .. }
+        | Statement::RemoveEnd { line, .. }
+        | Statement::Remove { line, .. }
+        | Statement::ScheduleNew { line, .. }
+        | Statement::Schedule { line, .. }
+        | Statement::Cancel { line, .. }
+        | Statement::Reset { line, .. }
+        | Statement::Print { line, .. }
+        | Statement::Skip { line, .. } => *line,
+    }
+}
+
+// How deep a line is indented.
+fn depth(text: &[u8], line: Line) -> usize {
+    indentation(line_bytes(text, line.0))
+}
+
+// Whether a loop has one statement in a further line, and the statement after the loop is indented as if it belonged to it.
+fn looks_longer(text: &[u8], one: &Statement, next: &Statement) -> bool {
+    let Statement::Loop { line, body, .. } = one else {
+        return false;
+    };
+    let (Some(only), 1) = (body.first(), body.len()) else {
+        return false;
+    };
+    let (inner, after) = (line_of(only), line_of(next));
+    inner.0 > line.0
+        && after.0 > inner.0
+        && depth(text, inner) > depth(text, *line)
+        && depth(text, after) == depth(text, inner)
+}
+
+// Notes on loops without DO that look as if they had more than one statement.
+fn add_loops(
+    alloc: Global,
+    page: &mut Page,
+    text: &[u8],
+    program: &Program,
+) -> Result<(), AllocError> {
+    for section in &program.sections {
+        for list in &lists_of(alloc, section.body.as_slice())? {
+            for (one, next) in list.iter().zip(list.iter().skip(1)) {
+                if looks_longer(text, one, next) {
+                    page.words("note: line ")?;
+                    page.number(u64::from(line_of(one).0))?;
+                    page.words(", FOR or WHILE without DO: only the statement of the next line belongs to the loop, and line ")?;
+                    page.number(u64::from(line_of(next).0))?;
+                    page.words(" is indented as if it did too. Write DO at the end of the head, and LOOP after the last statement")?;
+                    page.end_line()?;
+                    show_line(page, text, line_of(one).0)?;
+                }
+            }
+        }
+    }
+    Ok(())
+}
+
+// Notes on statistics of an attribute that a DEFINE as a variable names.
+fn add_subjects(
+    page: &mut Page,
+    text: &[u8],
+    program: &Program,
+    names: &Names,
+) -> Result<(), AllocError> {
+    for statement in &program.preamble {
+        let PreambleStatement::Statistics { line, subject, .. } = statement else {
+            continue;
+        };
+        let Some(Meaning::Attribute { class, .. }) = names.meaning(subject) else {
+            continue;
+        };
+        if !is_defined(program, subject) || !is_passing(names, class) {
+            continue;
+        }
+        page.words("note: line ")?;
+        page.number(u64::from(line.0))?;
+        page.words(", ")?;
+        page.bytes(subject.bytes())?;
+        page.words(": it is an attribute, so each entity has figures of its own, which go with it. A DEFINE of an attribute gives its mode and makes no variable. For figures of all take another name for the variable")?;
+        page.end_line()?;
+        show_line(page, text, line.0)?;
+    }
+    Ok(())
+}
+
+// Whether a DEFINE as a variable names this.
+fn is_defined(program: &Program, name: &Name) -> bool {
+    program.preamble.iter().any(|statement| match statement {
+        PreambleStatement::DefineVariables { names, .. } => names.contains(name),
+        _ => false,
+    })
+}
+
+// Whether the entities of a class come and go.
+fn is_passing(names: &Names, class: usize) -> bool {
+    match names.classes.values().get(class) {
+        Some(kind) => *kind != ClassKind::Permanent,
+        None => false,
+    }
+}
+
+// The first name that a section is given.
+fn first_parameter(uses: &[Use]) -> Option<Name> {
+    for one in uses {
+        if let Used::Parameter { name } = &one.what {
+            return Some(*name);
+        }
+    }
+    None
+}
+
+// Whether a section puts an entity into the variable of a class.
+fn sets_class(uses: &[Use], class: &Name) -> bool {
+    uses.iter().any(|one| match &one.what {
+        Used::Class {
+            class: other,
+            called: false,
+            ..
+        } => other == class,
+        Used::Place {
+            role: Role::Target | Role::LoopVariable,
+            place: Designator::Name(name),
+            ..
+        } => name == class,
+        Used::Parameter { name } | Used::Local { name, .. } => name == class,
+        _ => false,
+    })
+}
+
+// The class of the permanent entities whose attribute a place is, where no entity is named.
+fn implied_class(names: &Names, locals: &Locals, one: &Use) -> Option<(Name, Name)> {
+    let Used::Place {
+        place: Designator::Name(name),
+        subscripts: 0,
+        ..
+    } = &one.what
+    else {
+        return None;
+    };
+    if locals.number(name).is_some() {
+        return None;
+    }
+    let Some(Meaning::Attribute { class, .. }) = names.meaning(name) else {
+        return None;
+    };
+    if is_passing(names, class) {
+        return None;
+    }
+    let class = names.classes.keys().get(class).copied()?;
+    Some((*name, class))
+}
+
+// A note on an attribute without its subscript in an event that is given something else.
+fn add_implied(
+    page: &mut Page,
+    text: &[u8],
+    names: &Names,
+    locals: &Locals,
+    uses: &[Use],
+) -> Result<(), AllocError> {
+    let Some(parameter) = first_parameter(uses) else {
+        return Ok(());
+    };
+    for one in uses {
+        let Some((name, class)) = implied_class(names, locals, one) else {
+            continue;
+        };
+        if sets_class(uses, &class) {
+            continue;
+        }
+        page.words("note: line ")?;
+        page.number(u64::from(one.line.0))?;
+        page.words(", ")?;
+        page.bytes(name.bytes())?;
+        page.words(": without a subscript it is that of the ")?;
+        page.bytes(class.bytes())?;
+        page.words(" in the variable ")?;
+        page.bytes(class.bytes())?;
+        page.words(", which this event does not set. Is it ")?;
+        page.bytes(name.bytes())?;
+        page.words("(")?;
+        page.bytes(parameter.bytes())?;
+        page.words(")?")?;
+        page.end_line()?;
+        return show_line(page, text, one.line.0);
+    }
+    Ok(())
+}
+
+// Whether the section of this number is that of an event.
+fn is_event(program: &Program, number: usize) -> bool {
+    match program.sections.get(number) {
+        Some(section) => matches!(section.kind, SectionKind::Event { .. }),
+        None => false,
+    }
 }
 
 // Whether MAIN has statements after START SIMULATION.
@@ -280,7 +600,14 @@ pub fn add_notes(
     for (number, uses) in sections.uses.iter().enumerate() {
         if let Some(locals) = sections.locals.get(number) {
             add_locals(alloc, page, text, names, locals, uses.as_slice())?;
+            if is_event(program, number) {
+                add_implied(page, text, names, locals, uses.as_slice())?;
+            }
         }
     }
-    add_stops(alloc, page, text, program)
+    add_stops(alloc, page, text, program)?;
+    add_start(alloc, page, text, program)?;
+    add_pictures(alloc, page, text)?;
+    add_loops(alloc, page, text, program)?;
+    add_subjects(page, text, program, names)
 }

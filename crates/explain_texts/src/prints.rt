@@ -1,7 +1,7 @@
 //! Changes of PRINT: its THUS, and its number of lines.
 
 use crate::fixes::Fix;
-use crate::opens::{head_at, line_of, word_at};
+use crate::opens::{head_at, is_frame_word, line_of, word_at};
 use crate::page::Page;
 use crate::places::{Stretch, line_at, line_bytes};
 use crate::spellings::{begins_statement};
@@ -123,8 +123,16 @@ fn add_more_lines(
     Ok(())
 }
 
+// Whether two asterisks are side by side.
+fn has_field(bytes: &[u8]) -> bool {
+    bytes.windows(2).any(|two| two == b"**".as_slice())
+}
+
 // Whether a line of picture looks like a statement.
 fn looks_like_statement(alloc: Global, bytes: &[u8]) -> Result<bool, AllocError> {
+    if has_field(bytes) {
+        return Ok(false);
+    }
     match tokens(alloc, bytes) {
         Err(_) => Ok(false),
         Ok(all) => Ok(match word_at(all.list(), 0) {
@@ -187,22 +195,48 @@ fn add_swallowed(
     Ok(())
 }
 
+// The line ends after THUS, where a picture goes on there.
+fn add_line_end(
+    alloc: Global,
+    fixes: &mut Vec<Fix>,
+    trouble: &Trouble<'_>,
+) -> Result<(), AllocError> {
+    let is_trigger = trouble.at > 0 && has_trigger(trouble, trouble.at - 1, trouble.at);
+    if !is_trigger || trouble.begins_line() {
+        return Ok(());
+    }
+    let start = trouble.stretch().start;
+    let mut say = Page::new(alloc);
+    say.words("A picture is a line of its own: end line ")?;
+    say.number(u64::from(trouble.line()))?;
+    say.words(" after THUS, and write the picture into the next line.")?;
+    fixes.push(Fix {
+        stretch: Stretch { start, end: start },
+        with: Vec::from_slice(alloc, b"\n")?,
+        say,
+    })?;
+    Ok(())
+}
+
 /// Adds the changes of PRINTs before the place.
 pub fn add_prints(
     alloc: Global,
     fixes: &mut Vec<Fix>,
     trouble: &Trouble<'_>,
 ) -> Result<(), AllocError> {
-    if let Some(print) = print_before(trouble) {
-        add_thus(alloc, fixes, trouble, print)?;
-        if trouble.begins_line() || trouble.line() > line_of(trouble.tokens, print) {
-            add_more_lines(alloc, fixes, trouble, print)?;
-        }
-    }
     for index in trouble.section..trouble.at.min(trouble.tokens.len()) {
         if word_at(trouble.tokens, index) == Some(Word::Print) {
             add_swallowed(alloc, fixes, trouble, index)?;
         }
+    }
+    let Some(print) = print_before(trouble) else {
+        return Ok(());
+    };
+    add_thus(alloc, fixes, trouble, print)?;
+    add_line_end(alloc, fixes, trouble)?;
+    let is_later = trouble.line() > line_of(trouble.tokens, print);
+    if is_later && !is_frame_word(trouble.tokens, trouble.at) {
+        add_more_lines(alloc, fixes, trouble, print)?;
     }
     Ok(())
 }

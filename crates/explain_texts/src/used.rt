@@ -9,7 +9,7 @@ use ss_base::{ClassKind, Line, Mode, Name};
 use ss_check_rules::CheckError;
 use ss_names::{Meaning, Names};
 use ss_names_scopes::{Scope, mode_of, variable_of};
-use ss_names_uses::{ClassNeed, Role, Use, Used};
+use ss_names_uses::{ClassNeed, ModeOf, Role, Use, Used};
 use ss_tree::expression::Designator;
 use ss_tree::preamble::PreambleStatement;
 use ss_tree::program::{Program, SectionKind};
@@ -100,6 +100,84 @@ fn explain_kind<F: Fn(Meaning) -> bool>(
     add_cure(page, "", name, wanted.1)
 }
 
+// The name of a set whose members are of a class.
+fn set_of(read: &Read<'_>, class: usize) -> Option<Name> {
+    let place = read
+        .names
+        .sets
+        .iter()
+        .position(|set| set.member == Some(class))?;
+    read.names.set_names.as_slice().get(place).copied()
+}
+
+// Whether a FOR EACH goes over a class whose entities come and go and are in a set, which is then explained.
+fn explain_walk(
+    alloc: Global,
+    page: &mut Page,
+    read: &Read<'_>,
+    line: Line,
+    class: &Name,
+) -> Result<bool, AllocError> {
+    let Some(Meaning::Class { class: number, .. }) = read.names.meaning(class) else {
+        return Ok(false);
+    };
+    let Some(set) = set_of(read, number) else {
+        return Ok(false);
+    };
+    begin_with_name(page, line.0, class.bytes())?;
+    page.words("it comes and goes, and FOR EACH goes over a permanent class or over a set")?;
+    show_name(alloc, page, read.text, line.0, class.bytes())?;
+    page.words("Cure: write FOR EACH ")?;
+    page.bytes(class.bytes())?;
+    page.words(" IN ")?;
+    page.bytes(set.bytes())?;
+    page.words(", which goes over those in this set.")?;
+    page.end_line()?;
+    Ok(true)
+}
+
+// The word of the language that a name stands for without its ending.
+fn function_like(name: &[u8]) -> Option<&'static str> {
+    let known = [
+        ("ABS", "ABS.F"),
+        ("DIV", "DIV.F"),
+        ("MOD", "MOD.F"),
+        ("MIN", "MIN.F"),
+        ("MAX", "MAX.F"),
+        ("TIME", "TIME.V"),
+        ("NOW", "TIME.V"),
+        ("CLOCK", "TIME.V"),
+        ("TIME.NOW", "TIME.V"),
+        ("DIV.I", "DIV.F"),
+        ("MODULO", "MOD.F"),
+        ("ABSOLUTE", "ABS.F"),
+    ];
+    for (short, whole) in known {
+        if name == short.as_bytes() {
+            return Some(whole);
+        }
+    }
+    None
+}
+
+// Whether a name stands for a function of the language, which is then explained.
+fn explain_function(
+    alloc: Global,
+    page: &mut Page,
+    read: &Read<'_>,
+    line: Line,
+    name: &[u8],
+) -> Result<bool, AllocError> {
+    let Some(whole) = function_like(name) else {
+        return Ok(false);
+    };
+    begin_with_name(page, line.0, name)?;
+    page.words("it is not declared")?;
+    show_name(alloc, page, read.text, line.0, name)?;
+    add_cure(page, "write ", whole.as_bytes(), ", as the language calls it.")?;
+    Ok(true)
+}
+
 // Whether a class is not what its place needs, which is then explained.
 fn explain_class(
     alloc: Global,
@@ -114,6 +192,9 @@ fn explain_class(
         if serves(need, kind) {
             return Ok(false);
         }
+    }
+    if need == ClassNeed::Permanent && explain_walk(alloc, page, read, line, class)? {
+        return Ok(true);
     }
     let help = match need {
         ClassNeed::Single => " has to be an EVERY under TEMPORARY ENTITIES, or under EVENT NOTICES.",
@@ -180,6 +261,9 @@ fn explain_place(
         return Ok(false);
     }
     let spelling = spelling_of_place(&place);
+    if meaning.is_none() && explain_function(alloc, page, read, line, spelling)? {
+        return Ok(true);
+    }
     match role {
         Role::Set => {
             let is = |meaning: Meaning| matches!(meaning, Meaning::Set { .. });
@@ -455,6 +539,96 @@ fn mode_word(mode: Mode) -> &'static str {
     }
 }
 
+// The name of a value, if it has one.
+fn name_in(what: &ModeOf) -> Option<Name> {
+    match what {
+        ModeOf::Named(name) => Some(*name),
+        ModeOf::Given { routine, .. } | ModeOf::Yielded { routine, .. } => Some(*routine),
+        ModeOf::Attribute { class, .. } => Some(*class),
+        ModeOf::Integer | ModeOf::Alpha => None,
+    }
+}
+
+// Whether two values of different modes meet, which is then explained.
+fn explain_same(
+    alloc: Global,
+    page: &mut Page,
+    read: &Read<'_>,
+    scope: &Scope<'_>,
+    one: &Use,
+    found: &ModeOf,
+    wanted: &ModeOf,
+) -> Result<bool, AllocError> {
+    let (left, right) = match (mode_in(scope, found), mode_in(scope, wanted)) {
+        (Some(left), Some(right)) if left != right => (left, right),
+        _ => return Ok(false),
+    };
+    match (name_in(found), name_in(wanted)) {
+        (Some(name), other) => {
+            begin_with_name(page, one.line.0, name.bytes())?;
+            page.words("it is ")?;
+            page.words(mode_word(left))?;
+            page.words(", and ")?;
+            match other {
+                Some(other) => page.bytes(other.bytes())?,
+                None => page.words("what it meets")?,
+            }
+            page.words(" is ")?;
+            page.words(mode_word(right))?;
+            show_name(alloc, page, read.text, one.line.0, name.bytes())?;
+        }
+        (None, Some(name)) => {
+            begin_with_name(page, one.line.0, name.bytes())?;
+            page.words("it is ")?;
+            page.words(mode_word(right))?;
+            page.words(", and what it meets is ")?;
+            page.words(mode_word(left))?;
+            show_name(alloc, page, read.text, one.line.0, name.bytes())?;
+        }
+        (None, None) => plain(page, read.text, one.line.0, "a number and a text meet here")?,
+    }
+    page.words(
+        "Cure: a text is in quotes, as \"1\", and its names are ALPHA; a number has no quotes, and its names are INTEGER. Change the quotes here, or the DEFINE of the name.",
+    )?;
+    page.end_line()?;
+    Ok(true)
+}
+
+// Whether a MEAN is used otherwise than as an item of PRINT, which is then explained.
+fn explain_mean(
+    alloc: Global,
+    page: &mut Page,
+    read: &Read<'_>,
+    line: Line,
+    place: &Designator,
+) -> Result<bool, AllocError> {
+    let spelling = spelling_of_place(place);
+    begin_with_name(page, line.0, spelling)?;
+    page.words("it is a MEAN, which can be printed and nothing else")?;
+    show_name(alloc, page, read.text, line.0, spelling)?;
+    page.words(
+        "Cure: give the same TALLY a SUM and a NUMBER, and write SUM GT 10 * NUMBER for a mean above 10, or DIV.F(SUM, NUMBER).",
+    )?;
+    page.end_line()?;
+    Ok(true)
+}
+
+// Whether a place is a MEAN.
+fn is_mean(scope: &Scope<'_>, place: &Designator) -> bool {
+    matches!(
+        scope.meaning(*place),
+        Some(Meaning::Statistic { fold: None, .. })
+    )
+}
+
+// Explains a field with decimals whose item is no MEAN.
+fn explain_field(page: &mut Page, text: &[u8], line: u32) -> Result<bool, AllocError> {
+    plain(page, text, line, "a field with decimals takes a MEAN alone")?;
+    page.words("Cure: leave the period out of the field, or name a MEAN for it.")?;
+    page.end_line()?;
+    Ok(true)
+}
+
 // 73.
 fn explain_mode(
     alloc: Global,
@@ -464,6 +638,11 @@ fn explain_mode(
     one: &Use,
 ) -> Result<bool, AllocError> {
     match &one.what {
+        Used::Place {
+            role: Role::Value,
+            place,
+            ..
+        } if is_mean(scope, place) => explain_mean(alloc, page, read, one.line, place),
         Used::Place {
             place,
             number: true,
@@ -488,39 +667,11 @@ fn explain_mode(
             )?;
             Ok(true)
         }
-        Used::Same { found, wanted } => {
-            let (found, wanted) = (mode_in(scope, found), mode_in(scope, wanted));
-            match (found, wanted) {
-                (Some(found), Some(wanted)) if found != wanted => {
-                    page.words("line ")?;
-                    page.number(u64::from(one.line.0))?;
-                    page.words(": a value is ")?;
-                    page.words(mode_word(found))?;
-                    page.words(" where ")?;
-                    page.words(mode_word(wanted))?;
-                    page.words(" is needed")?;
-                    page.end_line()?;
-                    show_marked(page, read.text, one.line.0, None)?;
-                    page.words(
-                        "Cure: numbers are INTEGER and texts in quotes are ALPHA: DEFINE the variable or the attribute in the other mode, as DEFINE NAME AS AN ALPHA VARIABLE.",
-                    )?;
-                    page.end_line()?;
-                    Ok(true)
-                }
-                _ => Ok(false),
-            }
-        }
-        Used::Mean { place } => {
-            let spelling = spelling_of_place(place);
-            begin_with_name(page, one.line.0, spelling)?;
-            page.words("a MEAN is printed alone, and has no other use")?;
-            show_name(alloc, page, read.text, one.line.0, spelling)?;
-            page.words(
-                "Cure: divide the SUM by the NUMBER with DIV.F, or print the MEAN as an item of its own.",
-            )?;
-            page.end_line()?;
-            Ok(true)
-        }
+        Used::Same { found, wanted } => explain_same(alloc, page, read, scope, one, found, wanted),
+        Used::Mean { place } => match scope.meaning(*place) {
+            Some(Meaning::Statistic { fold: None, .. }) => Ok(false),
+            _ => explain_field(page, read.text, one.line.0),
+        },
         _ => Ok(false),
     }
 }

@@ -7,7 +7,7 @@ use crate::opens::{head_at, line_of, word_at};
 use crate::page::Page;
 use crate::places::{Stretch, spelled};
 use crate::similar::is_like;
-use crate::spellings::{WORDS, spelling_of};
+use crate::spellings::{WORDS, begins_statement, spelling_of};
 use crate::trouble::Trouble;
 use ss_lex::{Symbol, Token, TokenKind, Word};
 use std::alloc::{AllocError, Global};
@@ -226,13 +226,19 @@ fn is_wrong_article(trouble: &Trouble<'_>, word: Word) -> bool {
     }
 }
 
-// A word is put in before the place; after the token before it, where that is in another line.
-fn put_in(alloc: Global, trouble: &Trouble<'_>, word: &str) -> Result<Fix, AllocError> {
+// Words are put in before the place; after the token before it, where that is in another line and the words begin nothing.
+fn put_in(
+    alloc: Global,
+    trouble: &Trouble<'_>,
+    called: &str,
+    with: &str,
+    begins: bool,
+) -> Result<Fix, AllocError> {
     let mut say = Page::new(alloc);
     say.words("Write ")?;
-    say.words(word)?;
+    say.words(called)?;
     let at = match trouble.before() {
-        Some(before) if trouble.begins_line() => {
+        Some(before) if trouble.begins_line() && !begins => {
             say.words(" after ")?;
             say.capitals(spelled(trouble.text, before))?;
             say.words(" at the end of line ")?;
@@ -249,9 +255,26 @@ fn put_in(alloc: Global, trouble: &Trouble<'_>, word: &str) -> Result<Fix, Alloc
     say.words(".")?;
     Ok(Fix {
         stretch: Stretch { start: at, end: at },
-        with: with_blanks(alloc, word.as_bytes())?,
+        with: with_blanks(alloc, with.as_bytes())?,
         say,
     })
+}
+
+// Whether a statement, a declaration or a section begins with the word.
+fn begins_something(word: Word) -> bool {
+    begins_statement(word)
+        || matches!(
+            word,
+            Word::Define
+                | Word::Every
+                | Word::Tally
+                | Word::Accumulate
+                | Word::Normally
+                | Word::Event
+                | Word::Routine
+                | Word::Main
+                | Word::Preamble
+        )
 }
 
 // Each expected word is put in.
@@ -263,7 +286,9 @@ fn add_put_in(
     for candidate in trouble.candidates {
         if let Candidate::Word(word) = candidate {
             if !is_wrong_article(trouble, *word) {
-                fixes.push(put_in(alloc, trouble, spelling_of(*word))?)?;
+                let spelling = spelling_of(*word);
+                let begins = begins_something(*word);
+                fixes.push(put_in(alloc, trouble, spelling, spelling, begins)?)?;
             }
         }
     }
@@ -323,13 +348,17 @@ fn add_signs(
     for candidate in trouble.candidates {
         match candidate {
             Candidate::Symbol(Symbol::CloseParenthesis) => {
-                fixes.push(put_in(alloc, trouble, ")")?)?;
+                fixes.push(put_in(alloc, trouble, ")", ")", false)?)?;
             }
             Candidate::Symbol(Symbol::OpenParenthesis) => {
-                fixes.push(put_in(alloc, trouble, "(")?)?;
+                fixes.push(put_in(alloc, trouble, "(", "(", false)?)?;
             }
-            Candidate::Symbol(Symbol::Equals) => fixes.push(put_in(alloc, trouble, "=")?)?,
-            Candidate::Separator => fixes.push(put_in(alloc, trouble, "a comma")?)?,
+            Candidate::Symbol(Symbol::Equals) => {
+                fixes.push(put_in(alloc, trouble, "=", "=", false)?)?;
+            }
+            Candidate::Separator => {
+                fixes.push(put_in(alloc, trouble, "a comma", ",", false)?)?;
+            }
             _ => {}
         }
     }
@@ -525,6 +554,153 @@ fn add_define_first(
     Ok(())
 }
 
+// Whether a condition begins after this token.
+fn begins_condition(tokens: &[Token], index: usize) -> bool {
+    matches!(
+        word_at(tokens, index),
+        Some(
+            Word::If
+                | Word::And
+                | Word::Or
+                | Word::With
+                | Word::When
+                | Word::Unless
+                | Word::While
+                | Word::Until
+        )
+    )
+}
+
+// Whether a token is this symbol.
+fn is_symbol(tokens: &[Token], index: usize, wanted: Symbol) -> bool {
+    match tokens.get(index) {
+        Some(token) => match &token.kind {
+            TokenKind::Symbol(symbol) => *symbol == wanted,
+            _ => false,
+        },
+        None => false,
+    }
+}
+
+// The parentheses round conditions in the line of the place are left out.
+fn add_bare_conditions(
+    alloc: Global,
+    fixes: &mut Vec<Fix>,
+    trouble: &Trouble<'_>,
+) -> Result<(), AllocError> {
+    let line = trouble.line();
+    let mut first = None;
+    let mut last = 0;
+    let mut depth: usize = 0;
+    let mut dropped: usize = 0;
+    let mut with = Page::new(alloc);
+    for index in trouble.section..trouble.tokens.len() {
+        if line_of(trouble.tokens, index) != line {
+            continue;
+        }
+        let opens = is_symbol(trouble.tokens, index, Symbol::OpenParenthesis);
+        let closes = is_symbol(trouble.tokens, index, Symbol::CloseParenthesis);
+        let is_round = opens && index > 0 && begins_condition(trouble.tokens, index - 1);
+        if is_round && dropped == 0 && first.is_none() {
+            first = Some(index);
+        }
+        if first.is_none() {
+            continue;
+        }
+        last = index;
+        if is_round && depth == 0 {
+            dropped = dropped.saturating_add(1);
+            continue;
+        }
+        if opens {
+            depth = depth.saturating_add(1);
+        }
+        if closes && depth == 0 {
+            continue;
+        }
+        if closes {
+            depth = depth.saturating_sub(1);
+        }
+        if let Some(token) = trouble.tokens.get(index) {
+            with.bytes(spelled(trouble.text, token))?;
+            with.words(" ")?;
+        }
+    }
+    let Some(first) = first else {
+        return Ok(());
+    };
+    let mut say = Page::new(alloc);
+    say.words("Conditions have no parentheses: leave them out")?;
+    say.in_line(line)?;
+    say.words(". AND binds more tightly than OR.")?;
+    fixes.push(Fix {
+        stretch: stretch_between(trouble, first, last),
+        with: with.text,
+        say,
+    })?;
+    Ok(())
+}
+
+// The group that an EVERY is in has no head.
+fn add_group(
+    alloc: Global,
+    fixes: &mut Vec<Fix>,
+    trouble: &Trouble<'_>,
+) -> Result<(), AllocError> {
+    for back in 0..2 {
+        if back > trouble.at || word_at(trouble.tokens, trouble.at - back) != Some(Word::Every) {
+            continue;
+        }
+        let index = trouble.at - back;
+        let start = stretch_between(trouble, index, index).start;
+        let mut say = Page::new(alloc);
+        say.words(
+            "Say first what kind of entities come: write TEMPORARY ENTITIES, or PERMANENT ENTITIES or EVENT NOTICES, before EVERY",
+        )?;
+        say.in_line(line_of(trouble.tokens, index))?;
+        say.words(".")?;
+        fixes.push(Fix {
+            stretch: Stretch { start, end: start },
+            with: Vec::from_slice(alloc, b" TEMPORARY ENTITIES ")?,
+            say,
+        })?;
+    }
+    Ok(())
+}
+
+// A word is missing before one of the last tokens before the place.
+fn add_earlier(
+    alloc: Global,
+    fixes: &mut Vec<Fix>,
+    trouble: &Trouble<'_>,
+) -> Result<(), AllocError> {
+    for back in 1..4 {
+        if back > trouble.at {
+            break;
+        }
+        let index = trouble.at - back;
+        let Some(token) = trouble.tokens.get(index) else {
+            continue;
+        };
+        let start = token.span.start;
+        for (spelling, _) in &WORDS {
+            let mut say = Page::new(alloc);
+            say.words("Write ")?;
+            say.words(spelling)?;
+            say.words(" before ")?;
+            say.capitals(spelled(trouble.text, token))?;
+            say.in_line(token.line.0)?;
+            say.words(".")?;
+            fixes.push(Fix {
+                stretch: Stretch { start, end: start },
+                with: with_blanks(alloc, spelling.as_bytes())?,
+                say,
+            })?;
+        }
+    }
+    Ok(())
+}
+
 /// Adds the changes of single words, those first that say most.
 pub fn add_words(
     alloc: Global,
@@ -535,6 +711,8 @@ pub fn add_words(
     add_confusions(alloc, fixes, trouble)?;
     add_given_first(alloc, fixes, trouble)?;
     add_define_first(alloc, fixes, trouble)?;
+    add_bare_conditions(alloc, fixes, trouble)?;
+    add_group(alloc, fixes, trouble)?;
     add_misspelled(alloc, fixes, trouble)?;
     if trouble.candidates.contains(&Candidate::Name) {
         add_renamed(alloc, fixes, trouble, trouble.at)?;
@@ -544,6 +722,9 @@ pub fn add_words(
     add_in_place(alloc, fixes, trouble)?;
     if trouble.at > 0 {
         add_renamed(alloc, fixes, trouble, trouble.at - 1)?;
+    }
+    if trouble.candidates.is_empty() {
+        add_earlier(alloc, fixes, trouble)?;
     }
     add_left_out(alloc, fixes, trouble, trouble.at)
 }
