@@ -7,7 +7,7 @@ use explain_runs::{
     run_in_pieces,
     run_shown, watches_of,
 };
-use explain_texts::{Page, explain_text};
+use explain_texts::{Page, Wrong, explain_text};
 use simscript_order::{
     FileStore, ProgramFailure, Retrying, Streams, explain, open, read_file, report_trouble,
     write_whole,
@@ -106,49 +106,63 @@ fn send<O: Write>(
     }
 }
 
-// The explanation of a text.
-fn explanation(alloc: Global, text: &[u8]) -> Result<Page, AllocError> {
-    let mut page = Page::new(alloc);
-    let _number = explain_text(alloc, &mut page, text)?;
-    Ok(page)
+// The refusal that is wrong with a text.
+fn refusal_of(wrong: Wrong) -> Refusal {
+    match wrong {
+        Wrong::Lexed(error) => Refusal::Lexed(error),
+        Wrong::Parsed(error) => Refusal::Parsed(error),
+        Wrong::Declared(error) => Refusal::Declared(error),
+        Wrong::Used(error) => Refusal::Used(error),
+    }
 }
 
-// Explains why a text is refused.
+// Explains why a text is refused, of which a compilation said so.
 fn refuse<O: Write>(
     alloc: Global,
     text: &[u8],
     refusal: Refusal,
     output: &mut O,
 ) -> Result<Outcome, ProgramFailure> {
-    if refusal.number() == 0 {
+    if refusal == Refusal::Memory {
         return Err(ProgramFailure::Memory);
     }
-    send(output, explanation(alloc, text))?;
+    let mut page = Page::new(alloc);
+    let explained = explain_text(alloc, &mut page, text);
+    send(output, explained.map(|_wrong| page))?;
     Ok(Outcome::Refused(refusal))
 }
 
-// The word for a text that is accepted, and notes on it.
-fn accepted(alloc: Global, text: &[u8]) -> Result<Page, AllocError> {
+// What is said of a text that is accepted: the word for that, and notes.
+fn accepted(alloc: Global, notes: &Page) -> Result<Page, AllocError> {
     let mut page = Page::new(alloc);
     page.words("accepted")?;
     page.end_line()?;
-    let _number = explain_text(alloc, &mut page, text)?;
+    page.bytes(notes.text.as_slice())?;
     Ok(page)
 }
 
-// Explains a text.
+// Explains a text. It is compiled only where nothing else is wrong with it.
 fn check<O: Write>(
     alloc: Global,
     text: &[u8],
     output: &mut O,
 ) -> Result<Outcome, ProgramFailure> {
-    match compile(alloc, text) {
-        Ok(model) => {
-            model.release();
-            send(output, accepted(alloc, text))?;
-            Ok(Outcome::Stopped(Stop::Ended, 0))
+    let mut page = Page::new(alloc);
+    match explain_text(alloc, &mut page, text) {
+        Err(_) => Err(ProgramFailure::Memory),
+        Ok(Some(wrong)) => {
+            send(output, Ok(page))?;
+            Ok(Outcome::Refused(refusal_of(wrong)))
         }
-        Err(refusal) => refuse(alloc, text, refusal, output),
+        Ok(None) => match compile(alloc, text) {
+            Ok(model) => {
+                model.release();
+                send(output, accepted(alloc, &page))?;
+                Ok(Outcome::Stopped(Stop::Ended, 0))
+            }
+            Err(Refusal::Memory) => Err(ProgramFailure::Memory),
+            Err(refusal) => Ok(Outcome::Refused(refusal)),
+        },
     }
 }
 

@@ -205,7 +205,20 @@ pub fn add_pause<R: FaultyRead, W: FaultyWrite>(
     page.end_line()?;
     show_line(page, text, tick.line)?;
     add_place(page, session, guide)?;
-    page.words(if tick.is_event {
+    let is_loop = matches!(
+        session.code().instruction(session.place()),
+        Some(Instruction::Turn | Instruction::Take { .. })
+    );
+    if !is_loop {
+        for (name, line) in &guide.returning {
+            page.words("EVENT ")?;
+            page.bytes(name.bytes())?;
+            page.words(" schedules itself each time:")?;
+            page.end_line()?;
+            show_line(page, text, line.0)?;
+        }
+    }
+    page.words(if !is_loop {
         "Cure: give more --ticks. If the run should have ended, look for an event that schedules itself each time: put its SCHEDULE into an IF, as IF TIME.V LT 480 .. ALWAYS."
     } else {
         "Cure: give more --ticks. If the run should have ended, look whether something in the loop changes what it ends by. A loop takes no time."

@@ -8,15 +8,18 @@ use ss_lex::{LexError, tokens};
 use ss_names::Names;
 use ss_parse::{ParseError, parse};
 use ss_tables::{TableError, Tables};
-use ss_tree::program::Program;
+use ss_tree::program::{Program, SectionKind};
 use ss_tree::release::release_tree;
+use ss_tree::statement::Statement;
 use std::alloc::{AllocError, Global};
 
-/// The names of a program, and the lines of its sections.
+/// The names of a program, the lines of its sections, and the events that schedule themselves each time, with the lines where
+/// they do.
 #[derive(Drop)]
 pub struct Guide {
     pub names: Names,
     lines: Vec<Line>,
+    pub returning: Vec<(Name, Line)>,
 }
 
 /// A section of a program: MAIN, a routine by its number, or the routine of an event by the rank of its class.
@@ -36,12 +39,40 @@ fn lines_of(alloc: Global, program: &Program) -> Result<Vec<Line>, AllocError> {
     Ok(lines)
 }
 
+// The line in which an event schedules another one of its kind, in no IF and no loop.
+fn line_of_return(name: &Name, body: &[Statement]) -> Option<Line> {
+    for statement in body {
+        if let Statement::ScheduleNew { line, class, .. } | Statement::Schedule { line, class, .. } =
+            statement
+        {
+            if class == name {
+                return Some(*line);
+            }
+        }
+    }
+    None
+}
+
+// The events that schedule themselves each time, with the lines where they do.
+fn returning_events(alloc: Global, program: &Program) -> Result<Vec<(Name, Line)>, AllocError> {
+    let mut found = Vec::new(alloc);
+    for section in &program.sections {
+        if let SectionKind::Event { name, .. } = &section.kind {
+            if let Some(line) = line_of_return(name, section.body.as_slice()) {
+                found.push((*name, line))?;
+            }
+        }
+    }
+    Ok(found)
+}
+
 // The names of a program, which breaks no rule.
 fn guide_of(alloc: Global, program: &Program) -> Result<Option<Guide>, AllocError> {
     match Tables::of(alloc, program) {
         Ok(tables) => Ok(Some(Guide {
             names: tables.into_names(),
             lines: lines_of(alloc, program)?,
+            returning: returning_events(alloc, program)?,
         })),
         Err(TableError::Memory) => Err(AllocError),
         Err(_) => Ok(None),

@@ -265,8 +265,13 @@ pub fn explain_fields(
         return Ok(());
     };
     let list = all.list();
+    let mut looked_at: usize = 0;
     for index in 0..list.len() {
         if line_of(list, index) == line.0 && word_at(list, index) == Some(Word::Print) {
+            looked_at = looked_at.saturating_add(1);
+            if looked_at > 100 {
+                break;
+            }
             let items = item_count(list, index);
             let fields = field_count(alloc, list, index)?;
             let only = next_print(list, index, line).is_none();

@@ -12,6 +12,9 @@ use ss_tree::preamble::{ClassKind, Mode};
 use ss_tree::program::Program;
 use std::alloc::{AllocError, Global};
 
+/// The most declarations of a line that are looked at.
+const LOOKED_AT: usize = 200;
+
 /// What a declaration makes of its name.
 #[derive(Clone, Copy, Debug, PartialEq, Eq)]
 enum Slot {
@@ -102,9 +105,14 @@ fn slot_words(slot: Slot) -> &'static str {
 
 // The name in a line that an earlier declaration has, with both slots and the earlier line.
 fn repeated(all: &[Declaration], line: Line) -> Option<(Name, Slot, Slot, Line)> {
+    let mut looked_at: usize = 0;
     for (place, one) in all.iter().enumerate() {
         if one.line.0 != line.0 {
             continue;
+        }
+        looked_at = looked_at.saturating_add(1);
+        if looked_at > LOOKED_AT {
+            return None;
         }
         let Some((name, slot)) = slot_of(&one.what) else {
             continue;
@@ -236,9 +244,14 @@ fn name_without_mode(
     all: &[Declaration],
     line: Line,
 ) -> Result<Option<Name>, AllocError> {
+    let mut looked_at: usize = 0;
     for one in all {
         if one.line.0 != line.0 {
             continue;
+        }
+        looked_at = looked_at.saturating_add(1);
+        if looked_at > LOOKED_AT {
+            return Ok(None);
         }
         match &one.what {
             Declared::Attribute {
@@ -260,6 +273,10 @@ fn name_without_mode(
         for one in &uses_of(alloc, section)? {
             if one.line.0 != line.0 {
                 continue;
+            }
+            looked_at = looked_at.saturating_add(1);
+            if looked_at > LOOKED_AT {
+                return Ok(None);
             }
             if let Used::Place {
                 place: Designator::Name(name),
@@ -329,8 +346,13 @@ fn first_unknown<F: Fn(&Declared) -> Option<Name>>(
     pick: F,
     known: &[Name],
 ) -> Option<Name> {
+    let mut looked_at: usize = 0;
     for one in all {
         if one.line.0 == line.0 {
+            looked_at = looked_at.saturating_add(1);
+            if looked_at > LOOKED_AT {
+                return None;
+            }
             if let Some(name) = pick(&one.what) {
                 if !known.contains(&name) {
                     return Some(name);

@@ -16,6 +16,60 @@ use ss_tree::program::Program;
 use ss_tree::release::release_tree;
 use std::alloc::{AllocError, Global};
 
+/// What is wrong with a text that is refused for its words or its names.
+#[derive(Clone, Copy, Debug, PartialEq, Eq)]
+pub enum Wrong {
+    Lexed(LexError),
+    Parsed(ParseError),
+    Declared(TableError),
+    Used(CheckError),
+}
+
+impl Wrong {
+    /// The number of the refusal.
+    pub fn number(&self) -> u32 {
+        match self {
+            Wrong::Lexed(error) => error.number(),
+            Wrong::Parsed(error) => error.number(),
+            Wrong::Declared(error) => declared_number(error),
+            Wrong::Used(error) => used_number(error),
+        }
+    }
+}
+
+// The number of a refusal for what a program does with its names.
+fn used_number(error: &CheckError) -> u32 {
+    match error {
+        CheckError::NoMain(_) => 71,
+        CheckError::NoEventRoutine(_) => 72,
+        CheckError::Mode(_) => 73,
+        CheckError::Arguments(_) => 74,
+        CheckError::Subscript(_) => 75,
+        CheckError::NotAssignable(_) => 76,
+        CheckError::Fields(_) => 77,
+        CheckError::StartPlace(_) => 78,
+        CheckError::Unknown(_) => 79,
+        CheckError::Memory => 0,
+    }
+}
+
+// The number of a refusal for what a program declares.
+fn declared_number(error: &TableError) -> u32 {
+    match error {
+        TableError::Twice(_) => 51,
+        TableError::RealMode(_) => 52,
+        TableError::UnknownClass(_) => 53,
+        TableError::UnknownSet(_) => 54,
+        TableError::NoOwner(_) => 55,
+        TableError::NoMember(_) => 56,
+        TableError::RankKey(_) => 57,
+        TableError::TallyTwice(_) => 58,
+        TableError::TooMany(_) => 59,
+        TableError::TieKey(_) => 60,
+        TableError::Memory => 0,
+    }
+}
+
 // Explains tokens that spell no program.
 fn explain_tokens(
     alloc: Global,
@@ -37,7 +91,7 @@ fn explain_names(
     text: &[u8],
     program: &Program,
     tables: &Tables,
-) -> Result<Option<u32>, AllocError> {
+) -> Result<Option<Wrong>, AllocError> {
     let broken = match judge(alloc, program, tables.names()) {
         Ok((broken, _locals)) => broken,
         Err(_) => return Err(AllocError),
@@ -53,40 +107,7 @@ fn explain_names(
         sections: &sections,
     };
     explain_used(alloc, page, &read, &error)?;
-    Ok(Some(number_of(&error)))
-}
-
-// The number of a refusal.
-fn number_of(error: &CheckError) -> u32 {
-    match error {
-        CheckError::NoMain(_) => 71,
-        CheckError::NoEventRoutine(_) => 72,
-        CheckError::Mode(_) => 73,
-        CheckError::Arguments(_) => 74,
-        CheckError::Subscript(_) => 75,
-        CheckError::NotAssignable(_) => 76,
-        CheckError::Fields(_) => 77,
-        CheckError::StartPlace(_) => 78,
-        CheckError::Unknown(_) => 79,
-        CheckError::Memory => 0,
-    }
-}
-
-// The number of a refusal.
-fn declared_number(error: &TableError) -> u32 {
-    match error {
-        TableError::Twice(_) => 51,
-        TableError::RealMode(_) => 52,
-        TableError::UnknownClass(_) => 53,
-        TableError::UnknownSet(_) => 54,
-        TableError::NoOwner(_) => 55,
-        TableError::NoMember(_) => 56,
-        TableError::RankKey(_) => 57,
-        TableError::TallyTwice(_) => 58,
-        TableError::TooMany(_) => 59,
-        TableError::TieKey(_) => 60,
-        TableError::Memory => 0,
-    }
+    Ok(Some(Wrong::Used(error)))
 }
 
 // The rule that a program breaks, explained; notes where it breaks none.
@@ -95,31 +116,31 @@ fn explain_program(
     page: &mut Page,
     text: &[u8],
     program: &Program,
-) -> Result<Option<u32>, AllocError> {
+) -> Result<Option<Wrong>, AllocError> {
     match Tables::of(alloc, program) {
         Err(TableError::Memory) => Err(AllocError),
         Err(error) => {
             explain_declared(alloc, page, text, program, &error)?;
-            Ok(Some(declared_number(&error)))
+            Ok(Some(Wrong::Declared(error)))
         }
         Ok(tables) => {
-            let number = explain_names(alloc, page, text, program, &tables)?;
-            if number.is_none() {
+            let wrong = explain_names(alloc, page, text, program, &tables)?;
+            if wrong.is_none() {
                 add_notes(alloc, page, text, program, tables.names())?;
             }
-            Ok(number)
+            Ok(wrong)
         }
     }
 }
 
 // What is wrong with a text, without its rule.
-fn explain_whole(alloc: Global, page: &mut Page, text: &[u8]) -> Result<Option<u32>, AllocError> {
+fn explain_whole(alloc: Global, page: &mut Page, text: &[u8]) -> Result<Option<Wrong>, AllocError> {
     let all = match tokens(alloc, text) {
         Ok(all) => all,
         Err(LexError::Memory) => return Err(AllocError),
         Err(error) => {
             explain_lexical(page, text, &error)?;
-            return Ok(Some(error.number()));
+            return Ok(Some(Wrong::Lexed(error)));
         }
     };
     match parse(alloc, &all) {
@@ -131,22 +152,22 @@ fn explain_whole(alloc: Global, page: &mut Page, text: &[u8]) -> Result<Option<u
         Err(ParseError::Memory) => Err(AllocError),
         Err(error) => {
             explain_tokens(alloc, page, text, &all)?;
-            Ok(Some(error.number()))
+            Ok(Some(Wrong::Parsed(error)))
         }
     }
 }
 
 /// Explains why a text is refused: the place, what is wrong there, what helps, and the rule with the heading of the manual.
-/// It answers the number of the refusal. Where a text is not refused for its words or its names it answers None, and
-/// the page has notes on what is right and looks odd. The error comes where memory was refused.
+/// It answers what is wrong. Where a text is not refused for its words or its names it answers None, and the page has
+/// notes on what is right and looks odd. The error comes where memory was refused.
 pub fn explain_text(
     alloc: Global,
     page: &mut Page,
     text: &[u8],
-) -> Result<Option<u32>, AllocError> {
-    let number = explain_whole(alloc, page, text)?;
-    if let Some(number) = number {
-        add_rule(page, number)?;
+) -> Result<Option<Wrong>, AllocError> {
+    let wrong = explain_whole(alloc, page, text)?;
+    if let Some(wrong) = &wrong {
+        add_rule(page, wrong.number())?;
     }
-    Ok(number)
+    Ok(wrong)
 }

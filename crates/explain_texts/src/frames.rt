@@ -3,7 +3,7 @@
 use crate::fixes::Fix;
 use crate::opens::{Construct, Open, head_at, is_first_of_line, line_of, word_at};
 use crate::page::Page;
-use crate::places::{Stretch, indentation, is_blank, line_bytes, spelled};
+use crate::places::{Stretch, indentation, is_blank, spelled};
 use crate::spellings::begins_statement;
 use crate::trouble::Trouble;
 use ss_lex::{Token, TokenKind, Word};
@@ -22,7 +22,7 @@ fn put_in(alloc: Global, at: usize, with: &[u8], say: Page) -> Result<Fix, Alloc
 fn count_in_line(tokens: &[Token], from: usize, wanted: Word) -> usize {
     let line = line_of(tokens, from);
     let mut count: usize = 0;
-    for index in from..tokens.len() {
+    for index in from..tokens.len().min(from.saturating_add(LOOKED_AT)) {
         if line_of(tokens, index) != line {
             break;
         }
@@ -33,11 +33,15 @@ fn count_in_line(tokens: &[Token], from: usize, wanted: Word) -> usize {
     count
 }
 
+// The most tokens of a line that are looked at.
+const LOOKED_AT: usize = 2000;
+
 // Whether an IF has a statement on its own line, and its line has no ALWAYS for it.
 fn is_short(tokens: &[Token], token: usize) -> bool {
     let line = line_of(tokens, token);
     let mut has_statement = false;
-    for index in token.saturating_add(1)..tokens.len() {
+    let end = tokens.len().min(token.saturating_add(LOOKED_AT));
+    for index in token.saturating_add(1)..end {
         if line_of(tokens, index) != line {
             break;
         }
@@ -161,10 +165,10 @@ fn end_by_indentation(trouble: &Trouble<'_>, open: Open) -> Option<u32> {
         return None;
     }
     let first = line_of(trouble.tokens, open.token);
-    let depth = indentation(line_bytes(trouble.text, first));
+    let depth = indentation(trouble.line_bytes(first));
     let mut was_deeper = false;
     for line in first.saturating_add(1)..trouble.line().saturating_add(1) {
-        let bytes = line_bytes(trouble.text, line);
+        let bytes = trouble.line_bytes(line);
         if is_blank(bytes) || is_picture_line(trouble.tokens, open.token, line) {
             continue;
         }
@@ -196,7 +200,7 @@ fn end_by_indentation(trouble: &Trouble<'_>, open: Open) -> Option<u32> {
 fn end_before(trouble: &Trouble<'_>, line: u32) -> usize {
     let mut before = line.saturating_sub(1);
     for _ in 0..line {
-        if before <= 1 || !is_blank(line_bytes(trouble.text, before)) {
+        if before <= 1 || !is_blank(trouble.line_bytes(before)) {
             break;
         }
         before -= 1;

@@ -25,7 +25,7 @@ mod trouble;
 mod used;
 mod words;
 
-pub use explanation::explain_text;
+pub use explanation::{Wrong, explain_text};
 pub use page::Page;
 pub use places::{line_bytes, show_line};
 pub use rules::rule_of;
@@ -40,8 +40,8 @@ mod tests {
     fn compiles(rt: HostRuntime) -> Result<(), Fail> {
         let text = b"MAIN\nSCHEDULE ARRIVAL NOW\nEND\n";
         let mut page = Page::new(rt.alloc());
-        let number = explain_text(rt.alloc(), &mut page, text)?;
-        assert_eq!(rt; number, Some(41));
+        let wrong = explain_text(rt.alloc(), &mut page, text)?;
+        assert_eq!(rt; wrong.map(|wrong| wrong.number()), Some(41));
         Ok(())
     }
 }

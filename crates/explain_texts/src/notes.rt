@@ -59,19 +59,6 @@ fn add_use(usage: &mut Usage, name: &Name, one: &Use) {
     }
 }
 
-// How a name is used in a section.
-fn usage_of(uses: &[Use], name: &Name) -> Usage {
-    let mut usage = Usage {
-        assigned: None,
-        taken: None,
-        is_declared: false,
-    };
-    for one in uses {
-        add_use(&mut usage, name, one);
-    }
-    usage
-}
-
 // The names that may be meant in a section: its other local ones, and what is declared for all sections.
 fn names_near(
     alloc: Global,
@@ -80,7 +67,7 @@ fn names_near(
     name: &Name,
 ) -> Result<Vec<Name>, AllocError> {
     let mut near = Vec::new(alloc);
-    for place in 0..names.meanings.len() {
+    for place in 0..names.meanings.len().min(COMPARED) {
         let is_value = match names.meanings.values().get(place) {
             Some(Meaning::Set { .. } | Meaning::Routine { .. }) => false,
             Some(_) => true,
@@ -125,25 +112,65 @@ fn add_note(
     show_line(page, text, line.0)
 }
 
-// The local names of a section, in the order of the text.
-fn local_names(
+/// The most notes on names of a section, and the most names that one is compared with.
+const NOTED: usize = 20;
+const COMPARED: usize = 2000;
+
+// How each local name of a section is used, by its number.
+fn usages_of(
     alloc: Global,
     locals: &Locals,
     uses: &[Use],
-) -> Result<Vec<Name>, AllocError> {
-    let mut found: Vec<Name> = Vec::new(alloc);
+) -> Result<Vec<Option<(Name, Usage)>>, AllocError> {
+    let mut usages = Vec::new(alloc);
+    for _ in 0..locals.len() {
+        usages.push(None)?;
+    }
     for one in uses {
-        if let Used::Place {
-            place: Designator::Name(name),
-            ..
-        } = &one.what
-        {
-            if locals.number(name).is_some() && !found.contains(name) {
-                found.push(*name)?;
-            }
+        let name = match &one.what {
+            Used::Parameter { name } | Used::Local { name, .. } => *name,
+            Used::Place {
+                place: Designator::Name(name),
+                ..
+            } => *name,
+            _ => continue,
+        };
+        let Some(number) = locals.number(&name) else {
+            continue;
+        };
+        let known = match usages.get(number) {
+            Some(Some((_, usage))) => *usage,
+            _ => Usage {
+                assigned: None,
+                taken: None,
+                is_declared: false,
+            },
+        };
+        if number < usages.len() {
+            let mut usage = known;
+            add_use(&mut usage, &name, one);
+            usages[number] = Some((name, usage));
         }
     }
-    Ok(found)
+    Ok(usages)
+}
+
+// What is odd about how a local name is used: the line, and the words for it.
+fn oddity_of(usage: &Usage) -> Option<(Line, &'static str)> {
+    if usage.is_declared {
+        return None;
+    }
+    match (usage.assigned, usage.taken) {
+        (Some(line), None) => Some((
+            line,
+            "a value is put into this local name, and never used",
+        )),
+        (None, Some(line)) => Some((
+            line,
+            "this local name is used, and nothing is put into it: it is 0",
+        )),
+        _ => None,
+    }
 }
 
 // Notes on the local names of a section: those that are assigned and never used, or used and never assigned.
@@ -155,34 +182,27 @@ fn add_locals(
     locals: &Locals,
     uses: &[Use],
 ) -> Result<(), AllocError> {
-    let own = local_names(alloc, locals, uses)?;
-    for name in &own {
-        let usage = usage_of(uses, name);
-        if usage.is_declared {
+    let usages = usages_of(alloc, locals, uses)?;
+    let mut own = Vec::new(alloc);
+    for one in usages.iter().take(COMPARED) {
+        if let Some((name, _)) = one {
+            own.push(*name)?;
+        }
+    }
+    let mut count: usize = 0;
+    for one in &usages {
+        let Some((name, usage)) = one else {
             continue;
+        };
+        let Some((line, words)) = oddity_of(usage) else {
+            continue;
+        };
+        if count >= NOTED {
+            return Ok(());
         }
+        count += 1;
         let near = names_near(alloc, names, own.as_slice(), name)?;
-        match (usage.assigned, usage.taken) {
-            (Some(line), None) => add_note(
-                alloc,
-                page,
-                text,
-                line,
-                name,
-                "a value is put into this local name, and never used",
-                near.as_slice(),
-            )?,
-            (None, Some(line)) => add_note(
-                alloc,
-                page,
-                text,
-                line,
-                name,
-                "this local name is used, and nothing is put into it: it is 0",
-                near.as_slice(),
-            )?,
-            _ => {}
-        }
+        add_note(alloc, page, text, line, name, words, near.as_slice())?;
     }
     Ok(())
 }

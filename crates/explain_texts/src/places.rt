@@ -4,7 +4,7 @@ ghost use Rattle.std.specs.Prelude.{◌≤◌, ◌×◌, length};
 
 use crate::page::Page;
 use ss_lex::Token;
-use std::alloc::AllocError;
+use std::alloc::{AllocError, Global};
 
 /// A part of a text, from one byte up to another.
 #[derive(Clone, Copy, Debug, PartialEq, Eq)]
@@ -46,6 +46,34 @@ pub fn line_at(text: &[u8], line: u32) -> Stretch
             end: text.len(),
         }
     }
+}
+
+/// Where each line begins.
+pub fn line_starts(alloc: Global, text: &[u8]) -> Result<Vec<usize>, AllocError> {
+    let mut starts = Vec::new(alloc);
+    starts.push(0)?;
+    for (at, byte) in text.iter().enumerate() {
+        if *byte == b'\n' {
+            starts.push(at + 1)?;
+        }
+    }
+    Ok(starts)
+}
+
+/// The bytes of a line, by where the lines begin.
+pub fn line_from<'a>(text: &'a [u8], starts: &[usize], line: u32) -> &'a [u8] {
+    let place = (line as usize).saturating_sub(1);
+    let Some(start) = starts.get(place) else {
+        return &[];
+    };
+    let end = match starts.get(place + 1) {
+        Some(next) => next.saturating_sub(1),
+        None => text.len(),
+    };
+    bytes_of(text, Stretch {
+        start: *start,
+        end: end.max(*start),
+    })
 }
 
 /// The bytes of a line, without its end and without a carriage return there.

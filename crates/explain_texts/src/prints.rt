@@ -3,8 +3,8 @@
 use crate::fixes::Fix;
 use crate::opens::{head_at, is_frame_word, line_of, word_at};
 use crate::page::Page;
-use crate::places::{Stretch, line_at, line_bytes};
-use crate::spellings::{begins_statement};
+use crate::places::Stretch;
+use crate::spellings::begins_statement;
 use crate::trouble::Trouble;
 use ss_lex::{TokenKind, Word, tokens};
 use std::alloc::{AllocError, Global};
@@ -168,7 +168,7 @@ fn add_swallowed(
     }
     for place in 1..count.saturating_add(1) {
         let line = trigger.saturating_add(u32::try_from(place).unwrap_or(0));
-        if !looks_like_statement(alloc, line_bytes(trouble.text, line))? {
+        if !looks_like_statement(alloc, trouble.line_bytes(line))? {
             continue;
         }
         let mut why = Page::new(alloc);
@@ -183,7 +183,7 @@ fn add_swallowed(
         } else {
             let mut say = why;
             say.words(": write its picture between them.")?;
-            let start = line_at(trouble.text, line).start;
+            let start = trouble.line_start(line);
             fixes.push(Fix {
                 stretch: Stretch { start, end: start },
                 with: Vec::from_slice(alloc, b"\n")?,

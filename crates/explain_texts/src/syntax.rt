@@ -7,7 +7,7 @@ use crate::forms::{form_of, leader_before};
 use crate::frames::add_frames;
 use crate::opens::{Construct, is_frame_word, line_of, opens_at, section_before, word_at};
 use crate::page::Page;
-use crate::places::{show_line, show_marked};
+use crate::places::{line_starts, show_line, show_marked};
 use crate::prints::add_prints;
 use crate::trouble::Trouble;
 use crate::words::add_words;
@@ -128,8 +128,10 @@ pub fn explain_syntax(
     };
     let candidates = candidates_after(alloc, before, line)?;
     let opens = opens_at(alloc, tokens, section, at)?;
+    let starts = line_starts(alloc, text)?;
     let trouble = Trouble {
         text,
+        starts: starts.as_slice(),
         tokens,
         at,
         section,

@@ -4,7 +4,7 @@ use crate::candidates::Candidate;
 use crate::fixes::Window;
 use crate::opens::{Open, line_of};
 use crate::page::Page;
-use crate::places::{Stretch, line_at, spelled, stretch_of};
+use crate::places::{Stretch, line_from, spelled, stretch_of};
 use ss_lex::Token;
 use std::alloc::AllocError;
 
@@ -12,6 +12,8 @@ use std::alloc::AllocError;
 #[derive(Clone, Copy)]
 pub struct Trouble<'a> {
     pub text: &'a [u8],
+    /// Where each of its lines begins.
+    pub starts: &'a [usize],
     pub tokens: &'a [Token],
     /// The index of the token that does not fit; the number of tokens at the end of the text.
     pub at: usize,
@@ -81,7 +83,7 @@ impl<'a> Trouble<'a> {
     pub fn last_of_line(&self, index: usize) -> usize {
         let line = line_of(self.tokens, index);
         let mut last = index;
-        for next in index..self.tokens.len() {
+        for next in index..self.tokens.len().min(index.saturating_add(2000)) {
             if line_of(self.tokens, next) != line {
                 break;
             }
@@ -126,8 +128,22 @@ impl<'a> Trouble<'a> {
         }
     }
 
+    /// The bytes of a line of the text.
+    pub fn line_bytes(&self, line: u32) -> &'a [u8] {
+        line_from(self.text, self.starts, line)
+    }
+
+    /// Where a line of the text begins.
+    pub fn line_start(&self, line: u32) -> usize {
+        match self.starts.get((line as usize).saturating_sub(1)) {
+            Some(start) => *start,
+            None => self.text.len(),
+        }
+    }
+
     /// The end of a line of the text, before its line feed.
     pub fn line_end(&self, line: u32) -> usize {
-        line_at(self.text, line).end
+        self.line_start(line)
+            .saturating_add(self.line_bytes(line).len())
     }
 }

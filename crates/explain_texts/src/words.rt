@@ -5,7 +5,7 @@ use crate::fixes::Fix;
 use crate::forms::leader_before;
 use crate::opens::{head_at, line_of, word_at};
 use crate::page::Page;
-use crate::places::{Stretch, spelled};
+use crate::places::{Stretch, bytes_of, spelled};
 use crate::similar::is_like;
 use crate::spellings::{WORDS, begins_statement, spelling_of};
 use crate::trouble::Trouble;
@@ -118,7 +118,7 @@ fn in_place(
     say.words("Write ")?;
     say.bytes(word)?;
     say.words(" in place of ")?;
-    say.capitals(crate::places::bytes_of(trouble.text, stretch))?;
+    say.capitals(bytes_of(trouble.text, stretch))?;
     say.in_line(line_of(trouble.tokens, first))?;
     say.words(".")?;
     Ok(Fix {
@@ -444,9 +444,9 @@ fn add_division(
     let right = stretch_between(trouble, trouble.at.saturating_add(1), last);
     let mut with = Page::new(alloc);
     with.words("DIV.F(")?;
-    with.bytes(crate::places::bytes_of(trouble.text, left))?;
+    with.bytes(bytes_of(trouble.text, left))?;
     with.words(", ")?;
-    with.bytes(crate::places::bytes_of(trouble.text, right))?;
+    with.bytes(bytes_of(trouble.text, right))?;
     with.words(")")?;
     let mut say = Page::new(alloc);
     say.words("There is no sign for a division: write ")?;
@@ -494,9 +494,9 @@ fn add_given_first(
     let late = stretch_between(trouble, trouble.at, last);
     let early = stretch_between(trouble, time, trouble.at.saturating_sub(1));
     let mut with = Page::new(alloc);
-    with.bytes(crate::places::bytes_of(trouble.text, late))?;
+    with.bytes(bytes_of(trouble.text, late))?;
     with.words(" ")?;
-    with.bytes(crate::places::bytes_of(trouble.text, early))?;
+    with.bytes(bytes_of(trouble.text, early))?;
     let mut say = Page::new(alloc);
     say.words("The time comes last: write ")?;
     say.capitals(with.text.as_slice())?;
@@ -528,15 +528,15 @@ fn add_define_first(
     let head = line_of(trouble.tokens, trouble.section);
     let line = trouble.line();
     let start = trouble.line_end(head);
-    let before = crate::places::line_at(trouble.text, line).start;
+    let before = trouble.line_start(line);
     let end = trouble.line_end(line);
     let mut with = Page::new(alloc);
     with.words("\n")?;
-    with.bytes(crate::places::bytes_of(
+    with.bytes(bytes_of(
         trouble.text,
         Stretch { start: before, end },
     ))?;
-    with.bytes(crate::places::bytes_of(
+    with.bytes(bytes_of(
         trouble.text,
         Stretch { start, end: before },
     ))?;
