@@ -179,7 +179,8 @@ fn add_found(
             page.words(foreign_words(bytes))
         }
         (_, Some(piece)) => {
-            page.bytes(&line[piece.start.min(line.len())..piece.end.min(line.len())])?;
+            let bytes = &line[piece.start.min(line.len())..piece.end.min(line.len())];
+            page.bytes(&bytes[..bytes.len().min(80)])?;
             page.words(match error {
                 LexError::BadNumber(_) => ": no whole number",
                 LexError::OpenText(_) => ": the text has no second quote",

@@ -1,7 +1,7 @@
 //! Notes on a text that is accepted: names and statements that are right, and look like a mistake.
 
 use crate::page::Page;
-use crate::places::{indentation, line_bytes, show_line, show_marked};
+use crate::places::{indentation, line_from, line_starts, show_line, show_marked};
 use crate::sections::{Sections, name_of};
 use crate::similar::nearest;
 use ss_base::{ClassKind, Line, Name};
@@ -325,11 +325,16 @@ fn add_pictures(alloc: Global, page: &mut Page, text: &[u8]) -> Result<(), Alloc
         Err(_) => return Ok(()),
     };
     let mut print = Line(0);
+    let mut count: usize = 0;
     for token in all.list() {
+        if count >= NOTED {
+            break;
+        }
         match &token.kind {
             TokenKind::Word(Word::Print) => print = token.line,
             TokenKind::Picture(line) => {
                 if is_statement(alloc, line.bytes())? {
+                    count += 1;
                     page.words("note: line ")?;
                     page.number(u64::from(token.line.0))?;
                     page.words(
@@ -378,12 +383,12 @@ fn line_of(statement: &Statement) -> Line {
 }
 
 // How deep a line is indented.
-fn depth(text: &[u8], line: Line) -> usize {
-    indentation(line_bytes(text, line.0))
+fn depth(text: &[u8], starts: &[usize], line: Line) -> usize {
+    indentation(line_from(text, starts, line.0))
 }
 
 // Whether a loop has one statement in a further line, and the statement after the loop is indented as if it belonged to it.
-fn looks_longer(text: &[u8], one: &Statement, next: &Statement) -> bool {
+fn looks_longer(text: &[u8], starts: &[usize], one: &Statement, next: &Statement) -> bool {
     let Statement::Loop { line, body, .. } = one else {
         return false;
     };
@@ -393,8 +398,8 @@ fn looks_longer(text: &[u8], one: &Statement, next: &Statement) -> bool {
     let (inner, after) = (line_of(only), line_of(next));
     inner.0 > line.0
         && after.0 > inner.0
-        && depth(text, inner) > depth(text, *line)
-        && depth(text, after) == depth(text, inner)
+        && depth(text, starts, inner) > depth(text, starts, *line)
+        && depth(text, starts, after) == depth(text, starts, inner)
 }
 
 // Notes on loops without DO that look as if they had more than one statement.
@@ -404,10 +409,13 @@ fn add_loops(
     text: &[u8],
     program: &Program,
 ) -> Result<(), AllocError> {
+    let starts = line_starts(alloc, text)?;
+    let mut count: usize = 0;
     for section in &program.sections {
         for list in &lists_of(alloc, section.body.as_slice())? {
             for (one, next) in list.iter().zip(list.iter().skip(1)) {
-                if looks_longer(text, one, next) {
+                if count < NOTED && looks_longer(text, starts.as_slice(), one, next) {
+                    count += 1;
                     page.words("note: line ")?;
                     page.number(u64::from(line_of(one).0))?;
                     page.words(", FOR or WHILE without DO: only the statement of the next line belongs to the loop, and line ")?;
@@ -588,7 +596,7 @@ fn add_stops(
     if !reports_after_start(program) {
         return Ok(());
     }
-    for section in &program.sections {
+    for section in program.sections.iter().take(COMPARED) {
         if let SectionKind::Event { .. } = &section.kind {
             if let Some(line) = stop_in(alloc, section.body.as_slice())? {
                 page.words("note: line ")?;
@@ -608,6 +616,9 @@ fn add_stops(
     Ok(())
 }
 
+/// The most bytes of notes after which no section more is noted.
+const LONGEST: usize = 20_000;
+
 /// Adds notes on a program that breaks no rule. There are none where nothing looks like a mistake.
 pub fn add_notes(
     alloc: Global,
@@ -618,6 +629,9 @@ pub fn add_notes(
 ) -> Result<(), AllocError> {
     let sections = Sections::of(alloc, program, names)?;
     for (number, uses) in sections.uses.iter().enumerate() {
+        if page.text.len() > LONGEST {
+            return Ok(());
+        }
         if let Some(locals) = sections.locals.get(number) {
             add_locals(alloc, page, text, names, locals, uses.as_slice())?;
             if is_event(program, number) {

@@ -118,34 +118,20 @@ pub fn spelled<'a>(text: &'a [u8], token: &Token) -> &'a [u8] {
     bytes_of(text, stretch_of(token))
 }
 
-/// Adds a line of the text under its number, with tabs as blanks, and below it a row of marks under a stretch of it.
-pub fn show_marked(
-    page: &mut Page,
-    text: &[u8],
-    line: u32,
-    mark: Option<Stretch>,
-) -> Result<(), AllocError> {
-    let place = line_at(text, line);
-    show_line(page, text, line)?;
-    match mark {
-        Some(mark) if mark.start >= place.start && mark.start <= place.end => {
-            let before = mark.start - place.start;
-            let count = mark.end.min(place.end).saturating_sub(mark.start).max(1);
-            page.blanks(before.saturating_add(7))?;
-            for _ in 0..count {
-                page.bytes(b"^")?;
-            }
-            page.end_line()
-        }
-        _ => Ok(()),
-    }
-}
+/// The most columns of a line that are shown, and how many of them come before what is marked.
+const SHOWN: usize = 150;
+const BEFORE: usize = 60;
 
-/// Adds a line of the text under its number, with tabs as blanks.
-pub fn show_line(page: &mut Page, text: &[u8], line: u32) -> Result<(), AllocError> {
+// Adds a part of a line under its number, with tabs as blanks.
+fn show_part(
+    page: &mut Page,
+    bytes: &[u8],
+    line: u32,
+    from: usize,
+) -> Result<(), AllocError> {
     page.padded(u64::from(line), 5)?;
     page.blanks(2)?;
-    for byte in line_bytes(text, line) {
+    for byte in bytes.iter().skip(from).take(SHOWN) {
         let shown = if *byte < 32 || *byte > 126 {
             b' '
         } else {
@@ -154,4 +140,49 @@ pub fn show_line(page: &mut Page, text: &[u8], line: u32) -> Result<(), AllocErr
         page.bytes(&[shown])?;
     }
     page.end_line()
+}
+
+// The first column of a line that is shown, where what is marked begins at this one.
+fn first_shown(length: usize, mark: usize) -> usize {
+    if length <= SHOWN {
+        0
+    } else {
+        mark.saturating_sub(BEFORE)
+    }
+}
+
+/// Adds a line of the text under its number, with tabs as blanks, and below it a row of marks under a stretch of it. Of a long
+/// line the part round the stretch is shown.
+pub fn show_marked(
+    page: &mut Page,
+    text: &[u8],
+    line: u32,
+    mark: Option<Stretch>,
+) -> Result<(), AllocError> {
+    let place = line_at(text, line);
+    let bytes = line_bytes(text, line);
+    match mark {
+        Some(mark) if mark.start >= place.start && mark.start <= place.end => {
+            let before = mark.start - place.start;
+            let from = first_shown(bytes.len(), before);
+            show_part(page, bytes, line, from)?;
+            let count = mark
+                .end
+                .min(place.end)
+                .saturating_sub(mark.start)
+                .min(SHOWN - BEFORE)
+                .max(1);
+            page.blanks(before.saturating_sub(from).saturating_add(7))?;
+            for _ in 0..count {
+                page.bytes(b"^")?;
+            }
+            page.end_line()
+        }
+        _ => show_part(page, bytes, line, 0),
+    }
+}
+
+/// Adds a line of the text under its number, with tabs as blanks.
+pub fn show_line(page: &mut Page, text: &[u8], line: u32) -> Result<(), AllocError> {
+    show_part(page, line_bytes(text, line), line, 0)
 }
