@@ -68,8 +68,16 @@ fn line_with_files<'a>(alloc: Global) -> Result<Command<'a>, AllocError> {
 /// The whole command line. The error comes where memory was refused.
 pub fn whole_command<'a>(alloc: Global) -> Result<Command<'a>, AllocError> {
     line_with_files(alloc)?
-        .arg(flag(alloc, "trace", "Run the model, and write a line for each tick"))?
-        .arg(flag(alloc, "events", "Run the model, and write a line for each event"))?
+        .arg(flag(
+            alloc,
+            "trace",
+            "Run the model, and write a line for each tick",
+        ))?
+        .arg(flag(
+            alloc,
+            "events",
+            "Run the model, and write a line for each event",
+        ))?
         .arg(watched_names(alloc))?
         .arg(flag(
             alloc,

@@ -4,8 +4,7 @@ use crate::order::{Order, RunOrder};
 use crate::told::Told;
 use explain_runs::{
     Kept, Parts, Shown, Subject, Unshown, Watch, add_fault, add_pause, compile_with_names,
-    run_in_pieces,
-    run_shown, watches_of,
+    run_in_pieces, run_shown, watches_of,
 };
 use explain_texts::{Page, Wrong, explain_text};
 use simscript_order::{
@@ -41,14 +40,7 @@ pub fn perform<
     O: Write + Drop,
     E: Write + Drop,
     T: Write + Drop,
->(
-    alloc: Global,
-    words: &[S],
-    files: &F,
-    clock: &C,
-    told: T,
-    streams: Streams<I, O, E>,
-) -> u8 {
+>(alloc: Global, words: &[S], files: &F, clock: &C, told: T, streams: Streams<I, O, E>) -> u8 {
     let Streams {
         input: _,
         mut output,
@@ -96,10 +88,7 @@ fn obey<F: FileStore, C: Clock + Drop, O: Write, E: Write, T: Write>(
 }
 
 // What is written, where there was memory for it.
-fn send<O: Write>(
-    output: &mut O,
-    page: Result<Page, AllocError>,
-) -> Result<(), ProgramFailure> {
+fn send<O: Write>(output: &mut O, page: Result<Page, AllocError>) -> Result<(), ProgramFailure> {
     match page {
         Ok(page) => write_whole(output, page.text.as_slice()),
         Err(_) => Err(ProgramFailure::Memory),
@@ -142,11 +131,7 @@ fn accepted(alloc: Global, notes: &Page) -> Result<Page, AllocError> {
 }
 
 // Explains a text. It is compiled only where nothing else is wrong with it.
-fn check<O: Write>(
-    alloc: Global,
-    text: &[u8],
-    output: &mut O,
-) -> Result<Outcome, ProgramFailure> {
+fn check<O: Write>(alloc: Global, text: &[u8], output: &mut O) -> Result<Outcome, ProgramFailure> {
     let mut page = Page::new(alloc);
     match explain_text(alloc, &mut page, text) {
         Err(_) => Err(ProgramFailure::Memory),
@@ -338,7 +323,14 @@ fn shown_lines<R: Read + Drop, W: Write + Drop, C: Clock + Drop, L: Write, T: Wr
         ticks: job.order.ticks,
         shown,
     };
-    let stop = run_shown(&job.subject, &mut session, parts, &mut watches, lines, &mut told);
+    let stop = run_shown(
+        &job.subject,
+        &mut session,
+        parts,
+        &mut watches,
+        lines,
+        &mut told,
+    );
     told.end();
     let stop = match stop {
         Ok(stop) => stop,

@@ -148,9 +148,12 @@ fn other_class<R: FaultyRead, W: FaultyWrite>(
 // Whether the instruction at which a run rests schedules or cancels a notice that is there.
 fn uses_notice<R: FaultyRead, W: FaultyWrite>(session: &Session<R, W>, guide: &Guide) -> bool {
     match subject_at(session) {
-        Some(Reference {
-            class: Some(class), ..
-        }) => is_notice(guide, class),
+        Some(
+            Reference {
+                class: Some(class),
+                ..
+            },
+        ) => is_notice(guide, class),
         _ => false,
     }
 }
@@ -182,7 +185,9 @@ fn add_cure<R: FaultyRead, W: FaultyWrite>(
             Some(name) => {
                 page.words("the number is that of a ")?;
                 page.bytes(name.bytes())?;
-                page.words(". Look whether values are GIVEN in the order in which they are taken, and which variable holds the reference here.")
+                page.words(
+                    ". Look whether values are GIVEN in the order in which they are taken, and which variable holds the reference here.",
+                )
             }
             None => page.words(cure_of(kind.number())),
         },

@@ -42,8 +42,8 @@ fn lines_of(alloc: Global, program: &Program) -> Result<Vec<Line>, AllocError> {
 // The line in which an event schedules another one of its kind, in no IF and no loop.
 fn line_of_return(name: &Name, body: &[Statement]) -> Option<Line> {
     for statement in body {
-        if let Statement::ScheduleNew { line, class, .. } | Statement::Schedule { line, class, .. } =
-            statement
+        if let Statement::ScheduleNew { line, class, .. }
+        | Statement::Schedule { line, class, .. } = statement
         {
             if class == name {
                 return Some(*line);

@@ -90,7 +90,9 @@ fn subject_of(
             class: None,
         }),
         Instruction::Figure {
-            statistic, entity, ..
+            statistic,
+            entity,
+            ..
         }
         | Instruction::LookMean { statistic, entity }
         | Instruction::Reset { statistic, entity } => {

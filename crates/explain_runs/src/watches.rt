@@ -11,11 +11,28 @@ use std::alloc::{AllocError, Global};
 /// What is watched.
 #[derive(Clone, Copy, Debug, PartialEq, Eq)]
 enum Watched {
-    Variable { number: usize, mode: Mode },
-    Count { set: usize, owner: i64 },
-    Figure { fold: Fold, statistic: usize, entity: i64 },
-    Mean { statistic: usize, entity: i64 },
-    Attribute { class: usize, field: usize, entity: i64 },
+    Variable {
+        number: usize,
+        mode: Mode,
+    },
+    Count {
+        set: usize,
+        owner: i64,
+    },
+    Figure {
+        fold: Fold,
+        statistic: usize,
+        entity: i64,
+    },
+    Mean {
+        statistic: usize,
+        entity: i64,
+    },
+    Attribute {
+        class: usize,
+        field: usize,
+        entity: i64,
+    },
 }
 
 /// A value that is watched, with how it is written and what was shown of it last.

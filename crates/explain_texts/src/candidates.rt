@@ -24,6 +24,9 @@ pub enum Candidate {
 /// The most tokens before a place at which candidates are tried.
 const TRIED_AFTER: usize = 1500;
 
+/// The most words that can fit at a place.
+const MOST_WORDS: usize = 100;
+
 static OTHERS: [Candidate; 11] = [
     Candidate::Name,
     Candidate::Number,
@@ -121,6 +124,34 @@ fn may_come(
     answer
 }
 
+// Whether a candidate is a word that is a value or begins one.
+fn is_value(candidate: &Candidate) -> bool {
+    match candidate {
+        Candidate::Word(word) => is_value_word(*word),
+        _ => true,
+    }
+}
+
+/// Whether the word is a value or begins one.
+pub fn is_value_word(word: Word) -> bool {
+    matches!(
+        word,
+        Word::TimeV | Word::TimeA | Word::AbsF | Word::DivF | Word::ModF | Word::MinF | Word::MaxF
+    )
+}
+
+/// Whether a token is among the candidates.
+pub fn has_token(candidates: &[Candidate], token: &Token) -> bool {
+    candidates.contains(&match &token.kind {
+        TokenKind::Word(word) => Candidate::Word(*word),
+        TokenKind::Name(_) => Candidate::Name,
+        TokenKind::Number(_) => Candidate::Number,
+        TokenKind::Text(_) => Candidate::Text,
+        TokenKind::Symbol(symbol) => Candidate::Symbol(*symbol),
+        TokenKind::Picture(_) => Candidate::Picture,
+    })
+}
+
 // Whether these tokens are a program.
 fn may_end(alloc: Global, tokens: &[Token]) -> Result<bool, AllocError> {
     Ok(reach_of(alloc, tokens)? == Reach::Whole)
@@ -146,6 +177,10 @@ pub fn candidates_after(
         if may_come(alloc, &mut tried, candidate, line)? {
             found.push(candidate)?;
         }
+    }
+    // Where a value is due the reading stops after a word that is none, so each word seems to fit.
+    if found.len() > MOST_WORDS {
+        found.retain(|candidate| is_value(candidate));
     }
     for candidate in &OTHERS {
         if may_come(alloc, &mut tried, *candidate, line)? {
@@ -191,16 +226,7 @@ pub fn has_phrase(candidates: &[Candidate]) -> bool {
 /// Whether the word is one of those that `has_..` stand for.
 pub fn is_grouped(candidates: &[Candidate], word: Word) -> bool {
     let in_statement = begins_statement(word);
-    let in_value = matches!(
-        word,
-        Word::TimeV
-            | Word::TimeA
-            | Word::AbsF
-            | Word::DivF
-            | Word::ModF
-            | Word::MinF
-            | Word::MaxF
-    );
+    let in_value = is_value_word(word);
     let in_relation = matches!(
         word,
         Word::Eq

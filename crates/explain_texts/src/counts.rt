@@ -24,7 +24,11 @@ fn wanted_of(read: &Read<'_>, need: &CountNeed) -> Option<(usize, Option<Name>, 
         }
         CountNeed::Yielded(routine) => {
             let section = read.names.routines.get(routine)?;
-            Some((section.yielding, Some(*routine), "this routine is YIELDING "))
+            Some((
+                section.yielding,
+                Some(*routine),
+                "this routine is YIELDING ",
+            ))
         }
         CountNeed::Attributes(class) => {
             let Some(Meaning::Class { class: number, .. }) = read.names.meaning(class) else {
@@ -196,16 +200,26 @@ fn decimal_field<'a>(list: &'a [Token], print: usize) -> Option<&'a [u8]> {
 
 // The first field with decimals of a line.
 fn decimals_in(line: &[u8]) -> Option<&[u8]> {
-    let point = line.windows(3).position(|three| three == b"*.*".as_slice())?;
+    let point = line
+        .windows(3)
+        .position(|three| three == b"*.*".as_slice())?;
     let (before, after) = line.split_at(point.saturating_add(1));
-    let whole = before.iter().rev().take_while(|byte| **byte == b'*').count();
+    let whole = before
+        .iter()
+        .rev()
+        .take_while(|byte| **byte == b'*')
+        .count();
     let part = after
         .iter()
         .skip(1)
         .take_while(|byte| **byte == b'*')
         .count();
     let start = before.len().saturating_sub(whole);
-    let end = before.len().saturating_add(1).saturating_add(part).min(line.len());
+    let end = before
+        .len()
+        .saturating_add(1)
+        .saturating_add(part)
+        .min(line.len());
     Some(&line[start..end])
 }
 
@@ -213,7 +227,9 @@ fn decimals_in(line: &[u8]) -> Option<&[u8]> {
 fn add_period(page: &mut Page, field: &[u8]) -> Result<(), AllocError> {
     page.words("Cure: ")?;
     page.bytes(field)?;
-    page.words(" is one field, for a MEAN alone. For two numbers write a blank or a colon between the asterisks, as **:**.")?;
+    page.words(
+        " is one field, for a MEAN alone. For two numbers write a blank or a colon between the asterisks, as **:**.",
+    )?;
     page.end_line()
 }
 
@@ -231,7 +247,11 @@ fn explain_print(
     page.number(u64::from(line_of(list, print)))?;
     page.words(", PRINT: ")?;
     page.number(items as u64)?;
-    page.words(if items == 1 { " value, and " } else { " values, and " })?;
+    page.words(if items == 1 {
+        " value, and "
+    } else {
+        " values, and "
+    })?;
     page.number(fields as u64)?;
     page.words(if fields == 1 {
         " field in its pictures"

@@ -48,10 +48,7 @@ fn slot_of(what: &Declared) -> Option<(Name, Slot)> {
         Declared::Subject { subject, .. } => Some((*subject, Slot::Subject)),
         Declared::Routine { routine, .. } => Some((*routine, Slot::Routine)),
         Declared::Event { class, .. } => Some((*class, Slot::Event)),
-        Declared::Parameter {
-            parameter,
-            section,
-        } => Some((*parameter, Slot::Inside(*section))),
+        Declared::Parameter { parameter, section } => Some((*parameter, Slot::Inside(*section))),
         Declared::Local {
             variable,
             section,
@@ -520,7 +517,12 @@ pub fn explain_declared(
             "it is no attribute of the event notice",
         ),
         TableError::TallyTwice(line) => {
-            plain(page, text, *line, "this name has a TALLY or an ACCUMULATE already")?;
+            plain(
+                page,
+                text,
+                *line,
+                "this name has a TALLY or an ACCUMULATE already",
+            )?;
             page.words(
                 "Cure: name all statistics of it in one TALLY or ACCUMULATE, or give it to a second variable by LET.",
             )?;

@@ -106,10 +106,7 @@ fn add_needed_signs(
 }
 
 // What is expected, by its names: words first, then what they are called together, then what may also go on.
-fn names_of(
-    alloc: Global,
-    candidates: &[Candidate],
-) -> Result<Vec<&'static str>, AllocError> {
+fn names_of(alloc: Global, candidates: &[Candidate]) -> Result<Vec<&'static str>, AllocError> {
     let mut all = Vec::new(alloc);
     add_words(&mut all, candidates, false)?;
     add_needed_signs(&mut all, candidates)?;

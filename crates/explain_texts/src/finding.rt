@@ -60,7 +60,7 @@ pub fn add_nearest(
             Some(found) => {
                 page.words("Cure: write ")?;
                 page.bytes(found.bytes())?;
-                page.words(", which is declared, in place of ")?;
+                page.words(" in place of ")?;
                 page.bytes(name)?;
                 page.words(".")?;
                 page.end_line()?;
@@ -73,12 +73,7 @@ pub fn add_nearest(
 }
 
 /// Adds a cure in words around a name.
-pub fn add_cure(
-    page: &mut Page,
-    before: &str,
-    name: &[u8],
-    after: &str,
-) -> Result<(), AllocError> {
+pub fn add_cure(page: &mut Page, before: &str, name: &[u8], after: &str) -> Result<(), AllocError> {
     page.words("Cure: ")?;
     page.words(before)?;
     page.bytes(name)?;

@@ -8,7 +8,10 @@ static FORMS: [(Word, &str); 32] = [
     (Word::Let, "LET target = value"),
     (Word::Add, "ADD value TO target"),
     (Word::Subtract, "SUBTRACT value FROM target"),
-    (Word::Call, "CALL routine [GIVING values] [YIELDING targets]"),
+    (
+        Word::Call,
+        "CALL routine [GIVING values] [YIELDING targets]",
+    ),
     (Word::Return, "RETURN"),
     (Word::Stop, "STOP"),
     (Word::Read, "READ targets"),
@@ -44,10 +47,7 @@ static FORMS: [(Word, &str); 32] = [
         "PRINT n LINES [WITH values] THUS, and below it n lines of picture",
     ),
     (Word::Skip, "SKIP n LINES"),
-    (
-        Word::Routine,
-        "ROUTINE name [GIVEN names] [YIELDING names]",
-    ),
+    (Word::Routine, "ROUTINE name [GIVEN names] [YIELDING names]"),
     (
         Word::Event,
         "EVENT name [GIVEN names] [SAVING THE EVENT NOTICE]; in the preamble EVENT NOTICES [INCLUDE names]",

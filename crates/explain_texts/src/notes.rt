@@ -114,6 +114,7 @@ fn add_note(
 
 /// The most notes on names of a section, and the most names that one is compared with.
 const NOTED: usize = 20;
+
 const COMPARED: usize = 2000;
 
 // How each local name of a section is used, by its number.
@@ -161,10 +162,7 @@ fn oddity_of(usage: &Usage) -> Option<(Line, &'static str)> {
         return None;
     }
     match (usage.assigned, usage.taken) {
-        (Some(line), None) => Some((
-            line,
-            "a value is put into this local name, and never used",
-        )),
+        (Some(line), None) => Some((line, "a value is put into this local name, and never used")),
         (None, Some(line)) => Some((
             line,
             "this local name is used, and nothing is put into it: it is 0",
@@ -211,10 +209,14 @@ fn add_locals(
 fn parts_of(statement: &Statement) -> (&[Statement], &[Statement]) {
     match statement {
         Statement::If {
-            then, otherwise, ..
+            then,
+            otherwise,
+            ..
         }
         | Statement::FindIf {
-            then, otherwise, ..
+            then,
+            otherwise,
+            ..
         } => (then.as_slice(), otherwise.as_slice()),
         Statement::Loop { body, .. } => (body.as_slice(), &[]),
         _ => (&[], &[]),
@@ -277,10 +279,10 @@ fn add_start(
     text: &[u8],
     program: &Program,
 ) -> Result<(), AllocError> {
-    let has_events = program
-        .sections
-        .iter()
-        .any(|section| matches!(section.kind, SectionKind::Event { .. }));
+    let has_events = program.sections.iter().any(|section| matches!(
+        section.kind,
+        SectionKind::Event { .. }
+    ));
     if !has_events || has_start(alloc, program)? {
         return Ok(());
     }
@@ -341,7 +343,9 @@ fn add_pictures(alloc: Global, page: &mut Page, text: &[u8]) -> Result<(), Alloc
                         ": it looks like a statement, and it is printed: the PRINT of line ",
                     )?;
                     page.number(u64::from(print.0))?;
-                    page.words(" counts it as one of its pictures. Write a smaller number of LINES there, if it is to be carried out")?;
+                    page.words(
+                        " counts it as one of its pictures. Write a smaller number of LINES there, if it is to be carried out",
+                    )?;
                     page.end_line()?;
                     show_line(page, text, token.line.0)?;
                 }
@@ -418,9 +422,13 @@ fn add_loops(
                     count += 1;
                     page.words("note: line ")?;
                     page.number(u64::from(line_of(one).0))?;
-                    page.words(", FOR or WHILE without DO: only the statement of the next line belongs to the loop, and line ")?;
+                    page.words(
+                        ", FOR or WHILE without DO: only the statement of the next line belongs to the loop, and line ",
+                    )?;
                     page.number(u64::from(line_of(next).0))?;
-                    page.words(" is indented as if it did too. Write DO at the end of the head, and LOOP after the last statement")?;
+                    page.words(
+                        " is indented as if it did too. Write DO at the end of the head, and LOOP after the last statement",
+                    )?;
                     page.end_line()?;
                     show_line(page, text, line_of(one).0)?;
                 }
@@ -451,7 +459,9 @@ fn add_subjects(
         page.number(u64::from(line.0))?;
         page.words(", ")?;
         page.bytes(subject.bytes())?;
-        page.words(": it is an attribute, so each entity has figures of its own, which go with it. A DEFINE of an attribute gives its mode and makes no variable. For figures of all take another name for the variable")?;
+        page.words(
+            ": it is an attribute, so each entity has figures of its own, which go with it. A DEFINE of an attribute gives its mode and makes no variable. For figures of all take another name for the variable",
+        )?;
         page.end_line()?;
         show_line(page, text, line.0)?;
     }

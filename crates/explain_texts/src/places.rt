@@ -70,10 +70,13 @@ pub fn line_from<'a>(text: &'a [u8], starts: &[usize], line: u32) -> &'a [u8] {
         Some(next) => next.saturating_sub(1),
         None => text.len(),
     };
-    bytes_of(text, Stretch {
-        start: *start,
-        end: end.max(*start),
-    })
+    bytes_of(
+        text,
+        Stretch {
+            start: *start,
+            end: end.max(*start),
+        },
+    )
 }
 
 /// The bytes of a line, without its end and without a carriage return there.
@@ -120,15 +123,11 @@ pub fn spelled<'a>(text: &'a [u8], token: &Token) -> &'a [u8] {
 
 /// The most columns of a line that are shown, and how many of them come before what is marked.
 const SHOWN: usize = 150;
+
 const BEFORE: usize = 60;
 
 // Adds a part of a line under its number, with tabs as blanks.
-fn show_part(
-    page: &mut Page,
-    bytes: &[u8],
-    line: u32,
-    from: usize,
-) -> Result<(), AllocError> {
+fn show_part(page: &mut Page, bytes: &[u8], line: u32, from: usize) -> Result<(), AllocError> {
     page.padded(u64::from(line), 5)?;
     page.blanks(2)?;
     for byte in bytes.iter().skip(from).take(SHOWN) {

@@ -218,6 +218,29 @@ fn add_line_end(
     Ok(())
 }
 
+// The last line of picture of a PRINT before the place.
+fn last_picture(trouble: &Trouble<'_>, print: usize) -> Option<u32> {
+    let mut found = None;
+    for index in print..trouble.at.min(trouble.tokens.len()) {
+        if let Some(token) = trouble.tokens.get(index) {
+            if let TokenKind::Picture(_) = &token.kind {
+                found = Some(token.line.0);
+            }
+        }
+    }
+    found
+}
+
+// Whether the line of the place comes directly after the pictures of a PRINT.
+fn is_after_pictures(trouble: &Trouble<'_>, print: usize) -> bool {
+    match last_picture(trouble, print) {
+        Some(line) => {
+            trouble.line() == line.saturating_add(1) && !is_frame_word(trouble.tokens, trouble.at)
+        }
+        None => false,
+    }
+}
+
 /// Adds the changes of PRINTs before the place.
 pub fn add_prints(
     alloc: Global,
@@ -234,9 +257,22 @@ pub fn add_prints(
     };
     add_thus(alloc, fixes, trouble, print)?;
     add_line_end(alloc, fixes, trouble)?;
-    let is_later = trouble.line() > line_of(trouble.tokens, print);
-    if is_later && !is_frame_word(trouble.tokens, trouble.at) {
+    if is_after_pictures(trouble, print) && has_field(trouble.line_bytes(trouble.line())) {
         add_more_lines(alloc, fixes, trouble, print)?;
     }
     Ok(())
+}
+
+/// Adds a larger number of lines for the PRINT before the place, where the line has no field.
+pub fn add_further_lines(
+    alloc: Global,
+    fixes: &mut Vec<Fix>,
+    trouble: &Trouble<'_>,
+) -> Result<(), AllocError> {
+    match print_before(trouble) {
+        Some(print) if is_after_pictures(trouble, print) => {
+            add_more_lines(alloc, fixes, trouble, print)
+        }
+        _ => Ok(()),
+    }
 }

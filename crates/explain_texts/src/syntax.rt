@@ -1,6 +1,6 @@
 //! Texts that are no programs: refusals 41 and 42.
 
-use crate::candidates::{candidates_after, has_statement};
+use crate::candidates::{Candidate, candidates_after, has_statement, has_token};
 use crate::expected::add_expected;
 use crate::fixes::{Fix, Window, best_of, left_after};
 use crate::forms::{form_of, leader_before};
@@ -8,21 +8,33 @@ use crate::frames::add_frames;
 use crate::opens::{Construct, is_frame_word, line_of, opens_at, section_before, word_at};
 use crate::page::Page;
 use crate::places::{line_starts, show_line, show_marked};
-use crate::prints::add_prints;
+use crate::prints::{add_further_lines, add_prints};
 use crate::trouble::Trouble;
-use crate::words::add_words;
+use crate::words::{add_likely, add_missing, add_unlikely};
 use ss_base::Line;
 use ss_lex::Token;
 use std::alloc::{AllocError, Global};
 
-// All changes that are worth a trial, those first that say most.
-fn fixes_of(alloc: Global, trouble: &Trouble<'_>) -> Result<Vec<Fix>, AllocError> {
+/// How many kinds of changes there are, the likeliest first.
+const KINDS: usize = 3;
+
+// The changes of a kind that are worth a trial, those first that say most.
+fn fixes_of(alloc: Global, trouble: &Trouble<'_>, kind: usize) -> Result<Vec<Fix>, AllocError> {
     let mut fixes = Vec::new(alloc);
-    add_prints(alloc, &mut fixes, trouble)?;
-    if is_frame_word(trouble.tokens, trouble.at) {
-        add_frames(alloc, &mut fixes, trouble)?;
+    match kind {
+        0 => add_likely(alloc, &mut fixes, trouble)?,
+        1 => {
+            add_prints(alloc, &mut fixes, trouble)?;
+            if is_frame_word(trouble.tokens, trouble.at) {
+                add_frames(alloc, &mut fixes, trouble)?;
+            }
+            add_missing(alloc, &mut fixes, trouble)?;
+        }
+        _ => {
+            add_unlikely(alloc, &mut fixes, trouble)?;
+            add_further_lines(alloc, &mut fixes, trouble)?;
+        }
     }
-    add_words(alloc, &mut fixes, trouble)?;
     Ok(fixes)
 }
 
@@ -45,16 +57,16 @@ fn add_cure(alloc: Global, page: &mut Page, trouble: &Trouble<'_>) -> Result<boo
         return Ok(false);
     };
     let most = good_enough(trouble, window, left);
-    let fixes = fixes_of(alloc, trouble)?;
-    match best_of(alloc, window, fixes.as_slice(), most)? {
-        Some(fix) => {
+    for kind in 0..KINDS {
+        let fixes = fixes_of(alloc, trouble, kind)?;
+        if let Some(fix) = best_of(alloc, window, fixes.as_slice(), most)? {
             page.words("Cure: ")?;
             page.bytes(fix.say.text.as_slice())?;
             page.end_line()?;
-            Ok(true)
+            return Ok(true);
         }
-        None => Ok(false),
     }
+    Ok(false)
 }
 
 // Adds the form of the statement or the declaration in which the place is.
@@ -112,6 +124,35 @@ fn add_place(alloc: Global, page: &mut Page, trouble: &Trouble<'_>) -> Result<()
     show_marked(page, trouble.text, trouble.line(), Some(trouble.stretch()))
 }
 
+// What may come at a token, in the section that it is in.
+fn candidates_at(alloc: Global, tokens: &[Token], at: usize) -> Result<Vec<Candidate>, AllocError> {
+    let section = section_before(tokens, at);
+    let before = match tokens.get(section..at) {
+        Some(before) => before,
+        None => &[],
+    };
+    candidates_after(alloc, before, Line(line_of(tokens, at)))
+}
+
+// The place that does not fit, and what may come there. Where reading stopped after a word that fits nowhere, that is the word.
+fn place_of(
+    alloc: Global,
+    tokens: &[Token],
+    at: usize,
+) -> Result<(usize, Vec<Candidate>), AllocError> {
+    let candidates = candidates_at(alloc, tokens, at)?;
+    if !candidates.is_empty() || at == 0 {
+        return Ok((at, candidates));
+    }
+    let earlier = candidates_at(alloc, tokens, at - 1)?;
+    match tokens.get(at - 1) {
+        Some(token) if !earlier.is_empty() && !has_token(earlier.as_slice(), token) => {
+            Ok((at - 1, earlier))
+        }
+        _ => Ok((at, candidates)),
+    }
+}
+
 /// Explains a text whose tokens are read no further than to one of them.
 pub fn explain_syntax(
     alloc: Global,
@@ -120,13 +161,8 @@ pub fn explain_syntax(
     tokens: &[Token],
     at: usize,
 ) -> Result<(), AllocError> {
+    let (at, candidates) = place_of(alloc, tokens, at)?;
     let section = section_before(tokens, at);
-    let line = Line(line_of(tokens, at));
-    let before = match tokens.get(section..at) {
-        Some(before) => before,
-        None => &[],
-    };
-    let candidates = candidates_after(alloc, before, line)?;
     let opens = opens_at(alloc, tokens, section, at)?;
     let starts = line_starts(alloc, text)?;
     let trouble = Trouble {

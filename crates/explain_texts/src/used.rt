@@ -70,6 +70,19 @@ fn serves(need: ClassNeed, kind: ClassKind) -> bool {
     }
 }
 
+// Adds the words of the language that are values or give them.
+fn add_functions(known: &mut Vec<Name>) -> Result<(), AllocError> {
+    let words = [
+        "TIME.V", "TIME.A", "ABS.F", "DIV.F", "MOD.F", "MIN.F", "MAX.F",
+    ];
+    for word in words {
+        if let Some(name) = Name::of(word.as_bytes()) {
+            known.push(name)?;
+        }
+    }
+    Ok(())
+}
+
 // Says what a name is and what it has to be, and what helps.
 fn explain_kind<F: Fn(Meaning) -> bool>(
     alloc: Global,
@@ -93,7 +106,10 @@ fn explain_kind<F: Fn(Meaning) -> bool>(
     page.words(wanted.0)?;
     page.words(" is needed here")?;
     show_name(alloc, page, read.text, line.0, name)?;
-    let known = names_that(alloc, read.names, is)?;
+    let mut known = names_that(alloc, read.names, is)?;
+    if wanted.0 == "a value" {
+        add_functions(&mut known)?;
+    }
     if add_nearest(alloc, page, name, known.as_slice())? {
         return Ok(());
     }
@@ -174,7 +190,12 @@ fn explain_function(
     begin_with_name(page, line.0, name)?;
     page.words("it is not declared")?;
     show_name(alloc, page, read.text, line.0, name)?;
-    add_cure(page, "write ", whole.as_bytes(), ", as the language calls it.")?;
+    add_cure(
+        page,
+        "write ",
+        whole.as_bytes(),
+        ", as the language calls it.",
+    )?;
     Ok(true)
 }
 
@@ -197,7 +218,8 @@ fn explain_class(
         return Ok(true);
     }
     let help = match need {
-        ClassNeed::Single => " has to be an EVERY under TEMPORARY ENTITIES, or under EVENT NOTICES.",
+        ClassNeed::Single =>
+            " has to be an EVERY under TEMPORARY ENTITIES, or under EVENT NOTICES.",
         ClassNeed::Permanent => " has to be an EVERY under PERMANENT ENTITIES.",
         ClassNeed::Notice => " has to be declared under EVENT NOTICES, by INCLUDE or by an EVERY.",
     };
@@ -223,15 +245,26 @@ fn explain_routine(
     }
     let meaning = read.names.meaning(routine);
     let help = match meaning {
-        Some(Meaning::Class {
-            kind: ClassKind::Notice,
-            ..
-        }) => " is an event: SCHEDULE it, or write what it shares with others as a ROUTINE.",
+        Some(
+            Meaning::Class {
+                kind: ClassKind::Notice,
+                ..
+            },
+        ) => " is an event: SCHEDULE it, or write what it shares with others as a ROUTINE.",
         _ => " has to be a section: write ROUTINE and this name, statements, and END.",
     };
     let is = |meaning: Meaning| matches!(meaning, Meaning::Routine { .. });
     let wanted = ("a routine", help);
-    explain_kind(alloc, page, read, line, routine.bytes(), meaning, wanted, is)?;
+    explain_kind(
+        alloc,
+        page,
+        read,
+        line,
+        routine.bytes(),
+        meaning,
+        wanted,
+        is,
+    )?;
     Ok(true)
 }
 
@@ -284,7 +317,16 @@ fn explain_place(
                 }
                 _ => " has to be an attribute or a variable: declare it, or mend its spelling.",
             };
-            explain_kind(alloc, page, read, line, spelling, meaning, ("a value", help), is)?;
+            explain_kind(
+                alloc,
+                page,
+                read,
+                line,
+                spelling,
+                meaning,
+                ("a value", help),
+                is,
+            )?;
         }
     }
     Ok(true)
@@ -412,7 +454,12 @@ fn explain_event(
         page.words(" with its statements and END, or leave the notice out.")?;
         return page.end_line();
     }
-    plain(page, read.text, line.0, "this event notice has no section EVENT")
+    plain(
+        page,
+        read.text,
+        line.0,
+        "this event notice has no section EVENT",
+    )
 }
 
 // How many subscripts what a name means may have: the least and the most.
@@ -440,7 +487,9 @@ fn explain_subscript(
     one: &Use,
 ) -> Result<bool, AllocError> {
     let Used::Place {
-        place, subscripts, ..
+        place,
+        subscripts,
+        ..
     } = &one.what
     else {
         return Ok(false);
@@ -465,7 +514,12 @@ fn explain_subscript(
     })?;
     show_name(alloc, page, read.text, one.line.0, spelling)?;
     if *subscripts < least {
-        add_cure(page, "write the notice after it, as ", spelling, "(ARRIVAL).")?;
+        add_cure(
+            page,
+            "write the notice after it, as ",
+            spelling,
+            "(ARRIVAL).",
+        )?;
     } else if most == 0 {
         add_cure(
             page,
@@ -474,7 +528,12 @@ fn explain_subscript(
             " out. A value for each entity is an attribute: declare it by EVERY .. HAS.",
         )?;
     } else {
-        add_cure(page, "keep one number in the parentheses after ", spelling, ".")?;
+        add_cure(
+            page,
+            "keep one number in the parentheses after ",
+            spelling,
+            ".",
+        )?;
     }
     Ok(true)
 }
@@ -765,7 +824,12 @@ pub fn explain_used(
         }
         CheckError::NoEventRoutine(line) => explain_event(alloc, page, read, *line),
         CheckError::StartPlace(line) => {
-            plain(page, read.text, line.0, "START SIMULATION is in an EVENT or a ROUTINE")?;
+            plain(
+                page,
+                read.text,
+                line.0,
+                "START SIMULATION is in an EVENT or a ROUTINE",
+            )?;
             page.words("Cure: write START SIMULATION in MAIN, and SCHEDULE what comes next here.")?;
             page.end_line()
         }

@@ -1,9 +1,9 @@
 //! Changes of single words: one is put in, left out, or gives way to another.
 
-use crate::candidates::{Candidate, has_word};
+use crate::candidates::{Candidate, has_word, is_value_word};
 use crate::fixes::Fix;
 use crate::forms::leader_before;
-use crate::opens::{head_at, line_of, word_at};
+use crate::opens::{head_at, is_first_of_line, line_of, word_at};
 use crate::page::Page;
 use crate::places::{Stretch, bytes_of, spelled};
 use crate::similar::is_like;
@@ -149,6 +149,23 @@ fn add_confusions(
     Ok(())
 }
 
+// Whether a name is both in the preamble and in a section, so that it is no word that was spelled wrongly.
+fn is_shared(trouble: &Trouble<'_>, name: &[u8]) -> bool {
+    let mut in_preamble = false;
+    let mut in_section = false;
+    let mut begun = false;
+    for (index, token) in trouble.tokens.iter().enumerate() {
+        begun = begun || head_at(trouble.tokens, index).is_some();
+        if let TokenKind::Name(found) = &token.kind {
+            if found.bytes() == name {
+                in_preamble = in_preamble || !begun;
+                in_section = in_section || begun;
+            }
+        }
+    }
+    in_preamble && in_section
+}
+
 // The token that does not fit, or the one before it, gives way to a word that is spelled alike.
 fn add_misspelled(
     alloc: Global,
@@ -166,6 +183,9 @@ fn add_misspelled(
         let TokenKind::Name(name) = &token.kind else {
             continue;
         };
+        if is_shared(trouble, name.bytes()) {
+            continue;
+        }
         for (spelling, _) in &WORDS {
             if is_like(alloc, name.bytes(), spelling.as_bytes())? {
                 fixes.push(in_place(alloc, trouble, index, index, spelling.as_bytes())?)?;
@@ -173,6 +193,52 @@ fn add_misspelled(
         }
     }
     Ok(())
+}
+
+// Whether a token is a reserved word that may be meant as a name: no word of the frame of statements, and no small one.
+fn may_be_name(trouble: &Trouble<'_>, index: usize) -> bool {
+    let Some(word) = word_at(trouble.tokens, index) else {
+        return false;
+    };
+    let is_small = matches!(
+        word,
+        Word::A
+            | Word::An
+            | Word::The
+            | Word::And
+            | Word::Or
+            | Word::As
+            | Word::At
+            | Word::By
+            | Word::Do
+            | Word::Of
+            | Word::In
+            | Word::Is
+            | Word::To
+            | Word::From
+            | Word::With
+            | Word::When
+            | Word::Given
+            | Word::Giving
+            | Word::Yielding
+            | Word::Saving
+            | Word::Called
+            | Word::Has
+            | Word::Owns
+            | Word::May
+            | Word::Thus
+            | Word::Like
+            | Word::Than
+            | Word::Then
+            | Word::Not
+            | Word::Else
+            | Word::Always
+            | Word::End
+            | Word::Loop
+            | Word::Include
+    );
+    let begins_line = is_first_of_line(trouble.tokens, index);
+    !is_small && !(begins_line && begins_something(word))
 }
 
 // A reserved word that is used as a name gives way to a name.
@@ -185,7 +251,7 @@ fn add_renamed(
     let Some(token) = trouble.tokens.get(index) else {
         return Ok(());
     };
-    if word_at(trouble.tokens, index).is_none() || head_at(trouble.tokens, index).is_some() {
+    if !may_be_name(trouble, index) || head_at(trouble.tokens, index).is_some() {
         return Ok(());
     }
     let spelling = spelled(trouble.text, token);
@@ -208,10 +274,7 @@ fn add_renamed(
 // Whether a spelling begins with a vowel.
 fn begins_with_vowel(spelling: &[u8]) -> bool {
     match spelling {
-        [first, ..] => matches!(
-            first.to_ascii_uppercase(),
-            b'A' | b'E' | b'I' | b'O' | b'U'
-        ),
+        [first, ..] => matches!(first.to_ascii_uppercase(), b'A' | b'E' | b'I' | b'O' | b'U'),
         [] => false,
     }
 }
@@ -285,7 +348,7 @@ fn add_put_in(
 ) -> Result<(), AllocError> {
     for candidate in trouble.candidates {
         if let Candidate::Word(word) = candidate {
-            if !is_wrong_article(trouble, *word) {
+            if !is_wrong_article(trouble, *word) && !is_value_word(*word) {
                 let spelling = spelling_of(*word);
                 let begins = begins_something(*word);
                 fixes.push(put_in(alloc, trouble, spelling, spelling, begins)?)?;
@@ -306,7 +369,7 @@ fn add_in_place(
     }
     for candidate in trouble.candidates {
         if let Candidate::Word(word) = candidate {
-            if !is_wrong_article(trouble, *word) {
+            if !is_wrong_article(trouble, *word) && !is_value_word(*word) {
                 let spelling = spelling_of(*word).as_bytes();
                 fixes.push(in_place(alloc, trouble, trouble.at, trouble.at, spelling)?)?;
             }
@@ -340,11 +403,7 @@ fn add_left_out(
 }
 
 // A sign is put in.
-fn add_signs(
-    alloc: Global,
-    fixes: &mut Vec<Fix>,
-    trouble: &Trouble<'_>,
-) -> Result<(), AllocError> {
+fn add_signs(alloc: Global, fixes: &mut Vec<Fix>, trouble: &Trouble<'_>) -> Result<(), AllocError> {
     for candidate in trouble.candidates {
         match candidate {
             Candidate::Symbol(Symbol::CloseParenthesis) => {
@@ -403,14 +462,8 @@ fn factor_after(trouble: &Trouble<'_>) -> usize {
         let Some(token) = trouble.tokens.get(index) else {
             break;
         };
-        let opens = matches!(
-            &token.kind,
-            TokenKind::Symbol(Symbol::OpenParenthesis)
-        );
-        let closes = matches!(
-            &token.kind,
-            TokenKind::Symbol(Symbol::CloseParenthesis)
-        );
+        let opens = matches!(&token.kind, TokenKind::Symbol(Symbol::OpenParenthesis));
+        let closes = matches!(&token.kind, TokenKind::Symbol(Symbol::CloseParenthesis));
         let is_first = index == trouble.at.saturating_add(1);
         if !is_first && depth == 0 && !opens {
             break;
@@ -532,14 +585,8 @@ fn add_define_first(
     let end = trouble.line_end(line);
     let mut with = Page::new(alloc);
     with.words("\n")?;
-    with.bytes(bytes_of(
-        trouble.text,
-        Stretch { start: before, end },
-    ))?;
-    with.bytes(bytes_of(
-        trouble.text,
-        Stretch { start, end: before },
-    ))?;
+    with.bytes(bytes_of(trouble.text, Stretch { start: before, end }))?;
+    with.bytes(bytes_of(trouble.text, Stretch { start, end: before }))?;
     let mut say = Page::new(alloc);
     say.words("A DEFINE comes before the statements of its section: move line ")?;
     say.number(u64::from(line))?;
@@ -642,11 +689,7 @@ fn add_bare_conditions(
 }
 
 // The group that an EVERY is in has no head.
-fn add_group(
-    alloc: Global,
-    fixes: &mut Vec<Fix>,
-    trouble: &Trouble<'_>,
-) -> Result<(), AllocError> {
+fn add_group(alloc: Global, fixes: &mut Vec<Fix>, trouble: &Trouble<'_>) -> Result<(), AllocError> {
     for back in 0..2 {
         if back > trouble.at || word_at(trouble.tokens, trouble.at - back) != Some(Word::Every) {
             continue;
@@ -674,7 +717,8 @@ fn add_earlier(
     fixes: &mut Vec<Fix>,
     trouble: &Trouble<'_>,
 ) -> Result<(), AllocError> {
-    for back in 1..4 {
+    let most = if trouble.candidates.is_empty() { 4 } else { 2 };
+    for back in 1..most {
         if back > trouble.at {
             break;
         }
@@ -683,7 +727,20 @@ fn add_earlier(
             continue;
         };
         let start = token.span.start;
-        for (spelling, _) in &WORDS {
+        let mut say = Page::new(alloc);
+        say.words("Write a value before ")?;
+        say.capitals(spelled(trouble.text, token))?;
+        say.in_line(token.line.0)?;
+        say.words(".")?;
+        fixes.push(Fix {
+            stretch: Stretch { start, end: start },
+            with: with_blanks(alloc, b"A.NAME")?,
+            say,
+        })?;
+        for (spelling, word) in &WORDS {
+            if is_value_word(*word) || *word == Word::All {
+                continue;
+            }
             let mut say = Page::new(alloc);
             say.words("Write ")?;
             say.words(spelling)?;
@@ -701,30 +758,164 @@ fn add_earlier(
     Ok(())
 }
 
-/// Adds the changes of single words, those first that say most.
-pub fn add_words(
+// Whether the word is one that is often taken for a name.
+fn is_noun(word: Word) -> bool {
+    matches!(
+        word,
+        Word::Number
+            | Word::Order
+            | Word::Line
+            | Word::Unit
+            | Word::Set
+            | Word::Event
+            | Word::Case
+            | Word::Mode
+            | Word::Data
+            | Word::Sum
+            | Word::Mean
+            | Word::Minimum
+            | Word::Maximum
+            | Word::High
+            | Word::Low
+            | Word::Ties
+            | Word::Totals
+            | Word::System
+            | Word::Output
+            | Word::Notice
+            | Word::Entities
+            | Word::Variable
+            | Word::Priority
+            | Word::Break
+    )
+}
+
+// Whether a section ROUTINE of this name is in the text.
+fn is_routine(trouble: &Trouble<'_>, name: &[u8]) -> bool {
+    for index in 1..trouble.tokens.len() {
+        if word_at(trouble.tokens, index - 1) == Some(Word::Routine) {
+            if let Some(token) = trouble.tokens.get(index) {
+                if spelled(trouble.text, token).eq_ignore_ascii_case(name) {
+                    return true;
+                }
+            }
+        }
+    }
+    false
+}
+
+// The first word of a statement that begins with a name.
+fn add_first_word(
+    alloc: Global,
+    fixes: &mut Vec<Fix>,
+    trouble: &Trouble<'_>,
+) -> Result<(), AllocError> {
+    let is_name = match trouble.found() {
+        Some(token) => matches!(&token.kind, TokenKind::Name(_)),
+        None => false,
+    };
+    if !is_name || !has_word(trouble.candidates, Word::Let) {
+        return Ok(());
+    }
+    if is_symbol(trouble.tokens, trouble.at.saturating_add(1), Symbol::Equals) {
+        fixes.push(put_in(alloc, trouble, "LET", "LET", true)?)?;
+        return Ok(());
+    }
+    let called = if is_routine(trouble, trouble.found_spelling()) {
+        "CALL"
+    } else {
+        "the word with which the statement begins, as READ or CALL,"
+    };
+    fixes.push(put_in(alloc, trouble, called, "CALL", true)?)?;
+    Ok(())
+}
+
+// The first word of a section, and of a group of entities.
+fn add_heads(alloc: Global, fixes: &mut Vec<Fix>, trouble: &Trouble<'_>) -> Result<(), AllocError> {
+    if has_word(trouble.candidates, Word::Routine) && has_word(trouble.candidates, Word::Main) {
+        fixes.push(put_in(alloc, trouble, "ROUTINE or EVENT", "ROUTINE", true)?)?;
+    }
+    if has_word(trouble.candidates, Word::Temporary)
+        && word_at(trouble.tokens, trouble.at) == Some(Word::Entities)
+    {
+        fixes.push(put_in(alloc, trouble, "TEMPORARY or PERMANENT", "TEMPORARY", true)?)?;
+    }
+    Ok(())
+}
+
+// Whether the token at the place and the one before it are names in one line.
+fn are_names(trouble: &Trouble<'_>) -> bool {
+    match (trouble.before(), trouble.found()) {
+        (Some(before), Some(found)) => {
+            matches!(&before.kind, TokenKind::Name(_))
+                && matches!(&found.kind, TokenKind::Name(_))
+                && before.line.0 == found.line.0
+        }
+        _ => false,
+    }
+}
+
+// A name, a value or a number is put in.
+fn add_nouns(alloc: Global, fixes: &mut Vec<Fix>, trouble: &Trouble<'_>) -> Result<(), AllocError> {
+    let has_name = trouble.candidates.contains(&Candidate::Name);
+    let has_number = trouble.candidates.contains(&Candidate::Number);
+    if has_name && has_number {
+        fixes.push(put_in(alloc, trouble, "a value", "A.NAME", false)?)?;
+    } else if has_name {
+        fixes.push(put_in(alloc, trouble, "a name", "A.NAME", false)?)?;
+    } else if has_number {
+        fixes.push(put_in(alloc, trouble, "a number", "1", false)?)?;
+    }
+    Ok(())
+}
+
+/// Adds the changes that say most: words of other languages, words that are spelled wrongly, a stroke.
+pub fn add_likely(
     alloc: Global,
     fixes: &mut Vec<Fix>,
     trouble: &Trouble<'_>,
 ) -> Result<(), AllocError> {
     add_division(alloc, fixes, trouble)?;
     add_confusions(alloc, fixes, trouble)?;
+    add_misspelled(alloc, fixes, trouble)
+}
+
+/// Adds the changes by which something is moved or put in.
+pub fn add_missing(
+    alloc: Global,
+    fixes: &mut Vec<Fix>,
+    trouble: &Trouble<'_>,
+) -> Result<(), AllocError> {
     add_given_first(alloc, fixes, trouble)?;
     add_define_first(alloc, fixes, trouble)?;
     add_bare_conditions(alloc, fixes, trouble)?;
     add_group(alloc, fixes, trouble)?;
-    add_misspelled(alloc, fixes, trouble)?;
     if trouble.candidates.contains(&Candidate::Name) {
         add_renamed(alloc, fixes, trouble, trouble.at)?;
     }
+    if are_names(trouble) {
+        fixes.push(put_in(alloc, trouble, "a comma", ",", false)?)?;
+    }
+    add_first_word(alloc, fixes, trouble)?;
+    add_heads(alloc, fixes, trouble)?;
     add_put_in(alloc, fixes, trouble)?;
     add_signs(alloc, fixes, trouble)?;
+    add_nouns(alloc, fixes, trouble)
+}
+
+/// Adds the changes that are tried where no other helps: words that give way to others, or are left out.
+pub fn add_unlikely(
+    alloc: Global,
+    fixes: &mut Vec<Fix>,
+    trouble: &Trouble<'_>,
+) -> Result<(), AllocError> {
     add_in_place(alloc, fixes, trouble)?;
     if trouble.at > 0 {
-        add_renamed(alloc, fixes, trouble, trouble.at - 1)?;
+        if let Some(word) = word_at(trouble.tokens, trouble.at - 1) {
+            if is_noun(word) {
+                add_renamed(alloc, fixes, trouble, trouble.at - 1)?;
+            }
+        }
     }
-    if trouble.candidates.is_empty() {
-        add_earlier(alloc, fixes, trouble)?;
-    }
+    add_earlier(alloc, fixes, trouble)?;
     add_left_out(alloc, fixes, trouble, trouble.at)
 }
