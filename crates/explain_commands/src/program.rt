@@ -18,6 +18,9 @@ use std::convert::AsStr;
 use std::io::{BufReader, BufWriter, Read, Write};
 use std::rt::Clock;
 
+/// The status of a command line with a name that can't be watched.
+const MISUSED: u8 = 2;
+
 /// A run that is asked for, of a text.
 #[derive(Drop)]
 struct Job<'a, C> {
@@ -50,25 +53,28 @@ pub fn perform<
     match Order::of(alloc, words) {
         Ok(order) => {
             let ways = (&mut output, &mut errors, &mut told);
-            let ended = obey(alloc, &order, files, clock, ways);
-            report_ending(alloc, ended, errors)
+            match obey(alloc, &order, files, clock, ways) {
+                Ok(Some(outcome)) => report_ending(alloc, Ok(outcome), errors),
+                Ok(None) => MISUSED,
+                Err(trouble) => report_ending(alloc, Err(trouble), errors),
+            }
         }
         Err(misuse) => explain(&misuse, output, errors),
     }
 }
 
-// Does what an order says.
+// Does what an order says. None where a name can't be watched, which is said.
 fn obey<F: FileStore, C: Clock + Drop, O: Write, E: Write, T: Write>(
     alloc: Global,
     order: &Order<'_>,
     files: &F,
     clock: &C,
     ways: (&mut O, &mut E, &mut T),
-) -> Result<Outcome, ProgramFailure> {
+) -> Result<Option<Outcome>, ProgramFailure> {
     let (output, errors, told) = ways;
     let text = read_file(alloc, files, order.model)?;
     let Some(run) = order.run else {
-        return check(alloc, text.as_slice(), output);
+        return check(alloc, text.as_slice(), output).map(Some);
     };
     match compile_with_names(alloc, text.as_slice()) {
         Ok((model, guide)) => {
@@ -81,9 +87,14 @@ fn obey<F: FileStore, C: Clock + Drop, O: Write, E: Write, T: Write>(
                 order: run,
                 clock,
             };
-            run_model(&job, model, files, output, errors, told)
+            match watches_in(&job, errors)? {
+                Some(watches) => {
+                    run_model(&job, model, watches, files, (output, errors, told)).map(Some)
+                }
+                None => Ok(None),
+            }
         }
-        Err(refusal) => refuse(alloc, text.as_slice(), refusal, output),
+        Err(refusal) => refuse(alloc, text.as_slice(), refusal, output).map(Some),
     }
 }
 
@@ -155,27 +166,17 @@ fn check<O: Write>(alloc: Global, text: &[u8], output: &mut O) -> Result<Outcome
 fn run_model<F: FileStore, C: Clock + Drop, O: Write, E: Write, T: Write>(
     job: &Job<'_, C>,
     model: Model,
+    watches: Vec<Watch>,
     files: &F,
-    output: &mut O,
-    errors: &mut E,
-    told: &mut T,
+    ways: (&mut O, &mut E, &mut T),
 ) -> Result<Outcome, ProgramFailure> {
     let Some(name) = job.order.input else {
-        return run_with(job, model, &[][..], output, errors, told);
+        return run_with(job, model, watches, &[][..], ways);
     };
-    let file = match open(files, name, ProgramFailure::Input) {
-        Ok(file) => file,
-        Err(trouble) => {
-            model.release();
-            return Err(trouble);
-        }
-    };
+    let file = open(files, name, ProgramFailure::Input)?;
     match BufReader::new(job.subject.alloc, Retrying::new(file)) {
-        Ok(reader) => run_with(job, model, reader, output, errors, told),
-        Err(_) => {
-            model.release();
-            Err(ProgramFailure::Memory)
-        }
+        Ok(reader) => run_with(job, model, watches, reader, ways),
+        Err(_) => Err(ProgramFailure::Memory),
     }
 }
 
@@ -188,17 +189,16 @@ fn shows_lines(run: &RunOrder<'_>) -> bool {
 fn run_with<R: Read + Drop, C: Clock + Drop, O: Write, E: Write, T: Write>(
     job: &Job<'_, C>,
     model: Model,
+    watches: Vec<Watch>,
     reader: R,
-    output: &mut O,
-    errors: &mut E,
-    told: &mut T,
+    ways: (&mut O, &mut E, &mut T),
 ) -> Result<Outcome, ProgramFailure> {
-    let alloc = job.subject.alloc;
     if shows_lines(&job.order) {
-        return run_in_lines(job, model, reader, output, errors, told);
+        return run_in_lines(job, model, watches, reader, ways);
     }
+    let alloc = job.subject.alloc;
+    let (output, _errors, told) = ways;
     let Ok(report) = BufWriter::new(alloc, Retrying::new(output)) else {
-        model.release();
         return Err(ProgramFailure::Memory);
     };
     let mut session = match started(job, model, reader, report) {
@@ -267,24 +267,12 @@ fn refuse_watch<E: Write>(name: &[u8], errors: &mut E) {
 fn run_in_lines<R: Read + Drop, C: Clock + Drop, O: Write, E: Write, T: Write>(
     job: &Job<'_, C>,
     model: Model,
+    watches: Vec<Watch>,
     reader: R,
-    output: &mut O,
-    errors: &mut E,
-    told: &mut T,
+    ways: (&mut O, &mut E, &mut T),
 ) -> Result<Outcome, ProgramFailure> {
-    let watches = match watches_in(job, errors) {
-        Ok(Some(watches)) => watches,
-        Ok(None) => {
-            model.release();
-            return Err(ProgramFailure::Input);
-        }
-        Err(trouble) => {
-            model.release();
-            return Err(trouble);
-        }
-    };
+    let (output, errors, told) = ways;
     let Ok(mut lines) = BufWriter::new(job.subject.alloc, Retrying::new(output)) else {
-        model.release();
         return Err(ProgramFailure::Memory);
     };
     let session = match started(job, model, reader, errors) {

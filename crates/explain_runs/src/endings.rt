@@ -176,22 +176,22 @@ fn add_cure<R: FaultyRead, W: FaultyWrite>(
     page.words("Cure: ")?;
     match kind {
         FaultKind::DestroyedEntity if uses_notice(session, guide) => page.words(
-            "an event destroys its notice as it begins. Write SCHEDULE A or AN for a new notice, or SAVING THE EVENT NOTICE in the head of its EVENT.",
+            "An event destroys its notice as it begins. Write SCHEDULE A or AN for a new notice, or SAVING THE EVENT NOTICE in the head of its EVENT.",
         ),
         FaultKind::DestroyedEntity | FaultKind::NoEntity if asks_statistic(session) => page.words(
-            "this statistic is of an attribute, so each entity has its own, which goes with it. For figures of all, TALLY a variable that is no attribute.",
+            "This statistic is of an attribute, so each entity has its own, which goes with it. For figures of all, TALLY a variable that is no attribute.",
         ),
         FaultKind::Index | FaultKind::WrongClass => match other_class(session, guide) {
             Some(name) => {
-                page.words("the number is that of a ")?;
+                page.words("The number is that of a ")?;
                 page.bytes(name.bytes())?;
                 page.words(
                     ". Look whether values are GIVEN in the order in which they are taken, and which variable holds the reference here.",
                 )
             }
-            None => page.words(cure_of(kind.number())),
+            None => page.sentence(cure_of(kind.number())),
         },
-        _ => page.words(cure_of(kind.number())),
+        _ => page.sentence(cure_of(kind.number())),
     }?;
     page.end_line()
 }
@@ -224,9 +224,9 @@ pub fn add_pause<R: FaultyRead, W: FaultyWrite>(
         }
     }
     page.words(if !is_loop {
-        "Cure: give more --ticks. If the run should have ended, look for an event that schedules itself each time: put its SCHEDULE into an IF, as IF TIME.V LT 480 .. ALWAYS."
+        "Cure: Give more --ticks. If the run should have ended, look for an event that schedules itself each time: put its SCHEDULE into an IF, as IF TIME.V LT 480 .. ALWAYS."
     } else {
-        "Cure: give more --ticks. If the run should have ended, look whether something in the loop changes what it ends by. A loop takes no time."
+        "Cure: Give more --ticks. If the run should have ended, look whether something in the loop changes what it ends by. A loop takes no time."
     })?;
     page.end_line()
 }

@@ -77,9 +77,9 @@ pub fn explain_arguments(
         }
     }
     page.words(if at_most {
-        "Cure: give fewer values, or give the event notice another attribute by EVERY .. HAS."
+        "Cure: Give fewer values, or give the event notice another attribute by EVERY .. HAS."
     } else {
-        "Cure: give as many values as it takes, with commas between, or change the head of the routine."
+        "Cure: Give as many values as it takes, with commas between, or change the head of the routine."
     })?;
     page.end_line()?;
     Ok(true)
@@ -265,11 +265,11 @@ fn explain_print(
         return add_period(page, field);
     }
     page.words(if items > fields {
-        "Cure: write a field of asterisks for each value into the pictures, with blanks between, or leave a value out."
+        "Cure: Write a field of asterisks for each value into the pictures, with blanks between, or leave a value out."
     } else if items < fields {
-        "Cure: a field is a row of asterisks. Name a value for each after WITH, with commas between, or take asterisks out of the pictures."
+        "Cure: A field is a row of asterisks. Name a value for each after WITH, with commas between, or take asterisks out of the pictures."
     } else {
-        "Cure: a field with decimals, as **.*, prints a MEAN alone: name a MEAN for it, or leave its period out."
+        "Cure: A field with decimals, as **.*, prints a MEAN alone: name a MEAN for it, or leave its period out."
     })?;
     page.end_line()
 }

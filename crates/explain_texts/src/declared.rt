@@ -145,7 +145,7 @@ fn explain_twice(
 ) -> Result<(), AllocError> {
     let Some((name, before, slot, earlier)) = repeated(all, line) else {
         plain(page, text, line, "it is said twice")?;
-        page.words("Cure: leave the second of the two out, or use another name.")?;
+        page.words("Cure: Leave the second of the two out, or use another name.")?;
         return page.end_line();
     };
     begin_with_name(page, line.0, name.bytes())?;
@@ -195,7 +195,7 @@ fn explain_mode(
             page.words("it is said to be REAL")?;
             show_name(alloc, page, text, line.0, name.bytes())?;
             page.words(
-                "Cure: write INTEGER in place of REAL, and count in smaller units, as tenths; MEAN prints decimals.",
+                "Cure: Write INTEGER in place of REAL, and count in smaller units, as tenths; MEAN prints decimals.",
             )?;
             return page.end_line();
         }
@@ -209,9 +209,9 @@ fn explain_mode(
         None => plain(page, text, line, "a name here has no mode")?,
     }
     page.words(if usual {
-        "Cure: write NORMALLY, MODE IS INTEGER: there is no REAL."
+        "Cure: Write NORMALLY, MODE IS INTEGER: there is no REAL."
     } else {
-        "Cure: write NORMALLY, MODE IS INTEGER in the line after PREAMBLE, which gives a mode to all names, or a DEFINE for this one."
+        "Cure: Write NORMALLY, MODE IS INTEGER in the line after PREAMBLE, which gives a mode to all names, or a DEFINE for this one."
     })?;
     page.end_line()
 }
@@ -524,13 +524,13 @@ pub fn explain_declared(
                 "this name has a TALLY or an ACCUMULATE already",
             )?;
             page.words(
-                "Cure: name all statistics of it in one TALLY or ACCUMULATE, or give it to a second variable by LET.",
+                "Cure: Name all statistics of it in one TALLY or ACCUMULATE, or give it to a second variable by LET.",
             )?;
             page.end_line()
         }
         TableError::TooMany(line) => {
             plain(page, text, *line, "more than 64 of them")?;
-            page.words("Cure: use one class with an attribute in place of many classes.")?;
+            page.words("Cure: Use one class with an attribute in place of many classes.")?;
             page.end_line()
         }
         TableError::Memory => Ok(()),

@@ -58,7 +58,7 @@ pub fn add_nearest(
     match nearest(alloc, name, known)? {
         Some(place) => match known.get(place) {
             Some(found) => {
-                page.words("Cure: write ")?;
+                page.words("Cure: Write ")?;
                 page.bytes(found.bytes())?;
                 page.words(" in place of ")?;
                 page.bytes(name)?;
@@ -75,7 +75,7 @@ pub fn add_nearest(
 /// Adds a cure in words around a name.
 pub fn add_cure(page: &mut Page, before: &str, name: &[u8], after: &str) -> Result<(), AllocError> {
     page.words("Cure: ")?;
-    page.words(before)?;
+    page.sentence(before)?;
     page.bytes(name)?;
     page.words(after)?;
     page.end_line()

@@ -216,6 +216,6 @@ pub fn explain_lexical(page: &mut Page, text: &[u8], error: &LexError) -> Result
         show_marked(page, text, number, mark)?;
     }
     page.words("Cure: ")?;
-    page.words(cure_of(error))?;
+    page.sentence(cure_of(error))?;
     page.end_line()
 }

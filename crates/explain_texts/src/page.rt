@@ -36,6 +36,17 @@ impl Page {
         self.bytes(words.as_bytes())
     }
 
+    /// Adds these words, the first letter in capitals.
+    pub fn sentence(&mut self, words: &str) -> Result<(), AllocError> {
+        match words.as_bytes() {
+            [] => Ok(()),
+            [first, rest @ ..] => {
+                self.text.push(first.to_ascii_uppercase())?;
+                self.bytes(rest)
+            }
+        }
+    }
+
     /// Adds a whole number in digits.
     pub fn number(&mut self, number: u64) -> Result<(), AllocError> {
         let mut buffer = Buffer::new();

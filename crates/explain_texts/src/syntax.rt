@@ -204,7 +204,7 @@ pub fn explain_depth(
             ifs = ifs.saturating_add(1);
         }
     }
-    page.words("Cure: put the inner statements into a ROUTINE, or close what is open: ")?;
+    page.words("Cure: Put the inner statements into a ROUTINE, or close what is open: ")?;
     page.number(ifs)?;
     page.words(" IFs have no ALWAYS yet.")?;
     page.end_line()

@@ -143,7 +143,7 @@ fn explain_walk(
     begin_with_name(page, line.0, class.bytes())?;
     page.words("it comes and goes, and FOR EACH goes over a permanent class or over a set")?;
     show_name(alloc, page, read.text, line.0, class.bytes())?;
-    page.words("Cure: write FOR EACH ")?;
+    page.words("Cure: Write FOR EACH ")?;
     page.bytes(class.bytes())?;
     page.words(" IN ")?;
     page.bytes(set.bytes())?;
@@ -442,14 +442,14 @@ fn explain_event(
         if let Some(place) = crate::similar::nearest(alloc, class.bytes(), heads.as_slice())? {
             if let Some(found) = heads.get(place) {
                 if !read.names.is_notice(found) {
-                    page.words("Cure: the section EVENT ")?;
+                    page.words("Cure: The section EVENT ")?;
                     page.bytes(found.bytes())?;
                     page.words(" is of no notice: give both the same name.")?;
                     return page.end_line();
                 }
             }
         }
-        page.words("Cure: write a section EVENT ")?;
+        page.words("Cure: Write a section EVENT ")?;
         page.bytes(class.bytes())?;
         page.words(" with its statements and END, or leave the notice out.")?;
         return page.end_line();
@@ -575,16 +575,16 @@ fn explain_target(
     show_name(alloc, page, read.text, one.line.0, spelling)?;
     page.words(match meaning {
         Meaning::Clock => {
-            "Cure: the time goes on by events alone: SCHEDULE an event IN so many UNITS, and RETURN."
+            "Cure: The time goes on by events alone: SCHEDULE an event IN so many UNITS, and RETURN."
         }
         Meaning::NoticeTime => "Cure: CANCEL the notice, and SCHEDULE THE it for the other time.",
         Meaning::Statistic { .. } => {
-            "Cure: a statistic is kept by its TALLY or ACCUMULATE: assign its variable, or start it afresh by RESET."
+            "Cure: A statistic is kept by its TALLY or ACCUMULATE: assign its variable, or start it afresh by RESET."
         }
         Meaning::OfSet { .. } | Meaning::OfMember { .. } => {
-            "Cure: members of a set change by FILE and REMOVE alone."
+            "Cure: Members of a set change by FILE and REMOVE alone."
         }
-        _ => "Cure: assign a variable, an attribute or N. of a permanent class.",
+        _ => "Cure: Assign a variable, an attribute or N. of a permanent class.",
     })?;
     page.end_line()?;
     Ok(true)
@@ -647,7 +647,7 @@ fn explain_same(
         (None, None) => plain(page, read.text, one.line.0, "a number and a text meet here")?,
     }
     page.words(
-        "Cure: a text is in quotes, as \"1\", and its names are ALPHA; a number has no quotes, and its names are INTEGER. Change the quotes here, or the DEFINE of the name.",
+        "Cure: A text is in quotes, as \"1\", and its names are ALPHA; a number has no quotes, and its names are INTEGER. Change the quotes here, or the DEFINE of the name.",
     )?;
     page.end_line()?;
     Ok(true)
@@ -666,7 +666,7 @@ fn explain_mean(
     page.words("it is a MEAN, which can be printed and nothing else")?;
     show_name(alloc, page, read.text, line.0, spelling)?;
     page.words(
-        "Cure: give the same TALLY a SUM and a NUMBER, and write SUM GT 10 * NUMBER for a mean above 10, or DIV.F(SUM, NUMBER).",
+        "Cure: Give the same TALLY a SUM and a NUMBER, and write SUM GT 10 * NUMBER for a mean above 10, or DIV.F(SUM, NUMBER).",
     )?;
     page.end_line()?;
     Ok(true)
@@ -683,7 +683,7 @@ fn is_mean(scope: &Scope<'_>, place: &Designator) -> bool {
 // Explains a field with decimals whose item is no MEAN.
 fn explain_field(page: &mut Page, text: &[u8], line: u32) -> Result<bool, AllocError> {
     plain(page, text, line, "a field with decimals takes a MEAN alone")?;
-    page.words("Cure: leave the period out of the field, or name a MEAN for it.")?;
+    page.words("Cure: Leave the period out of the field, or name a MEAN for it.")?;
     page.end_line()?;
     Ok(true)
 }
@@ -771,19 +771,19 @@ fn general(error: &CheckError) -> (&'static str, &'static str) {
     match error {
         CheckError::Subscript(_) => (
             "a subscript is wrong here",
-            "Cure: give a subscript to attributes and to sets of entities alone, and one at most.",
+            "Cure: Give a subscript to attributes and to sets of entities alone, and one at most.",
         ),
         CheckError::NotAssignable(_) => (
             "nothing can be assigned to a name here",
-            "Cure: assign a variable, an attribute or N. of a permanent class.",
+            "Cure: Assign a variable, an attribute or N. of a permanent class.",
         ),
         CheckError::Mode(_) => (
             "a number and a text are mixed here",
-            "Cure: numbers are INTEGER and texts in quotes are ALPHA: DEFINE the variable or the attribute in the other mode. A MEAN can be printed alone.",
+            "Cure: Numbers are INTEGER and texts in quotes are ALPHA: DEFINE the variable or the attribute in the other mode. A MEAN can be printed alone.",
         ),
         CheckError::Arguments(_) => (
             "other counts of values are given here than are taken",
-            "Cure: give as many values as the ROUTINE, the function or the event takes.",
+            "Cure: Give as many values as the ROUTINE, the function or the event takes.",
         ),
         _ => ("", ""),
     }
@@ -818,7 +818,7 @@ pub fn explain_used(
             page.words("there is no section MAIN, with which a run begins")?;
             page.end_line()?;
             page.words(
-                "Cure: write MAIN, the statements with which the run begins, and END after the preamble.",
+                "Cure: Write MAIN, the statements with which the run begins, and END after the preamble.",
             )?;
             page.end_line()
         }
@@ -830,7 +830,7 @@ pub fn explain_used(
                 line.0,
                 "START SIMULATION is in an EVENT or a ROUTINE",
             )?;
-            page.words("Cure: write START SIMULATION in MAIN, and SCHEDULE what comes next here.")?;
+            page.words("Cure: Write START SIMULATION in MAIN, and SCHEDULE what comes next here.")?;
             page.end_line()
         }
         CheckError::Unknown(line) => explain_unknown(alloc, page, read, *line),
