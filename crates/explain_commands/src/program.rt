@@ -127,9 +127,13 @@ fn refuse<O: Write>(
         return Err(ProgramFailure::Memory);
     }
     let mut page = Page::new(alloc);
-    let explained = explain_text(alloc, &mut page, text);
-    send(output, explained.map(|_wrong| page))?;
-    Ok(Outcome::Refused(refusal))
+    match explain_text(alloc, &mut page, text) {
+        Ok(_wrong) => {
+            send(output, Ok(page))?;
+            Ok(Outcome::Refused(refusal))
+        }
+        Err(_) => Err(ProgramFailure::Memory),
+    }
 }
 
 // What is said of a text that is accepted: the word for that, and notes.

@@ -174,7 +174,7 @@ fn add_cure<R: FaultyRead, W: FaultyWrite>(
     kind: FaultKind,
 ) -> Result<(), AllocError> {
     page.words("Cure: ")?;
-    match kind {
+    let written = match kind {
         FaultKind::DestroyedEntity if uses_notice(session, guide) => page.words(
             "An event destroys its notice as it begins. Write SCHEDULE A or AN for a new notice, or SAVING THE EVENT NOTICE in the head of its EVENT.",
         ),
@@ -192,7 +192,8 @@ fn add_cure<R: FaultyRead, W: FaultyWrite>(
             None => page.sentence(cure_of(kind.number())),
         },
         _ => page.sentence(cure_of(kind.number())),
-    }?;
+    };
+    written?;
     page.end_line()
 }
 

@@ -131,7 +131,7 @@ impl<R: FaultyRead, W: FaultyWrite> Session<R, W> {
 
     /// N. of the set of an owner, 0 for THE SYSTEM. None where there is no such set or owner. Nothing changes.
     pub fn member_count(&mut self, set: usize, owner: i64) -> Option<i64>
-        ensures { session_machine self.new ≡ session_machine self.old }
+        ensures { self.new ≡ self.old }
     {
         self.machine.member_count(set, owner)
     }
@@ -154,7 +154,7 @@ impl<R: FaultyRead, W: FaultyWrite> Session<R, W> {
 
     /// The time and the number of the notice that comes next, if one is pending. Nothing changes.
     pub fn upcoming(&mut self) -> Option<(i64, i64)>
-        ensures { session_machine self.new ≡ session_machine self.old }
+        ensures { self.new ≡ self.old }
     {
         self.machine.upcoming()
     }
