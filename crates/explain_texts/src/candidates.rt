@@ -132,6 +132,27 @@ fn is_value(candidate: &Candidate) -> bool {
     }
 }
 
+// Whether a candidate may come after the head of a loop.
+fn goes_on_loop(candidate: &Candidate) -> bool {
+    match candidate {
+        Candidate::Word(word) => {
+            begins_statement(*word)
+                || matches!(
+                    word,
+                    Word::Do
+                        | Word::Find
+                        | Word::With
+                        | Word::When
+                        | Word::Unless
+                        | Word::And
+                        | Word::Or
+                        | Word::By
+                )
+        }
+        _ => true,
+    }
+}
+
 /// Whether the word is a value or begins one.
 pub fn is_value_word(word: Word) -> bool {
     matches!(
@@ -178,13 +199,17 @@ pub fn candidates_after(
             found.push(candidate)?;
         }
     }
-    // Where a value is due the reading stops after a word that is none, so each word seems to fit.
-    if found.len() > MOST_WORDS {
-        found.retain(|candidate| is_value(candidate));
-    }
     for candidate in &OTHERS {
         if may_come(alloc, &mut tried, *candidate, line)? {
             found.push(*candidate)?;
+        }
+    }
+    // Where a value is due, or the one statement of a loop, the reading stops after a word that is none, so each word seems to fit.
+    if found.len() > MOST_WORDS {
+        if found.contains(&Candidate::Number) {
+            found.retain(|candidate| is_value(candidate));
+        } else {
+            found.retain(|candidate| goes_on_loop(candidate));
         }
     }
     if may_end(alloc, tried.as_slice())? {

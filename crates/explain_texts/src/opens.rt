@@ -102,8 +102,14 @@ pub fn section_before(tokens: &[Token], at: usize) -> usize
     ensures { result ≤ at }
 {
     let mut found = 0;
+    let mut in_preamble = word_at(tokens, 0) == Some(Word::Preamble);
     for index in 0..at.min(tokens.len()) {
-        if head_at(tokens, index).is_some() {
+        if word_at(tokens, index) == Some(Word::End) {
+            in_preamble = false;
+        }
+        let is_notice = in_preamble && word_at(tokens, index) == Some(Word::Event);
+        if head_at(tokens, index).is_some() && !is_notice {
+            in_preamble = false;
             found = index;
         }
     }
@@ -134,9 +140,15 @@ fn open(opens: &mut Vec<Open>, construct: Construct, token: usize) -> Result<(),
 
 // Goes past a token that is a reserved word.
 fn pass(walk: &mut Walk, tokens: &[Token], index: usize, word: Word) -> Result<(), AllocError> {
+    let in_preamble = match walk.opens.last() {
+        Some(last) => last.construct == Construct::Preamble,
+        None => false,
+    };
     if let Some(section) = head_at(tokens, index) {
-        walk.opens.clear();
-        return open(&mut walk.opens, section, index);
+        if !(in_preamble && section == Construct::Event) {
+            walk.opens.clear();
+            return open(&mut walk.opens, section, index);
+        }
     }
     match word {
         Word::Preamble => open(&mut walk.opens, Construct::Preamble, index),

@@ -3,7 +3,7 @@
 use crate::candidates::{Candidate, has_word, is_value_word};
 use crate::fixes::Fix;
 use crate::forms::leader_before;
-use crate::opens::{head_at, is_first_of_line, line_of, word_at};
+use crate::opens::{Construct, head_at, is_first_of_line, line_of, word_at};
 use crate::page::Page;
 use crate::places::{Stretch, bytes_of, spelled};
 use crate::similar::is_like;
@@ -13,7 +13,9 @@ use ss_lex::{Symbol, Token, TokenKind, Word};
 use std::alloc::{AllocError, Global};
 
 /// Words of other languages, and what this one has for them.
-static CONFUSIONS: [(&[&str], &str); 52] = [
+static CONFUSIONS: [(&[&str], &str); 54] = [
+    (&["EVENT", "INCLUDE"], "EVENT NOTICES INCLUDE"),
+    (&["EVENT", "NOTICE", "INCLUDE"], "EVENT NOTICES INCLUDE"),
     (&["BELONGS", "TO"], "MAY BELONG TO"),
     (&["BELONG", "TO"], "MAY BELONG TO"),
     (&["CAN", "BELONG", "TO"], "MAY BELONG TO"),
@@ -172,11 +174,16 @@ fn add_misspelled(
     fixes: &mut Vec<Fix>,
     trouble: &Trouble<'_>,
 ) -> Result<(), AllocError> {
+    let last = if is_symbol(trouble.tokens, trouble.at, Symbol::Comma) {
+        trouble.at.saturating_add(1)
+    } else {
+        trouble.at
+    };
     for back in 0..3 {
-        if back > trouble.at {
+        if back > last {
             break;
         }
-        let index = trouble.at - back;
+        let index = last - back;
         let Some(token) = trouble.tokens.get(index) else {
             continue;
         };
@@ -829,15 +836,165 @@ fn add_first_word(
     Ok(())
 }
 
-// The first word of a section, and of a group of entities.
-fn add_heads(alloc: Global, fixes: &mut Vec<Fix>, trouble: &Trouble<'_>) -> Result<(), AllocError> {
-    if has_word(trouble.candidates, Word::Routine) && has_word(trouble.candidates, Word::Main) {
-        fixes.push(put_in(alloc, trouble, "ROUTINE or EVENT", "ROUTINE", true)?)?;
+// Words that are put in where any of several would do.
+static CHOICES: [(&[Word], &str, &[&str]); 7] = [
+    (&[Word::And, Word::Or], "AND or OR", &["AND"]),
+    (
+        &[Word::Routine, Word::Main],
+        "ROUTINE or EVENT",
+        &["ROUTINE"],
+    ),
+    (
+        &[Word::Integer, Word::Alpha],
+        "INTEGER or ALPHA",
+        &["INTEGER"],
+    ),
+    (
+        &[Word::Number, Word::Maximum],
+        "NUMBER, SUM, MEAN, MAXIMUM or MINIMUM",
+        &["NUMBER"],
+    ),
+    (
+        &[Word::Eq, Word::Ge],
+        "a relation, as =, GT or LT,",
+        &["EQ"],
+    ),
+    (
+        &[Word::Let, Word::While],
+        "WHILE, UNTIL or IF",
+        &["WHILE", "IF"],
+    ),
+    (
+        &[Word::Let, Word::Destroy],
+        "the word with which the statement begins, as DESTROY, FILE or REMOVE,",
+        &["DESTROY", "CANCEL", "FILE", "REMOVE"],
+    ),
+];
+
+// Whether all these words may come.
+fn has_all(trouble: &Trouble<'_>, words: &[Word]) -> bool {
+    words.iter().all(|word| has_word(trouble.candidates, *word))
+}
+
+// Words are put in where any of several would do.
+fn add_choices(
+    alloc: Global,
+    fixes: &mut Vec<Fix>,
+    trouble: &Trouble<'_>,
+) -> Result<(), AllocError> {
+    for (needed, called, tried) in &CHOICES {
+        if !has_all(trouble, needed) {
+            continue;
+        }
+        let begins = needed.contains(&Word::Let);
+        for word in *tried {
+            fixes.push(put_in(alloc, trouble, called, word, begins)?)?;
+        }
     }
     if has_word(trouble.candidates, Word::Temporary)
         && word_at(trouble.tokens, trouble.at) == Some(Word::Entities)
     {
-        fixes.push(put_in(alloc, trouble, "TEMPORARY or PERMANENT", "TEMPORARY", true)?)?;
+        let called = "TEMPORARY or PERMANENT";
+        fixes.push(put_in(alloc, trouble, called, "TEMPORARY", true)?)?;
+    }
+    Ok(())
+}
+
+// The preamble has no END before the EVENT of a section.
+fn add_end_of_preamble(
+    alloc: Global,
+    fixes: &mut Vec<Fix>,
+    trouble: &Trouble<'_>,
+) -> Result<(), AllocError> {
+    let in_preamble = match trouble.opens.last() {
+        Some(open) => open.construct == Construct::Preamble,
+        None => false,
+    };
+    if !in_preamble || trouble.at == 0 {
+        return Ok(());
+    }
+    let index = trouble.at - 1;
+    if word_at(trouble.tokens, index) != Some(Word::Event) {
+        return Ok(());
+    }
+    let start = stretch_between(trouble, index, index).start;
+    let mut say = Page::new(alloc);
+    say.words("The PREAMBLE has no END: write END before EVENT")?;
+    say.in_line(line_of(trouble.tokens, index))?;
+    say.words(".")?;
+    fixes.push(Fix {
+        stretch: Stretch { start, end: start },
+        with: Vec::from_slice(alloc, b" END\n")?,
+        say,
+    })?;
+    Ok(())
+}
+
+// Whether a token is a value or ends one.
+fn ends_value(token: &Token) -> bool {
+    matches!(
+        &token.kind,
+        TokenKind::Name(_) | TokenKind::Number(_) | TokenKind::Symbol(Symbol::CloseParenthesis)
+    )
+}
+
+// Whether a token is a value or begins one.
+fn begins_value(token: &Token) -> bool {
+    matches!(
+        &token.kind,
+        TokenKind::Name(_) | TokenKind::Number(_) | TokenKind::Symbol(Symbol::OpenParenthesis)
+    )
+}
+
+// A sign between two values in one line.
+fn add_operator(
+    alloc: Global,
+    fixes: &mut Vec<Fix>,
+    trouble: &Trouble<'_>,
+) -> Result<(), AllocError> {
+    let may_multiply = trouble
+        .candidates
+        .contains(&Candidate::Symbol(Symbol::Star));
+    match (trouble.before(), trouble.found()) {
+        (Some(before), Some(found))
+            if may_multiply
+                && before.line.0 == found.line.0
+                && ends_value(before)
+                && begins_value(found) => {
+            fixes.push(put_in(alloc, trouble, "a sign, as + or *,", "+", false)?)?;
+        }
+        _ => {}
+    }
+    Ok(())
+}
+
+// A name is missing after a separator, at which the reading stopped.
+fn add_later_names(
+    alloc: Global,
+    fixes: &mut Vec<Fix>,
+    trouble: &Trouble<'_>,
+) -> Result<(), AllocError> {
+    let is_separator = is_symbol(trouble.tokens, trouble.at, Symbol::Comma)
+        || word_at(trouble.tokens, trouble.at) == Some(Word::And);
+    if !is_separator {
+        return Ok(());
+    }
+    for ahead in 1..4 {
+        let index = trouble.at.saturating_add(ahead);
+        let Some(token) = trouble.tokens.get(index) else {
+            return Ok(());
+        };
+        let start = token.span.start;
+        let mut say = Page::new(alloc);
+        say.words("Write a name or a value before ")?;
+        say.capitals(spelled(trouble.text, token))?;
+        say.in_line(token.line.0)?;
+        say.words(", where one is missing after the comma, or leave the comma out.")?;
+        fixes.push(Fix {
+            stretch: Stretch { start, end: start },
+            with: with_blanks(alloc, b"A.NAME")?,
+            say,
+        })?;
     }
     Ok(())
 }
@@ -895,11 +1052,14 @@ pub fn add_missing(
     if are_names(trouble) {
         fixes.push(put_in(alloc, trouble, "a comma", ",", false)?)?;
     }
+    add_operator(alloc, fixes, trouble)?;
     add_first_word(alloc, fixes, trouble)?;
-    add_heads(alloc, fixes, trouble)?;
+    add_end_of_preamble(alloc, fixes, trouble)?;
+    add_choices(alloc, fixes, trouble)?;
     add_put_in(alloc, fixes, trouble)?;
     add_signs(alloc, fixes, trouble)?;
-    add_nouns(alloc, fixes, trouble)
+    add_nouns(alloc, fixes, trouble)?;
+    add_later_names(alloc, fixes, trouble)
 }
 
 /// Adds the changes that are tried where no other helps: words that give way to others, or are left out.
