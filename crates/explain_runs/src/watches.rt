@@ -2,7 +2,7 @@
 
 use crate::guide::Guide;
 use explain_texts::Page;
-use ss_base::{FaultyRead, FaultyWrite, Mode, Name, Owner, Value};
+use ss_base::{FaultyRead, FaultyWrite, Mode, Owner, Value};
 use ss_engine::Session;
 use ss_names::{Meaning, NameId};
 use ss_program::expression::{Fold, SetQuery, Variable};
@@ -254,9 +254,4 @@ pub fn add_changes<R: FaultyRead, W: FaultyWrite>(
         }
     }
     Ok(())
-}
-
-/// The name of a variable, for words.
-pub fn spelled(name: &Name) -> &[u8] {
-    name.bytes()
 }

@@ -4,7 +4,7 @@ use crate::counts::{explain_arguments, explain_fields};
 use crate::finding::{add_cure, add_nearest, begin_with_name, show_name};
 use crate::page::Page;
 use crate::places::show_marked;
-use crate::sections::{Sections, is_of_system, meaning_words, mode_in, name_of, spelling_of_place};
+use crate::sections::{Sections, is_of_system, meaning_words, mode_in, spelling_of_place};
 use ss_base::{ClassKind, Line, Mode, Name};
 use ss_check_rules::CheckError;
 use ss_names::{Meaning, Names};
@@ -840,13 +840,5 @@ pub fn explain_used(
         | CheckError::Arguments(line) => explain_in_line(alloc, page, read, error, *line),
         CheckError::Fields(line) => explain_fields(alloc, page, read.text, *line),
         CheckError::Memory => Ok(()),
-    }
-}
-
-/// The name of the section of a number, for words.
-pub fn section_name(read: &Read<'_>, number: usize) -> Option<Name> {
-    match read.program.sections.get(number) {
-        Some(section) => name_of(section),
-        None => None,
     }
 }
