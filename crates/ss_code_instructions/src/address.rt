@@ -20,7 +20,10 @@ impl Address {
     pub fn fixed(number: u32) -> Address
         ensures { result ≡ record { number = number; mask = 0 } }
     {
-        Address { number: number as usize, mask: 0 }
+        Address {
+            number: number as usize,
+            mask: 0,
+        }
     }
 
     /// A local variable or a cell, counted from where the frame begins.
