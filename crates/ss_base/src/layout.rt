@@ -234,7 +234,7 @@ impl RankKeys {
         &self.keys
     }
 
-    /// The same keys, in memory of their own. The error comes where memory was refused.
+    /// A copy of the keys, in memory of its own. The error comes where memory was refused.
     pub fn copied(&self, alloc: Global) -> Result<RankKeys, AllocError>
         ensures { IfOk result (λ r. r ≡ self.now) }
     {

@@ -5,7 +5,7 @@ ghost use Rattle.std.specs.Prelude.{◌≡◌, IfOk};
 use crate::class::NoticeClass;
 use std::alloc::{AllocError, Global};
 
-/// The same classes of notices, in memory of their own.
+/// A copy of classes of notices, in memory of its own.
 ///
 /// # Errors
 /// `AllocError` where memory was refused.

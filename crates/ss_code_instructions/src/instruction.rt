@@ -93,7 +93,7 @@ pub enum Instruction {
         entity: Address,
         to: Address,
     },
-    /// The same, a text.
+    /// An attribute of an entity, a text.
     TextAttribute {
         class: u32,
         field: u32,
@@ -179,7 +179,7 @@ pub enum Instruction {
         from: Address,
         noted: bool,
     },
-    /// The same of a text.
+    /// A text goes to an attribute of an entity.
     SetTextAttribute {
         class: u32,
         field: u32,
@@ -302,7 +302,7 @@ pub enum Instruction {
         skip: u32,
         reverse: bool,
     },
-    /// The same from the member in the cell on, or from the one after it.
+    /// As BeginSet, but from the member in the cell on, or from the one after it.
     BeginAt {
         set: u32,
         owner: Address,
@@ -470,7 +470,7 @@ pub enum Instruction {
     Read {
         to: Address,
     },
-    /// The same, a text.
+    /// The next word of input, a text.
     ReadText {
         to: Address,
     },

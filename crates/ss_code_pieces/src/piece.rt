@@ -72,7 +72,7 @@ impl Piece {
         self.lines.append(&mut lines)
     }
 
-    /// The same, the last first.
+    /// Turns the order of the instructions round, and that of their lines.
     pub fn reverse(&mut self)
         ensures { self.new ≡ record { instructions = reverse self.old.instructions; lines = reverse self.old.lines } }
     {

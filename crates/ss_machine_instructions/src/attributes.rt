@@ -39,7 +39,7 @@ fn change_whole(
     }
 }
 
-// The same of an attribute of the scene.
+// Adds to an attribute of the scene, or subtracts from it.
 #[inline(always)]
 fn change(
     scene: &mut Scene,
@@ -76,7 +76,7 @@ fn assign_number(
     scene.population.set_whole(class, field, entity, number)
 }
 
-// The same of a text.
+// A text goes to an attribute of the scene.
 #[inline(always)]
 fn assign_text(
     scene: &mut Scene,

@@ -75,7 +75,7 @@ impl Scene {
         }
     }
 
-    // The same by the statistic.
+    // Whether an entity has the subject of a statistic. Faults: 1 to 5.
     fn look_statistic(&self, statistic: usize, entity: i64) -> Result<(), FaultKind>
         requires subject { HasSubject self.now statistic }
         ensures { (t : SubjectSeen) → subject_in self.now.statistics statistic ≡ Some t → result ≡ looked_in self.now.heap t entity }
@@ -147,7 +147,7 @@ impl Scene {
         }
     }
 
-    // The same by the statistic.
+    // The value that the subject of a statistic has, of an entity. Faults: 1 to 5.
     fn present_value(&mut self, statistic: usize, entity: i64, held: i64) -> Result<i64, FaultKind>
         requires subject { HasSubject self.old statistic }
         ensures value { (t : SubjectSeen) → subject_in self.old.statistics statistic ≡ Some t → as_value result ≡ present_in self.old.heap t entity held }

@@ -66,7 +66,7 @@ fn key_of(once: &Once) -> Key
     }
 }
 
-// The same, where the name is that of a class.
+// What may be said once, where the name is that of a class.
 fn if_class(names: &Names, class: &Name, once: Once) -> Option<Once>
     ensures { result ≡ if_class names.now class.now once }
 {

@@ -100,7 +100,7 @@ fn in_three(mut session: Session<MemoryRead, MemoryWrite>) -> ([Stop; 3], u64) {
     (stops, used)
 }
 
-// The same of a session of this model.
+// What three pieces of a session of this model answer, and how many ticks they used.
 fn pieces(
     alloc: Global,
     model: Model,

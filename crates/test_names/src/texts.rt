@@ -171,7 +171,7 @@ fn sizes(alloc: Global, code: &Code) -> Option<(usize, usize)> {
     }
 }
 
-// The same of the code of a text.
+// How many instructions the code of a text has, and how many lines its listing.
 fn sizes_of(alloc: Global, text: &[u8]) -> Option<(usize, usize)> {
     match code_of(alloc, text) {
         Ok(code) => {
@@ -198,7 +198,7 @@ fn run(mut machine: Machine, report: &mut Sink<MemoryWrite>) -> (Stop, u64) {
     (stop, used)
 }
 
-// The same of the code of a text.
+// Why the machine of a text without data stops, and how many ticks it used.
 fn run_text(alloc: Global, text: &[u8], report: &mut Sink<MemoryWrite>) -> Option<(Stop, u64)> {
     let code = code_of(alloc, text).ok()?;
     let machine = Machine::new(alloc, code).ok()?;
