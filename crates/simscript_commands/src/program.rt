@@ -4,8 +4,8 @@ ghost use Rattle.ss_engine.specs.Outcomes.{status_of};
 ghost use Rattle.simscript_commands.specs.Statuses.{ended_status};
 
 use simscript_order::{
-    FileStore, Order, ProgramFailure, Retrying, Streams, explain, open, read_file, read_source,
-    report_trouble, write_whole,
+    Data, FileStore, Order, ProgramFailure, Retrying, Streams, explain, open, read_file,
+    read_source, report_trouble, write_whole,
 };
 use ss_base::Counted;
 use ss_engine::{Outcome, Stop, compile, outcome_line, outcome_status, simulate};
@@ -49,7 +49,14 @@ fn obey<F: FileStore, I: Read + Drop, O: Write + Drop>(
     output: O,
 ) -> Result<Outcome, ProgramFailure> {
     match order {
-        Order::Plain => run(alloc, &read_source(alloc, input)?, &[][..], output, TICKS),
+        Order::Plain => run_text(
+            alloc,
+            &read_source(alloc, input)?,
+            files,
+            None,
+            output,
+            TICKS,
+        ),
         Order::Check(name) => check(alloc, &read_file(alloc, files, name)?, output),
         Order::List(name) => list(alloc, &read_file(alloc, files, name)?, output),
         Order::Run(name, data, ticks) => {
@@ -74,25 +81,22 @@ fn run_text<F: FileStore, O: Write + Drop>(
     output: O,
     ticks: u64,
 ) -> Result<Outcome, ProgramFailure> {
-    match data {
-        None => run(alloc, text, &[][..], output, ticks),
-        Some(name) => {
-            let input = open(files, name, ProgramFailure::Input)?;
-            run_with_input(alloc, text, input, output, ticks)
-        }
-    }
+    let data = data_of(alloc, files, data)?;
+    run(alloc, text, data, output, ticks)
 }
 
-// Runs a text with the data of this file, which is asked for a block at a time, and again where a signal interrupted that.
-fn run_with_input<R: Read + Drop, O: Write + Drop>(
+// The data in the file of this name, or none. The file is asked for a block at a time, and again where a signal interrupted that.
+fn data_of<F: FileStore>(
     alloc: Global,
-    text: &[u8],
-    input: R,
-    output: O,
-    ticks: u64,
-) -> Result<Outcome, ProgramFailure> {
+    files: &F,
+    name: Option<&str>,
+) -> Result<Data<BufReader<Retrying<F::File>>>, ProgramFailure> {
+    let Some(name) = name else {
+        return Ok(Data::None);
+    };
+    let input = open(files, name, ProgramFailure::Input)?;
     match BufReader::new(alloc, Retrying::new(input)) {
-        Ok(reader) => run(alloc, text, reader, output, ticks),
+        Ok(reader) => Ok(Data::Given(reader)),
         Err(_) => Err(ProgramFailure::Memory),
     }
 }

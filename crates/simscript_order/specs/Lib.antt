@@ -1,4 +1,5 @@
 pub mod CommandLine
 pub mod Statuses
 pub mod Retrying
+pub mod Data
 pub mod TroubleStatuses

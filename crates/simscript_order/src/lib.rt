@@ -3,6 +3,7 @@
 
 mod command;
 mod command_line;
+mod data;
 mod files;
 mod misuse;
 mod order;
@@ -11,6 +12,7 @@ mod streams;
 mod trouble;
 
 pub use command_line::{without_words, words};
+pub use data::Data;
 pub use files::{Disk, FileStore, open, read_file, read_source};
 pub use misuse::Misuse;
 pub use order::Order;

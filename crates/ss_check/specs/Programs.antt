@@ -65,9 +65,9 @@ plain name = named (Name name) no_expression
 -- 25 END
 -- 26 EVENT CHECK
 -- 27 END
--- 28 ROUTINE MARK GIVEN A YIELDING B
+-- 28 ROUTINE MARK GIVEN D YIELDING B
 -- 29 DEFINE B AS AN ALPHA VARIABLE
--- 30 LET C = A
+-- 30 LET C = D
 -- 31 END
 abbrev yard : ProgramTree
 yard = record {
@@ -96,9 +96,9 @@ yard = record {
       ∷ record { line = line 26; kind = event (codes "CHECK") [] false; definitions = []; body = [] }
       ∷ record {
         line = line 28;
-        kind = routine (codes "MARK") (codes "A" ∷ []) (codes "B" ∷ []);
+        kind = routine (codes "MARK") (codes "D" ∷ []) (codes "B" ∷ []);
         definitions = record { line = line 29; names = codes "B" ∷ []; mode = mode_words.Alpha } ∷ [];
-        body = let_named 30 (codes "C") (plain (codes "A")) ∷ [];
+        body = let_named 30 (codes "C") (plain (codes "D")) ∷ [];
       }
       ∷ [];
 }

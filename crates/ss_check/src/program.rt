@@ -5,33 +5,24 @@ ghost use Rattle.std.specs.List.{list_all, position};
 ghost use Rattle.ss_tree.specs.View.{view_section};
 ghost use Rattle.ss_program.specs.View.{view_option, view_program};
 ghost use Rattle.ss_names_meaning.specs.Answers.{Gives};
-ghost use Rattle.ss_names_meaning.specs.Resolved.{has_main_kind, is_known, is_ranked, main_from, resolved_with_locals};
+ghost use Rattle.ss_names_meaning.specs.Resolved.{is_known, main_from, resolved_with_locals};
+ghost use Rattle.ss_names_scopes.specs.Scopes.{is_main_section};
 ghost use Rattle.ss_check.specs.View.{locals_in, parts_in, sections_in, table_in, view_parts};
 
 use crate::sections::{Parts, ProgramSections};
 use ss_names::Names;
 use ss_names_meaning::{ResolveError, lay_out};
-use ss_names_scopes::Locals;
+use ss_names_scopes::{Locals, is_main};
 use ss_program::sections::Program as Resolved;
 use ss_tree::program::{Program, Section, SectionKind};
 use std::alloc::{AllocError, Global};
-
-// Whether a class is one of notices.
-fn is_ranked(names: &Names, class: Option<usize>) -> bool
-    ensures { result ≡ is_ranked names.now class }
-{
-    match class {
-        Some(class) => names.ranks.contains(&class),
-        None => false,
-    }
-}
 
 // Whether a section, if it is an EVENT section, is one of a notice class.
 fn is_known(names: &Names, section: &Section) -> bool
     ensures { result ≡ is_known names.now (view_section section.now) }
 {
     match &section.kind {
-        SectionKind::Event { name, .. } => is_ranked(names, names.classes.place(name)),
+        SectionKind::Event { name, .. } => names.is_notice(name),
         SectionKind::Main => true,
         SectionKind::Routine { .. } => true,
     }
@@ -48,20 +39,9 @@ fn all_known(names: &Names, sections: &[Section]) -> bool
     all
 }
 
-// Whether a section is MAIN.
-fn is_main(section: &Section) -> bool
-    ensures { result ≡ has_main_kind (view_section section.now) }
-{
-    match &section.kind {
-        SectionKind::Main => true,
-        SectionKind::Routine { .. } => false,
-        SectionKind::Event { .. } => false,
-    }
-}
-
 // The number of MAIN, the first if there are several.
 fn main_number(sections: &[Section]) -> Option<usize>
-    ensures { result ≡ position (λ s. has_main_kind (view_section s)) sections.now }
+    ensures { result ≡ position (λ s. is_main_section (view_section s)) sections.now }
 {
     sections.iter().position(|section| is_main(section))
 }

@@ -4,7 +4,8 @@ ghost use Rattle.std.specs.Prelude.{◌≡◌, drop, take};
 ghost use Rattle.ss_tree.specs.View.{view_section};
 ghost use Rattle.ss_program.specs.View.{view_body};
 ghost use Rattle.ss_names_meaning.specs.Answers.{Gives};
-ghost use Rattle.ss_names_meaning.specs.Resolved.{body_with, local_mode, local_modes, parts_with};
+ghost use Rattle.ss_names_scopes.specs.Scopes.{local_mode};
+ghost use Rattle.ss_names_meaning.specs.Resolved.{body_with, local_modes, parts_with};
 ghost use Rattle.ss_check.specs.View.{locals_in, parts_in, table_in, view_parts};
 
 use ss_base::{Line, Mode};

@@ -17,7 +17,7 @@ use Rattle.ss_program.specs.declared.condition.Condition.{Condition as Condition
 use Rattle.ss_program.specs.declared.head.Guard.{Guard}
 use Rattle.ss_program.specs.declared.head.Head.{Head}
 use Rattle.ss_program.specs.declared.head.Phrase.{Phrase}
-use Rattle.ss_program.specs.declared.statement.Item.{Item as ItemMade}
+use Rattle.ss_program.specs.declared.statement.PrintItem.{PrintItem as ItemMade}
 use Rattle.ss_program.specs.declared.statement.Statement.{Statement as Made}
 use Rattle.ss_program.specs.declared.statement.Statement.TheVariants as made
 use Rattle.ss_program.specs.Program.{Statement, Block, Done, Then}

@@ -8,7 +8,7 @@ use Rattle.ss_program.specs.declared.head.Phrase.{Phrase as PhraseMade}
 use Rattle.ss_program.specs.Program.{Calculate, Expression, Head, Phrase}
 use Rattle.ss_program.specs.View.{view_head, view_phrase}
 use Rattle.ss_names_scopes.specs.Scopes.{Scope}
-use Rattle.ss_names_scopes.specs.Seen.{scope_seen}
+use Rattle.ss_names_scopes.specs.Seen.{view_scope}
 use Rattle.ss_names_meaning.specs.declared.error.ResolveError.{ResolveError}
 use Rattle.ss_names_meaning.specs.Answers.{◌>>=◌, each}
 use Rattle.ss_names_meaning.specs.Expressions.{two}
@@ -17,7 +17,7 @@ use Rattle.ss_check_bodies.specs.declared.resolver.Resolver.{Resolver as Resolve
 
 -- the scope of what resolves
 abbrev pub scope_in : ResolverValue → Scope
-scope_in r = scope_seen r.scope
+scope_in r = view_scope r.scope
 
 -- what was made first, beside what was made next, unless that failed
 abbrev pub MadeBeside : {A B : Type 0} → A → Result B ResolveError → Result (A × B) ResolveError → Type 0

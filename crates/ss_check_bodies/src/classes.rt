@@ -2,28 +2,17 @@
 
 ghost use Rattle.std.specs.Prelude.{◌≡◌};
 ghost use Rattle.ss_names_meaning.specs.Answers.{Gives, each};
-ghost use Rattle.ss_names_meaning.specs.Classes.{class_named, class_number, count_of, counted, suits, variable_named};
+ghost use Rattle.ss_names_meaning.specs.Classes.{class_named, class_number, count_of, counted, variable_named};
 ghost use Rattle.ss_check_bodies.specs.Results.{scope_in};
 
 use crate::resolver::Resolver;
-use ss_base::{ClassKind, Name, Spelling};
+use ss_base::{Name, Spelling};
 use ss_names::Meaning;
 use ss_names_meaning::{NamedClass, ResolveError};
-use ss_names_scopes::variable_of;
+use ss_names_scopes::{is_kind, variable_of};
 use ss_names_uses::ClassNeed;
 use ss_program::expression::Variable;
 use ss_program::statement::CountedClass;
-
-// Whether a class of this kind suits a place that needs the other.
-fn suits(kind: ClassKind, need: ClassNeed) -> bool
-    ensures { result ≡ suits kind need }
-{
-    match need {
-        ClassNeed::Permanent => matches!(kind, ClassKind::Permanent),
-        ClassNeed::Notice => matches!(kind, ClassKind::Notice),
-        ClassNeed::Single => !matches!(kind, ClassKind::Permanent),
-    }
-}
 
 // The number of a class of the kind that its place needs.
 fn class_number(need: ClassNeed, meaning: Option<Meaning>) -> Option<usize>
@@ -31,7 +20,11 @@ fn class_number(need: ClassNeed, meaning: Option<Meaning>) -> Option<usize>
 {
     match meaning {
         Some(Meaning::Class { class, kind, .. }) => {
-            if suits(kind, need) { Some(class) } else { None }
+            if is_kind(need, kind) {
+                Some(class)
+            } else {
+                None
+            }
         }
         _ => None,
     }

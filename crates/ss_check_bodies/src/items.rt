@@ -14,7 +14,7 @@ use crate::resolver::Resolver;
 use ss_names::Meaning;
 use ss_names_meaning::ResolveError;
 use ss_program::expression::Expression as Resolved;
-use ss_program::statement::Item;
+use ss_program::statement::PrintItem;
 use ss_tree::expression::{Designator, Expression};
 use std::alloc::Global;
 
@@ -23,11 +23,11 @@ fn value_item(
     alloc: Global,
     meaning: Meaning,
     entity: Option<Resolved>,
-) -> Result<Item, ResolveError>
+) -> Result<PrintItem, ResolveError>
     ensures { Gives view_item result (option_map AValue (resolved_value meaning (view_option view_resolved entity))) }
 {
     let value = resolved_value(alloc, meaning, entity)?;
-    Ok(Item::Value { value })
+    Ok(PrintItem::Value { value })
 }
 
 // What PRINT shows of what a name means, of the entity that has it.
@@ -35,15 +35,15 @@ fn resolved_item(
     alloc: Global,
     meaning: Meaning,
     entity: Option<Resolved>,
-) -> Result<Item, ResolveError>
+) -> Result<PrintItem, ResolveError>
     ensures { Gives view_item result (resolved_item meaning (view_option view_resolved entity)) }
 {
     match meaning {
         Meaning::Statistic { fold, statistic } => match fold {
             Some(_) => value_item(alloc, meaning, entity),
             None => match entity {
-                Some(entity) => Ok(Item::MeanOf { statistic, entity }),
-                None => Ok(Item::Mean { statistic }),
+                Some(entity) => Ok(PrintItem::MeanOf { statistic, entity }),
+                None => Ok(PrintItem::Mean { statistic }),
             },
         },
         _ => value_item(alloc, meaning, entity),
@@ -56,7 +56,7 @@ impl Resolver<'_> {
         &self,
         designator: Designator,
         subscripts: &[Expression],
-    ) -> Result<Item, ResolveError>
+    ) -> Result<PrintItem, ResolveError>
         ensures { Gives view_item result (item (scope_in self.now) (named designator (expression_row (map view_expression subscripts.now)))) }
     {
         let (meaning, entity) = self.resolve_place(designator, subscripts)?;
@@ -64,16 +64,16 @@ impl Resolver<'_> {
     }
 
     // A value.
-    fn resolve_value_item(&self, tree: &Expression) -> Result<Item, ResolveError>
+    fn resolve_value_item(&self, tree: &Expression) -> Result<PrintItem, ResolveError>
         ensures { Gives view_item result (option_map AValue (expression (scope_in self.now) (view_expression tree.now))) }
     {
         let value = self.resolve_expression(tree)?;
-        Ok(Item::Value { value })
+        Ok(PrintItem::Value { value })
     }
 
     // An item: a mean where that is named alone, through any parentheses, and else a value.
     #[tactic(auto, unfolding(ss_tree::specs::View::view_expression))]
-    fn resolve_item(&self, tree: &Expression) -> Result<Item, ResolveError>
+    fn resolve_item(&self, tree: &Expression) -> Result<PrintItem, ResolveError>
         ensures { Gives view_item result (item (scope_in self.now) (view_expression tree.now)) }
     {
         match tree {
@@ -91,7 +91,7 @@ impl Resolver<'_> {
     }
 
     /// The items of a PRINT.
-    pub(crate) fn resolve_items(&self, trees: &[Expression]) -> Result<Vec<Item>, ResolveError>
+    pub(crate) fn resolve_items(&self, trees: &[Expression]) -> Result<Vec<PrintItem>, ResolveError>
         ensures { Gives (λ v. map view_item v.items) result (each (item (scope_in self.now)) (map view_expression trees.now)) }
     {
         let mut resolved = Vec::new(self.alloc);

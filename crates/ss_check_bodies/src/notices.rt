@@ -1,10 +1,11 @@
 //! Notices that are scheduled, and when.
 
-ghost use Rattle.std.specs.Prelude.{map};
+ghost use Rattle.std.specs.Prelude.{length, map, nat_le};
 ghost use Rattle.ss_tree.specs.View.{view_when};
 ghost use Rattle.ss_program.specs.View.{view_expression as expression_seen, view_place, view_statement as view_resolved, view_when as when_seen};
-ghost use Rattle.ss_names_meaning.specs.Answers.{Gives};
-ghost use Rattle.ss_names_meaning.specs.Statements.{new_notice, old_notice, when};
+ghost use Rattle.ss_program.specs.Program.{Schedule, ScheduleNew};
+ghost use Rattle.ss_names_meaning.specs.Answers.{Gives, where_holds};
+ghost use Rattle.ss_names_meaning.specs.Statements.{when};
 ghost use Rattle.ss_check_bodies.specs.Results.{scope_in};
 
 use crate::resolver::Resolver;
@@ -24,7 +25,7 @@ pub(crate) fn new_notice(
     given: Vec<Value>,
     when: ResolvedWhen,
 ) -> Result<Resolved, ResolveError>
-    ensures { Gives view_resolved result (new_notice line class (view_place into) (map expression_seen given.items) (when_seen when)) }
+    ensures { Gives view_resolved result (where_holds (nat_le (length (map expression_seen given.items)) class.attributes) (ScheduleNew line class.class (view_place into) (map expression_seen given.items) (when_seen when))) }
 {
     let fits = given.len() <= class.attributes;
     where_holds(
@@ -48,7 +49,7 @@ pub(crate) fn old_notice(
     given: Vec<Value>,
     when: ResolvedWhen,
 ) -> Result<Resolved, ResolveError>
-    ensures { Gives view_resolved result (old_notice line class (expression_seen notice) (map expression_seen given.items) (when_seen when)) }
+    ensures { Gives view_resolved result (where_holds (nat_le (length (map expression_seen given.items)) class.attributes) (Schedule line class.class (expression_seen notice) (map expression_seen given.items) (when_seen when))) }
 {
     let fits = given.len() <= class.attributes;
     where_holds(

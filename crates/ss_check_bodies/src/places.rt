@@ -4,8 +4,8 @@ ghost use Rattle.std.specs.Prelude.{◌≡◌, map, None};
 ghost use Rattle.ss_tree.specs.View.{view_expression, view_named, view_option, view_position};
 ghost use Rattle.ss_program.specs.View.{view_expression as view_resolved, view_option as option_seen, view_owner, view_place, view_position as position_seen, view_restart, view_target};
 ghost use Rattle.ss_names_meaning.specs.Answers.{Gives, each};
-ghost use Rattle.ss_names_meaning.specs.Expressions.{owner_named, place_of, set_named, set_number, set_of_name, target};
-ghost use Rattle.ss_names_meaning.specs.Statements.{entity_called, history_of, new_place, position, reader, restart};
+ghost use Rattle.ss_names_meaning.specs.Expressions.{set_owner, place_of, set_named, set_number, set_of_name, target};
+ghost use Rattle.ss_names_meaning.specs.Statements.{entity_called, new_place, position, reader, restart};
 ghost use Rattle.ss_check_bodies.specs.Results.{scope_in};
 
 use crate::resolver::Resolver;
@@ -46,8 +46,8 @@ fn place_of(meaning: Meaning, entity: Option<Resolved>) -> Result<Place, Resolve
 }
 
 // The owner of a set.
-fn owner_named(entity: Option<Resolved>) -> SetOwner
-    ensures { view_owner result ≡ owner_named (option_seen view_resolved entity) }
+fn set_owner(entity: Option<Resolved>) -> SetOwner
+    ensures { view_owner result ≡ set_owner (option_seen view_resolved entity) }
 {
     match entity {
         Some(entity) => SetOwner::Entity { entity },
@@ -159,7 +159,7 @@ impl Resolver<'_> {
         };
         let subscript = self.resolve_subscript(&tree.subscripts)?;
         let entity = self.entity_of(Meaning::Set { set }, subscript)?;
-        Ok((set, owner_named(entity)))
+        Ok((set, set_owner(entity)))
     }
 
     /// Where a member is filed.
@@ -183,26 +183,11 @@ impl Resolver<'_> {
 
     // ---- statistics
 
-    // The number of the history of what is named. A name that a local variable hides has none.
-    fn history_of(&self, place: &Designator) -> Option<usize>
-        ensures { result ≡ history_of (scope_in self.now) place.now }
-    {
-        let names = self.scope.names;
-        match place {
-            Designator::Name(name) => match self.scope.locals.number(name) {
-                Some(_) => None,
-                None => names.histories.place(name),
-            },
-            Designator::TimeV => None,
-            Designator::TimeA => None,
-        }
-    }
-
     // A statistic that starts afresh, and of which entity.
     fn resolve_restart(&self, tree: &Named) -> Result<Restart, ResolveError>
         ensures { Gives view_restart result (restart (scope_in self.now) (view_named tree.now)) }
     {
-        let Some(statistic) = self.history_of(&tree.designator) else {
+        let Some(statistic) = self.scope.history_of(&tree.designator) else {
             return Err(ResolveError::Unresolved);
         };
         let (_, of) = self.resolve_place(tree.designator, &tree.subscripts)?;

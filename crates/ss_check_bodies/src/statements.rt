@@ -1,10 +1,11 @@
 //! Statements without statements in them, with their names resolved.
 
-ghost use Rattle.std.specs.Prelude.{◌≡◌, map, IfOk};
+ghost use Rattle.std.specs.Prelude.{◌≡◌, ◌==◌, ◌&&◌, length, map, IfOk};
 ghost use Rattle.ss_tree.specs.View.{view_statement};
 ghost use Rattle.ss_program.specs.View.{view_expression as expression_seen, view_place, view_statement as view_resolved};
-ghost use Rattle.ss_names_meaning.specs.Answers.{Gives};
-ghost use Rattle.ss_names_meaning.specs.Statements.{call_of, routine_named, routine_number, simple_statement};
+ghost use Rattle.ss_program.specs.Program.{Call};
+ghost use Rattle.ss_names_meaning.specs.Answers.{Gives, where_holds};
+ghost use Rattle.ss_names_meaning.specs.Statements.{routine_named, routine_number, simple_statement};
 ghost use Rattle.ss_check_bodies.specs.Results.{scope_in};
 
 use crate::notices::{new_notice, old_notice};
@@ -29,7 +30,7 @@ fn call_of(
     given: Vec<Value>,
     yielding: Vec<Place>,
 ) -> Result<Resolved, ResolveError>
-    ensures { Gives view_resolved result (call_of line routine section (map expression_seen given.items) (map view_place yielding.items)) }
+    ensures { Gives view_resolved result (where_holds ((length (map expression_seen given.items) == section.given) && (length (map view_place yielding.items) == section.yielding)) (Call line routine (map expression_seen given.items) (map view_place yielding.items))) }
 {
     if given.len() == section.given && yielding.len() == section.yielding {
         Ok(Resolved::Call {

@@ -15,25 +15,23 @@ use Rattle.ss_names_uses.specs.declared.used.ClassNeed.{ClassNeed}
 use Rattle.ss_names_uses.specs.declared.used.ClassNeed.TheVariants as needs
 use Rattle.ss_names.specs.declared.meaning.Meaning.{Meaning}
 use Rattle.ss_names.specs.declared.meaning.Meaning.TheVariants as meanings
-use Rattle.ss_names_scopes.specs.Scopes.{Scope, meaning_of_name, variable_of}
-use Rattle.ss_check_rules.specs.Kinds.{is_kind, suits_class}
-use Rattle.ss_check_rules.specs.Modes.{is_text, mode_meant}
-use Rattle.ss_check_rules.specs.Refusal.{unless, use_breaks}
+use Rattle.ss_names_scopes.specs.Scopes.{Scope, is_kind, meaning_of_name, variable_of}
+use Rattle.ss_check_rules.specs.Kinds.{suits_class}
+use Rattle.ss_check_rules.specs.Modes.{is_text, meaning_mode}
+use Rattle.ss_names_declarations.specs.Earliest.{unless}
+use Rattle.ss_check_rules.specs.Refusal.{use_breaks}
 use Rattle.ss_check_rules.specs.declared.error.CheckError.TheVariants as errors
 use Rattle.ss_names_meaning.specs.Answers.{where_holds}
-use Rattle.ss_names_meaning.specs.Classes.{class_number, suits, variable_named}
+use Rattle.ss_names_meaning.specs.Classes.{class_number, variable_named}
 use Rattle.ss_names_meaning.specs.declared.classes.NamedClass.{NamedClass}
 use Rattle.ss_check_laws.specs.BodyLaws.{ClassResolves, ClassesResolve}
 use Rattle.ss_check_laws.specs.Links.{IsLinked}
 use Rattle.ss_check_laws.proofs.Steps.{alike, first_holds, goes, holds_unless, two_steps}
 use Rattle.ss_check_laws.proofs.Linked.{IsVariable, class_variable, meant_here}
 
-kind_suits : (need : ClassNeed) (kind : ClassKind) → is_kind need kind ≡ true → suits kind need ≡ true
-kind_suits needs.Permanent kinds.Permanent h = refl
-kind_suits needs.Notice kinds.Notice h = refl
-kind_suits needs.Single kinds.Temporary h = refl
-kind_suits needs.Single kinds.Notice h = refl
-kind_suits _ _ h = absurd cc
+pub permanent_kind : (kind : ClassKind) → is_kind needs.Permanent kind ≡ true → kind ≡ kinds.Permanent
+permanent_kind kinds.Permanent h = refl
+permanent_kind _ h = absurd cc
 
 class_meant : (o : Option Meaning) (need : ClassNeed) → suits_class o need ≡ true → (class : ℕ) × (kind : ClassKind) × (n : ℕ) × (o ≡ Some (meanings.Class class kind n)) × (is_kind need kind ≡ true)
 class_meant (Some (meanings.Class class kind n)) need h = (class, kind, n, refl, h)
@@ -44,7 +42,7 @@ module _ (s : Scope) (g : Place) (k : IsLinked s g) (line : Line) where
   numeric : (is_called : Bool) (o : Option Meaning) (m : Meaning) (v : IsVariable s g k m) → unless (is_called || not (is_text o)) (errors.Mode line) ≡ None → o ≡ Some m → is_called ≡ false → TakesMode g (ToVariable v.0) Integer
   numeric is_called o m v h e f =
       let plain = not-true (is_text o) (subst (λ b. (b || not (is_text o)) ≡ true) f (holds_unless (is_called || not (is_text o)) (errors.Mode line) h)) in
-      subst (λ n. TakesMode g (ToVariable v.0) n) (alike (mode_meant o) (Some Integer) v.1 Integer plain (ap mode_meant e ∙ v.3) refl) v.4
+      subst (λ n. TakesMode g (ToVariable v.0) n) (alike (meaning_mode o) (Some Integer) v.1 Integer plain (ap meaning_mode e ∙ v.3) refl) v.4
 
   pub class_resolves : (need : ClassNeed) (name : NameBytes) (is_called : Bool) → use_breaks s g.is_main (class_used line need name is_called) ≡ None → ClassResolves s g need name is_called
   class_resolves need name is_called h =
@@ -58,7 +56,7 @@ module _ (s : Scope) (g : Place) (k : IsLinked s g) (line : Line) where
         made,
         c.1,
         two_steps (class_number need global) (variable_named s name) (λ x y. Some (record { class = x; attributes = length (get_or s.table.fields x []); variable = y })) c.0 v.2.0 made
-            (ap (class_number need) c.3 ∙ ap (λ b. where_holds b c.0) (kind_suits need c.1 c.4)) (goes here variable_of v.0 v.2.0 v.1 v.2.2) refl,
+            (ap (class_number need) c.3 ∙ ap (λ b. where_holds b c.0) c.4) (goes here variable_of v.0 v.2.0 v.1 v.2.2) refl,
         there.1,
         c.4,
         numeric is_called here v.0 v.2 kept.1 v.1,

@@ -5,10 +5,10 @@ use Rattle.ss_base.specs.declared.line.Line.{Line}
 use Rattle.ss_tree.specs.Tree.{TestTree, compare, empty, member, data_ended, ConditionTree}
 use Rattle.ss_program.specs.Program.{Test, Compare, DataEnded, Empty, Member}
 use Rattle.ss_program.specs.WellTyped.{Scope as Place, GoodTest, HasMode}
-use Rattle.ss_names_uses.specs.Uses.{in_condition, in_expression, in_named, in_test, mode_of}
+use Rattle.ss_names_uses.specs.Uses.{in_condition, in_expression, in_named, in_test, expression_mode}
 use Rattle.ss_names_uses.specs.declared.used.Role.TheVariants as roles
 use Rattle.ss_names_scopes.specs.Scopes.{Scope}
-use Rattle.ss_check_rules.specs.Modes.{mode_said}
+use Rattle.ss_check_rules.specs.Modes.{mode_of_use}
 use Rattle.ss_check_rules.specs.declared.error.CheckError.TheVariants as errors
 use Rattle.ss_names_meaning.specs.Conditions.{conjunction, one_test}
 use Rattle.ss_names_meaning.specs.Expressions.{expression, set_named}
@@ -25,7 +25,7 @@ module _ (s : Scope) (g : Place) (k : IsLinked s g) (line : Line) where
       let p = two_parts s g.is_main (in_expression line false left) (in_expression line false right) h.1 in
       let x = resolves s g k line false left p.0 in
       let y = resolves s g k line false right p.1 in
-      let same = agree (mode_said s (mode_of left)) (mode_said s (mode_of right)) x.1 y.1 (errors.Mode line) h.0 x.4 y.4 in
+      let same = agree (mode_of_use s (expression_mode left)) (mode_of_use s (expression_mode right)) x.1 y.1 (errors.Mode line) h.0 x.4 y.4 in
       let made : Test = Compare relation x.0 y.0 in
       (made, two_steps (expression s left) (expression s right) (λ a b. Some (Compare relation a b)) x.0 y.0 made x.2 y.2 refl, (y.1, subst (HasMode g x.0) same x.3, y.3))
   test_resolves (empty set negated) h =

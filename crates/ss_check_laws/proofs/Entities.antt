@@ -1,5 +1,5 @@
 -- Classes by what their names mean, and CREATE, DESTROY, FILE and REMOVE.
-use Rattle.std.proofs.Common.{◌≡◌, ℕ, Bool, true, false, List, [], ◌∷◌, ◌++◌, length, get_or, map, Option, Some, None, is_some, Contains, refl, sym, ap, subst, ◌∙◌}
+use Rattle.std.proofs.Common.{◌≡◌, ℕ, true, false, List, [], ◌∷◌, ◌++◌, length, get_or, map, Option, Some, None, is_some, Contains, refl, sym, ap, subst, ◌∙◌}
 use Rattle.std.specs.List.{AllByRecursion as Every}
 use Rattle.std.proofs.lemmas.Option.{same_Some}
 use Rattle.ss_base.specs.declared.layout.ClassKind.{ClassKind}
@@ -17,23 +17,24 @@ use Rattle.ss_names_uses.specs.Uses as uses
 use Rattle.ss_names.specs.declared.meaning.Meaning.{Meaning}
 use Rattle.ss_names.specs.declared.meaning.Meaning.TheVariants as meanings
 use Rattle.ss_names.specs.Entries.{count_name}
-use Rattle.ss_names_scopes.specs.Scopes.{Scope}
-use Rattle.ss_check_rules.specs.Kinds.{is_kind}
+use Rattle.ss_names_scopes.specs.Scopes.{Scope, is_kind}
 use Rattle.ss_check_rules.specs.Refusal.{use_breaks}
 use Rattle.ss_program.specs.declared.expression.Variable.{Variable}
 use Rattle.ss_program.specs.declared.statement.CountedClass.{CountedClass}
 use Rattle.ss_program.specs.Program.{Fetch, ToVariable, ByDiscipline, AsFirst, AsLast}
 use Rattle.ss_program.specs.WellTyped.{Scope as Place, HasMode, TakesMode, GoodPosition, Good, is_created_singly}
 use Rattle.ss_names_meaning.specs.declared.classes.NamedClass.{NamedClass}
-use Rattle.ss_names_meaning.specs.Answers.{◌>>=◌, each, where_holds}
-use Rattle.ss_names_meaning.specs.Classes.{class_named, class_number, count_of, counted, suits, variable_named}
+use Rattle.ss_names_meaning.specs.Answers.{◌>>=◌, each}
+use Rattle.ss_names_meaning.specs.Classes.{class_named, class_number, count_of, counted, variable_named}
 use Rattle.ss_names_meaning.specs.Statements.{entity_called, new_place, position, simple_statement}
+use Rattle.ss_names_laws.proofs.Results.{held}
 use Rattle.ss_names_laws.proofs.Steps.{got}
 use Rattle.ss_check_laws.specs.Links.{IsLinked, Kept}
 use Rattle.ss_check_laws.specs.BodyLaws.{ClassResolves}
 use Rattle.ss_check_laws.proofs.Steps.{GoesWell, two_parts, three_parts}
 use Rattle.ss_check_laws.proofs.Expressions.{number_kept}
 use Rattle.ss_check_laws.proofs.Lists.{after, after_one, after_two}
+use Rattle.ss_check_laws.proofs.Classes.{permanent_kind}
 use Rattle.ss_check_laws.proofs.Parts.{classes_resolve, sets_resolve}
 use Rattle.ss_check_laws.proofs.Values.{takes_number}
 
@@ -45,20 +46,11 @@ single_kind kinds.Permanent h = h
 single_kind kinds.Temporary h = h
 single_kind kinds.Notice h = h
 
-permanent_kind : (kind : ClassKind) → suits kind needs.Permanent ≡ true → kind ≡ kinds.Permanent
-permanent_kind kinds.Permanent h = refl
-permanent_kind kinds.Temporary h = absurd cc
-permanent_kind kinds.Notice h = absurd cc
-
 -- ---- names of classes
 
-held : {A : Type 0} (b : Bool) (x y : A) → where_holds b x ≡ Some y → (b ≡ true) × (x ≡ y)
-held true x y e = (refl, same_Some x y e)
-held false x y e = absurd cc
-
-class_meant : (need : ClassNeed) (o : Option Meaning) (n : ℕ) → class_number need o ≡ Some n → (kind : ClassKind) × (x : ℕ) × (o ≡ Some (meanings.Class n kind x)) × (suits kind need ≡ true)
+class_meant : (need : ClassNeed) (o : Option Meaning) (n : ℕ) → class_number need o ≡ Some n → (kind : ClassKind) × (x : ℕ) × (o ≡ Some (meanings.Class n kind x)) × (is_kind need kind ≡ true)
 class_meant need (Some (meanings.Class class kind x)) n e =
-    let h = held (suits kind need) class n e in
+    let h = held (is_kind need kind) class n e in
     (kind, x, ap (λ (c : ℕ). Some (meanings.Class c kind x)) h.1, h.0)
 class_meant need _ n e = absurd cc
 
@@ -68,7 +60,7 @@ class_as s class variable = record { class = class; attributes = length (get_or 
 -- what the name of a class means, with its number and its kind
 abbrev pub IsClassOf : Scope → ClassNeed → NameBytes → NamedClass → Type 0
 IsClassOf s need name c =
-    (kind : ClassKind) × (x : ℕ) × (value_for s.table.meanings name ≡ Some (meanings.Class c.class kind x)) × (suits kind need ≡ true) × (c.attributes ≡ length (get_or s.table.fields c.class []))
+    (kind : ClassKind) × (x : ℕ) × (value_for s.table.meanings name ≡ Some (meanings.Class c.class kind x)) × (is_kind need kind ≡ true) × (c.attributes ≡ length (get_or s.table.fields c.class []))
 
 pub class_is : (s : Scope) (need : ClassNeed) (name : NameBytes) (c : NamedClass) → class_named s need name ≡ Some c → IsClassOf s need name c
 class_is s need name c e =
@@ -104,7 +96,7 @@ module _ (s : Scope) (g : Place) (linked : IsLinked s g) (line : Line) where
       let c = classes_resolve s g linked line needs.Single name (is_some called) (k.0, tt) in
       after (Good g) _ _ c.0 c.2 (after_one (Good g) _ _ (old_resolves needs.Single name called c k.1) (λ x h. (ap is_created_singly c.3 ∙ single_kind c.1 c.4, h)))
 
-  counted_there : (name : NameBytes) → use_breaks s g.is_main (uses.create_all line name) ≡ None → GoesWell (Contains g.program.counts) (counted s name)
+  counted_there : (name : NameBytes) → use_breaks s g.is_main (uses.class_used line needs.Permanent name true) ≡ None → GoesWell (Contains g.program.counts) (counted s name)
   counted_there name k =
       let c = classes_resolve s g linked line needs.Permanent name true (k, tt) in
       let m = class_is s needs.Permanent name c.0 c.2 in
@@ -114,13 +106,13 @@ module _ (s : Scope) (g : Place) (linked : IsLinked s g) (line : Line) where
       let meant = linked.table.meanings (count_name name) (meanings.Count count.0) count.1 in
       (count.0, ap count_of count.1, subst (λ (all : List CountedClass). Contains all count.0) (sym linked.counts) meant.0)
 
-  all_counted : (names : List NameBytes) → Kept s g.is_main (map (uses.create_all line) names) → GoesWell (Every (Contains g.program.counts)) (each (counted s) names)
+  all_counted : (names : List NameBytes) → Kept s g.is_main (map (λ (name : NameBytes). uses.class_used line needs.Permanent name true) names) → GoesWell (Every (Contains g.program.counts)) (each (counted s) names)
   unfolding each
   all_counted [] k = ([], refl, tt)
   all_counted (name ∷ names) k =
       after_two (Every (Contains g.program.counts)) _ _ _ (counted_there name k.0) (all_counted names k.1) (λ y ys h hs. (h, hs))
 
-  pub create_every_resolves : (names : List NameBytes) → Kept s g.is_main (map (uses.create_all line) names) → GoesWell (Good g) (simple_statement s (create_every line names))
+  pub create_every_resolves : (names : List NameBytes) → Kept s g.is_main (map (λ (name : NameBytes). uses.class_used line needs.Permanent name true) names) → GoesWell (Good g) (simple_statement s (create_every line names))
   unfolding simple_statement
   create_every_resolves names k = after_one (Good g) _ _ (all_counted names k) (λ ys h. h)
 

@@ -1,5 +1,7 @@
 -- The event routines of a program that breaks no rule.
 use Rattle.std.proofs.Common.{◌≡◌, ◌≢◌, ℕ, zero, suc, ◌+◌, ◌<◌, ◌≤◌, Bool, true, false, List, [], ◌∷◌, length, get_or, take, map, flat_map, slice_get, option_map, Option, Some, None, is_some, IfSome, refl, sym, ap, subst, subst₂, ◌∙◌, nat_eq, nat_le, add-zero, take-append-drop, length-take, get_or-take, arith}
+use Rattle.std.specs.Prelude.{option_and_then}
+use Rattle.std.specs.Option.{option_map_or}
 use Rattle.std.specs.List.{AllByRecursion as Every, list_any}
 use Rattle.std.specs.Map.{keys_of}
 use Rattle.std.proofs.lemmas.Bool.{and_parts, leb-true}
@@ -23,25 +25,24 @@ use Rattle.ss_names_uses.specs.Uses as uses
 use Rattle.ss_names_uses.specs.declared.used.CountNeed.TheVariants as counts
 use Rattle.ss_names_uses.specs.declared.used.ModeOf.TheVariants as modes
 use Rattle.ss_names_uses.specs.declared.used.Use.{Use}
-use Rattle.ss_names.specs.declared.entry.Attribute.{Attribute}
 use Rattle.ss_names.specs.declared.entry.EventSection.{EventSection}
 use Rattle.ss_names.specs.declared.meaning.Meaning.{Meaning}
 use Rattle.ss_names.specs.declared.meaning.Meaning.TheVariants as m
 use Rattle.ss_names.specs.Entries.{event_by, given_by}
-use Rattle.ss_names.specs.Table.{Table, table}
+use Rattle.ss_names.specs.Table.{Table, field_mode, table}
 use Rattle.ss_names_scopes.specs.Locals.{defined, local_used, locals_of, moded_in}
-use Rattle.ss_names_scopes.specs.Scopes.{Scope, hidden_by, known_mode, scope_of}
+use Rattle.ss_names_scopes.specs.Scopes.{Scope, hidden_by, is_main, known_mode, local_mode, scope_of}
 use Rattle.ss_program.specs.declared.expression.Variable.TheVariants.{Global}
 use Rattle.ss_program.specs.declared.statement.CountedClass.{CountedClass}
 use Rattle.ss_program.specs.Program.{Done, Event, Program}
 use Rattle.ss_program.specs.WellTyped.{GoodBlock, GoodEvent, GoodKeys, IsPlain}
-use Rattle.ss_check_rules.specs.Counts.{has_attributes, suits_count}
-use Rattle.ss_check_rules.specs.Modes.{attribute_mode, field_mode as mode_of_field, mode_meant, mode_of_attribute, mode_said}
-use Rattle.ss_check_rules.specs.Refusal.{eventless, eventless_of, in_preamble, is_main, use_breaks}
+use Rattle.ss_check_rules.specs.Counts.{suits_count}
+use Rattle.ss_check_rules.specs.Modes.{attribute_mode, meaning_mode, mode_of_use}
+use Rattle.ss_check_rules.specs.Refusal.{eventless, eventless_of, in_preamble, use_breaks}
 use Rattle.ss_check_rules.specs.declared.error.CheckError.TheVariants as errors
 use Rattle.ss_names_meaning.specs.Answers.{◌>>=◌, each, upto}
-use Rattle.ss_names_meaning.specs.Layouts.{ResolvedLayout, class_laid, disciplines, field_mode, layout, set_laid, statistics, tie_keys}
-use Rattle.ss_names_meaning.specs.Resolved.{Parts, class_variable, event_from, event_of_class, local_mode, local_modes, saved}
+use Rattle.ss_names_meaning.specs.Layouts.{ResolvedLayout, class_layout, disciplines, layout, set_layout, statistics, tie_keys}
+use Rattle.ss_names_meaning.specs.Resolved.{Parts, class_variable, event_from, event_of_class, local_modes, saved}
 use Rattle.ss_names_laws.specs.ValidTables.{IsNamedClass, parameters_of}
 use Rattle.ss_names_laws.proofs.Each.{at_place, each_empty, every_first, from_places, in_parts}
 use Rattle.ss_names_laws.proofs.Items.{at_item}
@@ -77,10 +78,6 @@ places_at P f n (y ∷ xs) (suc i) x h e =
     let next : n + 1 + i ≡ n + suc i = omega arith in
     subst (λ j. Every P (f j x)) next (places_at P f (n + 1) xs i x (in_parts P (f n y) (uses.in_places f (n + 1) xs) h).1 e)
 
-field_said : (o : Option Attribute) → mode_of_attribute o ≡ (o >>= λ a. Some a.mode)
-field_said None = refl
-field_said (Some a) = refl
-
 event_is : (t : Table) (section : ℕ → Option Parts) (class : ℕ) (name : NameBytes) (known : EventSection) (keys : List RankKey) (variable : Option ℕ) (parts : Parts) →
     slice_get (keys_of t.classes) class ≡ Some name → value_for t.events name ≡ Some known → nat_le known.given (length (get_or t.fields class [])) ≡ true →
     tie_keys t class name ≡ Some keys → saved t name known.saving ≡ Some variable → section known.section ≡ Some parts →
@@ -93,21 +90,21 @@ module _ (p : tree.ProgramTree) (x : ResolvedLayout) (k : IsUnbroken p x) where
 
   -- ---- classes
 
-  pub laid_classes : (each (class_laid t) (upto (length t.classes)) ≡ Some x.layout.classes) × (is_sound x.layout ≡ true)
+  pub laid_classes : (each (class_layout t) (upto (length t.classes)) ≡ Some x.layout.classes) × (is_sound x.layout ≡ true)
   laid_classes =
       let l = got (layout t) _ x k.valid.laid in
       let o = got (disciplines t) _ x l.2 in
       let s = got (statistics t) _ x o.2 in
-      let cs = got (each (class_laid t) (upto (length t.classes))) _ l.0 l.1 in
-      let ss = got (each set_laid t.sets) _ l.0 cs.2 in
+      let cs = got (each (class_layout t) (upto (length t.classes))) _ l.0 l.1 in
+      let ss = got (each set_layout t.sets) _ l.0 cs.2 in
       let plain : PlainLayout = record { classes = cs.0; sets = ss.0 } in
       let made = cond_some (is_layout plain) plain l.0 ss.2 in
       let same : plain ≡ x.layout = made.1 ∙ ap (λ (r : ResolvedLayout). r.layout) (same_Some _ x s.2) in
       (cs.1 ∙ ap (λ (z : PlainLayout). Some z.classes) same, subst (λ z. is_sound z ≡ true) same (and_parts (is_sound plain) _ made.0).0)
 
-  class_there : (class : ℕ) (name : NameBytes) (kind : ClassKind) → slice_get t.classes class ≡ Some (name, kind) → (c : PlainClass) × (slice_get x.layout.classes class ≡ Some c) × (c.kind ≡ kind)
+  pub class_there : (class : ℕ) (name : NameBytes) (kind : ClassKind) → slice_get t.classes class ≡ Some (name, kind) → (c : PlainClass) × (slice_get x.layout.classes class ≡ Some c) × (c.kind ≡ kind)
   class_there class name kind e =
-      let at = numbers_at (class_laid t) (length t.classes) x.layout.classes class laid_classes.0 (slice_get_within t.classes class (name, kind) e) in
+      let at = numbers_at (class_layout t) (length t.classes) x.layout.classes class laid_classes.0 (slice_get_within t.classes class (name, kind) e) in
       (at.0, at.1, same_Some at.0.kind kind (sym (class_parts t class at.0 at.2).0 ∙ value_at t.classes class name kind e))
 
   -- a class of notices is in the order of rank
@@ -201,7 +198,7 @@ module _ (p : tree.ProgramTree) (x : ResolvedLayout) (k : IsUnbroken p x) where
 
     -- it is given no more than the class has attributes
     limit : nat_le (length given) (length (get_or t.fields class [])) ≡ true
-    limit = sym (ap (has_attributes t (length given)) placed) ∙ holds_unless (suits_count t (length given) (counts.Attributes name)) (errors.Arguments s.line) head.1.0
+    limit = sym (ap (λ (o : Option ℕ). option_map_or (λ (n : ℕ). nat_le (length given) (length (get_or t.fields n []))) o true) placed) ∙ holds_unless (suits_count t (length given) (counts.Attributes name)) (errors.Arguments s.line) head.1.0
 
     -- what it is given in a place has the mode of the attribute in that place
     mode_given : (ms : List Mode) → local_modes (locals_of t s) ≡ Some ms → take (length given) (keys_of (locals_of t s)) ≡ given → length given ≤ length (locals_of t s) →
@@ -219,15 +216,15 @@ module _ (p : tree.ProgramTree) (x : ResolvedLayout) (k : IsUnbroken p x) where
         let known : entry.0 ≡ Some mode.0 = sym (ap (λ (o : Option (Option Mode)). o >>= λ z. z) (value_at locals i g.0 entry.0 entry.1)) ∙ mode.2 in
         let place = place_from locals i g.0 entry.0 once entry.1 in
         let value = value_from_place locals i g.0 entry.0 once entry.1 in
-        let named : mode_said sc (modes.Named g.0) ≡ Some mode.0 =
-        (λ j. mode_meant (hidden_by locals g.0 (place j) (value_for t.meanings g.0))) ∙ ap (λ (o : Option (Option Mode)). Some (known_mode o)) (value ∙ ap Some known) in
+        let named : mode_of_use sc (modes.Named g.0) ≡ Some mode.0 =
+        (λ j. meaning_mode (hidden_by locals g.0 (place j) (value_for t.meanings g.0))) ∙ ap (λ (o : Option (Option Mode)). Some (known_mode o)) (value ∙ ap Some known) in
         let a = there (get_or t.fields class []) i (omega (arith, leb-true (length given) (length (get_or t.fields class [])) limit)) in
         let field = each_at (field_mode t) (get_or t.fields class []) n.laid.fields i a.0 n.named.fields a.1 in
-        let attribute : mode_said sc (modes.Attribute name i) ≡ Some field.0 = ap (λ o. attribute_mode t o i) placed ∙ ap (mode_of_field t) a.1 ∙ field_said (value_for t.attributes a.0) ∙ field.2 in
+        let attribute : mode_of_use sc (modes.Attribute name i) ≡ Some field.0 = ap (λ o. attribute_mode t o i) placed ∙ ap (option_and_then (field_mode t)) a.1 ∙ field.2 in
         let same_place : 0 + i ≡ i = omega arith in
         let places = in_parts holds (map (uses.parameter s.line) given) (uses.in_places (uses.as_attribute s.line name) 0 given) head.1.1 in
         let used = subst (λ j. Every holds (uses.as_attribute s.line name j g.0)) same_place (places_at holds (uses.as_attribute s.line name) 0 given i g.0 places.1 g.1) in
-        let same = agree (mode_said sc (modes.Named g.0)) (mode_said sc (modes.Attribute name i)) mode.0 field.0 (errors.Mode s.line) used.0 named attribute in
+        let same = agree (mode_of_use sc (modes.Named g.0)) (mode_of_use sc (modes.Attribute name i)) mode.0 field.0 (errors.Mode s.line) used.0 named attribute in
         (mode.0, mode.1, field.1 ∙ ap Some (sym same))
 
     modes_given : (ms : List Mode) → local_modes (locals_of t s) ≡ Some ms → (length given ≤ length ms) × (take (length given) ms ≡ take (length given) n.laid.fields)

@@ -14,7 +14,8 @@ use Rattle.ss_names.specs.declared.meaning.Meaning.{Meaning}
 use Rattle.ss_names.specs.declared.meaning.Meaning.TheVariants as meanings
 use Rattle.ss_names.specs.Table.{owner_of}
 use Rattle.ss_names_scopes.specs.Scopes.{Scope, meaning, meaning_of_class, variable_of}
-use Rattle.ss_names_meaning.specs.Expressions.{entity_implied, entity_of, expression, factors, fetched, item, of_owner, one, owner_named, place_named, place_of, resolved_item, resolved_operator, resolved_value, set_named, set_of_name, subscript, target, terms, two, value_alone, value_of_entity, with_entity}
+use Rattle.ss_names_meaning.specs.Answers.{of_one}
+use Rattle.ss_names_meaning.specs.Expressions.{entity_implied, entity_of, expression, factors, item, of_owner, one, set_owner, place_named, place_of, resolved_item, resolved_operator, resolved_value, set_named, set_of_name, subscript, target, terms, two, value_alone, value_of_entity, with_entity}
 use Rattle.ss_check_laws.proofs.Within.{Within, so, followed, looked}
 
 plain_less : (e : Expression) (n : ℕ) → unless_plain e n ≤ n
@@ -65,7 +66,7 @@ place_small (meanings.Attribute class field mode) (Some e) = omega arith
 place_small meanings.NoticeTime (Some e) = omega arith
 place_small _ (Some e) = omega arith
 
-owner_less : (of : Option Expression) → set_nodes (owner_named of) ≤ 1 + option_nodes subscript_nodes of
+owner_less : (of : Option Expression) → set_nodes (set_owner of) ≤ 1 + option_nodes subscript_nodes of
 owner_less None = omega arith
 owner_less (Some e) = omega arith
 
@@ -77,7 +78,7 @@ terms_less : (es : TermRow) → tree.term_nodes es ≤ tree.sum_nodes es
 terms_less no_term = omega arith
 terms_less (and_term sign e es) = omega arith
 
-fetched_small : (x : Option Variable) → Within subscript_nodes 0 (fetched x)
+fetched_small : (x : Option Variable) → Within subscript_nodes 0 (of_one x Fetch)
 fetched_small None = omega arith
 fetched_small (Some x) = omega arith
 

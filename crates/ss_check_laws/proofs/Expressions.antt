@@ -24,7 +24,7 @@ use Rattle.ss_names.specs.declared.meaning.Meaning.TheVariants as meanings
 use Rattle.ss_names_scopes.specs.Scopes.{Scope, mode_of}
 use Rattle.ss_check_rules.specs.Counts.{argument_count}
 use Rattle.ss_check_rules.specs.Kinds.{has_value, is_mean}
-use Rattle.ss_check_rules.specs.Modes.{mode_meant, mode_said}
+use Rattle.ss_check_rules.specs.Modes.{meaning_mode, mode_of_use}
 use Rattle.ss_check_rules.specs.Refusal.{use_breaks}
 use Rattle.ss_check_rules.specs.declared.error.CheckError.TheVariants as errors
 use Rattle.ss_names_meaning.specs.Answers.{◌>>=◌}
@@ -39,7 +39,7 @@ module _ (s : Scope) (g : Place) where
   -- ---- numbers
 
   -- a number has the mode of a number
-  from_number : (b : Bool) (e : ExpressionTree) → Number s g e → mode_said s (uses.mode_of e) ≡ Some Integer → Resolves s g b e
+  from_number : (b : Bool) (e : ExpressionTree) → Number s g e → mode_of_use s (uses.expression_mode e) ≡ Some Integer → Resolves s g b e
   from_number b e n h = (n.0, Integer, n.1, n.2, h, λ t. refl)
 
   pub as_number : (e : ExpressionTree) → Resolves s g true e → Number s g e
@@ -171,7 +171,7 @@ module _ (s : Scope) (g : Place) (k : IsLinked s g) where
           goes (subscript s es) (λ e. with_entity s d e >>= λ r. resolved_value r.0 r.1) p.5.0 v.0 p.5.2
               (goes (with_entity s d p.5.0) (λ r. resolved_value r.0 r.1) q v.0 (named_with s g d p.5.0 p.0 of p.1 p.5.3) v.2),
           v.4,
-          said_is s d ∙ ap mode_meant p.1 ∙ v.3,
+          said_is s d ∙ ap meaning_mode p.1 ∙ v.3,
           number_mode b p.0 v.1 v.3 p.4.mode,
         )
 

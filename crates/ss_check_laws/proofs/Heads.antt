@@ -3,8 +3,6 @@ use Rattle.std.proofs.Common.{◌≡◌, true, false, List, ◌++◌, Option, So
 use Rattle.std.specs.Prelude.{is_some, IfSome}
 use Rattle.std.specs.List.{AllByRecursion as Every, flat_map}
 use Rattle.ss_base.specs.declared.line.Line.{Line}
-use Rattle.ss_base.specs.declared.layout.ClassKind.{ClassKind}
-use Rattle.ss_base.specs.declared.layout.ClassKind.TheVariants as kinds
 use Rattle.ss_base.specs.declared.layout.Mode.TheVariants.{Integer}
 use Rattle.ss_tree.specs.Names.{NameBytes}
 use Rattle.ss_tree.specs.Tree.{ExpressionTree, no_expression, PhraseTree, GuardTree, StartTree, from_end, from_member, after_member, HeadTree, over_range, over_members, over_class, LoopHeadTree, for_head, guarded}
@@ -16,7 +14,7 @@ use Rattle.ss_names_uses.specs.Uses.{in_expression, in_guard, in_head, in_loop_h
 use Rattle.ss_names_uses.specs.declared.used.ClassNeed.TheVariants as needs
 use Rattle.ss_names_uses.specs.declared.used.Role.TheVariants as roles
 use Rattle.ss_names_scopes.specs.Scopes.{Scope, meaning_of_name, variable_of}
-use Rattle.ss_check_rules.specs.Kinds.{is_kind, is_variable}
+use Rattle.ss_check_rules.specs.Kinds.{is_variable}
 use Rattle.ss_names_meaning.specs.Answers.{◌>>=◌, each, if_there}
 use Rattle.ss_names_meaning.specs.Classes.{class_named, variable_named}
 use Rattle.ss_names_meaning.specs.Conditions.{condition}
@@ -30,7 +28,7 @@ use Rattle.ss_check_laws.proofs.Places.{in_role, number_mode}
 use Rattle.ss_check_laws.proofs.Expressions.{number_kept}
 use Rattle.ss_check_laws.proofs.Targets.{set_resolves}
 use Rattle.ss_check_laws.proofs.Conditions.{condition_resolves}
-use Rattle.ss_check_laws.proofs.Classes.{class_resolves}
+use Rattle.ss_check_laws.proofs.Classes.{class_resolves, permanent_kind}
 
 -- ---- steps
 
@@ -41,10 +39,6 @@ three_steps o p q next a b c x h e f i = rw (h, e, f) i
 four_steps : {A B C D E : Type 0} (o : Option A) (p : Option B) (q : Option C) (r : Option D) (next : A → B → C → D → Option E) (a : A) (b : B) (c : C) (d : D) (x : E) →
     o ≡ Some a → p ≡ Some b → q ≡ Some c → r ≡ Some d → next a b c d ≡ Some x → (o >>= λ u. p >>= λ v. q >>= λ t. r >>= λ z. next u v t z) ≡ Some x
 four_steps o p q r next a b c d x h e f i j = rw (h, e, f, i) j
-
-permanent_kind : (kind : ClassKind) → is_kind needs.Permanent kind ≡ true → kind ≡ kinds.Permanent
-permanent_kind kinds.Permanent h = refl
-permanent_kind _ h = absurd cc
 
 module _ (s : Scope) (g : Place) (k : IsLinked s g) (line : Line) where
   -- ---- variables of loops

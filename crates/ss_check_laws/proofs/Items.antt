@@ -7,7 +7,7 @@ use Rattle.ss_base.specs.declared.line.Line.{Line}
 use Rattle.ss_picture.specs.declared.field.Field.{Field}
 use Rattle.ss_tree.specs.Tree.{ExpressionTree, named, parenthesised, ExpressionRow}
 use Rattle.ss_tree.specs.declared.expression.Designator.{Designator}
-use Rattle.ss_program.specs.Program.{Expression, Item, AValue, AMean, AMeanOf}
+use Rattle.ss_program.specs.Program.{Expression, PrintItem, AValue, AMean, AMeanOf}
 use Rattle.ss_program.specs.WellTyped.{Scope as Place, TakesItem}
 use Rattle.ss_names_uses.specs.Uses.{as_mean, in_item, place, row_length, with_decimals}
 use Rattle.ss_names_uses.specs.declared.used.Role.TheVariants as roles
@@ -63,7 +63,7 @@ module _ (s : Scope) (in_main : Bool) (line : Line) where
 
 module _ (s : Scope) (g : Place) (k : IsLinked s g) (line : Line) (field : Field) where
   abbrev HasItem : Meaning → Option Expression → Type 0
-  HasItem m of = (x : Item) × (resolved_item m of ≡ Some x) × TakesItem g field x
+  HasItem m of = (x : PrintItem) × (resolved_item m of ≡ Some x) × TakesItem g field x
 
   -- a MEAN, or else a value in a field without decimals
   meant_item : (m : Meaning) (of : Option Expression) → IsHere s g k m → EntityFits s g m of → has_value m ≡ true → FewDecimals field.decimals (is_mean m ≡ true) → HasItem m of

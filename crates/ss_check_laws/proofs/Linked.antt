@@ -1,6 +1,6 @@
 -- What a name means in a linked section is there in the program.
 use Rattle.std.proofs.Common.{◌≡◌, ◌≢◌, ℕ, true, List, length, Option, Some, None, refl, sym, ap, subst, ◌∙◌}
-use Rattle.std.specs.Prelude.{◌&&◌, nat_le, nat_lt, option_map, slice_get, Contains}
+use Rattle.std.specs.Prelude.{◌&&◌, nat_le, nat_lt, option_map, slice_get, unwrap_or, Contains}
 use Rattle.std.specs.List.{AllByRecursion as Every, list_all}
 use Rattle.std.specs.Map.{lookup, values_of}
 use Rattle.std.specs.Option.{option_and_then}
@@ -33,19 +33,18 @@ use Rattle.ss_names_declarations.proofs.Entries.{there as item_at, value_at, val
 use Rattle.ss_names.specs.declared.entry.Set.{Set}
 use Rattle.ss_names.specs.declared.meaning.Meaning.{Meaning}
 use Rattle.ss_names.specs.declared.meaning.Meaning.TheVariants as meanings
-use Rattle.ss_names.specs.Table.{Table, owner_of, owner_of_member, owner_of_set, owner_of_statistic, owner_of_subject, owner_or_system, subject_of}
-use Rattle.ss_names_scopes.specs.Scopes.{Scope, hidden_by, known_mode, meaning, meaning_of_class, meaning_of_name, mode_of, named_class, variable_of}
+use Rattle.ss_names.specs.Table.{Table, owner_of, owner_of_member, owner_of_set, owner_of_statistic, owner_of_subject, subject_of}
+use Rattle.ss_names_scopes.specs.Scopes.{Scope, hidden_by, known_mode, local_mode, meaning, meaning_of_class, meaning_of_name, mode_of, variable_of}
 use Rattle.ss_check_rules.specs.Kinds.{is_variable}
 use Rattle.ss_names_meaning.specs.Answers.{◌>>=◌, each, upto}
-use Rattle.ss_names_meaning.specs.Layouts.{ResolvedLayout, class_laid, counts, disciplines, laid_out, layout, set_laid, statistics}
-use Rattle.ss_names_meaning.specs.Resolved.{local_mode}
+use Rattle.ss_names_meaning.specs.Layouts.{ResolvedLayout, class_layout, counts, disciplines, resolved_layout, layout, set_layout, statistics}
 use Rattle.ss_names_laws.specs.ValidTables.{IsMeant, IsPlainAt, IsSetAt, IsStatisticAt, IsWatched}
 use Rattle.ss_names_laws.proofs.Steps.{got, numbers_at}
 use Rattle.ss_check_laws.specs.Links.{IsLinked}
 
 -- ---- layouts
 
-layout_there : (t : Table) (x : ResolvedLayout) → laid_out t ≡ Some x → layout t ≡ Some x.layout
+layout_there : (t : Table) (x : ResolvedLayout) → resolved_layout t ≡ Some x → layout t ≡ Some x.layout
 layout_there t x e =
     let made : PlainLayout → List Discipline → List Statistic → Option ResolvedLayout =
     λ laid ordered kept. Some (record { layout = laid; disciplines = ordered; globals = values_of t.variables; counts = counts t; statistics = kept }) in
@@ -57,14 +56,14 @@ layout_there t x e =
 -- the sets of a layout name classes that are there
 layout_sound : (t : Table) (x : PlainLayout) → layout t ≡ Some x → is_sound x ≡ true
 layout_sound t x e =
-    let a = got (each (class_laid t) (upto (length t.classes))) (λ classes. each set_laid t.sets >>= λ sets. layout_of classes sets) x e in
-    let b = got (each set_laid t.sets) (λ sets. layout_of a.0 sets) x a.2 in
+    let a = got (each (class_layout t) (upto (length t.classes))) (λ classes. each set_layout t.sets >>= λ sets. layout_of classes sets) x e in
+    let b = got (each set_layout t.sets) (λ sets. layout_of a.0 sets) x a.2 in
     let made : PlainLayout = record { classes = a.0; sets = b.0 } in
     let c = cond_some (is_layout made) made x b.2 in
     let parts = and_parts (is_sound made) (nat_le (length made.classes) layout_limit && (nat_le (length made.sets) layout_limit && list_all is_narrow made.classes)) c.0 in
     subst (λ (l : PlainLayout). is_sound l ≡ true) c.1 parts.0
 
-set_parts : (known : Set) (laid : SetLayout) → set_laid known ≡ Some laid → (known.owner ≡ Some laid.owner) × (known.member ≡ Some laid.member)
+set_parts : (known : Set) (laid : SetLayout) → set_layout known ≡ Some laid → (known.owner ≡ Some laid.owner) × (known.member ≡ Some laid.member)
 set_parts known laid e =
     let a = got known.owner (λ owner. known.member >>= λ member. Some (record { owner = owner; member = member })) laid e in
     let b = got known.member (λ member. Some (record { owner = a.0; member = member })) laid a.2 in
@@ -109,8 +108,8 @@ module _ (s : Scope) (g : Place) (k : IsLinked s g) where
       record {
         laid = i.laid;
         there = ap (λ (l : PlainLayout). slice_get l.sets set) k.layout ∙ i.laid_there;
-        owner = ap owner_of_set i.there ∙ ap owner_or_system parts.0;
-        member = ap owner_of_member i.there ∙ ap (λ o. owner_or_system (option_map owners.Class o)) parts.1;
+        owner = ap owner_of_set i.there ∙ ap (λ (o : Option Owner). unwrap_or o owners.System) parts.0;
+        member = ap owner_of_member i.there ∙ ap (λ (o : Option ℕ). unwrap_or (option_map owners.Class o) owners.System) parts.1;
         owner_there = is_owner i.laid.owner both.0;
         member_there = item_at k.laid.layout.classes i.laid.member (ltb-true i.laid.member classes both.1);
       }
@@ -263,4 +262,4 @@ module _ (s : Scope) (g : Place) (k : IsLinked s g) where
   implied_here class i =
       let n = k.table.classes class i.0 i.1 in
       let v = class_variable n.name class i.0.kind n.variable n.meant in
-      (v.0, ap (named_class s) n.there ∙ v.1, v.2)
+      (v.0, ap (option_and_then (meaning_of_name s)) n.there ∙ v.1, v.2)

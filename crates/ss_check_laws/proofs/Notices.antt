@@ -1,6 +1,7 @@
 -- SCHEDULE, CANCEL and RESET.
 use Rattle.std.proofs.Common.{◌≡◌, ℕ, ◌<◌, ◌≤◌, Bool, true, false, List, ◌++◌, length, get_or, take, Option, Some, None, is_some, nat_le, option_map, [], refl, sym, ap, subst, arith, ◌∙◌, le-leb, leb-true}
-use Rattle.std.specs.Prelude.{slice_get}
+use Rattle.std.specs.Prelude.{option_and_then, slice_get}
+use Rattle.std.specs.Option.{option_map_or}
 use Rattle.std.proofs.lemmas.Option.{slice_get_within}
 use Rattle.ss_base.specs.declared.layout.ClassKind.{ClassKind}
 use Rattle.ss_base.specs.declared.layout.ClassKind.TheVariants as kinds
@@ -9,27 +10,22 @@ use Rattle.ss_base.specs.declared.line.Line.{Line}
 use Rattle.ss_base.specs.Plain.{PlainClass, PlainLayout}
 use Rattle.ss_tree.specs.Names.{NameBytes}
 use Rattle.ss_tree.specs.Tree.{ExpressionTree, NamedTree, WhenTree, at_time, in_units, now, schedule_new, schedule_statement, cancel_statement, reset_statement}
-use Rattle.ss_names_declarations.specs.Firsts.{place_in, value_for}
+use Rattle.ss_names_declarations.specs.Firsts.{place_in}
 use Rattle.ss_names_declarations.proofs.Entries.{there}
 use Rattle.ss_names_uses.specs.declared.used.ClassNeed.TheVariants as needs
 use Rattle.ss_names_uses.specs.declared.used.ModeOf.TheVariants as modes
 use Rattle.ss_names_uses.specs.declared.used.Role.TheVariants as roles
 use Rattle.ss_names_uses.specs.Uses as uses
-use Rattle.ss_names.specs.declared.entry.Attribute.{Attribute}
 use Rattle.ss_names.specs.declared.meaning.Meaning.TheVariants as meanings
-use Rattle.ss_names.specs.Table.{Table}
+use Rattle.ss_names.specs.Table.{Table, field_mode}
 use Rattle.ss_names_scopes.specs.Scopes.{Scope}
 use Rattle.ss_check_rules.specs.declared.error.CheckError.TheVariants as errors
-use Rattle.ss_check_rules.specs.Counts.{has_attributes}
-use Rattle.ss_check_rules.specs.Kinds.{is_kind}
-use Rattle.ss_check_rules.specs.Modes.{attribute_mode, field_mode as mode_of_field, mode_of_attribute}
-use Rattle.ss_check_rules.specs.Refusal.{unless}
+use Rattle.ss_check_rules.specs.Modes.{attribute_mode}
 use Rattle.ss_program.specs.Program.{Expression, Now, When, Restart, Statement, ScheduleNew, Schedule}
 use Rattle.ss_program.specs.WellTyped.{Scope as Place, HasMode, HaveModes, GoodWhen, GoodGiven, GoodRestart, Good}
 use Rattle.ss_names_meaning.specs.declared.classes.NamedClass.{NamedClass}
 use Rattle.ss_names_meaning.specs.Answers.{◌>>=◌, each, where_holds}
 use Rattle.ss_names_meaning.specs.Expressions.{expression}
-use Rattle.ss_names_meaning.specs.Layouts.{field_mode}
 use Rattle.ss_names_meaning.specs.Statements.{restart, simple_statement, when}
 use Rattle.ss_names_laws.proofs.Steps.{each_at}
 use Rattle.ss_check_laws.specs.Links.{IsLinked, Kept}
@@ -39,6 +35,7 @@ use Rattle.ss_check_laws.proofs.Expressions.{number_kept}
 use Rattle.ss_check_laws.proofs.Lists.{after, after_one, each_length, holds, in_order}
 use Rattle.ss_check_laws.proofs.Parts.{classes_resolve, restarts_resolve}
 use Rattle.ss_check_laws.proofs.Values.{value_resolves}
+use Rattle.ss_names_declarations.specs.Earliest.{unless}
 use Rattle.ss_check_laws.proofs.Entities.{class_is, new_resolves, old_resolves}
 
 notice_kind : (kind : ClassKind) → is_kind needs.Notice kind ≡ true → kind ≡ kinds.Notice
@@ -46,18 +43,14 @@ notice_kind kinds.Notice h = refl
 notice_kind kinds.Permanent h = absurd cc
 notice_kind kinds.Temporary h = absurd cc
 
-attribute_there : (o : Option Attribute) (m : Mode) → (o >>= λ a. Some a.mode) ≡ Some m → mode_of_attribute o ≡ Some m
-attribute_there None m h = h
-attribute_there (Some a) m h = h
-
 -- the mode of an attribute, by its place in its class
-field_there : (t : Table) (names : List NameBytes) (fields : List Mode) (i : ℕ) (m : Mode) → each (field_mode t) names ≡ Some fields → slice_get fields i ≡ Some m → mode_of_field t (slice_get names i) ≡ Some m
+field_there : (t : Table) (names : List NameBytes) (fields : List Mode) (i : ℕ) (m : Mode) → each (field_mode t) names ≡ Some fields → slice_get fields i ≡ Some m → option_and_then (field_mode t) (slice_get names i) ≡ Some m
 field_there t names fields i m h e =
     let within = slice_get_within fields i m e in
     let lt : i < length names = omega (arith, within, each_length (field_mode t) names fields h) in
     let name = there names i lt in
     let at = each_at (field_mode t) names fields i name.0 h name.1 in
-    ap (mode_of_field t) name.1 ∙ attribute_there (value_for t.attributes name.0) at.0 at.2 ∙ (sym at.1 ∙ e)
+    ap (option_and_then (field_mode t)) name.1 ∙ at.2 ∙ (sym at.1 ∙ e)
 
 module _ (s : Scope) (g : Place) (linked : IsLinked s g) (line : Line) where
   when_resolves : (t : WhenTree) → Kept s g.is_main (uses.in_when line t) → GoesWell (GoodWhen g) (when s t)
@@ -82,8 +75,8 @@ module _ (s : Scope) (g : Place) (linked : IsLinked s g) (line : Line) where
       let names = get_or s.table.fields class [] in
       let few : length given ≤ length names =
       leb-true (length given) (length names) (holds_unless (nat_le (length given) (length names)) (errors.Arguments line)
-      (subst (λ (o : Option ℕ). unless (has_attributes s.table (length given) o) (errors.Arguments line) ≡ None) place k.0)) in
-      let xs = in_order s g.is_main (expression s) (uses.for_attribute line name) (HasMode g) given laid.0.fields
+      (subst (λ (o : Option ℕ). unless (option_map_or (λ (n : ℕ). nat_le (length given) (length (get_or s.table.fields n []))) o true) (errors.Arguments line) ≡ None) place k.0)) in
+      let xs = in_order s g.is_main (expression s) (λ (i : ℕ). uses.in_value line (modes.Attribute name i)) (HasMode g) given laid.0.fields
       (λ i e w f h. value_resolves s g linked line (modes.Attribute name i) w e
       (ap (λ (o : Option ℕ). attribute_mode s.table o i) place ∙ field_there s.table names laid.0.fields i w fields f) h)
       (omega (arith, few, each_length (field_mode s.table) names laid.0.fields fields)) k.1 in (

@@ -22,13 +22,14 @@ use Rattle.ss_names_uses.specs.declared.used.Role.{Role}
 use Rattle.ss_names.specs.declared.meaning.Meaning.{Meaning}
 use Rattle.ss_names.specs.declared.meaning.Meaning.TheVariants as meanings
 use Rattle.ss_names.specs.Table.{owner_of, owner_of_set, owner_of_statistic, owner_of_subject}
-use Rattle.ss_names_scopes.specs.Scopes.{Scope, implied, meaning, meaning_of_class, mode_of, of_owner as implied_of, variable_of}
+use Rattle.ss_names_scopes.specs.Scopes.{Scope, implied, meaning, meaning_of_class, mode_of, meaning_of_owner as implied_of, variable_of}
 use Rattle.ss_check_rules.specs.Kinds.{if_means, is_target, may_have, meaning_in_role, suits, suits_subscripts, takes_values}
-use Rattle.ss_check_rules.specs.Modes.{is_mean_as_value, is_text, mixes_modes, mode_meant, mode_said}
-use Rattle.ss_check_rules.specs.Refusal.{meant_breaks, place_breaks, unless}
+use Rattle.ss_check_rules.specs.Modes.{is_mean_as_value, is_text, mixes_modes, meaning_mode, mode_of_use}
+use Rattle.ss_names_declarations.specs.Earliest.{unless}
+use Rattle.ss_check_rules.specs.Refusal.{meaning_breaks, place_breaks}
 use Rattle.ss_check_rules.specs.declared.error.CheckError.TheVariants as errors
-use Rattle.ss_names_meaning.specs.Answers.{◌>>=◌}
-use Rattle.ss_names_meaning.specs.Expressions.{entity_of, expression, fetched, of_owner, owner_named, place_named, subscript, with_entity}
+use Rattle.ss_names_meaning.specs.Answers.{◌>>=◌, of_one}
+use Rattle.ss_names_meaning.specs.Expressions.{entity_of, expression, of_owner, set_owner, place_named, subscript, with_entity}
 use Rattle.ss_check_laws.specs.Links.{IsLinked}
 use Rattle.ss_check_laws.proofs.Steps.{alike, first_fails, first_holds, goes, holds_unless, meant}
 use Rattle.ss_check_laws.proofs.Linked.{IsHere, IsOwner, IsSetHere, IsStatisticHere, IsSubjectHere, implied_here, meaning_here, owner_here}
@@ -36,7 +37,7 @@ use Rattle.ss_check_laws.proofs.Linked.{IsHere, IsOwner, IsSetHere, IsStatisticH
 -- ---- modes
 
 -- the mode that a use says of what is named is that of its meaning
-pub said_is : (s : Scope) (d : Designator) → mode_said s (designated d) ≡ mode_meant (meaning s d)
+pub said_is : (s : Scope) (d : Designator) → mode_of_use s (designated d) ≡ meaning_mode (meaning s d)
 said_is s (designators.Name name) = refl
 said_is s designators.TimeV = refl
 said_is s designators.TimeA = refl
@@ -47,14 +48,14 @@ number_mode b m mode e h t = alike (mode_of m) (Some Integer) mode Integer (subs
 -- ---- rules
 
 -- what is named is of the kind that its role needs, and what it means breaks nothing
-pub place_kept : (s : Scope) (line : Line) (role : Role) (d : Designator) (n : ℕ) (b : Bool) → place_breaks s line role d n b ≡ None → (suits s role d ≡ true) × (meant_breaks s line role n b (meaning_in_role s role d) ≡ None)
-place_kept s line role d n b h = first_holds (suits s role d) (meant_breaks s line role n b (meaning_in_role s role d)) (errors.Unknown line) h
+pub place_kept : (s : Scope) (line : Line) (role : Role) (d : Designator) (n : ℕ) (b : Bool) → place_breaks s line role d n b ≡ None → (suits s role d ≡ true) × (meaning_breaks s line role n b (meaning_in_role s role d) ≡ None)
+place_kept s line role d n b h = first_holds (suits s role d) (meaning_breaks s line role n b (meaning_in_role s role d)) (errors.Unknown line) h
 
 -- ---- entities
 
 -- the entity in a variable that a class's name means
 entity_fetched : (o : Option Meaning) (m : Meaning) (v : Variable) → o ≡ Some m → variable_of m ≡ Some v →
-    ((o >>= λ n. fetched (variable_of n)) >>= λ e. Some (Some e)) ≡ Some (Some (Fetch v))
+    ((o >>= λ n. of_one (variable_of n) Fetch) >>= λ e. Some (Some e)) ≡ Some (Some (Fetch v))
 entity_fetched o m v h e = rw (h, e) refl
 
 at_most_one : (o : Owner) (n : ℕ) → may_have o n ≡ true → n ≤ 1
@@ -121,7 +122,7 @@ module _ (s : Scope) (g : Place) where
     pub value : is_mean_as_value role m ≡ false
     pub entity : ((n == 0) && is_text (implied s m)) ≡ false
 
-  unbroken : (line : Line) (role : Role) (n : ℕ) (is_number : Bool) (m : Meaning) → meant_breaks s line role n is_number (Some m) ≡ None → IsUnbroken role n is_number m
+  unbroken : (line : Line) (role : Role) (n : ℕ) (is_number : Bool) (m : Meaning) → meaning_breaks s line role n is_number (Some m) ≡ None → IsUnbroken role n is_number m
   unbroken line role n is_number m h =
       let a = first_fails (not (suits_subscripts s.table m n))
       (if is_target role && not (takes_values m) then Some (errors.NotAssignable line) else unless (not (mixes_modes s role m n is_number)) (errors.Mode line))
@@ -142,7 +143,7 @@ module _ (s : Scope) (g : Place) (k : IsLinked s g) where
   owner_entity (owners.Class class) i n None f h t =
       let v = implied_here s g k class i in
       let text : is_text (meaning_of_class s class) ≡ false = subst (λ (j : ℕ). ((j == 0) && is_text (meaning_of_class s class)) ≡ false) f t in
-      let mode : v.2.1 ≡ Integer = alike (mode_meant (meaning_of_class s class)) (Some Integer) v.2.1 Integer text (ap mode_meant v.1 ∙ v.2.3) refl in
+      let mode : v.2.1 ≡ Integer = alike (meaning_mode (meaning_of_class s class)) (Some Integer) v.2.1 Integer text (ap meaning_mode v.1 ∙ v.2.3) refl in
       (Some (Fetch v.2.0), entity_fetched (meaning_of_class s class) v.0 v.2.0 v.1 v.2.2, subst (λ m. mode_at g v.2.0 ≡ Some m) mode v.2.4.0)
   owner_entity (owners.Class class) i n (Some x) f h t = (Some x, refl, f.1)
 
@@ -169,7 +170,7 @@ module _ (s : Scope) (g : Place) (k : IsLinked s g) where
   pub in_place : (line : Line) (role : Role) (d : Designator) (es : ExpressionRow) (b : Bool) (m : Meaning) → IsHere s g k m → meaning_in_role s role d ≡ Some m → place_breaks s line role d (row_length es) b ≡ None → Numbers s g es →
       IsUnbroken s g role (row_length es) b m × HasEntity s g es m
   in_place line role d es b m i e h n =
-      let u = unbroken s g line role (row_length es) b m (subst (λ o. meant_breaks s line role (row_length es) b o ≡ None) e (place_kept s line role d (row_length es) b h).1) in
+      let u = unbroken s g line role (row_length es) b m (subst (λ o. meaning_breaks s line role (row_length es) b o ≡ None) e (place_kept s line role d (row_length es) b h).1) in
       (u, has_entity es m i n u.subscripts u.entity)
 
   pub in_role : (line : Line) (role : Role) (kind : Meaning → Bool) (d : Designator) (es : ExpressionRow) (b : Bool) → suits s role d ≡ if_means kind (meaning s d) → meaning_in_role s role d ≡ meaning s d →
@@ -183,10 +184,10 @@ module _ (s : Scope) (g : Place) (k : IsLinked s g) where
   -- ---- sets and statistics
 
   -- the entity of a set is an owner such as its sets have
-  pub owner_fits : (set : ℕ) → IsSetHere s g k set → (of : Option Expression) → OwnerHas s g (owner_of_set (slice_get s.table.sets set)) of → OwnerFits g set (owner_named of)
+  pub owner_fits : (set : ℕ) → IsSetHere s g k set → (of : Option Expression) → OwnerHas s g (owner_of_set (slice_get s.table.sets set)) of → OwnerFits g set (set_owner of)
   owner_fits set i of f = by i.laid.owner of (ap (option_map (λ (l : SetLayout). l.owner)) i.there) (subst (λ o. OwnerHas s g o of) i.owner f)
     where
-      by : (o : Owner) (of : Option Expression) → owner_in_program g.program set ≡ Some o → OwnerHas s g o of → OwnerFits g set (owner_named of)
+      by : (o : Owner) (of : Option Expression) → owner_in_program g.program set ≡ Some o → OwnerHas s g o of → OwnerFits g set (set_owner of)
       by owners.System None e f = e
       by owners.System (Some x) e f = absurd f
       by (owners.Class class) None e f = absurd f

@@ -10,20 +10,23 @@ use Rattle.ss_base.specs.declared.layout.ClassKind.TheVariants as kinds
 use Rattle.ss_base.specs.Plain.{PlainClass, PlainLayout}
 use Rattle.ss_tree.specs.Tree as tree
 use Rattle.ss_names_declarations.specs.Firsts.{value_for}
+use Rattle.ss_names_declarations.proofs.Entries.{value_by_place}
 use Rattle.ss_names_uses.specs.declared.used.ClassNeed.TheVariants as needs
 use Rattle.ss_names.specs.declared.meaning.Meaning.{Meaning}
 use Rattle.ss_names.specs.declared.meaning.Meaning.TheVariants as m
+use Rattle.ss_names.specs.Entries.{is_notice}
 use Rattle.ss_names.specs.Table.{Table, table}
 use Rattle.ss_names_scopes.specs.Locals.{Moded, locals_of}
+use Rattle.ss_names_scopes.specs.Scopes.{is_main, is_main_section}
 use Rattle.ss_program.specs.Program.{Event, Program, Routine}
 use Rattle.ss_program.specs.WellTyped.{GoodBlock, GoodEvent, GoodRoutine, WellTyped, kind_of_class}
 use Rattle.ss_check_rules.specs.declared.error.CheckError.{CheckError}
 use Rattle.ss_check_rules.specs.Kinds.{suits_class}
 use Rattle.ss_check_rules.specs.Order.{order_of}
-use Rattle.ss_check_rules.specs.Refusal.{breaches, is_main, is_main_section}
+use Rattle.ss_check_rules.specs.Refusal.{breaches}
 use Rattle.ss_names_meaning.specs.Answers.{each}
-use Rattle.ss_names_meaning.specs.Layouts.{ResolvedLayout, laid_out}
-use Rattle.ss_names_meaning.specs.Resolved.{Parts, event_from, has_main_kind, is_known, is_known_kind, is_main_kind, is_ranked, parts_with_locals, resolved, resolved_with_locals, routine_from}
+use Rattle.ss_names_meaning.specs.Layouts.{ResolvedLayout, resolved_layout}
+use Rattle.ss_names_meaning.specs.Resolved.{Parts, event_from, is_known, is_known_kind, parts_with_locals, resolved, resolved_with_locals, routine_from}
 use Rattle.ss_names_laws.specs.Laws.{LayoutsAreWellTyped, RoutinesAreThere, SectionsAreValid, TablesAreThere, TablesAreValid}
 use Rattle.ss_check_laws.specs.BodyLaws.{BodiesResolve}
 use Rattle.ss_check_laws.specs.ProgramLaws.{ProgramsResolve}
@@ -31,7 +34,7 @@ use Rattle.ss_names_laws.proofs.Items.{at_item, each_item}
 use Rattle.ss_names_laws.proofs.Kept.{nothing_found}
 use Rattle.ss_names_laws.proofs.Steps.{each_at}
 use Rattle.ss_check_laws.proofs.Steps.{first_holds}
-use Rattle.ss_check_laws.proofs.Events.{class_is_ranked, event_kept, event_there, events_there, laid_classes}
+use Rattle.ss_check_laws.proofs.Events.{class_is_ranked, class_there, event_kept, event_there, events_there, laid_classes}
 use Rattle.ss_check_laws.proofs.Routines.{IsUnbroken, IsWhole, body_good, laid_with, main_kept, mapped_from, program_with, routines_there, section, section_modes}
 
 -- ---- steps
@@ -44,16 +47,11 @@ notice_found : (o : Option Meaning) → suits_class o needs.Notice ≡ true → 
 notice_found (Some (m.Class class kinds.Notice variable)) e = (class, variable, refl)
 notice_found _ e = absurd cc
 
-same_main : (kind : tree.SectionKindTree) → is_main kind ≡ is_main_kind kind
-same_main tree.main = refl
-same_main (tree.routine name given yielding) = refl
-same_main (tree.event name given saving) = refl
-
 assembled : (t : Table) (all : List Moded) (sections : List tree.SectionTree) (x : ResolvedLayout) (routines : List Routine) (events : List Event) (n : ℕ) (parts : Parts) →
-    laid_out t ≡ Some x → list_all (is_known t) sections ≡ true →
+    resolved_layout t ≡ Some x → list_all (is_known t) sections ≡ true →
     each (routine_from (parts_with_locals t all sections)) (values_of t.routines) ≡ Some routines →
     each (event_from t (parts_with_locals t all sections)) t.ranks ≡ Some events →
-    position has_main_kind sections ≡ Some n → parts_with_locals t all sections n ≡ Some parts →
+    position is_main_section sections ≡ Some n → parts_with_locals t all sections n ≡ Some parts →
     resolved_with_locals t all sections ≡ Some (record {
       layout = x.layout;
       disciplines = x.disciplines;
@@ -74,19 +72,19 @@ module _ (p : tree.ProgramTree) (x : ResolvedLayout) (k : IsUnbroken p x) where
 
   -- ---- MAIN
 
-  main_there : (n : ℕ) × (s : tree.SectionTree) × (slice_get p.sections n ≡ Some s) × (position has_main_kind p.sections ≡ Some n) × (is_main s.kind ≡ true)
+  main_there : (n : ℕ) × (s : tree.SectionTree) × (slice_get p.sections n ≡ Some s) × (position is_main_section p.sections ≡ Some n) × (is_main s.kind ≡ true)
   main_there =
       let any = Any-from_list_any is_main_section p.sections (any_main (list_any is_main_section p.sections) _ (main_kept p x k)) in
       let within = any.2 in
-      let n = position_or_len has_main_kind p.sections in
-      let is : has_main_kind (get_or p.sections any.0 any.1) ≡ true = ap has_main_kind any.3 ∙ sym (same_main any.1.kind) ∙ any.4 in
+      let n = position_or_len is_main_section p.sections in
+      let is : is_main_section (get_or p.sections any.0 any.1) ≡ true = ap is_main_section any.3 ∙ any.4 in
       let lt : n < length p.sections =
       ⊎_elim
       (λ (l : n < length p.sections). l)
-      (λ (l : length p.sections ≤ n). absurd (both_ways (has_main_kind (get_or p.sections any.0 any.1)) (fails_before_first has_main_kind p.sections any.0 any.1 (omega arith)) is))
+      (λ (l : length p.sections ≤ n). absurd (both_ways (is_main_section (get_or p.sections any.0 any.1)) (fails_before_first is_main_section p.sections any.0 any.1 (omega arith)) is))
       (cases_lt n (length p.sections)) in
       let s = get_or p.sections n any.1 in
-      (n, s, slice_get-get_or p.sections n any.1 lt, ap (λ b. cond b (Some n) None) (lt-ltb n (length p.sections) lt), same_main s.kind ∙ passes_at_first has_main_kind p.sections any.1 lt)
+      (n, s, slice_get-get_or p.sections n any.1 lt, ap (λ b. cond b (Some n) None) (lt-ltb n (length p.sections) lt), passes_at_first is_main_section p.sections any.1 lt)
 
   -- ---- the class of each EVENT section is one of notices
 
@@ -96,7 +94,10 @@ module _ (p : tree.ProgramTree) (x : ResolvedLayout) (k : IsUnbroken p x) where
   kind_known n s (tree.event name given saving) e f =
       let c = notice_found (value_for t.meanings name) (first_holds (suits_class (value_for t.meanings name) needs.Notice) _ _ (event_kept p x k n s name given saving e f).0).0 in
       let laid = (k.valid.meanings name (m.Class c.0 kinds.Notice c.1) c.2).0 in
-      ap (is_ranked t) (k.valid.numbered name c.0 kinds.Notice c.1 c.2) ∙ class_is_ranked p x k c.0 laid.0 laid.1 laid.2
+      let entry = value_by_place t.classes name c.0 (k.valid.numbered name c.0 kinds.Notice c.1 c.2) in
+      let known = class_there p x k c.0 name entry.0 entry.2 in
+      let kind : entry.0 ≡ kinds.Notice = sym known.2 ∙ ap (λ (z : PlainClass). z.kind) (same_Some known.0 laid.0 (sym known.1 ∙ laid.1)) ∙ laid.2 in
+      ap is_notice (entry.1 ∙ ap Some kind)
 
   all_known : list_all (is_known t) p.sections ≡ true
   all_known =

@@ -11,7 +11,8 @@ use Rattle.ss_names_declarations.specs.declared.declaration.Declared.{Declared}
 use Rattle.ss_names_declarations.specs.declared.declaration.Declared.TheVariants as d
 use Rattle.ss_names_declarations.specs.declared.declaration.Declaration.{Declaration}
 use Rattle.ss_names_declarations.proofs.Entries.{firsts_once, place_from, value_by_place, value_from_place}
-use Rattle.ss_names.specs.Entries.{class_by, classes, given_by, is_notice, notice_by, notice_number, number_if, priority_by, ranks, with_number}
+use Rattle.std.specs.Prelude.{option_to_list}
+use Rattle.ss_names.specs.Entries.{class_by, classes, given_by, is_notice, notice_by, notice_number, priority_by, ranks, with_number}
 use Rattle.ss_names_laws.proofs.Each.{at_place, every_first, every_piece, joined}
 use Rattle.ss_names_laws.proofs.Items.{at_item, each_item}
 
@@ -56,7 +57,7 @@ module _ (cs : List (NameBytes × ClassKind)) where
   notice_kind Notice e = refl
   notice_kind _ e = absurd cc
 
-  number_is : (name : NameBytes) (b : Bool) (o : Option ℕ) → is_notice (value_for cs name) ≡ b → place_in cs name ≡ o → Every IsNotice (cond b (number_if o) [])
+  number_is : (name : NameBytes) (b : Bool) (o : Option ℕ) → is_notice (value_for cs name) ≡ b → place_in cs name ≡ o → Every IsNotice (cond b (option_to_list o) [])
   number_is name false o e f = tt
   number_is name true None e f = tt
   number_is name true (Some class) e f =
@@ -110,6 +111,6 @@ module _ (ds : List Declaration) where
       let once = firsts_once (given_by class_by ds) in
       let value = value_from_place cs class h.0 Notice once h.1 in
       let place = place_from cs class h.0 Notice once h.1 in
-      let number : notice_number cs h.0 ≡ class ∷ [] = λ i. cond (is_notice (value i)) (number_if (place i)) [] in
+      let number : notice_number cs h.0 ≡ class ∷ [] = λ i. cond (is_notice (value i)) (option_to_list (place i)) [] in
       let among = at_place (IsAmong cs rest) cs class (h.0, Notice) (every_first (IsAmong cs rest) (given_by class_by ds) (all_among cs ds)) h.1 in
       taken class [] (first ++ rest) (list_any-append (nat_eq class) first rest ∙ or_right (list_any (nat_eq class) first) (list_any (nat_eq class) rest) (among class number))

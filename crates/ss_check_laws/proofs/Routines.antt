@@ -13,14 +13,15 @@ use Rattle.ss_names_uses.specs.declared.used.Use.{Use}
 use Rattle.ss_names.specs.declared.entry.RoutineSection.{RoutineSection}
 use Rattle.ss_names.specs.Entries.{given_by, routine_by}
 use Rattle.ss_names.specs.Table.{Table, table}
-use Rattle.ss_names_scopes.specs.Locals.{Moded, as_list, locals_of}
-use Rattle.ss_names_scopes.specs.Scopes.{scope_of}
+use Rattle.std.specs.Prelude.{option_to_list}
+use Rattle.ss_names_scopes.specs.Locals.{Moded, locals_of}
+use Rattle.ss_names_scopes.specs.Scopes.{is_main, local_mode, scope_of}
 use Rattle.ss_program.specs.Program.{Block, Done, Event, Program, Routine}
 use Rattle.ss_program.specs.WellTyped.{Scope as Place, GoodBlock, GoodRoutine}
-use Rattle.ss_check_rules.specs.Refusal.{breaches, breaks, in_preamble, in_program, in_section, is_main, use_breaks}
+use Rattle.ss_check_rules.specs.Refusal.{breaches, breaks, in_preamble, in_program, in_section, use_breaks}
 use Rattle.ss_names_meaning.specs.Answers.{◌>>=◌, each}
 use Rattle.ss_names_meaning.specs.Layouts.{ResolvedLayout}
-use Rattle.ss_names_meaning.specs.Resolved.{Parts, body_with, local_mode, local_modes, parts_with_locals, routine_from, routine_of}
+use Rattle.ss_names_meaning.specs.Resolved.{Parts, body_with, local_modes, parts_with_locals, routine_from, routine_of}
 use Rattle.ss_names_laws.specs.Laws.{HasLayout, IsWellLaid}
 use Rattle.ss_names_laws.specs.ValidTables.{HasRoutines, IsValidSection, IsValidTable}
 use Rattle.ss_names_laws.proofs.Each.{at_place, each_empty, every_first, from_places, in_parts}
@@ -44,7 +45,7 @@ pub record IsUnbroken (p : tree.ProgramTree) (x : ResolvedLayout) : Type 0 where
 
 -- ---- steps
 
-pub none_listed : {A : Type 0} (o : Option A) → as_list o ≡ [] → o ≡ None
+pub none_listed : {A : Type 0} (o : Option A) → option_to_list o ≡ [] → o ≡ None
 none_listed None e = refl
 none_listed (Some x) e = absurd cc
 

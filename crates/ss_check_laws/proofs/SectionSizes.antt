@@ -15,7 +15,7 @@ use Rattle.ss_tree.specs.Names.{NameBytes}
 use Rattle.ss_tree.specs.Nodes as tree
 use Rattle.ss_tree.specs.Tree.{SectionKindTree, main, routine, event, SectionTree, StatementTree, statement_row, ProgramTree}
 use Rattle.ss_names_declarations.specs.Declarations.{declarations, flat_map_from}
-use Rattle.ss_names_declarations.specs.Firsts.{entry_beside, firsts, same_name, value_for, with_first}
+use Rattle.ss_names_declarations.specs.Firsts.{entry_beside, first_entries, same_name, value_for, with_first}
 use Rattle.ss_names_declarations.specs.declared.declaration.Declared.{Declared}
 use Rattle.ss_names_declarations.proofs.Entries.{entry_of_key, firsts_once, place_from, there}
 use Rattle.ss_names.specs.declared.entry.EventSection.{EventSection}
@@ -23,10 +23,11 @@ use Rattle.ss_names.specs.declared.entry.RoutineSection.{RoutineSection}
 use Rattle.ss_names.specs.Entries.{class_by, event_by, given_by, notice_by, priority_by, routine_by, with_number}
 use Rattle.ss_names.specs.Table.{table}
 use Rattle.ss_names_scopes.specs.Locals.{Moded, locals_of}
+use Rattle.ss_names_scopes.specs.Scopes.{is_main, is_main_section}
 use Rattle.ss_program.specs.Nodes.{option_nodes, block_nodes, routine_nodes, event_nodes, nodes}
 use Rattle.ss_names_meaning.specs.Answers.{where_holds}
-use Rattle.ss_names_meaning.specs.Layouts.{laid_out, tie_keys}
-use Rattle.ss_names_meaning.specs.Resolved.{Parts, event_from, has_main_kind, is_known, is_main_kind, local_modes, parts_with_locals, resolved_with_locals, routine_from, saved}
+use Rattle.ss_names_meaning.specs.Layouts.{resolved_layout, tie_keys}
+use Rattle.ss_names_meaning.specs.Resolved.{Parts, event_from, is_known, local_modes, parts_with_locals, resolved_with_locals, routine_from, saved}
 use Rattle.ss_names_laws.proofs.Items.{at_item, each_item}
 use Rattle.ss_check_laws.specs.SizeLaws.{ProgramsStaySmall}
 use Rattle.ss_check_laws.proofs.Within.{Within, at_most, followed, held, looked, there_within, each_small}
@@ -49,10 +50,10 @@ part {V} f s = sum_by (λ (e : NameBytes × V). weight s) (f (head_of 0 s.kind))
 
 -- the same, if it is MAIN
 abbrev main_part : SectionTree → ℕ
-main_part s = cond (has_main_kind s) (weight s) 0
+main_part s = cond (is_main_section s) (weight s) 0
 
 kinds_add : (k : SectionKindTree) (n : ℕ) →
-    cond (is_main_kind k) n 0 + sum_by (λ (e : NameBytes × RoutineSection). n) (routine_by (head_of 0 k)) + sum_by (λ (e : NameBytes × EventSection). n) (event_by (head_of 0 k)) ≡ n
+    cond (is_main k) n 0 + sum_by (λ (e : NameBytes × RoutineSection). n) (routine_by (head_of 0 k)) + sum_by (λ (e : NameBytes × EventSection). n) (event_by (head_of 0 k)) ≡ n
 kinds_add main n = omega arith
 kinds_add (routine name given yielding) n = omega arith
 kinds_add (event name given saving) n = omega arith
@@ -89,11 +90,11 @@ module _ (p : ProgramTree) where
   -- what the first entry of each name weighs, where the heads of sections declare it
   declared_less : {V : Type 0} (h : V → ℕ) (f : Declared → List (NameBytes × V)) → ((x : Declared) → Fits IsAny x → f x ≡ []) →
       ((n : ℕ) (s : SectionTree) → slice_get p.sections n ≡ Some s → sum_by (λ (e : NameBytes × V). h e.1) (f (head_of n s.kind)) ≤ part f s) →
-      sum_by h (values_of (firsts (given_by f (declarations p)))) ≤ sum_by (part f) p.sections
+      sum_by h (values_of (first_entries (given_by f (declarations p)))) ≤ sum_by (part f) p.sections
   declared_less {V} h f quiet heads =
       let g = λ (e : NameBytes × V). h e.1 in
       let ds = given_by f (declarations p) in
-      let values : sum_by h (values_of (firsts ds)) ≡ sum_by g (firsts ds) = fold-map (λ (a : ℕ) (v : V). a + h v) (λ (e : NameBytes × V). e.1) 0 (firsts ds) in
+      let values : sum_by h (values_of (first_entries ds)) ≡ sum_by g (first_entries ds) = fold-map (λ (a : ℕ) (v : V). a + h v) (λ (e : NameBytes × V). e.1) 0 (first_entries ds) in
       let all = ap (sum_by g) (of_sections f quiet p) in
       let less = numbered_less g (λ n s. f (head_of n s.kind)) (part f) 0 p.sections (λ i s e. heads (0 + i) s (let same : 0 + i ≡ i = omega arith in ap (slice_get p.sections) same ∙ e)) in
       omega (arith, firsts_less g [] ds)
@@ -125,11 +126,11 @@ module _ (p : ProgramTree) where
   events_less : sum_by event_weight (values_of (table p).events) ≤ sum_by (part event_by) p.sections
   events_less = declared_less event_weight event_by events_quiet (λ n s e. event_head s.kind n (weight s) (ap (option_nodes weight) e))
 
-  main_less : option_nodes weight_at (position has_main_kind p.sections) ≤ sum_by main_part p.sections
+  main_less : option_nodes weight_at (position is_main_section p.sections) ≤ sum_by main_part p.sections
   main_less = by (nat_lt n (length p.sections)) refl
     where
       n : ℕ
-      n = position_or_len has_main_kind p.sections
+      n = position_or_len is_main_section p.sections
 
       by : (b : Bool) → nat_lt n (length p.sections) ≡ b → option_nodes weight_at (cond b (Some n) None) ≤ sum_by main_part p.sections
       by false e = omega arith
@@ -138,7 +139,7 @@ module _ (p : ProgramTree) where
           let s = (there p.sections n lt).0 in
           let here = get_or p.sections n s in
           let at = ap (option_nodes weight) (slice_get-get_or p.sections n s lt) in
-          let all = ap (λ b. cond b (weight here) 0) (passes_at_first has_main_kind p.sections s lt) in
+          let all = ap (λ b. cond b (weight here) 0) (passes_at_first is_main_section p.sections s lt) in
           omega (arith, get_or-le-sum_by main_part p.sections n s lt)
 
 -- ---- entries that are found by different numbers
@@ -241,11 +242,11 @@ module _ (p : ProgramTree) (all : List Moded) where
       let key : ℕ → Option NameBytes = slice_get (keys_of t.classes) in
       let ranked = given_by (priority_by t.classes) ds ++ given_by (notice_by t.classes) ds in
       let events = named_less (event_weight p) key (one_number t.classes (firsts_once (given_by class_by ds))) t.ranks t.events (distinct_numbers [] ranked no_numbers) in
-      looked (laid_out t) (λ laid.
+      looked (resolved_layout t) (λ laid.
       held (list_all (is_known t) p.sections) p.sections _ (
       followed (each_small routine_small (values_of t.routines)) (λ rs q.
       followed (each_small event_small t.ranks) (λ es r.
-      followed (there_within (position has_main_kind p.sections) parts_small) (λ parts u.
+      followed (there_within (position is_main_section p.sections) parts_small) (λ parts u.
       omega (arith, routines_less p, events, events_less p, main_less p, sections_add p.sections))))))
 
 pub programs_stay_small : ProgramsStaySmall

@@ -10,9 +10,9 @@ use Rattle.ss_names.specs.declared.meaning.Meaning.{Meaning}
 use Rattle.ss_names_scopes.specs.Scopes.{Scope}
 use Rattle.ss_check_rules.specs.Kinds.{if_means}
 use Rattle.ss_check_rules.specs.Modes.{differ}
-use Rattle.ss_check_rules.specs.Refusal.{unless}
 use Rattle.ss_check_rules.specs.declared.error.CheckError.{CheckError}
 use Rattle.ss_names_meaning.specs.Answers.{◌>>=◌, each}
+use Rattle.ss_names_declarations.specs.Earliest.{unless}
 use Rattle.ss_check_laws.specs.Links.{Kept}
 
 -- ---- tests that break nothing

@@ -7,7 +7,9 @@ use Rattle.ss_base.specs.declared.layout.ClassKind.{ClassKind}
 use Rattle.ss_base.specs.declared.layout.ClassKind.TheVariants.{Notice}
 use Rattle.ss_tree.specs.Names.{NameBytes}
 use Rattle.ss_tree.specs.Tree as tree
+use Rattle.ss_tree.specs.declared.preamble.Key.{Key}
 use Rattle.ss_tree.specs.declared.preamble.Mode.{Mode}
+use Rattle.ss_tree.specs.declared.preamble.Statistic.{Statistic}
 use Rattle.ss_names_declarations.specs.Declarations as said
 use Rattle.ss_names_declarations.specs.Declarations.{declarations, flat_map_from}
 use Rattle.ss_names_declarations.specs.declared.declaration.Declared.{Declared}
@@ -38,30 +40,30 @@ module _ (P : NameBytes → ClassKind → Type 0) where
   IsFit x = Fits P x.what
 
   clause : (line : Line) (class : NameBytes) (c : tree.ClauseTree) → Every IsFit (said.in_clause line class c)
-  clause line class (tree.has names) = every_image IsFit (said.attribute line class) names (λ n a. tt)
-  clause line class (tree.owns names) = every_image IsFit (said.owned_set line (Some class)) names (λ n a. tt)
-  clause line class (tree.belongs_to names) = every_image IsFit (said.member_set line class) names (λ n a. tt)
+  clause line class (tree.has names) = every_image IsFit (λ (name : NameBytes). said.at_line line (d.Attribute name class)) names (λ n a. tt)
+  clause line class (tree.owns names) = every_image IsFit (λ (set : NameBytes). said.at_line line (d.Owner set (Some class))) names (λ n a. tt)
+  clause line class (tree.belongs_to names) = every_image IsFit (λ (set : NameBytes). said.at_line line (d.Member set class)) names (λ n a. tt)
 
   order : (line : Line) (number : ℕ) (o : tree.OrderTree) → Every IsFit (said.in_order line number o)
   order line number tree.fifo = tt
   order line number tree.lifo = tt
-  order line number (tree.ranked keys) = every_image IsFit (said.rank_key line number) keys (λ k a. tt)
+  order line number (tree.ranked keys) = every_image IsFit (λ (key : Key). said.at_line line (d.RankKey key.name key.high number)) keys (λ k a. tt)
 
   statement : (number : ℕ) (s : tree.PreambleTree) → ClassesFit P s → Every IsFit (said.in_statement number s)
   statement number (tree.permanent_entities line) h = tt
   statement number (tree.temporary_entities line) h = tt
-  statement number (tree.event_notices line names) h = every_image IsFit (said.notice line) names h
+  statement number (tree.event_notices line names) h = every_image IsFit (λ (name : NameBytes). said.at_line line (d.Class name Notice)) names h
   statement number (tree.every line kind class clauses) h = (h, every_piece IsFit (said.in_clause line class) clauses (λ c a. clause line class c))
   statement number (tree.normally line mode) h = (tt, tt)
-  statement number (tree.system_owns line sets) h = every_image IsFit (said.owned_set line None) sets (λ n a. tt)
-  statement number (tree.define_variables line names mode) h = every_image IsFit (said.variable line mode) names (λ n a. tt)
+  statement number (tree.system_owns line sets) h = every_image IsFit (λ (set : NameBytes). said.at_line line (d.Owner set None)) sets (λ n a. tt)
+  statement number (tree.define_variables line names mode) h = every_image IsFit (λ (name : NameBytes). said.at_line line (d.Variable name mode)) names (λ n a. tt)
   statement number (tree.define_sets line names o) h =
-      joined IsFit (map (said.ordered_set line (said.rule_of o) number) names) (said.in_order line number o)
-      (every_image IsFit (said.ordered_set line (said.rule_of o) number) names (λ n a. tt)) (order line number o)
-  statement number (tree.priority_order line classes) h = (tt, every_image IsFit (said.priority line) classes (λ n a. tt))
-  statement number (tree.break_ties line class keys) h = (tt, every_image IsFit (said.tie_key line class) keys (λ k a. tt))
+      joined IsFit (map (λ (set : NameBytes). said.at_line line (d.Order set (said.rule_of o) number)) names) (said.in_order line number o)
+      (every_image IsFit (λ (set : NameBytes). said.at_line line (d.Order set (said.rule_of o) number)) names (λ n a. tt)) (order line number o)
+  statement number (tree.priority_order line classes) h = (tt, every_image IsFit (λ (class : NameBytes). said.at_line line (d.Priority class)) classes (λ n a. tt))
+  statement number (tree.break_ties line class keys) h = (tt, every_image IsFit (λ (key : Key). said.at_line line (d.TieKey class key.name key.high)) keys (λ k a. tt))
   statement number (tree.statistics line weighting found subject) h =
-      joined IsFit (map (said.statistic line subject) found) (said.at_line line (d.Subject subject weighting) ∷ []) (every_image IsFit (said.statistic line subject) found (λ k a. tt)) (tt, tt)
+      joined IsFit (map (λ (s : Statistic). said.at_line line (d.Statistic s.name s.kind subject)) found) (said.at_line line (d.Subject subject weighting) ∷ []) (every_image IsFit (λ (s : Statistic). said.at_line line (d.Statistic s.name s.kind subject)) found (λ k a. tt)) (tt, tt)
 
   pub preamble_fits : (ss : List tree.PreambleTree) → ((i : ℕ) (s : tree.PreambleTree) → slice_get ss i ≡ Some s → ClassesFit P s) → Every IsFit (flat_map_from said.in_statement 0 ss)
   preamble_fits ss h = every_numbered said.in_statement IsFit ss (λ i s e. statement i s (h i s e))

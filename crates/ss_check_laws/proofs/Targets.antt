@@ -1,8 +1,7 @@
 -- Targets, sets and subjects of a RESET whose uses break no rule resolve, and are well typed.
 use Rattle.std.proofs.Common.{◌≡◌, ℕ, Bool, true, false, Option, Some, None, refl, sym, ap, subst, ◌∙◌}
-use Rattle.std.specs.Prelude.{is_none, is_some}
-use Rattle.std.specs.Map.{lookup}
-use Rattle.std.proofs.lemmas.Bool.{and_parts, not-false}
+use Rattle.std.specs.Prelude.{is_some}
+use Rattle.std.proofs.lemmas.Bool.{not-false}
 use Rattle.std.proofs.lemmas.Option.{none-some}
 use Rattle.ss_base.specs.declared.line.Line.{Line}
 use Rattle.ss_base.specs.declared.layout.Mode.{Mode}
@@ -15,21 +14,19 @@ use Rattle.ss_program.specs.WellTyped.{Scope as Place, TakesMode}
 use Rattle.ss_program.specs.declared.expression.SetQuery.TheVariants.{MemberCount}
 use Rattle.ss_program.specs.declared.expression.Variable.TheVariants.{Global}
 use Rattle.ss_program.specs.declared.sections.Subject.{Subject}
-use Rattle.ss_names_declarations.specs.Firsts.{place_in, same_name, value_for}
-use Rattle.ss_names_declarations.proofs.Entries.{no_place, place_of_value}
+use Rattle.ss_names_declarations.specs.Firsts.{place_in, value_for}
 use Rattle.ss_names_uses.specs.Uses.{in_named, row_length}
 use Rattle.ss_names_uses.specs.declared.used.Role.TheVariants as roles
 use Rattle.ss_names.specs.declared.meaning.Meaning.{Meaning}
 use Rattle.ss_names.specs.declared.meaning.Meaning.TheVariants as meanings
 use Rattle.ss_names.specs.Table.{owner_of_subject, subject_of}
-use Rattle.ss_names_scopes.specs.Scopes.{Scope, meaning_of_name, mode_of}
+use Rattle.ss_names_scopes.specs.Scopes.{Scope, history_of, meaning_of_name, mode_of, unless_hidden}
 use Rattle.ss_check_rules.specs.Kinds.{has_value, is_set, takes_values}
-use Rattle.ss_check_rules.specs.Modes.{mode_meant}
+use Rattle.ss_check_rules.specs.Modes.{meaning_mode}
 use Rattle.ss_check_rules.specs.Refusal.{place_breaks}
 use Rattle.ss_check_rules.specs.declared.error.CheckError.TheVariants as errors
 use Rattle.ss_names_meaning.specs.Answers.{◌>>=◌}
-use Rattle.ss_names_meaning.specs.Expressions.{entity_of, owner_named, place_named, place_of, set_number, set_of_name, subscript}
-use Rattle.ss_names_meaning.specs.Statements.{history_of, unless_hidden}
+use Rattle.ss_names_meaning.specs.Expressions.{entity_of, set_owner, place_named, place_of, set_number, set_of_name, subscript}
 use Rattle.ss_check_laws.specs.BodyLaws.{RestartResolves, RestartsResolve, SetResolves, SetsResolve, TargetResolves, TargetsResolve}
 use Rattle.ss_check_laws.specs.Links.{IsLinked, Kept}
 use Rattle.ss_check_laws.proofs.Steps.{goes, meant, two_steps}
@@ -47,13 +44,10 @@ subject_meant : (o : Option Meaning) (p : Subject) → subject_of o ≡ Some p �
 subject_meant None p h = absurd cc
 subject_meant (Some m) p h = (m, refl)
 
-is_there : {A : Type 0} (o : Option A) → is_some o ≡ true → (x : A) × (o ≡ Some x)
-is_there None h = absurd cc
-is_there (Some x) h = (x, refl)
-
-is_nowhere : {A : Type 0} (o : Option A) → is_none o ≡ true → o ≡ None
-is_nowhere None h = refl
-is_nowhere (Some x) h = absurd cc
+not_hidden : (local found : Option ℕ) → is_some (unless_hidden local found) ≡ true → (n : ℕ) × (local ≡ None) × (found ≡ Some n)
+not_hidden None None h = absurd cc
+not_hidden None (Some n) h = (n, refl, refl)
+not_hidden (Some k) found h = absurd cc
 
 module _ (s : Scope) (g : Place) (k : IsLinked s g) where
   -- ---- targets
@@ -85,7 +79,7 @@ module _ (s : Scope) (g : Place) (k : IsLinked s g) where
         v.1,
         goes (place_named s d es) (λ r. place_of r.0 r.1) q v.0 found v.2,
         v.4,
-        said_is s d ∙ ap mode_meant p.1 ∙ v.3,
+        said_is s d ∙ ap meaning_mode p.1 ∙ v.3,
         number_mode b p.0 v.1 v.3 p.4.mode,
         goes (place_named s d es) (λ r. place_of r.0 r.1 >>= λ x. mode_of r.0 >>= λ m. Some (record { place = x; mode = m })) q read found
             (two_steps (place_of p.0 p.5.1) (mode_of p.0) (λ x m. Some (record { place = x; mode = m })) v.0 v.1 read v.2 v.3 refl),
@@ -94,7 +88,7 @@ module _ (s : Scope) (g : Place) (k : IsLinked s g) where
   -- ---- sets
 
   abbrev with_owner : ℕ → Option Expression → Option (ℕ × SetOwner)
-  with_owner set of = Some (set, owner_named of)
+  with_owner set of = Some (set, set_owner of)
 
   set_by : (line : Line) (d : Designator) (es : ExpressionRow) → place_breaks s line roles.Set d (row_length es) false ≡ None → Numbers s g es → SetResolves s g (record { designator = d; subscripts = es })
   set_by line (Name name) es h n =
@@ -104,7 +98,7 @@ module _ (s : Scope) (g : Place) (k : IsLinked s g) where
       let e : global ≡ Some (meanings.Set set.0) = m.1 ∙ ap Some set.1 in
       let here = meant_here s g k (meanings.Set set.0) (k.table.meanings name (meanings.Set set.0) e) in
       let p = (in_place s g k line roles.Set (Name name) es false (meanings.Set set.0) here e h n).1 in
-      let made : ℕ × SetOwner = (set.0, owner_named p.1) in (
+      let made : ℕ × SetOwner = (set.0, set_owner p.1) in (
         made,
         goes (set_of_name s (Name name)) (λ x. subscript s es >>= λ y. entity_of s (meanings.Set x) y >>= λ of. with_owner x of) set.0 made (ap set_number e)
             (goes (subscript s es) (λ y. entity_of s (meanings.Set set.0) y >>= λ of. with_owner set.0 of) p.0 made p.2
@@ -129,11 +123,9 @@ module _ (s : Scope) (g : Place) (k : IsLinked s g) where
   restart_by : (line : Line) (d : Designator) (es : ExpressionRow) → place_breaks s line roles.Reset d (row_length es) false ≡ None → Numbers s g es → RestartResolves s g (record { designator = d; subscripts = es })
   restart_by line (Name name) es h n =
       let kept = place_kept s line roles.Reset (Name name) (row_length es) false h in
-      let both = and_parts (is_some (value_for s.table.histories name)) (is_none (lookup (same_name name) s.locals)) kept.0 in
-      let history = is_there (value_for s.table.histories name) both.0 in
-      let number = place_of_value s.table.histories name history.0 history.1 in
-      let alone : place_in s.locals name ≡ None = no_place s.locals name (is_nowhere (value_for s.locals name) both.1) in
-      let w = k.table.watched name number.0 number.1.0 in
+      let found = not_hidden (place_in s.locals name) (place_in s.table.histories name) kept.0 in
+      let alone = found.1 in
+      let w = k.table.watched name found.0 found.2 in
       let here = watched_here s g k name w in
       let m = subject_meant (value_for s.table.meanings name) w.statistic.subject w.meant in
       let means : meaning_of_name s name ≡ Some m.0 = seen s g k name None alone ∙ m.1 in

@@ -1,6 +1,7 @@
 -- Values and targets of the modes that their places want: LET, ADD, SUBTRACT, READ and CALL.
 use Rattle.std.proofs.Common.{◌≡◌, ℕ, ◌+◌, ◌<◌, true, false, List, ◌++◌, length, take, drop, Option, Some, None, refl, sym, ap, subst, arith, ◌∙◌, length-drop, eq-eqb, eqb-true}
-use Rattle.std.specs.Prelude.{◌&&◌, ◌==◌, slice_get}
+use Rattle.std.specs.Prelude.{◌&&◌, ◌==◌, option_and_then, slice_get}
+use Rattle.std.specs.Option.{option_map_or}
 use Rattle.std.specs.List.{AllZip}
 use Rattle.std.specs.Map.{values_of}
 use Rattle.std.proofs.lemmas.Option.{slice_get_within}
@@ -19,24 +20,23 @@ use Rattle.ss_names.specs.declared.entry.RoutineSection.{RoutineSection}
 use Rattle.ss_names.specs.declared.meaning.Meaning.{Meaning}
 use Rattle.ss_names.specs.declared.meaning.Meaning.TheVariants as meanings
 use Rattle.ss_names_scopes.specs.Locals.{Moded}
-use Rattle.ss_names_scopes.specs.Scopes.{Scope, mode_at, mode_given, parameter_mode}
+use Rattle.ss_names_scopes.specs.Scopes.{Scope, local_mode, mode_at, mode_given, parameter_mode}
 use Rattle.ss_check_rules.specs.declared.error.CheckError.{CheckError}
 use Rattle.ss_check_rules.specs.declared.error.CheckError.TheVariants as errors
-use Rattle.ss_check_rules.specs.Counts.{is_given, is_yielded}
 use Rattle.ss_check_rules.specs.Kinds.{if_means, is_routine}
-use Rattle.ss_check_rules.specs.Modes.{given_mode, mode_said, yielded_mode}
-use Rattle.ss_check_rules.specs.Refusal.{unless}
+use Rattle.ss_check_rules.specs.Modes.{mode_of_use}
 use Rattle.ss_program.specs.Program.{Statement, Change, Call, Target}
 use Rattle.ss_program.specs.WellTyped.{Scope as Place, HasMode, TakesMode, Good}
 use Rattle.ss_names_meaning.specs.Answers.{◌>>=◌, upto}
 use Rattle.ss_names_meaning.specs.Expressions.{expression, target}
-use Rattle.ss_names_meaning.specs.Resolved.{local_mode, local_modes}
+use Rattle.ss_names_meaning.specs.Resolved.{local_modes}
 use Rattle.ss_names_meaning.specs.Statements.{reader, routine_number, simple_statement}
 use Rattle.ss_names_laws.proofs.Steps.{numbers_at, upto_length}
 use Rattle.ss_check_laws.specs.Links.{IsLinked, IsRoutineAt, Kept}
 use Rattle.ss_check_laws.proofs.Steps.{GoesWell, agree, each_resolves, holds_unless, two_parts}
 use Rattle.ss_check_laws.proofs.Expressions.{number_kept}
 use Rattle.ss_check_laws.proofs.Lists.{after, after_first, after_one, after_two, each_length, holds, in_order}
+use Rattle.ss_names_declarations.specs.Earliest.{unless}
 use Rattle.ss_check_laws.proofs.Parts.{expressions_resolve, targets_resolve}
 
 -- ---- routines
@@ -81,25 +81,25 @@ module _ (s : Scope) (g : Place) (linked : IsLinked s g) (line : Line) where
       let x = targets_resolve s g linked line true n k in
       (x.0, x.2, subst (TakesMode g x.0) (x.5 refl) x.3)
 
-  pub value_resolves : (wanted : ModeOf) (m : Mode) (e : ExpressionTree) → mode_said s wanted ≡ Some m → Kept s g.is_main (uses.in_value line wanted e) → GoesWell (λ x. HasMode g x m) (expression s e)
+  pub value_resolves : (wanted : ModeOf) (m : Mode) (e : ExpressionTree) → mode_of_use s wanted ≡ Some m → Kept s g.is_main (uses.in_value line wanted e) → GoesWell (λ x. HasMode g x m) (expression s e)
   value_resolves wanted m e w k =
       let x = expressions_resolve s g linked line false e k.1 in
-      (x.0, x.2, subst (HasMode g x.0) (agree (mode_said s (uses.mode_of e)) (mode_said s wanted) x.1 m (errors.Mode line) k.0 x.4 w) x.3)
+      (x.0, x.2, subst (HasMode g x.0) (agree (mode_of_use s (uses.expression_mode e)) (mode_of_use s wanted) x.1 m (errors.Mode line) k.0 x.4 w) x.3)
 
-  takes_value : (wanted : ModeOf) (m : Mode) (n : NamedTree) → mode_said s wanted ≡ Some m → Kept s g.is_main (uses.in_target line wanted n) → GoesWell (λ x. TakesMode g x m) (target s n)
+  takes_value : (wanted : ModeOf) (m : Mode) (n : NamedTree) → mode_of_use s wanted ≡ Some m → Kept s g.is_main (uses.in_target line wanted n) → GoesWell (λ x. TakesMode g x m) (target s n)
   takes_value wanted m n w k =
       let x = targets_resolve s g linked line false n k.1 in
-      (x.0, x.2, subst (TakesMode g x.0) (agree (mode_said s (uses.designated n.designator)) (mode_said s wanted) x.1 m (errors.Mode line) k.0 x.4 w) x.3)
+      (x.0, x.2, subst (TakesMode g x.0) (agree (mode_of_use s (uses.designated n.designator)) (mode_of_use s wanted) x.1 m (errors.Mode line) k.0 x.4 w) x.3)
 
   -- ---- statements
 
-  pub let_resolves : (n : NamedTree) (e : ExpressionTree) → Kept s g.is_main (uses.in_let line n e) → GoesWell (Good g) (simple_statement s (let_statement line n e))
+  pub let_resolves : (n : NamedTree) (e : ExpressionTree) → Kept s g.is_main (uses.in_target line (uses.expression_mode e) n ++ uses.in_expression line false e) → GoesWell (Good g) (simple_statement s (let_statement line n e))
   unfolding simple_statement
   let_resolves n e k =
-      let p = two_parts s g.is_main (uses.in_target line (uses.mode_of e) n) (uses.in_expression line false e) k in
+      let p = two_parts s g.is_main (uses.in_target line (uses.expression_mode e) n) (uses.in_expression line false e) k in
       let y = expressions_resolve s g linked line false e p.1 in
       let value : GoesWell (λ v. HasMode g v y.1) (expression s e) = (y.0, y.2, y.3) in
-      after_two (Good g) _ _ _ (takes_value (uses.mode_of e) y.1 n y.4 p.0) value (λ x v h f. (y.1, h, f))
+      after_two (Good g) _ _ _ (takes_value (uses.expression_mode e) y.1 n y.4 p.0) value (λ x v h f. (y.1, h, f))
 
   -- ADD and SUBTRACT
   pub change_resolves : (sign : Sign) (e : ExpressionTree) (n : NamedTree) → Kept s g.is_main (uses.in_expression line true e ++ uses.in_named line roles.Target true n) →
@@ -127,16 +127,16 @@ module _ (s : Scope) (g : Place) (linked : IsLinked s g) (line : Line) where
       let known = entry.0 in
       let r = linked.routines meant.0 known entry.1 in
       let some : length given ≡ known.given =
-      as_many (length given) known.given (errors.Arguments line) (subst (λ (o : Option RoutineSection). unless (is_given (length given) o) (errors.Arguments line) ≡ None) entry.2 k.1.0) in
+      as_many (length given) known.given (errors.Arguments line) (subst (λ (o : Option RoutineSection). unless (option_map_or (λ (r : RoutineSection). length given == r.given) o true) (errors.Arguments line) ≡ None) entry.2 k.1.0) in
       let more : length yielding ≡ known.yielding =
-      as_many (length yielding) known.yielding (errors.Arguments line) (subst (λ (o : Option RoutineSection). unless (is_yielded (length yielding) o) (errors.Arguments line) ≡ None) entry.2 k.1.1.0) in
-      let p = two_parts s g.is_main (uses.in_places (uses.for_given line name) 0 given) (uses.in_places (uses.for_yielded line name) 0 yielding) k.1.1.1 in
-      let xs = in_order s g.is_main (expression s) (uses.for_given line name) (HasMode g) given r.modes
-      (λ i e m f h. value_resolves (modes.Given name i) m e (ap (λ (o : Option RoutineSection). given_mode s o i) entry.2 ∙ parameter_there s g meant.0 known r i m f) h)
+      as_many (length yielding) known.yielding (errors.Arguments line) (subst (λ (o : Option RoutineSection). unless (option_map_or (λ (r : RoutineSection). length yielding == r.yielding) o true) (errors.Arguments line) ≡ None) entry.2 k.1.1.0) in
+      let p = two_parts s g.is_main (uses.in_places (λ (i : ℕ). uses.in_value line (modes.Given name i)) 0 given) (uses.in_places (λ (i : ℕ). uses.in_target line (modes.Yielded name i)) 0 yielding) k.1.1.1 in
+      let xs = in_order s g.is_main (expression s) (λ (i : ℕ). uses.in_value line (modes.Given name i)) (HasMode g) given r.modes
+      (λ i e m f h. value_resolves (modes.Given name i) m e (ap (option_and_then (λ (r : RoutineSection). parameter_mode s r.section i)) entry.2 ∙ parameter_there s g meant.0 known r i m f) h)
       (omega (arith, some, r.enough)) p.0 in
-      let ys = in_order s g.is_main (target s) (uses.for_yielded line name) (TakesMode g) yielding (drop known.given r.modes)
+      let ys = in_order s g.is_main (target s) (λ (i : ℕ). uses.in_target line (modes.Yielded name i)) (TakesMode g) yielding (drop known.given r.modes)
       (λ i n m f h. takes_value (modes.Yielded name i) m n
-      (ap (λ (o : Option RoutineSection). yielded_mode s o i) entry.2 ∙ parameter_there s g meant.0 known r (known.given + i) m (sym (after_first known.given i r.modes) ∙ f)) h)
+      (ap (option_and_then (λ (r : RoutineSection). parameter_mode s r.section (r.given + i))) entry.2 ∙ parameter_there s g meant.0 known r (known.given + i) m (sym (after_first known.given i r.modes) ∙ f)) h)
       (omega (arith, more, r.enough, length-drop known.given r.modes)) p.1 in
       let made : Statement = Call line meant.0 xs.0 ys.0 in
       after {A = ℕ × RoutineSection} (Good g) _ _ (meant.0, known) (routine_found (value_for s.table.meanings name) (values_of s.table.routines) meant.0 known meant.1 entry.1)

@@ -11,10 +11,9 @@ use Rattle.ss_tree.specs.Tree.{ExpressionTree, NamedTree, ConditionTree, HeadTre
 use Rattle.ss_names_uses.specs.declared.used.ClassNeed.{ClassNeed}
 use Rattle.ss_names_uses.specs.declared.used.Role.TheVariants as roles
 use Rattle.ss_names_uses.specs.Uses as uses
-use Rattle.ss_names_scopes.specs.Scopes.{Scope}
-use Rattle.ss_check_rules.specs.Kinds.{is_kind}
-use Rattle.ss_check_rules.specs.Modes.{mode_said}
-use Rattle.ss_program.specs.Program.{Expression, Item, SetOwner, Condition, Place as Target, ToVariable, Restart, Head, Phrase, Guard, Block}
+use Rattle.ss_names_scopes.specs.Scopes.{Scope, is_kind}
+use Rattle.ss_check_rules.specs.Modes.{mode_of_use}
+use Rattle.ss_program.specs.Program.{Expression, PrintItem, SetOwner, Condition, Place as Target, ToVariable, Restart, Head, Phrase, Guard, Block}
 use Rattle.ss_program.specs.WellTyped.{Scope as Place, HasMode, TakesMode, TakesItem, OwnerFits, GoodCondition, GoodHead, GoodPhrase, GoodRestart, GoodBlock, kind_of_class}
 use Rattle.ss_names_meaning.specs.declared.classes.NamedClass.{NamedClass}
 use Rattle.ss_names_meaning.specs.Answers.{each}
@@ -28,12 +27,12 @@ use Rattle.ss_check_laws.specs.Links.{IsLinked, Kept}
 -- the expression has a resolved form, of the mode that the rules say, which is Integer where it has to be a number
 abbrev pub Resolves : Scope → Place → (is_number : Bool) → ExpressionTree → Type 0
 Resolves s g is_number e =
-    (x : Expression) × (m : Mode) × (expression s e ≡ Some x) × HasMode g x m × (mode_said s (uses.mode_of e) ≡ Some m) × (is_number ≡ true → m ≡ Integer)
+    (x : Expression) × (m : Mode) × (expression s e ≡ Some x) × HasMode g x m × (mode_of_use s (uses.expression_mode e) ≡ Some m) × (is_number ≡ true → m ≡ Integer)
 
 -- the target has a resolved form, which takes values of the mode that the rules say; READ finds the same mode
 abbrev pub TargetResolves : Scope → Place → (is_number : Bool) → NamedTree → Type 0
 TargetResolves s g is_number n =
-    (x : Target) × (m : Mode) × (target s n ≡ Some x) × TakesMode g x m × (mode_said s (uses.designated n.designator) ≡ Some m) × (is_number ≡ true → m ≡ Integer)
+    (x : Target) × (m : Mode) × (target s n ≡ Some x) × TakesMode g x m × (mode_of_use s (uses.designated n.designator) ≡ Some m) × (is_number ≡ true → m ≡ Integer)
     × (reader s n ≡ Some (record { place = x; mode = m }))
 
 -- the set has a resolved form, with an owner such as its sets have
@@ -42,7 +41,7 @@ SetResolves s g n = (p : ℕ × SetOwner) × (set_named s n ≡ Some p) × Owner
 
 -- the item of PRINT has a resolved form, which the field takes
 abbrev pub ItemResolves : Scope → Place → Field → ExpressionTree → Type 0
-ItemResolves s g field e = (x : Item) × (item s e ≡ Some x) × TakesItem g field x
+ItemResolves s g field e = (x : PrintItem) × (item s e ≡ Some x) × TakesItem g field x
 
 -- the subject of a RESET has a resolved form
 abbrev pub RestartResolves : Scope → Place → NamedTree → Type 0

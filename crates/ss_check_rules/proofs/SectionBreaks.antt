@@ -11,8 +11,8 @@ use Rattle.ss_names_uses.specs.Uses.{uses}
 use Rattle.ss_names_uses.specs.declared.used.Use.{Use}
 use Rattle.ss_names.specs.Table.{Table}
 use Rattle.ss_names_scopes.specs.Locals.{Moded, locals, locals_of, uses_seen}
-use Rattle.ss_names_scopes.specs.Scopes.{Scope}
-use Rattle.ss_check_rules.specs.Refusal.{breaks, in_section, is_main_section}
+use Rattle.ss_names_scopes.specs.Scopes.{Scope, is_main_section}
+use Rattle.ss_check_rules.specs.Refusal.{breaks, in_section}
 
 -- ---- items in the same place
 

@@ -49,7 +49,7 @@ with_sections sections =
       sections =
           sections
           ++ a_section 41 (event (codes "BELL") [] false) []
-          ∷ record { line = line 43; kind = routine (codes "T") (codes "A" ∷ []) []; definitions = record { line = line 44; names = codes "A" ∷ []; mode = said.Alpha } ∷ []; body = [] }
+          ∷ record { line = line 43; kind = routine (codes "T") (codes "U" ∷ []) []; definitions = record { line = line 44; names = codes "U" ∷ []; mode = said.Alpha } ∷ []; body = [] }
           ∷ [];
     }
 

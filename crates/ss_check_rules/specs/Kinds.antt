@@ -1,26 +1,22 @@
 -- What names may be in their places: kinds, subscripts, and what takes values.
-use Rattle.std.specs.Prelude.{ℕ, Bool, true, false, ◌&&◌, ◌==◌, Option, Some, None, is_none, is_some, nat_le}
-use Rattle.std.specs.Map.{lookup}
-use Rattle.ss_base.specs.declared.layout.ClassKind.{ClassKind}
-use Rattle.ss_base.specs.declared.layout.ClassKind.TheVariants as kinds
+use Rattle.std.specs.Prelude.{ℕ, Bool, true, false, ◌==◌, Option, Some, None, is_some, nat_le}
+use Rattle.std.specs.Option.{option_map_or}
 use Rattle.ss_base.specs.declared.layout.Owner.{Owner}
 use Rattle.ss_base.specs.declared.layout.Owner.TheVariants as owners
 use Rattle.ss_tree.specs.declared.expression.Designator.{Designator}
 use Rattle.ss_tree.specs.declared.expression.Designator.TheVariants as designators
-use Rattle.ss_names_declarations.specs.Firsts.{same_name, value_for}
+use Rattle.ss_names_declarations.specs.Firsts.{value_for}
 use Rattle.ss_names_uses.specs.declared.used.Role.{Role}
 use Rattle.ss_names_uses.specs.declared.used.Role.TheVariants as roles
 use Rattle.ss_names_uses.specs.declared.used.ClassNeed.{ClassNeed}
-use Rattle.ss_names_uses.specs.declared.used.ClassNeed.TheVariants as needs
 use Rattle.ss_program.specs.declared.expression.SetQuery.TheVariants.{MemberCount}
 use Rattle.ss_names.specs.declared.meaning.Meaning.{Meaning}
 use Rattle.ss_names.specs.declared.meaning.Meaning.TheVariants as m
 use Rattle.ss_names.specs.Table.{Table, owner_of}
-use Rattle.ss_names_scopes.specs.Scopes.{Scope, meaning, variable_of}
+use Rattle.ss_names_scopes.specs.Scopes.{Scope, history_of, is_kind, meaning, variable_of}
 
 abbrev pub if_means : (Meaning → Bool) → Option Meaning → Bool
-if_means suits None = false
-if_means suits (Some meaning) = suits meaning
+if_means test meaning = option_map_or test meaning false
 
 -- ---- kinds, 79
 
@@ -45,23 +41,9 @@ abbrev pub is_mean : Meaning → Bool
 is_mean (m.Statistic None statistic) = true
 is_mean _ = false
 
--- the kind that a place needs: single entities are those of temporary classes and notices
-abbrev pub is_kind : ClassNeed → ClassKind → Bool
-is_kind needs.Permanent kinds.Permanent = true
-is_kind needs.Notice kinds.Notice = true
-is_kind needs.Single kinds.Temporary = true
-is_kind needs.Single kinds.Notice = true
-is_kind _ _ = false
-
 abbrev pub suits_class : Option Meaning → ClassNeed → Bool
 suits_class (Some (m.Class class kind variable)) need = is_kind need kind
 suits_class _ need = false
-
--- whether a TALLY or an ACCUMULATE is of what a name means here: a local variable that hides it has none
-abbrev pub is_watched_here : Scope → Designator → Bool
-is_watched_here s (designators.Name name) =
-    is_some (value_for s.table.histories name) && is_none (lookup (same_name name) s.locals)
-is_watched_here s _ = false
 
 -- what a place means in its role; no local variable hides a set
 abbrev pub meaning_in_role : Scope → Role → Designator → Option Meaning
@@ -70,12 +52,10 @@ meaning_in_role s role place = meaning s place
 
 -- whether what is named is of the kind that its role needs
 abbrev pub suits : Scope → Role → Designator → Bool
-suits s roles.Reset place = is_watched_here s place
+suits s roles.Reset place = is_some (history_of s place)
 suits s roles.Set place = if_means is_set (meaning_in_role s roles.Set place)
 suits s roles.LoopVariable place = if_means is_variable (meaning s place)
-suits s roles.Value place = if_means has_value (meaning s place)
-suits s roles.Item place = if_means has_value (meaning s place)
-suits s roles.Target place = if_means has_value (meaning s place)
+suits s _ place = if_means has_value (meaning s place)
 
 -- what TALLY and ACCUMULATE may be of: a global variable of a DEFINE, an attribute or N. of a set
 abbrev pub may_be_watched : Meaning → Bool

@@ -1,54 +1,35 @@
 -- Rule 73: values of two modes, or a text where a number has to be, or a MEAN where a value has to be.
-use Rattle.std.specs.Prelude.{ℕ, ◌+◌, Bool, true, false, ◌&&◌, ◌||◌, ◌==◌, Option, Some, None, slice_get, get_or, []}
+use Rattle.std.specs.Prelude.{ℕ, ◌+◌, Bool, true, false, ◌&&◌, ◌||◌, ◌==◌, Option, Some, option_and_then, slice_get, get_or, []}
 use Rattle.ss_base.specs.declared.layout.Mode.{Mode}
 use Rattle.ss_base.specs.declared.layout.Mode.TheVariants.{Integer, Alpha}
-use Rattle.ss_tree.specs.Names.{NameBytes}
 use Rattle.ss_names_declarations.specs.Firsts.{place_in, value_for}
 use Rattle.ss_names_uses.specs.declared.used.ModeOf.{ModeOf}
 use Rattle.ss_names_uses.specs.declared.used.ModeOf.TheVariants as modes
 use Rattle.ss_names_uses.specs.declared.used.Role.{Role}
 use Rattle.ss_names_uses.specs.declared.used.Role.TheVariants as roles
-use Rattle.ss_names.specs.declared.entry.Attribute.{Attribute}
 use Rattle.ss_names.specs.declared.entry.RoutineSection.{RoutineSection}
 use Rattle.ss_names.specs.declared.meaning.Meaning.{Meaning}
-use Rattle.ss_names.specs.Table.{Table}
+use Rattle.ss_names.specs.Table.{Table, field_mode}
 use Rattle.ss_names_scopes.specs.Scopes.{Scope, implied, meaning_of_name, mode_of, parameter_mode}
 use Rattle.ss_check_rules.specs.Kinds.{is_mean}
 
-abbrev pub mode_meant : Option Meaning → Option Mode
-mode_meant None = None
-mode_meant (Some meaning) = mode_of meaning
-
--- the mode of what a routine is given in this place, and of what it yields
-abbrev pub given_mode : Scope → Option RoutineSection → ℕ → Option Mode
-given_mode s None place = None
-given_mode s (Some r) place = parameter_mode s r.section place
-
-abbrev pub yielded_mode : Scope → Option RoutineSection → ℕ → Option Mode
-yielded_mode s None place = None
-yielded_mode s (Some r) place = parameter_mode s r.section (r.given + place)
+abbrev pub meaning_mode : Option Meaning → Option Mode
+meaning_mode meaning = option_and_then mode_of meaning
 
 -- the mode of the attribute of a class in this place
-abbrev pub mode_of_attribute : Option Attribute → Option Mode
-mode_of_attribute None = None
-mode_of_attribute (Some a) = Some a.mode
-
-abbrev pub field_mode : Table → Option NameBytes → Option Mode
-field_mode t None = None
-field_mode t (Some name) = mode_of_attribute (value_for t.attributes name)
-
 abbrev pub attribute_mode : Table → Option ℕ → ℕ → Option Mode
-attribute_mode t None place = None
-attribute_mode t (Some class) place = field_mode t (slice_get (get_or t.fields class []) place)
+attribute_mode t known place = option_and_then (λ class. option_and_then (field_mode t) (slice_get (get_or t.fields class []) place)) known
 
 -- the mode that a use says, if there is one
-abbrev pub mode_said : Scope → ModeOf → Option Mode
-mode_said s modes.Integer = Some Integer
-mode_said s modes.Alpha = Some Alpha
-mode_said s (modes.Named name) = mode_meant (meaning_of_name s name)
-mode_said s (modes.Given routine place) = given_mode s (value_for s.table.routines routine) place
-mode_said s (modes.Yielded routine place) = yielded_mode s (value_for s.table.routines routine) place
-mode_said s (modes.Attribute class place) = attribute_mode s.table (place_in s.table.classes class) place
+abbrev pub mode_of_use : Scope → ModeOf → Option Mode
+mode_of_use s modes.Integer = Some Integer
+mode_of_use s modes.Alpha = Some Alpha
+mode_of_use s (modes.Named name) = meaning_mode (meaning_of_name s name)
+mode_of_use s (modes.Given routine place) =
+    option_and_then (λ (r : RoutineSection). parameter_mode s r.section place) (value_for s.table.routines routine)
+mode_of_use s (modes.Yielded routine place) =
+    option_and_then (λ (r : RoutineSection). parameter_mode s r.section (r.given + place)) (value_for s.table.routines routine)
+mode_of_use s (modes.Attribute class place) = attribute_mode s.table (place_in s.table.classes class) place
 
 -- two modes, where there are two
 abbrev pub differ : Option Mode → Option Mode → Bool
@@ -57,7 +38,7 @@ differ (Some Alpha) (Some Integer) = true
 differ _ _ = false
 
 abbrev pub is_text : Option Meaning → Bool
-is_text meaning = differ (mode_meant meaning) (Some Integer)
+is_text meaning = differ (meaning_mode meaning) (Some Integer)
 
 -- a MEAN isn't a whole number but what two whole numbers make, and is rounded where it is printed
 abbrev pub is_mean_as_value : Role → Meaning → Bool

@@ -1,9 +1,11 @@
 //! The rule on counts of arguments.
 
-ghost use Rattle.std.specs.Prelude.{◌≡◌};
+ghost use Rattle.std.specs.Prelude.{◌≡◌, ◌==◌, ℕ, true, nat_le, length, get_or, []};
+ghost use Rattle.std.specs.Option.{option_map_or};
+ghost use Rattle.ss_names.specs.declared.entry.RoutineSection.{RoutineSection as Section};
+ghost use Rattle.ss_names_declarations.specs.Earliest.{unless};
 ghost use Rattle.ss_check_rules.specs.declared.error.CheckError.TheVariants as e;
-ghost use Rattle.ss_check_rules.specs.Counts.{argument_count, has_attributes, is_given, is_yielded, suits_count};
-ghost use Rattle.ss_check_rules.specs.Refusal.{unless};
+ghost use Rattle.ss_check_rules.specs.Counts.{argument_count, suits_count};
 
 use crate::error::{CheckError, unless};
 use ss_base::Line;
@@ -23,7 +25,7 @@ fn argument_count(function: Function) -> usize
 
 // Whether a CALL gives so many values, where the name is that of a routine.
 fn is_given(found: usize, routine: Option<RoutineSection>) -> bool
-    ensures { result ≡ is_given found routine }
+    ensures { result ≡ option_map_or (λ (r : Section). found == r.given) routine true }
 {
     match routine {
         Some(routine) => found == routine.given,
@@ -33,7 +35,7 @@ fn is_given(found: usize, routine: Option<RoutineSection>) -> bool
 
 // Whether a CALL takes so many values, where the name is that of a routine.
 fn is_yielded(found: usize, routine: Option<RoutineSection>) -> bool
-    ensures { result ≡ is_yielded found routine }
+    ensures { result ≡ option_map_or (λ (r : Section). found == r.yielding) routine true }
 {
     match routine {
         Some(routine) => found == routine.yielding,
@@ -43,7 +45,7 @@ fn is_yielded(found: usize, routine: Option<RoutineSection>) -> bool
 
 // Whether a class has so many attributes at least, where there is one.
 fn has_attributes(names: &Names, found: usize, class: Option<usize>) -> bool
-    ensures { result ≡ has_attributes names.now found class }
+    ensures { result ≡ option_map_or (λ (n : ℕ). nat_le found (length (get_or names.now.fields n []))) class true }
 {
     match class {
         Some(class) => found <= names.attributes_of(class).len(),

@@ -2,8 +2,8 @@
 
 ghost use Rattle.std.specs.Prelude.{◌≡◌};
 ghost use Rattle.ss_check_rules.specs.Order.{order_of};
-ghost use Rattle.ss_check_rules.specs.Refusal.{unless};
 ghost use Rattle.ss_check_rules.specs.declared.error.CheckError.TheVariants.{Memory};
+ghost use Rattle.ss_names_declarations.specs.Earliest.{unless};
 
 use ss_base::Line;
 use ss_names_declarations::Breach;
@@ -35,10 +35,11 @@ pub enum CheckError {
     /// Other counts of arguments than are taken.
     #[error("line {}: number of arguments", .0.0)]
     Arguments(Line),
-    /// A text is where a number has to be, or two modes are joined.
+    /// A text is where a number has to be, two modes are joined, or a MEAN is used as a value.
     #[error("line {}: mode", .0.0)]
     Mode(Line),
-    /// The pictures of a PRINT have another number of fields than it has items.
+    /// The pictures of a PRINT have another number of fields than it has items, a field has more than 9 decimals, or the item of a
+    /// field with decimals is no MEAN.
     #[error("line {}: number of fields", .0.0)]
     Fields(Line),
     /// Memory was refused.

@@ -1,15 +1,13 @@
 //! The kinds of names that places need, their subscripts, and what takes values.
 
 ghost use Rattle.std.specs.Prelude.{◌≡◌};
-ghost use Rattle.ss_names_scopes.specs.Seen.{scope_seen};
+ghost use Rattle.ss_names_scopes.specs.Seen.{view_scope};
 ghost use Rattle.ss_names_uses.specs.declared.used.Role.TheVariants as roles;
-ghost use Rattle.ss_tree.specs.declared.expression.Designator.TheVariants as designators;
-ghost use Rattle.ss_check_rules.specs.Kinds.{has_value, if_means, is_kind, is_mean, is_routine, is_set, is_variable, is_watched_here, may_be_watched, may_have, meaning_in_role, suits, suits_class, suits_subscripts, takes_values};
+ghost use Rattle.ss_check_rules.specs.Kinds.{has_value, if_means, is_mean, is_routine, is_set, is_variable, may_be_watched, may_have, meaning_in_role, suits, suits_class, suits_subscripts, takes_values};
 
-use ss_base::{ClassKind, Name, Owner};
+use ss_base::Owner;
 use ss_names::{Meaning, Names};
-use ss_names_declarations::has_entry;
-use ss_names_scopes::{Scope, variable_of};
+use ss_names_scopes::{Scope, is_kind, variable_of};
 use ss_names_uses::{ClassNeed, Role};
 use ss_program::expression::SetQuery;
 use ss_tree::expression::Designator;
@@ -114,30 +112,9 @@ pub fn if_watched(meaning: Option<Meaning>) -> bool
     }
 }
 
-// Whether a TALLY or an ACCUMULATE is of this name, and no local variable hides it.
-fn is_watched_name(scope: &Scope<'_>, name: &Name) -> bool
-    ensures { result ≡ is_watched_here (scope_seen scope.now) (designators.Name name.now) }
-{
-    let names = scope.names;
-    let watched = has_entry(&names.histories, name);
-    let hidden = scope.locals.mode(name);
-    watched && hidden.is_none()
-}
-
-// Whether a TALLY or an ACCUMULATE is of what is named here: a local variable that hides it has none.
-fn is_watched_here(scope: &Scope<'_>, place: &Designator) -> bool
-    ensures { result ≡ is_watched_here (scope_seen scope.now) place.now }
-{
-    match place {
-        Designator::Name(name) => is_watched_name(scope, name),
-        Designator::TimeV => false,
-        Designator::TimeA => false,
-    }
-}
-
 // What a place means as a set.
 fn meaning_as_set(scope: &Scope<'_>, place: &Designator) -> Option<Meaning>
-    ensures { result ≡ meaning_in_role (scope_seen scope.now) roles.Set place.now }
+    ensures { result ≡ meaning_in_role (view_scope scope.now) roles.Set place.now }
 {
     match place {
         Designator::Name(name) => scope.names.meaning(name),
@@ -148,7 +125,7 @@ fn meaning_as_set(scope: &Scope<'_>, place: &Designator) -> Option<Meaning>
 
 /// What a place means in its role. No local variable hides a set.
 pub fn meaning_in_role(scope: &Scope<'_>, role: Role, place: &Designator) -> Option<Meaning>
-    ensures { result ≡ meaning_in_role (scope_seen scope.now) role place.now }
+    ensures { result ≡ meaning_in_role (view_scope scope.now) role place.now }
 {
     match role {
         Role::Set => meaning_as_set(scope, place),
@@ -158,26 +135,15 @@ pub fn meaning_in_role(scope: &Scope<'_>, role: Role, place: &Designator) -> Opt
 
 /// Whether what is named is of the kind that its role needs.
 pub fn suits(scope: &Scope<'_>, role: Role, place: &Designator) -> bool
-    ensures { result ≡ suits (scope_seen scope.now) role place.now }
+    ensures { result ≡ suits (view_scope scope.now) role place.now }
 {
     match role {
-        Role::Reset => is_watched_here(scope, place),
+        Role::Reset => scope.history_of(place).is_some(),
         Role::Set => if_set(meaning_as_set(scope, place)),
         Role::LoopVariable => if_variable(scope.meaning(*place)),
         Role::Value => if_value(scope.meaning(*place)),
         Role::Item => if_value(scope.meaning(*place)),
         Role::Target => if_value(scope.meaning(*place)),
-    }
-}
-
-// Whether a class is of the kind that its place needs.
-fn is_kind(need: ClassNeed, kind: ClassKind) -> bool
-    ensures { result ≡ is_kind need kind }
-{
-    match need {
-        ClassNeed::Permanent => matches!(kind, ClassKind::Permanent),
-        ClassNeed::Notice => matches!(kind, ClassKind::Notice),
-        ClassNeed::Single => !matches!(kind, ClassKind::Permanent),
     }
 }
 

@@ -1,12 +1,16 @@
 //! The rules on named places and on modes.
 
-ghost use Rattle.std.specs.Prelude.{◌≡◌, ◌&&◌, ◌||◌, not, slice_get};
-ghost use Rattle.ss_names_scopes.specs.Seen.{scope_seen};
+ghost use Rattle.std.specs.Prelude.{◌≡◌, ◌+◌, ◌&&◌, ◌||◌, not, option_and_then, option_map, slice_get};
+ghost use Rattle.ss_names_scopes.specs.Seen.{view_scope};
 ghost use Rattle.ss_check_rules.specs.declared.error.CheckError.TheVariants as e;
 ghost use Rattle.ss_check_rules.specs.Kinds.{if_means, is_mean, is_target, takes_values};
-ghost use Rattle.ss_check_rules.specs.Modes.{attribute_mode, differ, field_mode, given_mode, is_mean_as_value, is_text, mixes_modes, mode_meant, mode_of_attribute, mode_said, yielded_mode};
-ghost use Rattle.ss_check_rules.specs.Refusal.{class_breaks, meant_breaks, place_breaks, unless};
-ghost use Rattle.ss_names_scopes.specs.Scopes.{meaning};
+ghost use Rattle.ss_check_rules.specs.Modes.{attribute_mode, differ, is_mean_as_value, is_text, mixes_modes, meaning_mode, mode_of_use};
+ghost use Rattle.ss_names.specs.declared.entry.RoutineSection.{RoutineSection as SectionSeen};
+ghost use Rattle.ss_names.specs.declared.entry.Attribute.{Attribute as AttributeSeen};
+ghost use Rattle.ss_names.specs.Table.{field_mode};
+ghost use Rattle.ss_names_declarations.specs.Earliest.{unless};
+ghost use Rattle.ss_check_rules.specs.Refusal.{class_breaks, meaning_breaks, place_breaks};
+ghost use Rattle.ss_names_scopes.specs.Scopes.{meaning, parameter_mode};
 
 use crate::error::{CheckError, unless};
 use crate::kinds::{
@@ -21,8 +25,8 @@ use ss_tree::expression::Designator;
 // ---- modes
 
 // The mode of what a name means, if it means anything.
-fn mode_meant(meaning: Option<Meaning>) -> Option<Mode>
-    ensures { result ≡ mode_meant meaning }
+fn meaning_mode(meaning: Option<Meaning>) -> Option<Mode>
+    ensures { result ≡ meaning_mode meaning }
 {
     match meaning {
         Some(meaning) => mode_of(meaning),
@@ -32,7 +36,7 @@ fn mode_meant(meaning: Option<Meaning>) -> Option<Mode>
 
 // The mode of what a routine is given in this place.
 fn given_mode(scope: &Scope<'_>, routine: Option<RoutineSection>, place: usize) -> Option<Mode>
-    ensures { result ≡ given_mode (scope_seen scope.now) routine place }
+    ensures { result ≡ option_and_then (λ (r : SectionSeen). parameter_mode (view_scope scope.now) r.section place) routine }
 {
     match routine {
         Some(routine) => scope.parameter_mode(routine.section, place),
@@ -42,7 +46,7 @@ fn given_mode(scope: &Scope<'_>, routine: Option<RoutineSection>, place: usize) 
 
 // The mode of what a routine yields in this place.
 fn yielded_mode(scope: &Scope<'_>, routine: Option<RoutineSection>, place: usize) -> Option<Mode>
-    ensures { result ≡ yielded_mode (scope_seen scope.now) routine place }
+    ensures { result ≡ option_and_then (λ (r : SectionSeen). parameter_mode (view_scope scope.now) r.section (r.given + place)) routine }
 {
     match routine {
         Some(routine) => scope.yielded_mode(routine.section, routine.given, place),
@@ -52,7 +56,7 @@ fn yielded_mode(scope: &Scope<'_>, routine: Option<RoutineSection>, place: usize
 
 // The mode of an attribute.
 fn mode_of_attribute(attribute: Option<Attribute>) -> Option<Mode>
-    ensures { result ≡ mode_of_attribute attribute }
+    ensures { result ≡ option_map (λ (a : AttributeSeen). a.mode) attribute }
 {
     match attribute {
         Some(attribute) => Some(attribute.mode),
@@ -62,7 +66,7 @@ fn mode_of_attribute(attribute: Option<Attribute>) -> Option<Mode>
 
 // The mode of an attribute of this name.
 fn field_mode(names: &Names, attribute: &Option<Name>) -> Option<Mode>
-    ensures { result ≡ field_mode names.now attribute.now }
+    ensures { result ≡ option_and_then (field_mode names.now) attribute.now }
 {
     match attribute {
         Some(name) => mode_of_attribute(names.attributes.get(name).copied()),
@@ -91,14 +95,14 @@ fn attribute_mode(names: &Names, class: Option<usize>, place: usize) -> Option<M
 }
 
 // The mode that a use says, if there is one.
-fn mode_said(scope: &Scope<'_>, mode: &ModeOf) -> Option<Mode>
-    ensures { result ≡ mode_said (scope_seen scope.now) mode.now }
+fn mode_of_use(scope: &Scope<'_>, mode: &ModeOf) -> Option<Mode>
+    ensures { result ≡ mode_of_use (view_scope scope.now) mode.now }
 {
     let names = scope.names;
     match mode {
         ModeOf::Integer => Some(Mode::Integer),
         ModeOf::Alpha => Some(Mode::Alpha),
-        ModeOf::Named(name) => mode_meant(scope.meaning_of_name(name)),
+        ModeOf::Named(name) => meaning_mode(scope.meaning_of_name(name)),
         ModeOf::Given { routine, place } => {
             given_mode(scope, names.routines.get(routine).copied(), *place)
         }
@@ -129,9 +133,9 @@ pub fn same_breaks(
     found: &ModeOf,
     wanted: &ModeOf,
 ) -> Option<CheckError>
-    ensures { result ≡ unless (not (differ (mode_said (scope_seen scope.now) found.now) (mode_said (scope_seen scope.now) wanted.now))) (e.Mode line) }
+    ensures { result ≡ unless (not (differ (mode_of_use (view_scope scope.now) found.now) (mode_of_use (view_scope scope.now) wanted.now))) (e.Mode line) }
 {
-    let joined = differ(mode_said(scope, found), mode_said(scope, wanted));
+    let joined = differ(mode_of_use(scope, found), mode_of_use(scope, wanted));
     unless(!joined, CheckError::Mode(line))
 }
 
@@ -139,7 +143,7 @@ pub fn same_breaks(
 pub fn is_text(meaning: Option<Meaning>) -> bool
     ensures { result ≡ is_text meaning }
 {
-    differ(mode_meant(meaning), Some(Mode::Integer))
+    differ(meaning_mode(meaning), Some(Mode::Integer))
 }
 
 // Whether it is a MEAN as a value.
@@ -161,7 +165,7 @@ fn mixes_modes(
     subscripts: usize,
     number: bool,
 ) -> bool
-    ensures { result ≡ mixes_modes (scope_seen scope.now) role meaning subscripts number }
+    ensures { result ≡ mixes_modes (view_scope scope.now) role meaning subscripts number }
 {
     let text = is_text(Some(meaning));
     let mean = is_mean_as_value(role, meaning);
@@ -186,7 +190,7 @@ fn is_fixed(role: Role, meaning: Meaning) -> bool
 }
 
 // The first of the rules after its kind that a place in a role breaks, which means this.
-fn meant_breaks(
+fn meaning_breaks(
     scope: &Scope<'_>,
     line: Line,
     role: Role,
@@ -194,7 +198,7 @@ fn meant_breaks(
     number: bool,
     meaning: Option<Meaning>,
 ) -> Option<CheckError>
-    ensures { result ≡ meant_breaks (scope_seen scope.now) line role subscripts number meaning }
+    ensures { result ≡ meaning_breaks (view_scope scope.now) line role subscripts number meaning }
 {
     let Some(meaning) = meaning else {
         return None;
@@ -220,11 +224,11 @@ pub fn place_breaks(
     subscripts: usize,
     number: bool,
 ) -> Option<CheckError>
-    ensures { result ≡ place_breaks (scope_seen scope.now) line role place.now subscripts number }
+    ensures { result ≡ place_breaks (view_scope scope.now) line role place.now subscripts number }
 {
     if suits(scope, role, place) {
         let meaning = meaning_in_role(scope, role, place);
-        meant_breaks(scope, line, role, subscripts, number, meaning)
+        meaning_breaks(scope, line, role, subscripts, number, meaning)
     } else {
         Some(CheckError::Unknown(line))
     }
@@ -245,7 +249,7 @@ pub fn class_breaks(
     class: &Name,
     called: bool,
 ) -> Option<CheckError>
-    ensures { result ≡ class_breaks (scope_seen scope.now) line need class.now called }
+    ensures { result ≡ class_breaks (view_scope scope.now) line need class.now called }
 {
     if suits_class(scope.names.meaning(class), need) {
         let meaning = scope.meaning_of_name(class);
@@ -257,7 +261,7 @@ pub fn class_breaks(
 
 /// The breach of an item that has to be a MEAN.
 pub fn mean_breaks(scope: &Scope<'_>, line: Line, place: &Designator) -> Option<CheckError>
-    ensures { result ≡ unless (if_means is_mean (meaning (scope_seen scope.now) place.now)) (e.Fields line) }
+    ensures { result ≡ unless (if_means is_mean (meaning (view_scope scope.now) place.now)) (e.Fields line) }
 {
     unless(if_mean(scope.meaning(*place)), CheckError::Fields(line))
 }

@@ -3,11 +3,11 @@
 ghost use Rattle.std.specs.Prelude.{◌≡◌, is_some, map};
 ghost use Rattle.std.specs.List.{flat_map, fold};
 ghost use Rattle.ss_tree.specs.View.{view_preamble};
-ghost use Rattle.ss_names_declarations.specs.Earliest.{earlier};
+ghost use Rattle.ss_names_declarations.specs.Earliest.{earlier, unless};
 ghost use Rattle.ss_names_declarations.specs.Firsts.{value_for};
 ghost use Rattle.ss_check_rules.specs.declared.error.CheckError.TheVariants as e;
 ghost use Rattle.ss_check_rules.specs.Order.{order_of};
-ghost use Rattle.ss_check_rules.specs.Refusal.{eventless, eventless_of, in_preamble, subject_breaks, unless};
+ghost use Rattle.ss_check_rules.specs.Refusal.{eventless, eventless_of, in_preamble, subject_breaks};
 
 use crate::error::{CheckError, unless};
 use crate::kinds::if_watched;

@@ -7,8 +7,9 @@ ghost use Rattle.ss_names.specs.Table.{table};
 ghost use Rattle.ss_names_declarations.specs.Earliest.{earlier, earliest};
 ghost use Rattle.ss_names_uses.specs.Uses.{uses};
 ghost use Rattle.ss_names_scopes.specs.Locals.{locals_of, uses_seen};
+ghost use Rattle.ss_names_scopes.specs.Scopes.{is_main_section};
 ghost use Rattle.ss_check_rules.specs.Order.{order_of};
-ghost use Rattle.ss_check_rules.specs.Refusal.{breaches, in_program, in_section, is_main_section, refusal_of_uses};
+ghost use Rattle.ss_check_rules.specs.Refusal.{breaches, in_program, in_section, refusal_of_uses};
 
 use crate::error::CheckError;
 use crate::preamble::preamble_breaks;
@@ -16,21 +17,11 @@ use crate::sections::section_breaks;
 use ss_base::Line;
 use ss_names::Names;
 use ss_names_declarations::earlier;
-use ss_names_scopes::{Locals, Scope, all_locals};
+use ss_names_scopes::{Locals, Scope, all_locals, is_main};
 use ss_names_uses::{Use, uses_of};
 use ss_tree::preamble::PreambleStatement;
-use ss_tree::program::{Program, Section, SectionKind};
+use ss_tree::program::{Program, Section};
 use std::alloc::{AllocError, Global};
-
-// Whether a section is MAIN.
-fn is_main(section: &Section) -> bool
-    ensures { result ≡ is_main_section (view_section section.now) }
-{
-    match &section.kind {
-        SectionKind::Main => true,
-        _ => false,
-    }
-}
 
 // Whether one of these sections is MAIN.
 fn has_main(sections: &[Section]) -> bool

@@ -2,13 +2,13 @@
 
 ghost use Rattle.std.specs.Prelude.{◌≡◌};
 ghost use Rattle.std.specs.List.{flat_map, fold};
-ghost use Rattle.ss_names_declarations.specs.Earliest.{earlier};
+ghost use Rattle.ss_names_declarations.specs.Earliest.{earlier, unless};
 ghost use Rattle.ss_names_declarations.specs.Firsts.{value_for};
-ghost use Rattle.ss_names_scopes.specs.Seen.{scope_seen};
+ghost use Rattle.ss_names_scopes.specs.Seen.{view_scope};
 ghost use Rattle.ss_check_rules.specs.declared.error.CheckError.TheVariants as e;
 ghost use Rattle.ss_check_rules.specs.Kinds.{if_means, is_routine};
 ghost use Rattle.ss_check_rules.specs.Order.{order_of};
-ghost use Rattle.ss_check_rules.specs.Refusal.{breaks, unless, use_breaks, used_breaks};
+ghost use Rattle.ss_check_rules.specs.Refusal.{breaks, use_breaks, used_breaks};
 
 use crate::counts::count_breaks;
 use crate::error::{CheckError, unless};
@@ -32,7 +32,7 @@ fn routine_breaks(names: &Names, line: Line, routine: &Name) -> Option<CheckErro
 
 // The first of the rules that what is used in this line breaks, in MAIN or in another section.
 fn used_breaks(scope: &Scope<'_>, in_main: bool, line: Line, used: &Used) -> Option<CheckError>
-    ensures { result ≡ used_breaks (scope_seen scope.now) in_main line used.now }
+    ensures { result ≡ used_breaks (view_scope scope.now) in_main line used.now }
 {
     match used {
         Used::Parameter { .. } => None,
@@ -59,7 +59,7 @@ fn used_breaks(scope: &Scope<'_>, in_main: bool, line: Line, used: &Used) -> Opt
 
 // The first of the rules that a use breaks, in MAIN or in another section.
 fn use_breaks(scope: &Scope<'_>, in_main: bool, one: &Use) -> Option<CheckError>
-    ensures { result ≡ use_breaks (scope_seen scope.now) in_main one.now }
+    ensures { result ≡ use_breaks (view_scope scope.now) in_main one.now }
 {
     used_breaks(scope, in_main, one.line, &one.what)
 }
@@ -71,7 +71,7 @@ pub fn section_breaks(
     uses: &[Use],
     found: Option<CheckError>,
 ) -> Option<CheckError>
-    ensures { result ≡ fold (earlier order_of) found (flat_map (breaks (scope_seen scope.now) in_main) uses.now) }
+    ensures { result ≡ fold (earlier order_of) found (flat_map (breaks (view_scope scope.now) in_main) uses.now) }
 {
     let mut found = found;
     for one in uses {

@@ -1,5 +1,5 @@
 -- Statements and bodies, from what was emitted for their parts.
-use Rattle.std.proofs.Common.{◌≡◌, ℕ, zero, suc, ◌+◌, ◌<◌, ◌≤◌, ◌^◌, List, [], ◌∷◌, ◌++◌, length, map, Result, Ok, Err, OnOk, refl, sym, ap, ◌∙◌, subst, arith, append_assoc, append-nil, length-append}
+use Rattle.std.proofs.Common.{◌≡◌, ℕ, zero, suc, ◌+◌, ◌<◌, ◌≤◌, ◌^◌, List, [], ◌∷◌, ◌++◌, length, map, refl, sym, ap, ◌∙◌, subst, arith, append_assoc, append-nil, length-append}
 use Rattle.std.specs.List.{AllZip, AllByRecursion as Every}
 use Rattle.ss_base.specs.declared.line.Line.{Line}
 use Rattle.ss_base.specs.declared.layout.Mode.{Mode}
@@ -7,7 +7,7 @@ use Rattle.ss_picture.specs.declared.field.Field.{Field}
 use Rattle.ss_program.specs.declared.statement.Statement as statements
 use Rattle.ss_program.specs.declared.statement.Statement.TheVariants as forms
 use Rattle.ss_program.specs.Program as p
-use Rattle.ss_program.specs.Program.{Condition, Head, Numbers, Each, Members, TheSystem, Entity, Guard, Phrase, Item, AValue, AMean, AMeanOf, Statement, Block, Done}
+use Rattle.ss_program.specs.Program.{Condition, Head, Numbers, Each, Members, TheSystem, Entity, Guard, Phrase, PrintItem, AValue, AMean, AMeanOf, Statement, Block, Done}
 use Rattle.ss_program.specs.View.{view_expression, view_place, view_target, view_position, view_owner, view_when, view_restart, view_item, view_statement, block_of}
 use Rattle.ss_program.specs.WellTyped.{Scope, GoodHead, GoodPhrase, GoodCondition, Good, GoodBlock, TakesItem}
 use Rattle.ss_code_instructions.specs.declared.instruction.Instruction.{Instruction as Running}
@@ -26,12 +26,6 @@ use Rattle.ss_code_generator.specs.Printed.{Prints, line_or_none, statement_site
 use Rattle.ss_code_generator.proofs.Emitting.{around_old, grows_same, grows_then, stands_old, adds_none, adds_then, adds_one, adds_piece, adds_apart, adds_same, piece_long, none_there}
 use Rattle.ss_code_generator.proofs.PrintLines.{prints_then, prints_long}
 use Rattle.ss_code_generator.proofs.Rounds.{for_looped}
-
--- ## Results
-
-pub on_both : {T E : Type 0} (P Q : Type 0) (o : Result T E) → OnOk o P → OnOk o Q → OnOk o (P × Q)
-on_both P Q (Ok x) h k = (h, k)
-on_both P Q (Err e) h k = tt
 
 -- ## What is seen of each statement
 
@@ -152,10 +146,6 @@ put_said g a b here x y is ls carries shown = record {
   more = λ f t u around located good. tt;
 }
 
--- the same code for something that is the same
-pub emits_same : {A : Type 0} (x y : A) (old new : Generator) (a b : Lined) (here : Here) (G : A → Scope → Type 0) (c : A → Site → List Placed) → x ≡ y → Emits old new a b here (G x) (c x) → Emits old new a b here (G y) (c y)
-emits_same x y old new a b here G c e m = subst (λ z. Emits old new a b here (G z) (c z)) e m
-
 -- ## Bodies
 
 -- the code of a statement around a body
@@ -262,7 +252,7 @@ module _ (g0 g1 g2 : Generator) (h : ℕ) (first second : Lined) (p0 p1 p2 : Lis
   }
 
 -- PRINT
-good_items : (s : Scope) (fields : List Field) (xs : List Item) → AllZip (TakesItem s) fields xs → Every (λ (x : Item). GoodItem x s) xs
+good_items : (s : Scope) (fields : List Field) (xs : List PrintItem) → AllZip (TakesItem s) fields xs → Every (λ (x : PrintItem). GoodItem x s) xs
 good_items s [] [] h = tt
 good_items s [] (x ∷ xs) h = absurd h
 good_items s (f ∷ fs) [] h = tt
@@ -270,7 +260,7 @@ good_items s (f ∷ fs) (AValue e ∷ xs) h = (h.0.0, good_items s fs xs h.1)
 good_items s (f ∷ fs) (AMean k ∷ xs) h = (tt, good_items s fs xs h.1)
 good_items s (f ∷ fs) (AMeanOf k e ∷ xs) h = (h.0.1, good_items s fs xs h.1)
 
-pub print_said : (g0 g1 : Generator) (x y : Lined) (h : ℕ) (p0 p1 : List RunningLines) (l l' : Line) (items : List Item) (pictures : List (List ℕ)) → l ≡ l' → PrintsLines g0 g1 x y (record { line = l; height = h }) p0 p1 items pictures → EmitsStatement g0 g1 x y h p0 p1 (p.Print l' items pictures)
+pub print_said : (g0 g1 : Generator) (x y : Lined) (h : ℕ) (p0 p1 : List RunningLines) (l l' : Line) (items : List PrintItem) (pictures : List (List ℕ)) → l ≡ l' → PrintsLines g0 g1 x y (record { line = l; height = h }) p0 p1 items pictures → EmitsStatement g0 g1 x y h p0 p1 (p.Print l' items pictures)
 print_said g0 g1 x y h p0 p1 l l' items pictures line m = record {
   code = record {
     grows = m.code.grows;

@@ -22,7 +22,6 @@ use Rattle.ss_code_pieces.specs.Lined.{Lined}
 use Rattle.ss_code_generator.specs.Emitted.{Final, Around, Shown, Emits, Typed, Reads}
 use Rattle.ss_code_generator.specs.Spots.{GoodPlace}
 use Rattle.ss_code_generator.proofs.Emitting.{around_old, grows_then, stands_old, stands_above, adds_then, adds_one, adds_same}
-use Rattle.ss_code_generator.proofs.Rounds.{operand_here}
 
 -- ## What is yielded
 
@@ -131,8 +130,7 @@ of_one g0 g1 x y z here e o Fits make run m is ls fits carries shown = record {
       let typed : Typed e t.scope = (Integer, fits t.scope good) in
       let read = m.more f t tt around located typed in
       let ins : Placed = place (after t e) (make (operand t e)) in
-      let at = operand_here (code_of f.program) f.constants (place t i.Leave) ins (operand t e) o.address refl read.at in
       adds_then f x y z (operand_code t e) (ins ∷ []) (m.adds f t tt around located typed)
-      (adds_one f y z here.line ins run is ls located.line (record { carries = carries f t at; deep = read.deep; shown = shown f t }));
+      (adds_one f y z here.line ins run is ls located.line (record { carries = carries f t read.at; deep = read.deep; shown = shown f t }));
   more = λ f t u around located good. tt;
 }

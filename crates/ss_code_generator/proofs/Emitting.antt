@@ -112,7 +112,7 @@ pub none_there : (f : Final) (p : Lined) (c : List Placed) → Adds f nothing p 
 none_there f p [] h e = refl
 none_there f p (x ∷ c) h e = absurd (omega (arith, e, piece_long f p (x ∷ c) h))
 
--- the same code, said otherwise
+-- what was added, for another code that is the same
 pub adds_same : (f : Final) (a b : Lined) (c d : List Placed) → c ≡ d → Adds f a b c → Adds f a b d
 adds_same f a b c d e h = subst (Adds f a b) e h
 
@@ -130,21 +130,7 @@ makes_later old new newer p q here Fit c More g m = record {
 
 -- ## Calls that may be out of memory
 
--- what follows from a clause of a call
-pub one_ok : {T E A B : Type 0} (r : Result T E) → OnOk r A → (A → B) → OnOk r B
-one_ok (Ok x) a f = f a
-one_ok (Err e) a f = tt
-
 -- what follows from both clauses of a call
 pub both_ok : {T E A B C : Type 0} (r : Result T E) → OnOk r A → OnOk r B → (A → B → C) → OnOk r C
 both_ok (Ok x) a b f = f a b
 both_ok (Err e) a b f = tt
-
--- the last call puts an instruction, which is this one
-pub put_ok : {T E C : Type 0} (r : Result T E) (p q : Lined) (l : Line) (y z : Running) → y ≡ z → OnOk r (q.instructions ≡ p.instructions ++ y ∷ []) → OnOk r (q.lines ≡ p.lines ++ l ∷ []) → (q.instructions ≡ p.instructions ++ z ∷ [] → q.lines ≡ p.lines ++ l ∷ [] → C) → OnOk r C
-put_ok (Ok x) p q l y z e is ls f = f (is ∙ ap (λ (i : Running). p.instructions ++ i ∷ []) e) ls
-put_ok (Err x) p q l y z e is ls f = tt
-
--- an instruction that was put is this one
-pub put_as : (p q : Lined) (y z : Running) → y ≡ z → q.instructions ≡ p.instructions ++ y ∷ [] → q.instructions ≡ p.instructions ++ z ∷ []
-put_as p q y z e is = is ∙ ap (λ (i : Running). p.instructions ++ i ∷ []) e

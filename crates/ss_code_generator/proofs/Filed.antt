@@ -1,17 +1,17 @@
 -- What the generator emits for members of sets.
-use Rattle.std.proofs.Common.{◌≡◌, ℕ, ◌+◌, ◌<◌, ◌^◌, Bool, true, false, [], ◌∷◌, ◌++◌, List, refl, sym, ap, ◌∙◌, if◌then◌else◌}
+use Rattle.std.proofs.Common.{◌≡◌, ℕ, ◌+◌, ◌<◌, ◌^◌, Bool, true, false, [], ◌∷◌, ◌++◌, refl, sym, ap, ◌∙◌, if◌then◌else◌}
 use Rattle.std.specs.Prelude.{slice_get}
 use Rattle.ss_base.specs.declared.layout.Mode.TheVariants.{Integer}
 use Rattle.ss_program.specs.declared.sections.Subject.TheVariants.{OfCount}
-use Rattle.ss_program.specs.Program.{Program, Expression, SetOwner, ByDiscipline, AsFirst, AsLast, BeforeMember, AfterMember, File}
+use Rattle.ss_program.specs.Program.{Program, Expression, SetOwner, ByDiscipline, AsFirst, AsLast, BeforeMember, AfterMember, File, Member}
 use Rattle.ss_program.specs.View.{view_program}
-use Rattle.ss_program.specs.WellTyped.{Scope, OwnerFits, Good}
+use Rattle.ss_program.specs.WellTyped.{OwnerFits, GoodTest, Good}
 use Rattle.ss_code_instructions.specs.declared.instruction.Instruction.{Instruction as Running}
 use Rattle.ss_code_instructions.specs.declared.instruction.Instruction.TheVariants as r
 use Rattle.ss_code_instructions.specs.Facts.{watch, expression_of, may_fault}
-use Rattle.ss_code_instructions.specs.Instructions.{Operand, Bearer, Filing, Instruction, Placed}
+use Rattle.ss_code_instructions.specs.Instructions.{Operand, Bearer, Filing, Instruction}
 use Rattle.ss_code_instructions.specs.Instructions as i
-use Rattle.ss_code_instructions.specs.Translation.{Site, place, operand, after, stay, bearer, bearer_code, after_bearer, with_owner, member_code, file_code, remove_code, filing_by, code_of}
+use Rattle.ss_code_instructions.specs.Translation.{Site, place, operand, after, stay, bearer, bearer_code, after_bearer, with_owner, member_code, file_code, remove_code, test_code, filing_by, code_of}
 use Rattle.ss_code_instructions.specs.Carried.{Carries}
 use Rattle.ss_code_pieces.specs.declared.facts.Ordering.{Ordering}
 use Rattle.ss_code_pieces.specs.declared.facts.Ordering.TheVariants as orderings
@@ -21,19 +21,11 @@ use Rattle.ss_code_generator.specs.declared.generator.Site.{Site as Here}
 use Rattle.ss_code_pieces.specs.Lined.{Lined}
 use Rattle.ss_code_pieces.specs.Preamble.{filing_of}
 use Rattle.ss_code_generator.specs.Filings.{filing}
-use Rattle.ss_code_generator.specs.Emitted.{Final, Around, IsLocated, Shown, Emits, AtOperand, AtBearer, IsNumber, Reads, ReadsBy, Bears}
+use Rattle.ss_code_generator.specs.Emitted.{Final, Around, Shown, Emits, AtOperand, AtBearer, IsNumber, Reads, ReadsBy, Bears}
 use Rattle.ss_code_generator.proofs.Emitting.{around_old, grows_then, stands_old, adds_then, adds_one, adds_same}
 use Rattle.ss_code_generator.proofs.Forms as forms
 use Rattle.ss_code_generator.proofs.Operands.{read_stands, stays_at, looked_reads}
-use Rattle.ss_code_generator.proofs.Testing.{owner_number}
-
--- the same where the codes are one at each site at which the generator may be
-pub emits_where : (old new : Generator) (p q : Lined) (here : Here) (Good Other : Scope → Type 0) (c d : Site → List Placed) → ((k : Scope) → Other k → Good k) → ((f : Final) (t : Site) → Around f new → IsLocated f new here t → c t ≡ d t) → Emits old new p q here Good c → Emits old new p q here Other d
-emits_where old new p q here Good Other c d good same m = record {
-  grows = m.grows;
-  adds = λ f t u around located other. adds_same f p q (c t) (d t) (same f t around located) (m.adds f t u around located (good t.scope other));
-  more = λ f t u around located other. tt;
-}
+use Rattle.ss_code_generator.proofs.Testing.{owner_number, emits_where}
 
 -- whether a statistic watches a set, as the generator knows it
 pub counts_noted : (f : Final) (g : Generator) (set : ℕ) (noted : Bool) → Around f g → noted ≡ watch g.program.now.statistics.items (OfCount set) → noted ≡ false → watch (code_of f.program).setting.statistics (OfCount set) ≡ false
@@ -79,6 +71,12 @@ pub member_removed : (old mid new : Generator) (p q v s : Lined) (here higher : 
 member_removed old mid new p q v s here higher set e o member owner noted m line above n watched is ls =
     member_works old mid new p q v s here higher set e o member owner (λ x b. i.Remove set x b) (r.Remove set member.address owner.address noted) m line above n is ls (λ f t around at of.
     ((counts_noted f new set noted around watched, (operand t e, at, (bearer (after t e) (expression_of o), of, refl))), tt))
+
+-- whether an entity is in a set
+pub membership_tested : (old mid new : Generator) (p q v s : Lined) (here higher : Here) (skip : ℕ) (negated : Bool) (set : ℕ) (e : Expression) (o : SetOwner) (member owner : Read) → ReadsBy old mid p q here (IsNumber e) e member (λ t. member_code t (may_fault (expression_of o)) set e) → higher.line ≡ here.line → (here.height + member.cells < 2 ^ 64 → higher.height ≡ here.height + member.cells) → Bears mid new q v higher (expression_of o) owner → s.instructions ≡ v.instructions ++ r.UnlessMember set member.address owner.address skip negated ∷ [] → s.lines ≡ v.lines ++ here.line ∷ [] → Emits old new p s here (λ k. GoodTest k (Member negated set e o)) (λ t. test_code t skip (Member negated set e o))
+membership_tested old mid new p q v s here higher skip negated set e o member owner m line above n is ls =
+    member_works old mid new p q v s here higher set e o member owner (λ x b. i.UnlessMember negated set x b skip) (r.UnlessMember set member.address owner.address skip negated) m line above n is ls (λ f t around at of.
+    ((operand t e, at, (bearer (after t e) (expression_of o), of, refl)), tt))
 
 -- where a member is filed, by what the statement says
 pub filed_by_discipline : (old new : Generator) (p q : Lined) (here : Here) (set : ℕ) (e : Expression) (o : SetOwner) (ordering : Ordering) → filing_of ordering ≡ filing_by (slice_get old.program.now.disciplines.items set) → Emits old new p q here (λ k. IsNumber e k × OwnerFits k set o) (λ t. member_code t (may_fault (expression_of o)) set e ++ with_owner (after t e) o (i.File (filing_of ordering) set (operand t e))) → Emits old new p q here (λ k. Good k (File here.line set e ByDiscipline o)) (λ t. file_code t set e ByDiscipline o)

@@ -4,12 +4,12 @@ use Rattle.std.specs.Prelude.{slice_get}
 use Rattle.std.specs.List.{AllByRecursion as Every}
 use Rattle.ss_base.specs.declared.layout.Mode.{Mode}
 use Rattle.ss_base.specs.declared.layout.Mode.TheVariants as modes
-use Rattle.ss_program.specs.Program.{Program, Expression, Item, AValue, AMean, AMeanOf}
+use Rattle.ss_program.specs.Program.{Program, Expression, PrintItem, AValue, AMean, AMeanOf}
 use Rattle.ss_program.specs.WellTyped.{Scope}
 use Rattle.ss_code_instructions.specs.declared.address.Address.{Address}
 use Rattle.ss_code_instructions.specs.declared.instruction.Instruction.TheVariants as r
 use Rattle.ss_code_instructions.specs.declared.item.ItemKind.{ItemKind}
-use Rattle.ss_code_instructions.specs.Instructions.{Constant, Stays, Instruction, Placed}
+use Rattle.ss_code_instructions.specs.Instructions.{Stays, Instruction, Placed}
 use Rattle.ss_code_instructions.specs.Instructions as i
 use Rattle.ss_code_instructions.specs.Translation.{Site, height, place, above, next, expression_mode, expression_code, item_code, item_cells, items_code, items_cells, after_items, item_kind, lines_of as lines_said, with_cells}
 use Rattle.ss_code_instructions.specs.Carried.{RunningLines, InFrame, lines_of, kind_of_item, item_modes, onto}
@@ -23,13 +23,10 @@ use Rattle.ss_code_generator.specs.Printed.{PrintsLines}
 use Rattle.ss_code_generator.proofs.Emitting.{around_old, grows_same, grows_then, stands_old, stands_above, adds_none, adds_then, adds_one, adds_same}
 use Rattle.ss_code_generator.proofs.Modes.{mode_by}
 use Rattle.ss_code_generator.proofs.Operands.{cell_at_site}
+use Rattle.ss_code_generator.proofs.Listed.{every_split}
 use Rattle.ss_code_generator.proofs.Spotted.{program_at}
 
 -- ## Items
-
--- the generator grew before
-pub later_made : (old mid new : Generator) (p q : Lined) (here : Here) (Good : Scope → Type 0) (c : Site → List Placed) → Grows old mid → Emits mid new p q here Good c → Emits old new p q here Good c
-later_made old mid new p q here Good c g m = record { grows = grows_then old mid new g m.grows; adds = m.adds; more = m.more }
 
 pub mean_of_looked : (old mid new : Generator) (p q v : Lined) (here : Here) (k : ℕ) (e : Expression) (cell : Address) → Emits old mid p q here (Typed e) (λ t. expression_code t (next t) e) → Grows mid new → InFrame (length new.locals.items + here.height) cell → here.height < new.deepest → v.instructions ≡ q.instructions ++ r.LookMean k cell ∷ [] → v.lines ≡ q.lines ++ here.line ∷ [] → Emits old new p v here (GoodItem (AMeanOf k e)) (λ t. item_code t (AMeanOf k e))
 mean_of_looked old mid new p q v here k e cell m g at room is ls = record {
@@ -50,12 +47,12 @@ mean_of_looked old mid new p q v here k e cell m g at room is ls = record {
 -- ## Several items
 
 -- code of items, and where it goes on
-abbrev pub MakesItems : (old new : Generator) → (before after : Lined) → (here next : Here) → List Item → Type 0
+abbrev pub MakesItems : (old new : Generator) → (before after : Lined) → (here next : Here) → List PrintItem → Type 0
 MakesItems old new before after here next xs =
     Makes old new before after here (λ f t (u : Unit {0}). Every (λ x. GoodItem x t.scope) xs) (λ t u. items_code t xs) (λ f t u. IsLocated f new next (after_items t xs))
 
--- the same without where
-abbrev pub MakesAll : (old new : Generator) → (before after : Lined) → Here → List Item → Type 0
+-- code of items, without where it goes on
+abbrev pub MakesAll : (old new : Generator) → (before after : Lined) → Here → List PrintItem → Type 0
 MakesAll old new before after here xs =
     Makes old new before after here (λ f t (u : Unit {0}). Every (λ x. GoodItem x t.scope) xs) (λ t u. items_code t xs) (λ f t u. height (after_items t xs) ≤ f.depth)
 
@@ -66,32 +63,28 @@ no_items g p here = record {
   more = λ f t u around located good. located;
 }
 
-items_code_more : (t : Site) (xs : List Item) (x : Item) → items_code t (xs ++ x ∷ []) ≡ items_code t xs ++ item_code (after_items t xs) x
+items_code_more : (t : Site) (xs : List PrintItem) (x : PrintItem) → items_code t (xs ++ x ∷ []) ≡ items_code t xs ++ item_code (after_items t xs) x
 items_code_more t [] x = append-nil (item_code t x)
 items_code_more t (y ∷ xs) x =
     let u : Site = with_cells t (item_cells t.scope y t.cells) in
     ap (λ (c : List Placed). item_code t y ++ c) (items_code_more u xs x) ∙ sym (append_assoc (item_code t y) (items_code u xs) (item_code (after_items u xs) x))
 
-items_cells_more : (s : Scope) (xs : List Item) (x : Item) (ms : List Mode) → items_cells s (xs ++ x ∷ []) ms ≡ item_cells s x (items_cells s xs ms)
+items_cells_more : (s : Scope) (xs : List PrintItem) (x : PrintItem) (ms : List Mode) → items_cells s (xs ++ x ∷ []) ms ≡ item_cells s x (items_cells s xs ms)
 items_cells_more s [] x ms = refl
 items_cells_more s (y ∷ xs) x ms = items_cells_more s xs x (item_cells s y ms)
 
-item_high : (s : Scope) (x : Item) (ms : List Mode) → length (item_cells s x ms) ≡ length ms + item_width x
+item_high : (s : Scope) (x : PrintItem) (ms : List Mode) → length (item_cells s x ms) ≡ length ms + item_width x
 item_high s (AValue e) ms = let n : suc (length ms) ≡ length ms + 1 = omega arith in n
 item_high s (AMean k) ms = let n : length ms ≡ length ms + 0 = omega arith in n
 item_high s (AMeanOf k e) ms = let n : suc (length ms) ≡ length ms + 1 = omega arith in n
 
-items_split : (s : Scope) (xs : List Item) (x : Item) → Every (λ y. GoodItem y s) (xs ++ x ∷ []) → Every (λ y. GoodItem y s) xs × GoodItem x s
-items_split s [] x h = (tt, h.0)
-items_split s (y ∷ xs) x h = let k = items_split s xs x h.1 in ((h.0, k.0), k.1)
-
-pub items_more : (old mid new : Generator) (p q v : Lined) (here one two : Here) (xs : List Item) (x : Item) (n : ℕ) → MakesItems old mid p q here one xs → Emits mid new q v one (GoodItem x) (λ t. item_code t x) → n ≡ item_width x → one.height + n ≤ new.deepest → two.line ≡ one.line → (one.height + n < 2 ^ 64 → two.height ≡ one.height + n) → MakesItems old new p v here two (xs ++ x ∷ [])
+pub items_more : (old mid new : Generator) (p q v : Lined) (here one two : Here) (xs : List PrintItem) (x : PrintItem) (n : ℕ) → MakesItems old mid p q here one xs → Emits mid new q v one (GoodItem x) (λ t. item_code t x) → n ≡ item_width x → one.height + n ≤ new.deepest → two.line ≡ one.line → (one.height + n < 2 ^ 64 → two.height ≡ one.height + n) → MakesItems old new p v here two (xs ++ x ∷ [])
 items_more old mid new p q v here one two xs x n m k wide room line up = record {
   grows = grows_then old mid new m.grows k.grows;
   adds = λ f t u around located good.
       let mine = around_old f mid new k.grows around in
       let there = stands_old f mid new here t k.grows located in
-      let both = items_split t.scope xs x good in
+      let both = every_split (λ (y : PrintItem). GoodItem y t.scope) xs x good in
       let on = m.more f t tt mine there both.0 in
       adds_same f p v (items_code t xs ++ item_code (after_items t xs) x) (items_code t (xs ++ x ∷ [])) (sym (items_code_more t xs x))
       (adds_then f p q v (items_code t xs) (item_code (after_items t xs) x) (m.adds f t tt mine there both.0)
@@ -99,7 +92,7 @@ items_more old mid new p q v here one two xs x n m k wide room line up = record 
   more = λ f t u around located good.
       let mine = around_old f mid new k.grows around in
       let there = stands_old f mid new here t k.grows located in
-      let both = items_split t.scope xs x good in
+      let both = every_split (λ (y : PrintItem). GoodItem y t.scope) xs x good in
       let on = m.more f t tt mine there both.0 in
       let w : Site = after_items t xs in
       let z : Site = after_items t (xs ++ x ∷ []) in
@@ -114,12 +107,12 @@ items_more old mid new p q v here one two xs x n m k wide room line up = record 
 -- ## What a PRINT shows
 
 -- what items are goes by the program and the local variables
-kind_by : (s : Scope) (p : Program) (locals : List Mode) (x : Item) → s.program ≡ p → s.locals ≡ locals → kind_of s x ≡ kind_of (record { program = p; locals = locals; is_main = false }) x
+kind_by : (s : Scope) (p : Program) (locals : List Mode) (x : PrintItem) → s.program ≡ p → s.locals ≡ locals → kind_of s x ≡ kind_of (record { program = p; locals = locals; is_main = false }) x
 kind_by s p locals (AValue e) q l = ap value_kind (mode_by s p locals e q l)
 kind_by s p locals (AMean k) q l = refl
 kind_by s p locals (AMeanOf k e) q l = refl
 
-kinds_by : (s : Scope) (p : Program) (locals : List Mode) (xs : List Item) → s.program ≡ p → s.locals ≡ locals → map (kind_of s) xs ≡ map (kind_of (record { program = p; locals = locals; is_main = false })) xs
+kinds_by : (s : Scope) (p : Program) (locals : List Mode) (xs : List PrintItem) → s.program ≡ p → s.locals ≡ locals → map (kind_of s) xs ≡ map (kind_of (record { program = p; locals = locals; is_main = false })) xs
 kinds_by s p locals [] q l = refl
 kinds_by s p locals (x ∷ xs) q l =
     let t : Scope = record { program = p; locals = locals; is_main = false } in
@@ -130,7 +123,7 @@ value_onto modes.Integer ks ms = refl
 value_onto modes.Alpha ks ms = refl
 
 -- the cells that items take have the modes of what they are
-cells_onto : (s : Scope) (xs : List Item) (ms : List Mode) → items_cells s xs ms ≡ onto (item_modes (map (kind_of s) xs)) ms
+cells_onto : (s : Scope) (xs : List PrintItem) (ms : List Mode) → items_cells s xs ms ≡ onto (item_modes (map (kind_of s) xs)) ms
 cells_onto s [] ms = refl
 cells_onto s (AValue e ∷ xs) ms = cells_onto s xs (expression_mode s e ∷ ms) ∙ sym (value_onto (expression_mode s e) (map (kind_of s) xs) ms)
 cells_onto s (AMean k ∷ xs) ms = cells_onto s xs ms
@@ -140,12 +133,12 @@ value_said : (m : Mode) → kind_of_item (value_kind m) ≡ i.ShowsValue
 value_said modes.Integer = refl
 value_said modes.Alpha = refl
 
-kind_said : (s : Scope) (x : Item) → kind_of_item (kind_of s x) ≡ item_kind x
+kind_said : (s : Scope) (x : PrintItem) → kind_of_item (kind_of s x) ≡ item_kind x
 kind_said s (AValue e) = value_said (expression_mode s e)
 kind_said s (AMean k) = refl
 kind_said s (AMeanOf k e) = refl
 
-kinds_said : (s : Scope) (xs : List Item) → map kind_of_item (map (kind_of s) xs) ≡ map item_kind xs
+kinds_said : (s : Scope) (xs : List PrintItem) → map kind_of_item (map (kind_of s) xs) ≡ map item_kind xs
 kinds_said s [] = refl
 kinds_said s (x ∷ xs) = ap (λ (k : i.ItemKind). k ∷ map kind_of_item (map (kind_of s) xs)) (kind_said s x) ∙ ap (λ (ks : List i.ItemKind). item_kind x ∷ ks) (kinds_said s xs)
 
@@ -154,7 +147,7 @@ at_front [] v rest = refl
 at_front (x ∷ before) v rest = at_front before v rest
 
 -- the PRINT after its items
-pub printed : (old mid new : Generator) (p q v : Lined) (here : Here) (old_prints new_prints : List RunningLines) (xs : List Item) (pictures : List (List ℕ)) (made : RunningLines) (n cell : ℕ) → Grows old mid → MakesAll mid new p q here xs → made ≡ record { pictures = pictures; items = map (kind_of (scope_of old.program.now old.locals.items)) xs } → new_prints ≡ old_prints ++ made ∷ [] → n ≡ length old_prints → cell ≡ length new.locals.items + here.height → v.instructions ≡ q.instructions ++ r.Print n cell ∷ [] → v.lines ≡ q.lines ++ here.line ∷ [] → PrintsLines old new p v here old_prints new_prints xs pictures
+pub printed : (old mid new : Generator) (p q v : Lined) (here : Here) (old_prints new_prints : List RunningLines) (xs : List PrintItem) (pictures : List (List ℕ)) (made : RunningLines) (n cell : ℕ) → Grows old mid → MakesAll mid new p q here xs → made ≡ record { pictures = pictures; items = map (kind_of (scope_of old.program.now old.locals.items)) xs } → new_prints ≡ old_prints ++ made ∷ [] → n ≡ length old_prints → cell ≡ length new.locals.items + here.height → v.instructions ≡ q.instructions ++ r.Print n cell ∷ [] → v.lines ≡ q.lines ++ here.line ∷ [] → PrintsLines old new p v here old_prints new_prints xs pictures
 printed old mid new p q v here old_prints new_prints xs pictures made n cell g m is_made prints is_n is_cell is ls =
     let s : Scope = scope_of old.program.now old.locals.items in
     let said : lines_of made ≡ lines_said xs pictures =
@@ -183,7 +176,7 @@ printed old mid new p q v here old_prints new_prints xs pictures made n cell g m
     }
 
 -- all items
-pub items_done : (old mid new : Generator) (p q : Lined) (here next : Here) (xs : List Item) → Grows old mid → MakesItems mid new p q here next xs → MakesAll old new p q here xs
+pub items_done : (old mid new : Generator) (p q : Lined) (here next : Here) (xs : List PrintItem) → Grows old mid → MakesItems mid new p q here next xs → MakesAll old new p q here xs
 items_done old mid new p q here next xs g m = record {
   grows = grows_then old mid new g m.grows;
   adds = m.adds;

@@ -14,17 +14,18 @@ use Rattle.ss_code_pieces.specs.Lined.{Lined}
 use Rattle.ss_code_generator.specs.Emitted.{Emits}
 use Rattle.ss_code_generator.proofs.Emitting.{around_old, grows_then, stands_old, adds_then, adds_one, adds_same}
 
+-- what is so of all things, with one of them more
+pub every_split : {A : Type 0} (P : A → Type 0) (xs : List A) (x : A) → Every P (xs ++ x ∷ []) → Every P xs × P x
+every_split P [] x h = (tt, h.0)
+every_split P (y ∷ xs) x h = let k = every_split P xs x h.1 in ((h.0, k.0), k.1)
+
 -- code of things that all find the same cells: each thing's own, one after the other
 module _ {A : Type 0} (P : A → Scope → Type 0) (own : Site → A → List Placed) (all : Site → List A → List Placed) (joined : (t : Site) (xs : List A) (x : A) → all t (xs ++ x ∷ []) ≡ all t xs ++ own t x) where
-  split : (s : Scope) (xs : List A) (x : A) → Every (λ y. P y s) (xs ++ x ∷ []) → Every (λ y. P y s) xs × P x s
-  split s [] x h = (tt, h.0)
-  split s (y ∷ xs) x h = let k = split s xs x h.1 in ((h.0, k.0), k.1)
-
   pub listed_more : (old mid new : Generator) (p q r : Lined) (here : Here) (xs : List A) (x : A) → Emits old mid p q here (λ s. Every (λ y. P y s) xs) (λ t. all t xs) → Emits mid new q r here (P x) (λ t. own t x) → Emits old new p r here (λ s. Every (λ y. P y s) (xs ++ x ∷ [])) (λ t. all t (xs ++ x ∷ []))
   listed_more old mid new p q r here xs x m n = record {
     grows = grows_then old mid new m.grows n.grows;
     adds = λ f t u around located good.
-        let both = split t.scope xs x good in
+        let both = every_split (λ (y : A). P y t.scope) xs x good in
         adds_same f p r (all t xs ++ own t x) (all t (xs ++ x ∷ [])) (sym (joined t xs x))
         (adds_then f p q r (all t xs) (own t x) (m.adds f t tt (around_old f mid new n.grows around) (stands_old f mid new here t n.grows located) both.0) (n.adds f t tt around located both.1));
     more = λ f t u around located good. tt;

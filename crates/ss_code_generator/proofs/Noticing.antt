@@ -7,7 +7,7 @@ use Rattle.ss_base.specs.declared.layout.Mode.{Mode}
 use Rattle.ss_base.specs.declared.layout.Mode.TheVariants.{Integer}
 use Rattle.ss_program.specs.declared.sections.Statistic.{Statistic}
 use Rattle.ss_program.specs.declared.sections.Subject.TheVariants.{OfAttribute}
-use Rattle.ss_program.specs.Program.{Program, Expression, Place, ToVariable, ToAttribute, ToCount, When, At, In, Restart, ScheduleNew, Schedule, Cancel}
+use Rattle.ss_program.specs.Program.{Program, Expression, Place, ToVariable, ToAttribute, ToCount, When, At, In, Restart, ScheduleNew, Schedule}
 use Rattle.ss_program.specs.WellTyped.{Scope, HasMode, GoodWhen, GoodRestart, GoodGiven, Good, TakesMode}
 use Rattle.ss_code_instructions.specs.declared.address.Address.{Address}
 use Rattle.ss_code_instructions.specs.declared.instruction.Instruction.{Instruction as Running}
@@ -33,7 +33,6 @@ use Rattle.ss_code_generator.specs.Notices.{any_watched, named_at, named_code, N
 use Rattle.ss_code_generator.proofs.Emitting.{around_old, grows_same, grows_then, stands_old, stands_above, adds_then, adds_one, adds_same}
 use Rattle.ss_code_generator.proofs.Modes.{on_top}
 use Rattle.ss_code_generator.proofs.Operands.{read_stands, cell_at_site, operand_at, stays_at}
-use Rattle.ss_code_generator.proofs.Testing.{bearer_at}
 use Rattle.ss_code_generator.proofs.Spotted.{stored}
 use Rattle.ss_code_generator.proofs.Letting.{MakesSpot, Lands, spot_stands, holds_mode}
 
@@ -272,7 +271,7 @@ schedule_new_made old g1 g2 g3 new p q v w z y end here one higher class x given
   more = λ f t u around located good. tt;
 }
 
--- ## SCHEDULE THE, and CANCEL
+-- ## SCHEDULE THE
 
 pub schedule_made : (old g1 new : Generator) (p q v w z : Lined) (here one : Here) (class : ℕ) (e : Expression) (o : Read) (given : List Expression) (when : When) (cell : ℕ) (noted : Bool) → Reads old g1 p q here e o → v.instructions ≡ q.instructions ++ r.LookEntity class o.address ∷ [] → v.lines ≡ q.lines ++ here.line ∷ [] → one.line ≡ here.line → (here.height + o.cells < 2 ^ 64 → one.height ≡ here.height + o.cells) → Emits g1 new v w one (λ k. Every (λ e. Typed e k) given × GoodWhen k when) (λ t. values_code t given ++ when_code (after_values t given) when) → (new.deepest < 2 ^ 64 → one.height + length given < new.deepest) → cell ≡ length new.locals.items + one.height → noted ≡ any_watched new.program.now.statistics.items class (length given) → z.instructions ≡ w.instructions ++ r.Reschedule class o.address cell (length given) noted ∷ [] → z.lines ≡ w.lines ++ here.line ∷ [] → Emits old new p z here (λ k. Good k (Schedule here.line class e given when)) (λ t. schedule_code t class e given when)
 schedule_made old g1 new p q v w z here one class e o given when cell noted m look look_line line up n room is_cell is_noted made made_line = record {
@@ -305,17 +304,6 @@ schedule_made old g1 new p q v w z here one class e o given when cell noted m lo
   more = λ f t u around located good. tt;
 }
 
-pub cancelled : (old new : Generator) (p q v : Lined) (here : Here) (class : ℕ) (e : Expression) (o : Read) → Reads old new p q here e o → v.instructions ≡ q.instructions ++ r.Cancel class o.address ∷ [] → v.lines ≡ q.lines ++ here.line ∷ [] → Emits old new p v here (λ k. Good k (Cancel here.line class e)) (λ t. with_operand t e (i.Cancel class))
-cancelled old new p q v here class e o m is ls = record {
-  grows = m.grows;
-  adds = λ f t u around located good.
-      let typed : Typed e t.scope = (Integer, good.1) in
-      let read = m.more f t tt around located typed in
-      adds_then f p q v (operand_code t e) (place (after t e) (i.Cancel class (operand t e)) ∷ []) (m.adds f t tt around located typed)
-      (adds_one f q v here.line (place (after t e) (i.Cancel class (operand t e))) (r.Cancel class o.address) is ls located.line (record { carries = (operand t e, read.at, refl); deep = read.deep; shown = tt }));
-  more = λ f t u around located good. tt;
-}
-
 -- ## RESET
 
 restart_numbers : (s : Scope) (k : ℕ) (e : Option Expression) → GoodRestart s k e → AreNumbers e s
@@ -333,6 +321,6 @@ restarted old new p q v here x o m is ls = record {
       adds_same f p v (bearer_code t x.of ++ place u ins ∷ []) (restarts_code t (x ∷ [])) (sym (append-nil (bearer_code t x.of ++ place u ins ∷ [])))
       (adds_then f p q v (bearer_code t x.of) (place u ins ∷ []) (m.adds f t tt around located numbers)
       (adds_one f q v here.line (place u ins) (r.Reset x.statistic o.address) is ls located.line
-      (record { carries = (bearer t x.of, bearer_at f t u (bearer t x.of) o.address refl read.at, refl); deep = read.deep; shown = tt })));
+      (record { carries = (bearer t x.of, read.at, refl); deep = read.deep; shown = tt })));
   more = λ f t u around located good. tt;
 }

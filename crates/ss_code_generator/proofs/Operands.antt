@@ -1,6 +1,6 @@
 -- Operands, and instructions that read them.
 use Rattle.std.proofs.Common.{◌≡◌, suc, ◌+◌, ◌<◌, ◌^◌, List, [], ◌∷◌, ◌++◌, length, Option, Some, None, Result, Ok, Err, refl, sym, ap, ◌∙◌, subst, arith}
-use Rattle.std.specs.Prelude.{slice_get, IfOk}
+use Rattle.std.specs.Prelude.{IfOk}
 use Rattle.ss_base.specs.declared.layout.Mode.{Mode}
 use Rattle.ss_program.specs.Program.{Expression}
 use Rattle.ss_program.specs.WellTyped.{Scope}
@@ -102,7 +102,7 @@ entity_bears old new p q here e o m = record {
       record { at = r.at; high = r.high; deep = r.deep };
 }
 
--- the same of a call
+-- an operand that a call gives is one of an owner
 pub entity_ok : {E : Type 0} (r : Result Read E) (old new : Generator) (p q : Lined) (here : Here) (e : Expression) → IfOk r (λ o. Reads old new p q here e o) → IfOk r (λ o. Bears old new p q here (Some e) o)
 entity_ok (Ok o) old new p q here e h = entity_bears old new p q here e o h
 entity_ok (Err x) old new p q here e h = tt

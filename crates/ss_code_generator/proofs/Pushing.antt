@@ -8,7 +8,7 @@ use Rattle.ss_program.specs.Program.{Expression}
 use Rattle.ss_program.specs.View.{view_expression}
 use Rattle.ss_code_instructions.specs.declared.address.Address.{Address}
 use Rattle.ss_code_instructions.specs.declared.instruction.Instruction.TheVariants as r
-use Rattle.ss_code_instructions.specs.Instructions.{Constant, Stays, Instruction, Placed}
+use Rattle.ss_code_instructions.specs.Instructions.{Constant, Instruction, Placed}
 use Rattle.ss_code_instructions.specs.Instructions as i
 use Rattle.ss_code_instructions.specs.Translation.{Site, height, place, next, above, expression_mode, expression_code, values_code, after_values, take_code}
 use Rattle.ss_code_instructions.specs.Carried.{InFrame}
@@ -21,6 +21,7 @@ use Rattle.ss_code_generator.specs.Emitted.{Final, Around, Grows, Emits, AtOpera
 use Rattle.ss_code_generator.specs.Looped.{TakesItem, TakesItems}
 use Rattle.ss_code_generator.proofs.Emitting.{around_old, grows_same, grows_then, stands_old, stands_above, adds_then, adds_one, adds_piece, adds_same, piece_long}
 use Rattle.ss_code_generator.proofs.Operands.{cell_at_site}
+use Rattle.ss_code_generator.proofs.Listed.{every_split}
 use Rattle.ss_code_pieces.proofs.Steps.{next_taken, taken_long}
 use Rattle.std.proofs.lemmas.List.{take_all}
 
@@ -44,10 +45,6 @@ values_code_more t (x ∷ es) e =
     let u : Site = above t (expression_mode t.scope x) in
     let last : List Placed = expression_code (after_values u es) (next (after_values u es)) e in
     ap (λ (c : List Placed). expression_code t (next t) x ++ c) (values_code_more u es e) ∙ sym (append_assoc (expression_code t (next t) x) (values_code u es) last)
-
-every_split : {A : Type 0} (P : A → Type 0) (xs : List A) (x : A) → Every P (xs ++ x ∷ []) → Every P xs × P x
-every_split P [] x h = (tt, h.0)
-every_split P (y ∷ xs) x h = let k = every_split P xs x h.1 in ((h.0, k.0), k.1)
 
 pub values_more : (old mid new : Generator) (p q s : Lined) (here higher : Here) (es : List Expression) (e : Expression) → Emits old mid p q here (λ k. Every (λ x. Typed x k) es) (λ t. values_code t es) → here.height + length es ≤ mid.deepest → higher.line ≡ here.line → (here.height + length es < 2 ^ 64 → higher.height ≡ here.height + length es) → Emits mid new q s higher (Typed e) (λ t. expression_code t (next t) e) → Emits old new p s here (λ k. Every (λ x. Typed x k) (es ++ e ∷ [])) (λ t. values_code t (es ++ e ∷ []))
 values_more old mid new p q s here higher es e m room line above_ n = record {

@@ -3,21 +3,18 @@ use Rattle.std.proofs.Common.{◌≡◌, ℕ, ◌+◌, ◌-◌, ◌<◌, ◌≤�
 use Rattle.std.specs.Prelude.{IfSome}
 use Rattle.std.specs.List.{AllByRecursion as Every}
 use Rattle.ss_base.specs.declared.line.Line.{Line}
-use Rattle.ss_base.specs.declared.value.Value.{Value}
-use Rattle.ss_base.specs.declared.layout.Mode.{Mode}
 use Rattle.ss_base.specs.declared.layout.Mode.TheVariants.{Integer}
 use Rattle.ss_program.specs.declared.expression.Variable.{Variable}
 use Rattle.ss_program.specs.Program.{Expression, SetOwner, TheSystem, Entity, Start, AtEnd, From, After, Head, Numbers, Members, Each, Guard, Phrase}
-use Rattle.ss_program.specs.WellTyped.{Scope, OwnerFits, GoodHead, GoodPhrase, GoodCondition, HasMode}
+use Rattle.ss_program.specs.WellTyped.{Scope, GoodHead, GoodPhrase, GoodCondition, HasMode}
 use Rattle.ss_code_instructions.specs.declared.address.Address.{Address}
 use Rattle.ss_code_instructions.specs.declared.instruction.Instruction.{Instruction as Running}
 use Rattle.ss_code_instructions.specs.declared.instruction.Instruction.TheVariants as r
-use Rattle.ss_code_instructions.specs.Instructions.{Bearer, Target, Placed}
+use Rattle.ss_code_instructions.specs.Instructions.{Bearer, Placed}
 use Rattle.ss_code_instructions.specs.Instructions as i
 use Rattle.ss_code_instructions.specs.Facts.{expression_of}
-use Rattle.ss_code_instructions.specs.Translation.{Site, height, place, next, above, forget, forget_to, expression_code, guards_code, loop_code, take_code, turns_code, step_code, range_code, number_loop, walk_loop, owner_code, owner_cell, owner_kept, start_code, begin_code, in_loop, phrases_code, for_code, find_code, code_of}
-use Rattle.ss_code_instructions.specs.Machine.{Code}
-use Rattle.ss_code_instructions.specs.Carried.{OperandAt, BearerAt, InFrame}
+use Rattle.ss_code_instructions.specs.Translation.{Site, height, place, next, above, forget, forget_to, expression_code, guards_code, loop_code, take_code, turns_code, step_code, range_code, number_loop, walk_loop, owner_code, owner_cell, owner_kept, start_code, begin_code, in_loop, phrases_code, for_code, find_code}
+use Rattle.ss_code_instructions.specs.Carried.{InFrame}
 use Rattle.ss_code_generator.specs.declared.expressions.Operand.{Operand as Read}
 use Rattle.ss_code_generator.specs.declared.generator.Generator.{Generator}
 use Rattle.ss_code_generator.specs.declared.generator.Site.{Site as Here}
@@ -26,9 +23,10 @@ use Rattle.ss_code_generator.specs.declared.targets.VariableSpot.{VariableSpot}
 use Rattle.ss_code_pieces.specs.Lined.{Lined, nothing}
 use Rattle.ss_code_generator.specs.Emitted.{Final, Around, Grows, IsLocated, Adds, Runs, Emits, EmitsAround, EmitsAroundBoth, AtBearer, Bears, Typed, IsNumber, AreNumbers}
 use Rattle.ss_code_generator.specs.Spots.{IsVariable}
-use Rattle.ss_code_generator.specs.Looped.{loop_width, is_after, begin_of, TakesItem, TakesItems, TakesMembers, KeepsOwner, StartsWalk, Walking}
+use Rattle.ss_code_generator.specs.Looped.{loop_width, is_after, begin_of, items_begin, begins_items, item_loop_code, TakesItem, TakesItems, TakesMembers, KeepsOwner, StartsWalk, Walking}
 use Rattle.ss_code_generator.proofs.Emitting.{around_old, grows_same, grows_then, stands_old, stands_new, stands_above, adds_none, adds_then, adds_one, adds_piece, adds_same, piece_long}
 use Rattle.ss_code_generator.proofs.Operands.{cell_at_site}
+use Rattle.ss_code_generator.proofs.Testing.{owner_number}
 
 -- ## Instructions one after another
 
@@ -50,18 +48,6 @@ join_one f p q following c j h = adds_piece f p q following c j.instructions j.l
 -- a site that located where the generator is, and one some cells above it
 higher : (f : Final) (g : Generator) (here above_here : Here) (t u : Site) (k : ℕ) → Around f g → IsLocated f g here t → above_here.line ≡ here.line → (here.height + k < 2 ^ 64 → above_here.height ≡ here.height + k) → u.scope ≡ t.scope → u.line ≡ t.line → height u ≡ height t + k → height u ≤ f.depth → IsLocated f g above_here u
 higher f g here above_here t u k around located line up scope same high deep = stands_above f g here above_here t u k around.small located line up scope same high deep
-
--- ## Addresses: they go by the section alone
-
-pub operand_here : (code : Code) (constants : List Value) (x z : Placed) (y : i.Operand) (a : Address) → z.locals ≡ x.locals → OperandAt code constants x y a → OperandAt code constants z y a
-operand_here code constants x z (i.Constant v) a e h = h
-operand_here code constants x z (i.Held k) a e h = h
-operand_here code constants x z (i.Taken k) a e h = (h.0, h.1 ∙ sym (ap (λ (l : List Mode). length l + k) e))
-operand_here code constants x z (i.Stays k) a e h = (h.0, h.1 ∙ sym (ap (λ (l : List Mode). length l + k) e))
-
-pub bearer_here : (code : Code) (constants : List Value) (x z : Placed) (y : Bearer) (a : Address) → z.locals ≡ x.locals → BearerAt code constants x y a → BearerAt code constants z y a
-bearer_here code constants x z None a e h = h
-bearer_here code constants x z (Some y) a e h = operand_here code constants x z y a e h
 
 -- ## WHILE and UNTIL
 
@@ -117,19 +103,11 @@ members_taken g a b c turn here w back m both back_is last = record {
       ap (λ s. i.NextMember w.reverse s x.owner x.cell (length head + length x.turn)) (sym set) ∙ ap (i.NextMember w.reverse w.set x.owner x.cell) (sym back_long) in
       adds_then f nothing a c head (x.turn ++ place u again ∷ []) one
       (adds_then f a b c x.turn (place u again ∷ []) two
-      (put_one f g here u b c again (r.NextMember w.set w.owner w.cell back w.reverse false) located last (record { carries = (x.owner, bearer_here (code_of f.program) f.constants (place u i.Leave) (place u again) x.owner w.owner refl owner, (x.cell, fits.0.3, is_that)); deep = located.deep; shown = tt })));
+      (put_one f g here u b c again (r.NextMember w.set w.owner w.cell back w.reverse false) located last (record { carries = (x.owner, owner, (x.cell, fits.0.3, is_that)); deep = located.deep; shown = tt })));
   more = λ f u x around located fits. tt;
 }
 
 -- ## The head of a loop over numbers
-
--- what is good enough for one is good enough for the other
-pub emits_where : (g0 g1 : Generator) (p q : Lined) (here : Here) (Good Less : Scope → Type 0) (c : Site → List Placed) → ((s : Scope) → Less s → Good s) → Emits g0 g1 p q here Good c → Emits g0 g1 p q here Less c
-emits_where g0 g1 p q here Good Less c h m = record {
-  grows = m.grows;
-  adds = λ f t u around located less. m.adds f t u around located (h t.scope less);
-  more = λ f t u around located less. tt;
-}
 
 -- the first number, the limit and the step
 pub ranged : (g0 g1 g2 g3 : Generator) (p q s v : Lined) (here second third : Here) (a b : Expression) (c : Option Expression) (Also : Scope → Type 0) → Emits g0 g1 p q here (Typed a) (λ t. expression_code t (next t) a) → Emits g1 g2 q s second (Typed b) (λ t. expression_code t (next t) b) → Emits g2 g3 s v third Also (λ t. step_code t c) → second.line ≡ here.line → third.line ≡ here.line → (here.height + 1 < 2 ^ 64 → second.height ≡ here.height + 1) → (here.height + 2 < 2 ^ 64 → third.height ≡ here.height + 2) → here.height < g1.deepest → second.height < g2.deepest → ((s : Scope) → AreNumbers c s → Also s) → Emits g0 g3 p v here (λ s. IsNumber a s × IsNumber b s × AreNumbers c s) (λ t. range_code t a b c)
@@ -156,57 +134,47 @@ ranged g0 g1 g2 g3 p q s v here second third a b c Also m n o line1 line2 high1 
   more = λ f t u around located good. tt;
 }
 
--- a range leaves three cells
-pub range_room : (g1 g2 g3 : Generator) (here second third : Here) → Grows g1 g2 → Grows g2 g3 → (here.height + 1 < 2 ^ 64 → second.height ≡ here.height + 1) → (here.height + 2 < 2 ^ 64 → third.height ≡ here.height + 2) → here.height < g1.deepest → second.height < g2.deepest → third.height < g3.deepest → (f : Final) → Around f g3 → here.height + 3 ≤ f.depth
-range_room g1 g2 g3 here second third grows1 grows2 high1 high2 room1 room2 room3 f around =
-    let fits1 : here.height + 1 < 2 ^ 64 = omega (arith, room1, grows1.depth, grows2.depth, around.depth, around.small) in
-    let fits2 : here.height + 2 < 2 ^ 64 = omega (arith, high1 fits1, room2, grows2.depth, around.depth, around.small) in
-    omega (arith, high2 fits2, room3, around.depth)
-
 -- ## FOR over numbers, and over a class
 
 -- three cells are forgotten at the end
 three_up : (t : Site) → height (number_loop t) - height t ≡ 3
 three_up t = omega arith
 
-module _ (g : Generator) (here above_here : Here) (cell skip : ℕ) (spot : VariableSpot) (turn items : Lined) (x : Variable) (line : above_here.line ≡ here.line) (up : here.height + 3 < 2 ^ 64 → above_here.height ≡ here.height + 3) (at : cell ≡ length g.locals.items + here.height) (is : (f : Final) (h : Here) (t : Site) → Around f g → IsLocated f g h t → IsVariable t x spot) (m : TakesItems g items above_here cell spot turn) where
-  -- what is so in the loop
-  pub record InLoop (f : Final) (t : Site) (b : List Placed) : Type 0 where
-    pub located : IsLocated f g above_here (number_loop t)
-    pub cell_at : cell ≡ length t.scope.locals + height t
-    pub made : Adds f nothing items (turns_code (number_loop t) (height t) x b (i.Next (height t)))
+-- the instruction with which it begins
+items_begun : (f : Final) (g : Generator) (here above_here : Here) (t : Site) (class : Option ℕ) (cell skip n : ℕ) (p q : Lined) → IsLocated f g here t → IsLocated f g above_here (number_loop t) → above_here.line ≡ here.line → cell ≡ length t.scope.locals + height t → skip ≡ n → Puts p q here (items_begin class cell skip) → Adds f p q (begins_items t class n ∷ [])
+items_begun f g here above_here t None cell skip n p q located on_top line at long put =
+    put_one f g above_here (number_loop t) p q (i.Begin (height t) n) (r.Begin cell skip) on_top (record { instructions = put.instructions; lines = put.lines ∙ ap (λ (l : Line). p.lines ++ l ∷ []) (sym line) })
+    (record { carries = (height t, at, ap (i.Begin (height t)) (sym long)); deep = on_top.deep; shown = tt })
+items_begun f g here above_here t (Some class) cell skip n p q located on_top line at long put =
+    put_one f g here t p q (i.BeginClass class (height t) n) (r.BeginClass class cell skip) located put (record { carries = (height t, at, ap (i.BeginClass class (height t)) (sym long)); deep = located.deep; shown = tt })
 
-  pub in_number_loop : (f : Final) (t : Site) (b : List Placed) → Around f g → IsLocated f g here t → here.height + 3 ≤ f.depth → Adds f nothing turn b → InLoop f t b
-  in_number_loop f t b around located room done =
-      let u : Site = number_loop t in
-      let tall : height u ≡ height t + 3 = omega arith in
-      let deep : height u ≤ f.depth = omega (arith, tall, located.high, room) in
-      let higher_up = higher f g here above_here t u 3 around located line up refl refl tall deep in
-      let locals : length t.scope.locals ≡ length g.locals.items = ap length located.locals in
-      let cell_is : cell ≡ length t.scope.locals + height t = omega (arith, at, locals, located.high) in
-      record {
-        located = higher_up;
-        cell_at = cell_is;
-        made = m.adds f u (record { variable = x; cell = height t; turn = b }) around higher_up ((is f above_here u around higher_up, cell_is), done);
-      }
-
-pub numbers_looped : (g0 g : Generator) (p q q1 q2 q3 : Lined) (here above_here : Here) (cell skip : ℕ) (spot : VariableSpot) (turn items : Lined) (x : Variable) (a b : Expression) (c : Option Expression) → above_here.line ≡ here.line → (here.height + 3 < 2 ^ 64 → above_here.height ≡ here.height + 3) → cell ≡ length g.locals.items + here.height → ((f : Final) (h : Here) (t : Site) → Around f g → IsLocated f g h t → IsVariable t x spot) → TakesItems g items above_here cell spot turn → Emits g0 g p q here (λ s. IsNumber a s × IsNumber b s × AreNumbers c s) (λ t. range_code t a b c) → ((f : Final) → Around f g → here.height + 3 ≤ f.depth) → skip ≡ length items.instructions → Puts q q1 here (r.Begin cell skip) → Joins q1 q2 items → Emits g g q2 q3 above_here (λ s. Unit {0}) (λ u. forget u 3) → EmitsAround g0 g p q3 here turn (λ s. GoodHead s (Numbers x a b c)) (λ t b'. for_code t (Numbers x a b c) b')
-numbers_looped g0 g p q q1 q2 q3 here above_here cell skip spot turn items x a b c line up at is m range room skip_is put join forgets = record {
-  grows = range.grows;
+pub items_looped : (g0 g : Generator) (p q q1 q2 : Lined) (here above_here : Here) (class : Option ℕ) (cell skip : ℕ) (spot : VariableSpot) (turn items : Lined) (x : Variable) → above_here.line ≡ here.line → (here.height + 3 < 2 ^ 64 → above_here.height ≡ here.height + 3) → Grows g0 g → above_here.height ≤ g.deepest → cell ≡ length g.locals.items + here.height → ((f : Final) (h : Here) (t : Site) → Around f g → IsLocated f g h t → IsVariable t x spot) → TakesItems g items above_here cell spot turn → skip ≡ length items.instructions → Puts p q here (items_begin class cell skip) → Joins q q1 items → Emits g g q1 q2 above_here (λ s. Unit {0}) (λ u. forget u 3) → EmitsAround g0 g p q2 here turn (λ s. Unit {0}) (λ t b. item_loop_code t class x b)
+items_looped g0 g p q q1 q2 here above_here class cell skip spot turn items x line up grows room at is m skip_is put join forgets = record {
+  grows = grows;
   adds = λ f t body around located fits.
       let u : Site = number_loop t in
-      let l = in_number_loop g here above_here cell skip spot turn items x line up at is m f t body around located (room f around) fits.0 in
+      let fit : here.height + 3 < 2 ^ 64 = omega (arith, located.high, located.deep, around.small) in
+      let tall : height u ≡ height t + 3 = omega arith in
+      let deep : height u ≤ f.depth = omega (arith, tall, located.high, up fit, room, around.depth) in
+      let on_top : IsLocated f g above_here u = higher f g here above_here t u 3 around located line up refl refl tall deep in
+      let locals : length t.scope.locals ≡ length g.locals.items = ap length located.locals in
+      let cell_is : cell ≡ length t.scope.locals + height t = omega (arith, at, locals, located.high) in
       let turns : List Placed = turns_code u (height t) x body (i.Next (height t)) in
-      let long : skip ≡ length turns = skip_is ∙ piece_long f items turns l.made in
-      let begins : i.Instruction = i.Begin (height t) (length turns) in
-      let begun : Adds f q q1 (place u begins ∷ []) =
-      put_one f g above_here u q q1 begins (r.Begin cell skip) l.located (record { instructions = put.instructions; lines = put.lines ∙ ap (λ k. q.lines ++ k ∷ []) (sym line) })
-      (record { carries = (height t, l.cell_at, ap (i.Begin (height t)) (sym long)); deep = l.located.deep; shown = tt }) in
-      let gone : Adds f q2 q3 (forget_to t u) = adds_same f q2 q3 (forget u 3) (forget_to t u) (ap (forget u) (sym (three_up t))) (forgets.adds f u tt around l.located tt) in
-      let good : IsNumber a t.scope × IsNumber b t.scope × AreNumbers c t.scope = (fits.1.1, fits.1.2, are_numbers c t.scope fits.1.3) in
-      adds_then f p q q3 (range_code t a b c) (place u begins ∷ (turns ++ forget_to t u)) (range.adds f t tt around located good)
-      (adds_then f q q1 q3 (place u begins ∷ []) (turns ++ forget_to t u) begun
-      (adds_then f q1 q2 q3 turns (forget_to t u) (join_one f q1 q2 items turns join l.made) gone));
+      let made : Adds f nothing items turns = m.adds f u (record { variable = x; cell = height t; turn = body }) around on_top ((is f above_here u around on_top, cell_is), fits.0) in
+      let long : skip ≡ length turns = skip_is ∙ piece_long f items turns made in
+      let gone : Adds f q1 q2 (forget_to t u) = adds_same f q1 q2 (forget u 3) (forget_to t u) (ap (forget u) (sym (three_up t))) (forgets.adds f u tt around on_top tt) in
+      adds_then f p q q2 (begins_items t class (length turns) ∷ []) (turns ++ forget_to t u) (items_begun f g here above_here t class cell skip (length turns) p q located on_top line cell_is long put)
+      (adds_then f q q1 q2 turns (forget_to t u) (join_one f q q1 items turns join made) gone);
+  more = λ f t body around located fits. tt;
+}
+
+-- numbers have a range before that
+pub range_looped : (g0 g1 g2 : Generator) (p q s turn : Lined) (here : Here) (x : Variable) (a b : Expression) (c : Option Expression) → Emits g0 g1 p q here (λ k. IsNumber a k × IsNumber b k × AreNumbers c k) (λ t. range_code t a b c) → EmitsAround g1 g2 q s here turn (λ k. Unit {0}) (λ t body. item_loop_code t None x body) → EmitsAround g0 g2 p s here turn (λ k. GoodHead k (Numbers x a b c)) (λ t body. for_code t (Numbers x a b c) body)
+range_looped g0 g1 g2 p q s turn here x a b c m n = record {
+  grows = grows_then g0 g1 g2 m.grows n.grows;
+  adds = λ f t body around located fits.
+      adds_then f p q s (range_code t a b c) (item_loop_code t None x body)
+      (m.adds f t tt (around_old f g1 g2 n.grows around) (stands_old f g1 g2 here t n.grows located) (fits.1.1, fits.1.2, are_numbers c t.scope fits.1.3)) (n.adds f t body around located (fits.0, tt));
   more = λ f t body around located fits. tt;
 }
   where
@@ -214,30 +182,7 @@ numbers_looped g0 g p q q1 q2 q3 here above_here cell skip spot turn items x a b
     are_numbers None s h = tt
     are_numbers (Some e) s h = h
 
-pub class_looped : (g0 g : Generator) (p q q1 q2 : Lined) (here above_here : Here) (cell skip : ℕ) (spot : VariableSpot) (turn items : Lined) (x : Variable) (class : ℕ) → above_here.line ≡ here.line → (here.height + 3 < 2 ^ 64 → above_here.height ≡ here.height + 3) → cell ≡ length g.locals.items + here.height → ((f : Final) (h : Here) (t : Site) → Around f g → IsLocated f g h t → IsVariable t x spot) → TakesItems g items above_here cell spot turn → Grows g0 g → above_here.height ≤ g.deepest → skip ≡ length items.instructions → Puts p q here (r.BeginClass class cell skip) → Joins q q1 items → Emits g g q1 q2 above_here (λ s. Unit {0}) (λ u. forget u 3) → EmitsAround g0 g p q2 here turn (λ s. GoodHead s (Each x class)) (λ t b. for_code t (Each x class) b)
-class_looped g0 g p q q1 q2 here above_here cell skip spot turn items x class line up at is m grows room skip_is put join forgets = record {
-  grows = grows;
-  adds = λ f t body around located fits.
-      let u : Site = number_loop t in
-      let fit : here.height + 3 < 2 ^ 64 = omega (arith, located.high, located.deep, around.small) in
-      let tall : here.height + 3 ≤ f.depth = omega (arith, up fit, room, around.depth) in
-      let l = in_number_loop g here above_here cell skip spot turn items x line up at is m f t body around located tall fits.0 in
-      let turns : List Placed = turns_code u (height t) x body (i.Next (height t)) in
-      let long : skip ≡ length turns = skip_is ∙ piece_long f items turns l.made in
-      let begins : i.Instruction = i.BeginClass class (height t) (length turns) in
-      let begun : Adds f p q (place t begins ∷ []) =
-      put_one f g here t p q begins (r.BeginClass class cell skip) located put (record { carries = (height t, l.cell_at, ap (i.BeginClass class (height t)) (sym long)); deep = located.deep; shown = tt }) in
-      let gone : Adds f q1 q2 (forget_to t u) = adds_same f q1 q2 (forget u 3) (forget_to t u) (ap (forget u) (sym (three_up t))) (forgets.adds f u tt around l.located tt) in
-      adds_then f p q q2 (place t begins ∷ []) (turns ++ forget_to t u) begun (adds_then f q q1 q2 turns (forget_to t u) (join_one f q q1 items turns join l.made) gone);
-  more = λ f t body around located fits. tt;
-}
-
 -- ## FOR over members
-
--- an owner that is well typed
-owner_numbers : (o : SetOwner) (s : Scope) (set : ℕ) → OwnerFits s set o → AreNumbers (expression_of o) s
-owner_numbers TheSystem s set h = tt
-owner_numbers (Entity e) s set h = h.1
 
 -- the owner stays in a cell
 pub system_kept : (g0 g1 : Generator) (p q : Lined) (here : Here) (o : Read) → Bears g0 g1 p q here None o → KeepsOwner g0 g1 p q here TheSystem o
@@ -272,39 +217,34 @@ starts_at g0 g p q s here w e put m = record {
       let member : Typed e u.scope = (Integer, fits.1) in
       adds_then f p q s (place u look ∷ []) (expression_code u (next u) e)
       (put_one f g here u p q look (r.LookOwner w.set w.owner) located put
-      (record { carries = (x.owner, bearer_here (code_of f.program) f.constants (place u i.Leave) (place u look) x.owner w.owner refl owner, ap (λ k. i.LookOwner k x.owner) (sym fits.0.1)); deep = located.deep; shown = tt }))
+      (record { carries = (x.owner, owner, ap (λ k. i.LookOwner k x.owner) (sym fits.0.1)); deep = located.deep; shown = tt }))
       (m.adds f u tt around located member);
   more = λ f u x around located fits. tt;
 }
 
--- to begin from a member or after it takes the same code before
+-- what comes before the walk is the code of a start from a member, also where it starts after that
 pub starts_after : (g0 g : Generator) (p s : Lined) (here : Here) (w : Walk) (e : Expression) → StartsWalk g0 g p s here w (From e) → StartsWalk g0 g p s here w (After e)
 starts_after g0 g p s here w e m = record { grows = m.grows; adds = λ f u x around located fits. m.adds f u x around located fits; more = λ f u x around located fits. tt }
 
+-- the instruction that begins a walk from a member, or after it
+begins_at : (f : Final) (g : Generator) (here : Here) (u : Site) (w : Walk) (set : ℕ) (owner : Bearer) (after : Bool) (skip n : ℕ) (reverse : Bool) (p q : Lined) → IsLocated f g here u → height u + 1 ≤ f.depth → w.set ≡ set → AtBearer f u owner w.owner → w.cell ≡ length u.scope.locals + height u → w.reverse ≡ reverse → skip ≡ n → Puts p q here (r.BeginAt w.set w.owner w.cell skip w.reverse after) → Adds f p q (place (above u Integer) (i.BeginAt reverse after set owner (height u) n) ∷ [])
+begins_at f g here u w set owner after skip n reverse p q located deep is at cell turned long put =
+    let ins : i.Instruction = i.BeginAt reverse after set owner (height u) n in
+    let up : Site = above u Integer in
+    let tall : length up.cells ≤ f.depth = omega (arith, deep) in
+    let same : ins ≡ i.BeginAt w.reverse after w.set owner (height u) skip = cc in
+    adds_one f p q here.line (place up ins) (r.BeginAt w.set w.owner w.cell skip w.reverse after) put.instructions put.lines located.line
+    (record { carries = (owner, at, (height u, cell, same)); deep = tall; shown = tt })
+
 -- the instruction that begins a walk
-begins : (f : Final) (g : Generator) (here : Here) (u : Site) (w : Walk) (x : Variable) (set : ℕ) (owner : Bearer) (start : Start) (skip n : ℕ) (reverse : Bool) (p q : Lined) → IsLocated f g here u → height u + 1 ≤ f.depth → w.set ≡ set → AtBearer f u owner w.owner → w.cell ≡ length u.scope.locals + height u → w.reverse ≡ reverse → skip ≡ n → Puts p q here (begin_of w (is_after start) skip) → Adds f p q (begin_code u reverse set owner start n ∷ [])
-begins f g here u w x set owner AtEnd skip n reverse p q located deep is at cell turned long put =
+begins : (f : Final) (g : Generator) (here : Here) (u : Site) (w : Walk) (set : ℕ) (owner : Bearer) (start : Start) (skip n : ℕ) (reverse : Bool) (p q : Lined) → IsLocated f g here u → height u + 1 ≤ f.depth → w.set ≡ set → AtBearer f u owner w.owner → w.cell ≡ length u.scope.locals + height u → w.reverse ≡ reverse → skip ≡ n → Puts p q here (begin_of w (is_after start) skip) → Adds f p q (begin_code u reverse set owner start n ∷ [])
+begins f g here u w set owner AtEnd skip n reverse p q located deep is at cell turned long put =
     let ins : i.Instruction = i.BeginSet reverse set owner (height u) n in
-    let same : ins ≡ i.BeginSet w.reverse w.set owner (height u) skip =
-    ap (λ (b : Bool). i.BeginSet b set owner (height u) n) (sym turned) ∙ ap (λ k. i.BeginSet w.reverse k owner (height u) n) (sym is) ∙ ap (i.BeginSet w.reverse w.set owner (height u)) (sym long) in
+    let same : ins ≡ i.BeginSet w.reverse w.set owner (height u) skip = cc in
     put_one f g here u p q ins (r.BeginSet w.set w.owner w.cell skip w.reverse) located put
-    (record { carries = (owner, bearer_here (code_of f.program) f.constants (place u i.Leave) (place u ins) owner w.owner refl at, (height u, cell, same)); deep = located.deep; shown = tt })
-begins f g here u w x set owner (From e) skip n reverse p q located deep is at cell turned long put =
-    let ins : i.Instruction = i.BeginAt reverse false set owner (height u) n in
-    let up : Site = above u Integer in
-    let tall : length up.cells ≤ f.depth = omega (arith, deep) in
-    let same : ins ≡ i.BeginAt w.reverse false w.set owner (height u) skip =
-    ap (λ (b : Bool). i.BeginAt b false set owner (height u) n) (sym turned) ∙ ap (λ k. i.BeginAt w.reverse false k owner (height u) n) (sym is) ∙ ap (i.BeginAt w.reverse false w.set owner (height u)) (sym long) in
-    adds_one f p q here.line (place up ins) (r.BeginAt w.set w.owner w.cell skip w.reverse false) put.instructions put.lines located.line
-    (record { carries = (owner, bearer_here (code_of f.program) f.constants (place u i.Leave) (place up ins) owner w.owner refl at, (height u, cell, same)); deep = tall; shown = tt })
-begins f g here u w x set owner (After e) skip n reverse p q located deep is at cell turned long put =
-    let ins : i.Instruction = i.BeginAt reverse true set owner (height u) n in
-    let up : Site = above u Integer in
-    let tall : length up.cells ≤ f.depth = omega (arith, deep) in
-    let same : ins ≡ i.BeginAt w.reverse true w.set owner (height u) skip =
-    ap (λ (b : Bool). i.BeginAt b true set owner (height u) n) (sym turned) ∙ ap (λ k. i.BeginAt w.reverse true k owner (height u) n) (sym is) ∙ ap (i.BeginAt w.reverse true w.set owner (height u)) (sym long) in
-    adds_one f p q here.line (place up ins) (r.BeginAt w.set w.owner w.cell skip w.reverse true) put.instructions put.lines located.line
-    (record { carries = (owner, bearer_here (code_of f.program) f.constants (place u i.Leave) (place up ins) owner w.owner refl at, (height u, cell, same)); deep = tall; shown = tt })
+    (record { carries = (owner, at, (height u, cell, same)); deep = located.deep; shown = tt })
+begins f g here u w set owner (From e) skip n reverse p q located deep is at cell turned long put = begins_at f g here u w set owner false skip n reverse p q located deep is at cell turned long put
+begins f g here u w set owner (After e) skip n reverse p q located deep is at cell turned long put = begins_at f g here u w set owner true skip n reverse p q located deep is at cell turned long put
 
 -- how a walk is put together
 pub record Walks (g0 g1 g2 g3 : Generator) (p q q1 q2 q3 q4 : Lined) (here below_here above_here : Here) (w : Walk) (kept : Read) (turn members : Lined) (x : Variable) (set : ℕ) (o : SetOwner) (start : Start) (reverse : Bool) : Type 0 where
@@ -339,7 +279,7 @@ members_walked g0 g1 g2 g3 p q q1 q2 q3 q4 here below_here above_here w kept tur
       let stands2 = stands_old f g2 g3 here t k.reaches located in
       let stands1 = stands_old f g1 g2 here t k.starts.grows stands2 in
       let good : GoodHead t.scope (Members x set o start reverse) = fits.1 in
-      let numbers : AreNumbers (expression_of o) t.scope = owner_numbers o t.scope set good.1 in
+      let numbers : AreNumbers (expression_of o) t.scope = owner_number t.scope set o good.1 in
       let keep = k.keeps.more f t tt around1 stands1 numbers in
       let u : Site = owner_cell t o in
       let v : Site = walk_loop t o in
@@ -353,21 +293,19 @@ members_walked g0 g1 g2 g3 p q q1 q2 q3 q4 here below_here above_here w kept tur
       let high3 : IsLocated f g3 above_here v = higher f g3 below_here above_here u v 2 around low3 k.above_line k.above_height refl refl tall deep in
       let high1 : IsLocated f g1 above_here v = stands_old f g1 g3 above_here v (grows_then g1 g2 g3 k.starts.grows k.reaches) high3 in
       let owner : AtBearer f t bearer w.owner = subst (AtBearer f t bearer) (sym k.of_owner) keep.0 in
-      let owner_u : AtBearer f u bearer w.owner = bearer_here (code_of f.program) f.constants (place t i.Leave) (place u i.Leave) bearer w.owner refl owner in
-      let owner_v : AtBearer f v bearer w.owner = bearer_here (code_of f.program) f.constants (place t i.Leave) (place v i.Leave) bearer w.owner refl owner in
       let locals : length u.scope.locals ≡ length g1.locals.items = ap length low1.locals in
       let cell : w.cell ≡ length u.scope.locals + height u = omega (arith, k.cell, locals, low1.high) in
       let walk : Walking = record { variable = x; set = set; owner = bearer; cell = height u; turn = b } in
-      let begun : Adds f q q1 (start_code u set bearer start) = k.starts.adds f u walk around2 low2 ((k.variable f below_here u around1 low1, k.of_set, owner_u, cell), good.2) in
+      let begun : Adds f q q1 (start_code u set bearer start) = k.starts.adds f u walk around2 low2 ((k.variable f below_here u around1 low1, k.of_set, owner, cell), good.2) in
       let turns : List Placed = turns_code v (height u) x b (i.NextMember reverse set bearer (height u)) in
       let same : turns_code v (height u) x b (i.NextMember w.reverse set bearer (height u)) ≡ turns = ap (λ (back : Bool). turns_code v (height u) x b (i.NextMember back set bearer (height u))) k.turned in
       let taken : Adds f nothing members turns =
-      adds_same f nothing members (turns_code v (height u) x b (i.NextMember w.reverse set bearer (height u))) turns same (k.takes.adds f v walk around high3 ((k.variable f above_here v around1 high1, k.of_set, owner_v, cell), fits.0)) in
+      adds_same f nothing members (turns_code v (height u) x b (i.NextMember w.reverse set bearer (height u))) turns same (k.takes.adds f v walk around high3 ((k.variable f above_here v around1 high1, k.of_set, owner, cell), fits.0)) in
       let long : k.skip ≡ length turns = k.skips ∙ piece_long f members turns taken in
       let room : height u + 1 ≤ f.depth = omega (arith, deep, tall) in
       let put : Puts q1 q2 below_here (begin_of w (is_after start) k.skip) = record { instructions = k.put.instructions; lines = k.put.lines ∙ ap (λ (l : Line). q1.lines ++ l ∷ []) (sym k.below_line) } in
       let begin : Adds f q1 q2 (begin_code u reverse set bearer start (length turns) ∷ []) =
-      begins f g3 below_here u w x set bearer start k.skip (length turns) reverse q1 q2 low3 room k.of_set owner_u cell k.turned long put in
+      begins f g3 below_here u w set bearer start k.skip (length turns) reverse q1 q2 low3 room k.of_set owner cell k.turned long put in
       let few : kept.cells + 2 < 2 ^ 64 = omega (arith, keep.1, keep.2, around.small) in
       let count : k.count ≡ height v - height t = omega (arith, k.counts few, tall, keep.1) in
       let gone : Adds f q3 q4 (forget_to t v) = adds_same f q3 q4 (forget v k.count) (forget_to t v) (ap (forget v) count) (k.forgets.adds f v tt around high3 tt) in

@@ -1,36 +1,30 @@
 -- What the generator emits for conditions.
-use Rattle.std.proofs.Common.{◌≡◌, ℕ, ◌+◌, ◌<◌, ◌^◌, Bool, List, [], ◌∷◌, ◌++◌, length, Option, Some, None, refl, sym, ap, ◌∙◌, subst, arith, append_assoc, append-nil, length-append}
+use Rattle.std.proofs.Common.{◌≡◌, ℕ, ◌+◌, ◌<◌, ◌^◌, Bool, List, [], ◌∷◌, ◌++◌, length, Option, Some, refl, sym, ap, ◌∙◌, subst, arith, append_assoc, append-nil, length-append}
 use Rattle.ss_base.specs.declared.layout.Mode.{Mode}
 use Rattle.ss_base.specs.declared.words.Relation.{Relation}
 use Rattle.std.specs.List.{AllByRecursion as Every}
-use Rattle.ss_program.specs.Program.{Expression, SetOwner, TheSystem, Entity, Test, Compare, Empty, Member, Condition, Guard, Phrase}
+use Rattle.ss_program.specs.Program.{Expression, SetOwner, TheSystem, Entity, Test, Compare, Empty, Condition, Guard, Phrase}
 use Rattle.ss_program.specs.WellTyped.{Scope, HasMode, OwnerFits, GoodTest, GoodCondition, GoodPhrase}
-use Rattle.ss_code_instructions.specs.declared.address.Address.{Address}
 use Rattle.ss_code_instructions.specs.declared.instruction.Instruction.TheVariants as r
-use Rattle.ss_code_instructions.specs.Instructions.{Bearer, Instruction, Placed}
+use Rattle.ss_code_instructions.specs.Instructions.{Instruction, Placed}
 use Rattle.ss_code_instructions.specs.Instructions as i
-use Rattle.ss_code_instructions.specs.Facts.{expression_of, may_fault}
-use Rattle.ss_code_instructions.specs.Translation.{Site, place, operand, operand_code, after, bearer, bearer_code, after_bearer, member_code, test_code, tests_code, condition_code, negated_code, guard_code, guards_code, phrase_code, phrases_code, code_of}
+use Rattle.ss_code_instructions.specs.Facts.{expression_of}
+use Rattle.ss_code_instructions.specs.Translation.{Site, place, operand, operand_code, after, bearer, bearer_code, after_bearer, test_code, tests_code, condition_code, negated_code, guard_code, guards_code, phrase_code, phrases_code, code_of}
 use Rattle.ss_code_generator.specs.declared.expressions.Operand.{Operand as Read}
 use Rattle.ss_code_generator.specs.declared.generator.Generator.{Generator}
 use Rattle.ss_code_generator.specs.declared.generator.Site.{Site as Here}
 use Rattle.ss_code_pieces.specs.Lined.{Lined, nothing}
 use Rattle.ss_code_instructions.specs.Forms.{comparing}
-use Rattle.ss_code_generator.specs.Emitted.{Final, Around, IsLocated, Emits, EmitsAround, AtBearer, Typed, IsNumber, AreNumbers, Reads, ReadsBy, Bears}
+use Rattle.ss_code_generator.specs.Emitted.{Final, Around, IsLocated, Emits, EmitsAround, Typed, AreNumbers, Reads, Bears}
 use Rattle.ss_code_generator.proofs.Emitting.{around_old, grows_then, stands_old, adds_then, adds_one, adds_apart, adds_same, piece_long}
 use Rattle.ss_code_generator.proofs.Forms as forms
 use Rattle.ss_code_generator.proofs.Modes.{operand_mode, mode_after}
-use Rattle.ss_code_generator.proofs.Operands.{read_stands, operand_at}
+use Rattle.ss_code_generator.proofs.Operands.{read_stands}
 
 -- the owner of a set is a number
 pub owner_number : (s : Scope) (set : ℕ) (o : SetOwner) → OwnerFits s set o → AreNumbers (expression_of o) s
 owner_number s set TheSystem h = tt
 owner_number s set (Entity e) h = h.1
-
--- an owner has the same address at all sites of a section
-pub bearer_at : (f : Final) (t u : Site) (o : Bearer) (a : Address) → u.scope ≡ t.scope → AtBearer f t o a → AtBearer f u o a
-bearer_at f t u None a e h = h
-bearer_at f t u (Some y) a e h = operand_at f t u y a e h
 
 -- ## Tests
 
@@ -69,31 +63,8 @@ emptiness_tested old new p q v here skip negated set o owner m is ls = record {
       let number = owner_number t.scope set o good in
       let read = m.more f t tt around located number in
       let ins : Instruction = i.UnlessEmpty negated set (bearer t e) skip in
-      let at = bearer_at f t (after_bearer t e) (bearer t e) owner.address refl read.at in
       adds_then f p q v (bearer_code t e) (place (after_bearer t e) ins ∷ []) (m.adds f t tt around located number)
-      (adds_one f q v here.line (place (after_bearer t e) ins) (r.UnlessEmpty set owner.address skip negated) is ls located.line (record { carries = (bearer t e, at, refl); deep = read.deep; shown = tt }));
-  more = λ f t u around located good. tt;
-}
-
--- whether an entity is in a set
-pub membership_tested : (old mid new : Generator) (p q s v : Lined) (here higher : Here) (skip : ℕ) (negated : Bool) (set : ℕ) (e : Expression) (o : SetOwner) (member owner : Read) → ReadsBy old mid p q here (IsNumber e) e member (λ t. member_code t (may_fault (expression_of o)) set e) → higher.line ≡ here.line → (here.height + member.cells < 2 ^ 64 → higher.height ≡ here.height + member.cells) → Bears mid new q s higher (expression_of o) owner → v.instructions ≡ s.instructions ++ r.UnlessMember set member.address owner.address skip negated ∷ [] → v.lines ≡ s.lines ++ here.line ∷ [] → Emits old new p v here (λ k. GoodTest k (Member negated set e o)) (λ t. test_code t skip (Member negated set e o))
-membership_tested old mid new p q s v here higher skip negated set e o member owner m line above n is ls = record {
-  grows = grows_then old mid new m.grows n.grows;
-  adds = λ f t u around located good.
-      let y : Option Expression = expression_of o in
-      let t1 : Site = after t e in
-      let t2 : Site = after_bearer t1 y in
-      let mine = around_old f mid new n.grows around in
-      let there = stands_old f mid new here t n.grows located in
-      let number = owner_number t.scope set o good.1 in
-      let read = m.more f t tt mine there good.0 in
-      let above_e = read_stands f new here higher t e member around located read line above in
-      let borne = n.more f t1 tt around above_e number in
-      let ins : Instruction = i.UnlessMember negated set (operand t e) (bearer t1 y) skip in
-      adds_then f p q v (member_code t (may_fault y) set e) (bearer_code t1 y ++ place t2 ins ∷ []) (m.adds f t tt mine there good.0)
-      (adds_then f q s v (bearer_code t1 y) (place t2 ins ∷ []) (n.adds f t1 tt around above_e number)
-      (adds_one f s v here.line (place t2 ins) (r.UnlessMember set member.address owner.address skip negated) is ls located.line
-      (record { carries = (operand t e, read.at, (bearer t1 y, bearer_at f t1 t2 (bearer t1 y) owner.address refl borne.at, refl)); deep = borne.deep; shown = tt })));
+      (adds_one f q v here.line (place (after_bearer t e) ins) (r.UnlessEmpty set owner.address skip negated) is ls located.line (record { carries = (bearer t e, read.at, refl); deep = read.deep; shown = tt }));
   more = λ f t u around located good. tt;
 }
 
@@ -111,7 +82,7 @@ before_made old mid new front back whole here Front Back c d past m n is ls more
   more = λ f t u around located good. tt;
 }
 
--- the same before a piece around which code is made
+-- a piece comes before another one, around which code is made, by whose length it may go
 pub before_around : (old mid new : Generator) (front back whole inner : Lined) (here : Here) (Front Back : Scope → Type 0) (c : ℕ → Site → List Placed) (d : Site → List Placed → List Placed) (past : ℕ) → EmitsAround old mid nothing back here inner Back d → Emits mid new nothing front here Front (c past) → whole.instructions ≡ front.instructions ++ back.instructions → whole.lines ≡ front.lines ++ back.lines → (more : ℕ) → past ≡ length back.instructions + more → EmitsAround old new nothing whole here inner (λ k. Front k × Back k) (λ t b. c (length (d t b) + more) t ++ d t b)
 before_around old mid new front back whole inner here Front Back c d past m n is ls more same = record {
   grows = grows_then old mid new m.grows n.grows;
@@ -132,14 +103,15 @@ then_made old mid new front back whole here Front Back c d m n is ls = record {
   more = λ f t u around located good. tt;
 }
 
--- the same code, where other things are well typed
-pub emits_for : (old new : Generator) (p q : Lined) (here : Here) (Good Other : Scope → Type 0) (c d : Site → List Placed) → ((k : Scope) → Other k → Good k) → ((t : Site) → c t ≡ d t) → Emits old new p q here Good c → Emits old new p q here Other d
-emits_for old new p q here Good Other c d so same m = record {
+-- what was made, for another code that is the same at each site at which the generator may be, where other things are well typed
+pub emits_where : (old new : Generator) (p q : Lined) (here : Here) (Good Other : Scope → Type 0) (c d : Site → List Placed) → ((k : Scope) → Other k → Good k) → ((f : Final) (t : Site) → Around f new → IsLocated f new here t → c t ≡ d t) → Emits old new p q here Good c → Emits old new p q here Other d
+emits_where old new p q here Good Other c d good same m = record {
   grows = m.grows;
-  adds = λ f t u around located good. adds_same f p q (c t) (d t) (same t) (m.adds f t u around located (so t.scope good));
-  more = λ f t u around located good. tt;
+  adds = λ f t u around located other. adds_same f p q (c t) (d t) (same f t around located) (m.adds f t u around located (good t.scope other));
+  more = λ f t u around located other. tt;
 }
 
+-- and around a piece
 pub around_for : (old new : Generator) (p q inner : Lined) (here : Here) (Good Other : Scope → Type 0) (c d : Site → List Placed → List Placed) → ((k : Scope) → Other k → Good k) → ((t : Site) (b : List Placed) → c t b ≡ d t b) → EmitsAround old new p q here inner Good c → EmitsAround old new p q here inner Other d
 around_for old new p q inner here Good Other c d so same m = record {
   grows = m.grows;
@@ -170,13 +142,13 @@ alternatives_step old mid new rest front jump both whole here skip past xs ys ot
     let past_is : past ≡ length rest.instructions + 0 = long ∙ sym (plus (length rest.instructions)) in
     let two = then_made mid new new front jump both here (λ s. Every (GoodTest s) xs) (λ s. Unit {0}) (λ t. tests_code t 1 xs) (λ t. place t (i.Jump past) ∷ []) n j both_is both_ls in
     let all = before_made old mid new both rest whole here (λ s. Every (GoodTest s) xs × Unit {0}) (λ s. GoodCondition s (ys ∷ others)) first code past m two is ls 0 past_is in
-    emits_for old new nothing whole here (λ s. (Every (GoodTest s) xs × Unit {0}) × GoodCondition s (ys ∷ others)) (λ s. GoodCondition s (xs ∷ (ys ∷ others))) (λ t. first (length (code t) + 0) t ++ code t) (λ t. condition_code t skip (xs ∷ (ys ∷ others))) (λ s h. ((h.0, tt), h.1))
-    (λ t. ap (λ (k : ℕ). first k t ++ code t) (plus (length (code t))) ∙ append_assoc (tests_code t 1 xs) (place t (i.Jump (length (code t))) ∷ []) (code t)) all
+    emits_where old new nothing whole here (λ s. (Every (GoodTest s) xs × Unit {0}) × GoodCondition s (ys ∷ others)) (λ s. GoodCondition s (xs ∷ (ys ∷ others))) (λ t. first (length (code t) + 0) t ++ code t) (λ t. condition_code t skip (xs ∷ (ys ∷ others))) (λ s h. ((h.0, tt), h.1))
+    (λ f t around located. ap (λ (k : ℕ). first k t ++ code t) (plus (length (code t))) ∙ append_assoc (tests_code t 1 xs) (place t (i.Jump (length (code t))) ∷ []) (code t)) all
 
 pub negated_made : (old new : Generator) (front jump whole : Lined) (here : Here) (skip : ℕ) (c : Condition) → Emits old new nothing front here (λ s. GoodCondition s c) (λ t. condition_code t 1 c) → Emits new new nothing jump here (λ s. Unit {0}) (λ t. place t (i.Jump skip) ∷ []) → whole.instructions ≡ front.instructions ++ jump.instructions → whole.lines ≡ front.lines ++ jump.lines → Emits old new nothing whole here (λ s. GoodCondition s c) (λ t. negated_code t skip c)
 negated_made old new front jump whole here skip c m j is ls =
     let both = then_made old new new front jump whole here (λ s. GoodCondition s c) (λ s. Unit {0}) (λ t. condition_code t 1 c) (λ t. place t (i.Jump skip) ∷ []) m j is ls in
-    emits_for old new nothing whole here (λ s. GoodCondition s c × Unit {0}) (λ s. GoodCondition s c) (λ t. negated_code t skip c) (λ t. negated_code t skip c) (λ s h. (h, tt)) (λ t. refl) both
+    emits_where old new nothing whole here (λ s. GoodCondition s c × Unit {0}) (λ s. GoodCondition s c) (λ t. negated_code t skip c) (λ t. negated_code t skip c) (λ s h. (h, tt)) (λ f t around located. refl) both
 
 pub guards_step : (old mid new : Generator) (rest front whole inner : Lined) (here : Here) (more past : ℕ) (g : Guard) (gs : List Guard) → EmitsAround old mid nothing rest here inner (λ s. Every (λ g. GoodCondition s g.condition) gs) (λ t b. guards_code t (length b + more) gs ++ b) → Emits mid new nothing front here (λ s. GoodCondition s g.condition) (λ t. guard_code t past g.kind g.condition) → past ≡ length rest.instructions + more → whole.instructions ≡ front.instructions ++ rest.instructions → whole.lines ≡ front.lines ++ rest.lines → EmitsAround old new nothing whole here inner (λ s. Every (λ g. GoodCondition s g.condition) (g ∷ gs)) (λ t b. guards_code t (length b + more) (g ∷ gs) ++ b)
 guards_step old mid new rest front whole inner here more past g gs m n long is ls =
@@ -202,4 +174,4 @@ pub last_alternative : (old new : Generator) (last whole : Lined) (here : Here) 
 last_alternative old new last whole here skip xs m is ls =
     let same : last ≡ whole = same_piece last whole (sym (is ∙ append-nil last.instructions)) (sym (ls ∙ append-nil last.lines)) in
     let made = subst (λ (p : Lined). Emits old new nothing p here (λ s. Every (GoodTest s) xs) (λ t. tests_code t skip xs)) same m in
-    emits_for old new nothing whole here (λ s. Every (GoodTest s) xs) (λ s. GoodCondition s (xs ∷ [])) (λ t. tests_code t skip xs) (λ t. condition_code t skip (xs ∷ [])) (λ s h. h.0) (λ t. refl) made
+    emits_where old new nothing whole here (λ s. Every (GoodTest s) xs) (λ s. GoodCondition s (xs ∷ [])) (λ t. tests_code t skip xs) (λ t. condition_code t skip (xs ∷ [])) (λ s h. h.0) (λ f t around located. refl) made

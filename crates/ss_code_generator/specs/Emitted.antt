@@ -173,6 +173,6 @@ ReadsBy old new before after here Good e o c = Makes old new before after here (
 abbrev pub Reads : (old new : Generator) → (before after : Lined) → Here → Expression → Read → Type 0
 Reads old new before after here e o = ReadsBy old new before after here (Typed e) e o (λ t. operand_code t e)
 
--- the same of an owner, or of the entity of a statistic
+-- the code of an owner, or of the entity of a statistic, and where it lies
 abbrev pub Bears : (old new : Generator) → (before after : Lined) → Here → Option Expression → Read → Type 0
 Bears old new before after here e o = Makes old new before after here (λ f t (u : Unit {0}). AreNumbers e t.scope) (λ t u. bearer_code t e) (λ f t u. IsBorne f t e o)

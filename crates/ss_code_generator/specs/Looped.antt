@@ -1,13 +1,14 @@
 -- What is emitted for loops.
-use Rattle.std.specs.Prelude.{◌≡◌, ◌≤◌, ◌+◌, ℕ, Bool, true, false, List, Option, Some, None}
+use Rattle.std.specs.Prelude.{◌≡◌, ◌≤◌, ◌+◌, ℕ, Bool, true, false, List, ◌∷◌, ◌++◌, length, Option, Some, None}
 use Rattle.ss_program.specs.declared.expression.Variable.{Variable}
 use Rattle.ss_program.specs.Program.{SetOwner, TheSystem, Entity, Head, Numbers, Each, Members, Start, AtEnd, From, After}
 use Rattle.ss_program.specs.WellTyped.{GoodStart}
 use Rattle.ss_code_instructions.specs.declared.instruction.Instruction.{Instruction as Running}
-use Rattle.ss_code_instructions.specs.declared.instruction.Instruction.TheVariants.{BeginSet, BeginAt}
+use Rattle.ss_code_instructions.specs.declared.instruction.Instruction.TheVariants.{BeginSet, BeginAt, Begin, BeginClass}
 use Rattle.ss_code_instructions.specs.Instructions.{Bearer, Next, NextMember, Placed}
+use Rattle.ss_code_instructions.specs.Instructions as i
 use Rattle.ss_code_instructions.specs.Facts.{expression_of}
-use Rattle.ss_code_instructions.specs.Translation.{Site, height, take_code, turns_code, owner_code, owner_cell, owner_kept, start_code}
+use Rattle.ss_code_instructions.specs.Translation.{Site, height, place, forget_to, number_loop, take_code, turns_code, owner_code, owner_cell, owner_kept, start_code}
 use Rattle.ss_code_generator.specs.declared.expressions.Operand.{Operand as Read}
 use Rattle.ss_code_generator.specs.declared.generator.Generator.{Generator}
 use Rattle.ss_code_generator.specs.declared.generator.Site.{Site as Here}
@@ -53,6 +54,22 @@ TakesItem g before after here n spot = Makes g g before after here (FitsItem n s
 abbrev pub TakesItems : Generator → (after : Lined) → Here → (cell : ℕ) → VariableSpot → (turn : Lined) → Type 0
 TakesItems g after here n spot turn =
     Makes g g nothing after here (λ f u x. FitsItem n spot f u x × Adds f nothing turn x.turn) (λ u x. turns_code u x.cell x.variable x.turn (Next x.cell)) NoMore
+
+-- the instruction that begins a FOR over numbers, or over a class
+abbrev pub items_begin : (class : Option ℕ) → (cell skip : ℕ) → Running
+items_begin None cell skip = Begin cell skip
+items_begin (Some class) cell skip = BeginClass class cell skip
+
+-- what it carries out: numbers begin above their range
+abbrev pub begins_items : Site → (class : Option ℕ) → (skip : ℕ) → Placed
+begins_items t None skip = place (number_loop t) (i.Begin (height t) skip)
+begins_items t (Some class) skip = place t (i.BeginClass class (height t) skip)
+
+-- a FOR over a class, or over numbers once their range is there
+abbrev pub item_loop_code : Site → (class : Option ℕ) → Variable → (turn : List Placed) → List Placed
+item_loop_code t class x turn =
+    let turns : List Placed = turns_code (number_loop t) (height t) x turn (Next (height t)) in
+    begins_items t class (length turns) ∷ (turns ++ forget_to t (number_loop t))
 
 -- ## Members
 

@@ -2,7 +2,7 @@
 use Rattle.std.specs.Prelude.{◌≡◌, ℕ, List, [], ◌∷◌, ◌++◌, length, map}
 use Rattle.std.specs.List.{AllByRecursion as Every}
 use Rattle.ss_base.specs.declared.line.Line.{Line}
-use Rattle.ss_program.specs.Program.{Item, Statement, Let, Change, Call, Return, Stop, Read, Simulate, If, Loop, For, Find, Create, CreateEvery, Destroy, File, RemoveEnd, Remove, ScheduleNew, Schedule, Cancel, Reset, Print as APrint, Skip, Block}
+use Rattle.ss_program.specs.Program.{PrintItem, Statement, Let, Change, Call, Return, Stop, Read, Simulate, If, Loop, For, Find, Create, CreateEvery, Destroy, File, RemoveEnd, Remove, ScheduleNew, Schedule, Cancel, Reset, Print as APrint, Skip, Block}
 use Rattle.ss_program.specs.WellTyped.{Scope, Good, GoodBlock}
 use Rattle.ss_code_instructions.specs.Instructions.{Lines, Print, Placed}
 use Rattle.ss_code_instructions.specs.Carried.{RunningLines, lines_of as run_as}
@@ -52,7 +52,7 @@ pub record PrintsBy (old new : Generator) (before after : Lined) (here : Here) (
   pub code : EmitsPrinting old new before after here new_prints Good (c (length old_prints))
   pub prints : Prints old_prints new_prints ls
 
-abbrev pub PrintsLines : (old new : Generator) → (before after : Lined) → Here → (old_prints new_prints : List RunningLines) → List Item → (pictures : List (List ℕ)) → Type 0
+abbrev pub PrintsLines : (old new : Generator) → (before after : Lined) → Here → (old_prints new_prints : List RunningLines) → List PrintItem → (pictures : List (List ℕ)) → Type 0
 PrintsLines old new before after here old_prints new_prints items pictures =
     PrintsBy old new before after here old_prints new_prints (λ s. Every (λ x. GoodItem x s) items) (lines_of items pictures ∷ [])
     (λ first t. items_code t items ++ place (after_items t items) (Print first (height t)) ∷ [])

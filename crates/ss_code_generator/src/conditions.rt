@@ -2,8 +2,7 @@
 
 ghost use Rattle.std.specs.Prelude.{◌≡◌, ◌+◌, ◌∷◌, [], ◌++◌, length, map, IfOk, OnOk};
 ghost use Rattle.std.specs.List.{AllByRecursion as Every};
-ghost use Rattle.ss_program.specs.Program.{Compare, Empty, Member};
-ghost use Rattle.ss_program.specs.View.{view_expression, view_owner, view_test, view_conjunction, view_condition, view_guard, view_phrase};
+ghost use Rattle.ss_program.specs.View.{view_test, view_conjunction, view_condition, view_guard, view_phrase};
 ghost use Rattle.ss_program.specs.WellTyped.{GoodTest, GoodCondition, GoodPhrase};
 ghost use Rattle.ss_code_instructions.specs.Instructions.{Jump};
 ghost use Rattle.ss_code_instructions.specs.Translation.{place, test_code, tests_code, condition_code, negated_code, guard_code, guards_code, phrase_code, phrases_code};
@@ -20,7 +19,6 @@ use ss_code_pieces::facts::expression_mode;
 use ss_code_pieces::leaves::owner_may_fault;
 use ss_code_pieces::piece::{Piece, as_index};
 use ss_program::condition::{Condition, Conjunction, Relation, Test};
-use ss_program::expression::{Expression, SetOwner};
 use ss_program::head::{Guard, GuardKind, Phrase, PhraseKind};
 use std::alloc::AllocError;
 
@@ -54,80 +52,6 @@ fn compare(mode: Mode, relation: Relation, left: Address, right: Address, skip: 
 }
 
 impl Generator<'_> {
-    // Two values are compared.
-    fn comparison(
-        &mut self,
-        code: &mut Piece,
-        site: Site,
-        skip: u32,
-        relation: Relation,
-        first: &Expression,
-        second: &Expression,
-    ) -> Result<(), AllocError>
-        ensures { OnOk result (Emits self.old self.new code.old code.new site (λ s. GoodTest s (Compare relation (view_expression first.now) (view_expression second.now))) (λ t. test_code t skip (Compare relation (view_expression first.now) (view_expression second.now)))) }
-    {
-        let mode = expression_mode(self.program, &self.locals, first);
-        let left = self.operand(code, site, first)?;
-        let right = self.operand(code, site.above(left.cells), second)?.address;
-        code.put(
-            site.line,
-            compare(mode, relation, left.address, right, skip),
-        )
-    }
-
-    // Whether a set has no member.
-    fn emptiness(
-        &mut self,
-        code: &mut Piece,
-        site: Site,
-        skip: u32,
-        negated: bool,
-        set: usize,
-        owner: &SetOwner,
-    ) -> Result<(), AllocError>
-        ensures { OnOk result (Emits self.old self.new code.old code.new site (λ s. GoodTest s (Empty negated set (view_owner owner.now))) (λ t. test_code t skip (Empty negated set (view_owner owner.now)))) }
-    {
-        let owner = self.owner(code, site, owner)?.address;
-        code.put(
-            site.line,
-            Instruction::UnlessEmpty {
-                set: as_index(set)?,
-                owner,
-                skip,
-                negated,
-            },
-        )?;
-        Ok(())
-    }
-
-    // Whether an entity is in a set.
-    fn membership(
-        &mut self,
-        code: &mut Piece,
-        site: Site,
-        skip: u32,
-        negated: bool,
-        set: usize,
-        member: &Expression,
-        owner: &SetOwner,
-    ) -> Result<(), AllocError>
-        ensures { OnOk result (Emits self.old self.new code.old code.new site (λ s. GoodTest s (Member negated set (view_expression member.now) (view_owner owner.now))) (λ t. test_code t skip (Member negated set (view_expression member.now) (view_owner owner.now)))) }
-    {
-        let member = self.member(code, site, set, member, owner_may_fault(owner))?;
-        let owner = self.owner(code, site.above(member.cells), owner)?.address;
-        code.put(
-            site.line,
-            Instruction::UnlessMember {
-                set: as_index(set)?,
-                member: member.address,
-                owner,
-                skip,
-                negated,
-            },
-        )?;
-        Ok(())
-    }
-
     // A test, which jumps where it does not hold.
     fn test(
         &mut self,
@@ -143,7 +67,15 @@ impl Generator<'_> {
                 relation,
                 left,
                 right,
-            } => self.comparison(code, site, skip, *relation, left, right),
+            } => {
+                let mode = expression_mode(self.program, &self.locals, left);
+                let left = self.operand(code, site, left)?;
+                let right = self.operand(code, site.above(left.cells), right)?.address;
+                code.put(
+                    site.line,
+                    compare(mode, *relation, left.address, right, skip),
+                )
+            }
             Test::DataEnded { negated } => {
                 let negated = *negated;
                 code.put(site.line, Instruction::UnlessEnded { skip, negated })?;
@@ -153,13 +85,39 @@ impl Generator<'_> {
                 negated,
                 set,
                 owner,
-            } => self.emptiness(code, site, skip, *negated, *set, owner),
+            } => {
+                let owner = self.owner(code, site, owner)?.address;
+                let (set, negated) = (as_index(*set)?, *negated);
+                code.put(
+                    site.line,
+                    Instruction::UnlessEmpty {
+                        set,
+                        owner,
+                        skip,
+                        negated,
+                    },
+                )
+            }
             Test::Member {
                 negated,
                 set,
                 member,
                 owner,
-            } => self.membership(code, site, skip, *negated, *set, member, owner),
+            } => {
+                let member = self.member(code, site, *set, member, owner_may_fault(owner))?;
+                let owner = self.owner(code, site.above(member.cells), owner)?.address;
+                let (set, negated) = (as_index(*set)?, *negated);
+                code.put(
+                    site.line,
+                    Instruction::UnlessMember {
+                        set,
+                        member: member.address,
+                        owner,
+                        skip,
+                        negated,
+                    },
+                )
+            }
         }
     }
 

@@ -32,6 +32,13 @@ fn notice_at(spot: Spot, to: Address) -> Address
     }
 }
 
+/// An event that is scheduled: the class of its notice, and for when.
+#[derive(Clone, Copy)]
+pub struct Planned<'a> {
+    pub class: usize,
+    pub when: &'a When,
+}
+
 impl Generator<'_> {
     // The time to schedule for goes into the next cell.
     fn time(&mut self, code: &mut Piece, site: Site, when: &When) -> Result<(), AllocError>
@@ -100,35 +107,34 @@ impl Generator<'_> {
         &mut self,
         code: &mut Piece,
         site: Site,
-        class: usize,
+        planned: Planned<'_>,
         place: &Place,
         given: &[Expression],
-        when: &When,
     ) -> Result<(), AllocError>
-        ensures { OnOk result (Emits self.old self.new code.old code.new site (λ s. Good s (ScheduleNew site.line class (view_place place.now) (map view_expression given.now) (view_when when.now))) (λ t. schedule_new_code t class (view_place place.now) (map view_expression given.now) (view_when when.now))) }
+        ensures { OnOk result (Emits self.old self.new code.old code.new site (λ s. Good s (ScheduleNew site.line planned.entry.class (view_place place.now) (map view_expression given.now) (view_when planned.entry.when.now))) (λ t. schedule_new_code t planned.entry.class (view_place place.now) (map view_expression given.now) (view_when planned.entry.when.now))) }
     {
         let spot = self.looked_spot(code, site, place)?;
         let above = site.above(spot.cells());
-        self.notice_values(code, above, given, when)?;
+        self.notice_values(code, above, given, planned.when)?;
         let time = self.cell(above)?;
         let higher = above.above(1);
         let to = self.landing(higher, spot)?;
-        let index = as_index(class)?;
+        let class = as_index(planned.class)?;
         code.put(
             site.line,
             Instruction::MakeNotice {
-                class: index,
+                class,
                 cell: self.place_of(above)?,
                 given: as_index(given.len())?,
                 to,
-                noted: self.is_given_watched(class, given.len()),
+                noted: self.is_given_watched(planned.class, given.len()),
             },
         )?;
         self.name_notice(code, higher, spot, to)?;
         code.put(
             site.line,
             Instruction::FileNotice {
-                class: index,
+                class,
                 notice: notice_at(spot, to),
                 time,
             },
@@ -141,32 +147,25 @@ impl Generator<'_> {
         &mut self,
         code: &mut Piece,
         site: Site,
-        class: usize,
+        planned: Planned<'_>,
         notice: &Expression,
         given: &[Expression],
-        when: &When,
     ) -> Result<(), AllocError>
-        ensures { OnOk result (Emits self.old self.new code.old code.new site (λ s. Good s (Schedule site.line class (view_expression notice.now) (map view_expression given.now) (view_when when.now))) (λ t. schedule_code t class (view_expression notice.now) (map view_expression given.now) (view_when when.now))) }
+        ensures { OnOk result (Emits self.old self.new code.old code.new site (λ s. Good s (Schedule site.line planned.entry.class (view_expression notice.now) (map view_expression given.now) (view_when planned.entry.when.now))) (λ t. schedule_code t planned.entry.class (view_expression notice.now) (map view_expression given.now) (view_when planned.entry.when.now))) }
     {
         let notice = self.operand(code, site, notice)?;
-        let index = as_index(class)?;
-        code.put(
-            site.line,
-            Instruction::LookEntity {
-                class: index,
-                entity: notice.address,
-            },
-        )?;
+        let (class, entity) = (as_index(planned.class)?, notice.address);
+        code.put(site.line, Instruction::LookEntity { class, entity })?;
         let above = site.above(notice.cells);
-        self.notice_values(code, above, given, when)?;
+        self.notice_values(code, above, given, planned.when)?;
         code.put(
             site.line,
             Instruction::Reschedule {
-                class: index,
+                class,
                 notice: notice.address,
                 cell: self.place_of(above)?,
                 given: as_index(given.len())?,
-                noted: self.is_given_watched(class, given.len()),
+                noted: self.is_given_watched(planned.class, given.len()),
             },
         )?;
         Ok(())

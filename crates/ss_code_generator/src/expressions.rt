@@ -3,7 +3,6 @@
 ghost use Rattle.std.specs.Prelude.{◌≡◌, ◌+◌, ◌<◌, ◌≤◌, ◌^◌, ◌∷◌, [], length, map, pos, IfOk, OnOk};
 ghost use Rattle.std.specs.List.{AllByRecursion as Every};
 ghost use Rattle.ss_base.specs.declared.value.Value.TheVariants.{Whole};
-ghost use Rattle.ss_program.specs.Program.{Attribute, OfSet, OfMember, FigureOf, Signed};
 ghost use Rattle.ss_program.specs.View.{view_expression, view_owner, view_option};
 ghost use Rattle.ss_meaning.specs.Values.{operator_of};
 ghost use Rattle.ss_code_instructions.specs.Instructions.{Constant, Move};
@@ -116,8 +115,8 @@ fn attribute_of(mode: Mode, class: u32, field: u32, entity: Address, to: Address
     }
 }
 
-// A number with a sign before it.
-fn signed(sign: Sign, left: Address, right: Address, to: Address) -> Instruction
+/// A number is added or subtracted.
+pub fn signed(sign: Sign, left: Address, right: Address, to: Address) -> Instruction
     ensures { result ≡ calculating (operator_of sign) left right to }
 {
     match sign {
@@ -193,17 +192,22 @@ impl Generator<'_> {
                 code.put(site.line, move_of(mode, from, to))
             }
             Expression::Attribute { class, field, of } => {
-                self.attribute(code, site, *class, *field, of, to)
+                let entity = self.operand(code, site, of)?.address;
+                let mode = attribute_mode(self.program, *class, *field);
+                let (class, field) = (as_index(*class)?, as_index(*field)?);
+                code.put(site.line, attribute_of(mode, class, field, entity, to))
             }
             Expression::OfSystemSet { query, set } => {
                 let owner = self.zero()?;
                 code.put(site.line, ask_set(*query, as_index(*set)?, owner, to))
             }
             Expression::OfSet { query, set, owner } => {
-                self.of_set(code, site, *query, *set, owner, to)
+                let owner = self.operand(code, site, owner)?.address;
+                code.put(site.line, ask_set(*query, as_index(*set)?, owner, to))
             }
             Expression::OfMember { query, set, member } => {
-                self.of_member(code, site, *query, *set, member, to)
+                let member = self.operand(code, site, member)?.address;
+                code.put(site.line, ask_member(*query, as_index(*set)?, member, to))
             }
             Expression::Clock => code.put(site.line, Instruction::Clock { to }),
             Expression::TimeOf { notice } => {
@@ -221,8 +225,18 @@ impl Generator<'_> {
                 fold,
                 statistic,
                 entity,
-            } => self.figure_of(code, site, *fold, *statistic, entity, to),
-            Expression::Signed { sign, term } => self.signed(code, site, *sign, term, to),
+            } => {
+                let entity = self.operand(code, site, entity)?.address;
+                code.put(
+                    site.line,
+                    figure_of(*fold, as_index(*statistic)?, entity, to),
+                )
+            }
+            Expression::Signed { sign, term } => {
+                let right = self.operand(code, site, term)?.address;
+                let left = self.zero()?;
+                code.put(site.line, signed(*sign, left, right, to))
+            }
             Expression::Unary { operator, argument } => {
                 let of = self.operand(code, site, argument)?.address;
                 let operator = *operator;
@@ -242,93 +256,6 @@ impl Generator<'_> {
                 self.operation(code, site, left, &further[count - 1], to)
             }
         }
-    }
-
-    // An attribute of the entity to which an expression refers.
-    #[cycle(expressions)]
-    fn attribute(
-        &mut self,
-        code: &mut Piece,
-        site: Site,
-        class: usize,
-        field: usize,
-        of: &Expression,
-        to: Address,
-    ) -> Result<(), AllocError>
-        ensures { OnOk result (EmitsTo self.old self.new code.old code.new site to (Typed (Attribute class field (view_expression of.now))) (λ t x. expression_code t x (Attribute class field (view_expression of.now)))) }
-    {
-        let entity = self.operand(code, site, of)?.address;
-        let mode = attribute_mode(self.program, class, field);
-        let (class, field) = (as_index(class)?, as_index(field)?);
-        code.put(site.line, attribute_of(mode, class, field, entity, to))
-    }
-
-    // What is asked of the set of an owner that is no system.
-    #[cycle(expressions)]
-    fn of_set(
-        &mut self,
-        code: &mut Piece,
-        site: Site,
-        query: SetQuery,
-        set: usize,
-        of: &Expression,
-        to: Address,
-    ) -> Result<(), AllocError>
-        ensures { OnOk result (EmitsTo self.old self.new code.old code.new site to (Typed (OfSet query set (view_expression of.now))) (λ t x. expression_code t x (OfSet query set (view_expression of.now)))) }
-    {
-        let owner = self.operand(code, site, of)?.address;
-        code.put(site.line, ask_set(query, as_index(set)?, owner, to))
-    }
-
-    // What is asked of a member of a set.
-    #[cycle(expressions)]
-    fn of_member(
-        &mut self,
-        code: &mut Piece,
-        site: Site,
-        query: MemberQuery,
-        set: usize,
-        of: &Expression,
-        to: Address,
-    ) -> Result<(), AllocError>
-        ensures { OnOk result (EmitsTo self.old self.new code.old code.new site to (Typed (OfMember query set (view_expression of.now))) (λ t x. expression_code t x (OfMember query set (view_expression of.now)))) }
-    {
-        let member = self.operand(code, site, of)?.address;
-        code.put(site.line, ask_member(query, as_index(set)?, member, to))
-    }
-
-    // A figure of a statistic of an entity.
-    #[cycle(expressions)]
-    fn figure_of(
-        &mut self,
-        code: &mut Piece,
-        site: Site,
-        fold: Fold,
-        statistic: usize,
-        of: &Expression,
-        to: Address,
-    ) -> Result<(), AllocError>
-        ensures { OnOk result (EmitsTo self.old self.new code.old code.new site to (Typed (FigureOf fold statistic (view_expression of.now))) (λ t x. expression_code t x (FigureOf fold statistic (view_expression of.now)))) }
-    {
-        let entity = self.operand(code, site, of)?.address;
-        code.put(site.line, figure_of(fold, as_index(statistic)?, entity, to))
-    }
-
-    // A number with a sign before it: the sign works on the constant 0 and that number.
-    #[cycle(expressions)]
-    fn signed(
-        &mut self,
-        code: &mut Piece,
-        site: Site,
-        sign: Sign,
-        term: &Expression,
-        to: Address,
-    ) -> Result<(), AllocError>
-        ensures { OnOk result (EmitsTo self.old self.new code.old code.new site to (Typed (Signed sign (view_expression term.now))) (λ t x. expression_code t x (Signed sign (view_expression term.now)))) }
-    {
-        let right = self.operand(code, site, term)?.address;
-        let left = self.zero()?;
-        code.put(site.line, signed(sign, left, right, to))
     }
 
     // An operation on a number that is there. What it makes goes to a place.

@@ -38,7 +38,7 @@ pub struct Site {
 }
 
 impl Site {
-    /// The same with more cells.
+    /// The site on the same line with more cells.
     pub fn above(self, cells: usize) -> Site
         ensures line { result.line ≡ self.line }
         ensures height { self.height + cells < 2 ^ 64 → result.height ≡ self.height + cells }

@@ -1,13 +1,13 @@
 //! The code of loops.
 
-ghost use Rattle.std.specs.Prelude.{◌≡◌, ◌+◌, ◌≤◌, map, Some, IfOk, OnOk};
+ghost use Rattle.std.specs.Prelude.{◌≡◌, map, Some, IfOk, OnOk};
 ghost use Rattle.std.specs.List.{AllByRecursion as Every};
-ghost use Rattle.ss_program.specs.Program.{Numbers, Each, Members, From};
+ghost use Rattle.ss_program.specs.Program.{Members, From};
 ghost use Rattle.ss_program.specs.View.{view_expression, view_option, view_owner, view_start, view_head, view_guard, view_phrase};
 ghost use Rattle.ss_program.specs.WellTyped.{GoodHead, GoodCondition, GoodPhrase};
 ghost use Rattle.ss_code_instructions.specs.Translation.{loop_code, range_code, for_code, find_code};
-ghost use Rattle.ss_code_generator.specs.Emitted.{Final, Around, Emits, EmitsAround, EmitsAroundBoth, IsNumber, AreNumbers};
-ghost use Rattle.ss_code_generator.specs.Looped.{loop_width, is_after, begin_of, TakesItem, TakesItems, TakesMembers, StartsWalk, KeepsOwner};
+ghost use Rattle.ss_code_generator.specs.Emitted.{Emits, EmitsAround, EmitsAroundBoth, IsNumber, AreNumbers};
+ghost use Rattle.ss_code_generator.specs.Looped.{loop_width, is_after, begin_of, items_begin, item_loop_code, TakesItem, TakesItems, TakesMembers, StartsWalk, KeepsOwner};
 
 use crate::expressions::Operand;
 use crate::generator::{Generator, Site};
@@ -78,6 +78,33 @@ fn begin(walk: Walk, start: &Start, skip: u32) -> Instruction
         Start::From { .. } => begin_at(walk, false, skip),
         Start::After { .. } => begin_at(walk, true, skip),
     }
+}
+
+// The instruction that begins a FOR over numbers, or over a class.
+fn begin_items(class: Option<u32>, cell: u32, skip: u32) -> Instruction
+    ensures { result ≡ items_begin class cell skip }
+{
+    match class {
+        None => Instruction::Begin { cell, skip },
+        Some(class) => Instruction::BeginClass { class, cell, skip },
+    }
+}
+
+/// A FOR over the members of a set: the variable, the set, its owner, where it starts and the order.
+#[derive(Clone, Copy)]
+pub struct SetLoop<'a> {
+    pub variable: Variable,
+    pub set: usize,
+    pub owner: &'a SetOwner,
+    pub start: &'a Start,
+    pub reverse: bool,
+}
+
+/// The cases of a FIND: the head of its loop, and the phrases.
+#[derive(Clone, Copy)]
+pub struct Cases<'a> {
+    pub head: &'a Head,
+    pub phrases: &'a [Phrase],
 }
 
 impl Generator<'_> {
@@ -154,8 +181,7 @@ impl Generator<'_> {
         limit: &Expression,
         step: &Option<Expression>,
     ) -> Result<(), AllocError>
-        ensures code { OnOk result (Emits self.old self.new code.old code.new site (λ s. IsNumber (view_expression first.now) s × IsNumber (view_expression limit.now) s × AreNumbers (view_option view_expression step.now) s) (λ t. range_code t (view_expression first.now) (view_expression limit.now) (view_option view_expression step.now))) }
-        ensures room { OnOk result ((f : Final) → Around f self.new → site.height + 3 ≤ f.depth) }
+        ensures { OnOk result (Emits self.old self.new code.old code.new site (λ s. IsNumber (view_expression first.now) s × IsNumber (view_expression limit.now) s × AreNumbers (view_option view_expression step.now) s) (λ t. range_code t (view_expression first.now) (view_expression limit.now) (view_option view_expression step.now))) }
     {
         self.push(code, site, first)?;
         self.push(code, site.above(1), limit)?;
@@ -166,40 +192,16 @@ impl Generator<'_> {
         }
     }
 
-    // A FOR over numbers.
-    fn numbers(
+    // A FOR over a class, or over numbers whose range is there.
+    fn item_loop(
         &mut self,
         code: &mut Piece,
         site: Site,
         variable: Variable,
-        first: &Expression,
-        limit: &Expression,
-        step: &Option<Expression>,
+        class: Option<u32>,
         turn: Piece,
     ) -> Result<(), AllocError>
-        ensures { OnOk result (EmitsAround self.old self.new code.old code.new site turn (λ s. GoodHead s (Numbers variable (view_expression first.now) (view_expression limit.now) (view_option view_expression step.now))) (λ t b. for_code t (Numbers variable (view_expression first.now) (view_expression limit.now) (view_option view_expression step.now)) b)) }
-    {
-        self.range(code, site, first, limit, step)?;
-        let cell = self.place_of(site)?;
-        let spot = self.variable_spot(variable)?;
-        let above = site.above(NUMBER_CELLS);
-        let items = self.take_items(above, cell, spot, turn)?;
-        let skip = as_index(items.len())?;
-        code.put(site.line, Instruction::Begin { cell, skip })?;
-        code.append(items)?;
-        self.forget(code, above, NUMBER_CELLS)
-    }
-
-    // A FOR over a class.
-    fn each(
-        &mut self,
-        code: &mut Piece,
-        site: Site,
-        variable: Variable,
-        class: usize,
-        turn: Piece,
-    ) -> Result<(), AllocError>
-        ensures { OnOk result (EmitsAround self.old self.new code.old code.new site turn (λ s. GoodHead s (Each variable class)) (λ t b. for_code t (Each variable class) b)) }
+        ensures { OnOk result (EmitsAround self.old self.new code.old code.new site turn (λ s. Unit {0}) (λ t b. item_loop_code t class variable b)) }
     {
         let above = site.above(NUMBER_CELLS);
         self.reach(above.height);
@@ -207,8 +209,7 @@ impl Generator<'_> {
         let spot = self.variable_spot(variable)?;
         let items = self.take_items(above, cell, spot, turn)?;
         let skip = as_index(items.len())?;
-        let class = as_index(class)?;
-        code.put(site.line, Instruction::BeginClass { class, cell, skip })?;
+        code.put(site.line, begin_items(class, cell, skip))?;
         code.append(items)?;
         self.forget(code, above, NUMBER_CELLS)
     }
@@ -298,30 +299,26 @@ impl Generator<'_> {
         &mut self,
         code: &mut Piece,
         site: Site,
-        variable: Variable,
-        set: usize,
-        owner: &SetOwner,
-        start: &Start,
-        reverse: bool,
+        of: SetLoop<'_>,
         turn: Piece,
     ) -> Result<(), AllocError>
-        ensures { OnOk result (EmitsAround self.old self.new code.old code.new site turn (λ s. GoodHead s (Members variable set (view_owner owner.now) (view_start start.now) reverse)) (λ t b. for_code t (Members variable set (view_owner owner.now) (view_start start.now) reverse) b)) }
+        ensures { OnOk result (EmitsAround self.old self.new code.old code.new site turn (λ s. GoodHead s (Members of.entry.variable of.entry.set (view_owner of.entry.owner.now) (view_start of.entry.start.now) of.entry.reverse)) (λ t b. for_code t (Members of.entry.variable of.entry.set (view_owner of.entry.owner.now) (view_start of.entry.start.now) of.entry.reverse) b)) }
     {
-        let kept = self.kept_owner(code, site, owner)?;
+        let kept = self.kept_owner(code, site, of.owner)?;
         let below = site.above(kept.cells);
         let walk = Walk {
-            variable: self.variable_spot(variable)?,
-            set: as_index(set)?,
+            variable: self.variable_spot(of.variable)?,
+            set: as_index(of.set)?,
             owner: kept.address,
             cell: self.place_of(below)?,
-            reverse,
+            reverse: of.reverse,
         };
-        self.start(code, below, walk, start)?;
+        self.start(code, below, walk, of.start)?;
         let above = below.above(MEMBER_CELLS);
         self.reach(above.height);
         let members = self.take_members(above, walk, turn)?;
         let skip = as_index(members.len())?;
-        code.put(site.line, begin(walk, start, skip))?;
+        code.put(site.line, begin(walk, of.start, skip))?;
         code.append(members)?;
         self.forget(code, above, kept.cells.saturating_add(MEMBER_CELLS))
     }
@@ -342,15 +339,30 @@ impl Generator<'_> {
                 first,
                 limit,
                 step,
-            } => self.numbers(code, site, *variable, first, limit, step, turn),
+            } => {
+                self.range(code, site, first, limit, step)?;
+                self.item_loop(code, site, *variable, None, turn)
+            }
             Head::Members {
                 variable,
                 set,
                 owner,
                 start,
                 reverse,
-            } => self.members(code, site, *variable, *set, owner, start, *reverse, turn),
-            Head::Each { variable, class } => self.each(code, site, *variable, *class, turn),
+            } => {
+                let of = SetLoop {
+                    variable: *variable,
+                    set: *set,
+                    owner,
+                    start,
+                    reverse: *reverse,
+                };
+                self.members(code, site, of, turn)
+            }
+            Head::Each { variable, class } => {
+                let class = as_index(*class)?;
+                self.item_loop(code, site, *variable, Some(class), turn)
+            }
         }
     }
 
@@ -360,19 +372,18 @@ impl Generator<'_> {
         &mut self,
         code: &mut Piece,
         site: Site,
-        head: &Head,
-        phrases: &[Phrase],
+        cases: Cases<'_>,
         found: Piece,
         none: Piece,
     ) -> Result<(), AllocError>
-        ensures { OnOk result (EmitsAroundBoth self.old self.new code.old code.new site found none (λ s. GoodHead s (view_head head.now) × Every (GoodPhrase s) (map view_phrase phrases.now)) (λ t b. find_code t (view_head head.now) (map view_phrase phrases.now) b.first b.second)) }
+        ensures { OnOk result (EmitsAroundBoth self.old self.new code.old code.new site found none (λ s. GoodHead s (view_head cases.entry.head.now) × Every (GoodPhrase s) (map view_phrase cases.entry.phrases.now)) (λ t b. find_code t (view_head cases.entry.head.now) (map view_phrase cases.entry.phrases.now) b.first b.second)) }
     {
-        let cells = cells_of(head);
+        let cells = cells_of(cases.head);
         let above = site.above(cells);
         self.reach(above.height);
         let case = self.jump(above, as_index(none.len() + 3)?)?;
-        let turn = self.phrases(above, phrases, case)?;
-        self.for_loop(code, site, head, turn)?;
+        let turn = self.phrases(above, cases.phrases, case)?;
+        self.for_loop(code, site, cases.head, turn)?;
         code.append(none)?;
         let past = self.jump(site, as_index(found.len() + 1)?)?;
         code.append(past)?;

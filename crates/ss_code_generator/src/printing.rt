@@ -16,30 +16,30 @@ use ss_code_instructions::item::ItemKind;
 use ss_code_pieces::facts::expression_mode;
 use ss_code_pieces::lines::Lines;
 use ss_code_pieces::piece::{Piece, as_index};
-use ss_program::statement::Item;
+use ss_program::statement::PrintItem;
 use std::alloc::AllocError;
 
 impl Generator<'_> {
     // An item: the value or reference that it takes goes into the next cell, and a mean is looked at. It answers how many cells
     // that takes.
-    fn item(&mut self, code: &mut Piece, site: Site, item: &Item) -> Result<usize, AllocError>
+    fn item(&mut self, code: &mut Piece, site: Site, item: &PrintItem) -> Result<usize, AllocError>
         ensures code { IfOk result (λ n. Emits self.old self.new code.old code.new site (GoodItem (view_item item.now)) (λ t. item_code t (view_item item.now))) }
         ensures width { IfOk result (λ n. n ≡ item_width (view_item item.now)) }
         ensures room { IfOk result (λ n. site.height + n ≤ self.new.deepest) }
     {
         self.reach(site.height);
         match item {
-            Item::Value { value } => {
+            PrintItem::Value { value } => {
                 self.push(code, site, value)?;
                 Ok(1)
             }
-            Item::Mean { statistic } => {
+            PrintItem::Mean { statistic } => {
                 let entity = self.zero()?;
                 let statistic = as_index(*statistic)?;
                 code.put(site.line, Instruction::LookMean { statistic, entity })?;
                 Ok(0)
             }
-            Item::MeanOf { statistic, entity } => {
+            PrintItem::MeanOf { statistic, entity } => {
                 self.push(code, site, entity)?;
                 let entity = self.cell(site)?;
                 let statistic = as_index(*statistic)?;
@@ -50,7 +50,7 @@ impl Generator<'_> {
     }
 
     // Items, one after the other. It answers where the code goes on.
-    fn items(&mut self, code: &mut Piece, site: Site, items: &[Item]) -> Result<(), AllocError>
+    fn items(&mut self, code: &mut Piece, site: Site, items: &[PrintItem]) -> Result<(), AllocError>
         ensures { OnOk result (Makes self.old self.new code.old code.new site (λ f t (u : Unit {0}). Every (λ x. GoodItem x t.scope) (map view_item items.now)) (λ t u. items_code t (map view_item items.now)) (λ f t u. height (after_items t (map view_item items.now)) ≤ f.depth)) }
     {
         self.reach(site.height);
@@ -63,25 +63,25 @@ impl Generator<'_> {
     }
 
     // What an item is.
-    fn item_kind(&self, item: &Item) -> ItemKind
+    fn item_kind(&self, item: &PrintItem) -> ItemKind
         ensures { result ≡ kind_of (scope_of self.now.program.now self.now.locals.items) (view_item item.now) }
     {
         match item {
-            Item::Value { value } => match expression_mode(self.program, &self.locals, value) {
+            PrintItem::Value { value } => match expression_mode(self.program, &self.locals, value) {
                 Mode::Integer => ItemKind::Number,
                 Mode::Alpha => ItemKind::Text,
             },
-            Item::Mean { statistic } => ItemKind::Mean {
+            PrintItem::Mean { statistic } => ItemKind::Mean {
                 statistic: *statistic,
             },
-            Item::MeanOf { statistic, .. } => ItemKind::MeanOf {
+            PrintItem::MeanOf { statistic, .. } => ItemKind::MeanOf {
                 statistic: *statistic,
             },
         }
     }
 
     // What items are.
-    fn item_kinds(&self, items: &[Item]) -> Result<Vec<ItemKind>, AllocError>
+    fn item_kinds(&self, items: &[PrintItem]) -> Result<Vec<ItemKind>, AllocError>
         ensures { IfOk result (λ kinds. kinds.items ≡ map (kind_of (scope_of self.now.program.now self.now.locals.items)) (map view_item items.now)) }
     {
         let mut kinds = Vec::new(self.alloc);
@@ -98,7 +98,7 @@ impl Generator<'_> {
         code: &mut Piece,
         prints: &mut Vec<Lines>,
         site: Site,
-        items: &[Item],
+        items: &[PrintItem],
         pictures: &[Vec<u8>],
     ) -> Result<(), AllocError>
         ensures { OnOk result (PrintsLines self.old self.new code.old code.new site prints.old.items prints.new.items (map view_item items.now) (map (λ line. line.items) pictures.now)) }

@@ -75,6 +75,21 @@ fn remove_by(end: End, set: u32, owner: Address, to: Address, noted: bool) -> In
     }
 }
 
+/// An entity as a member of a set: the set, the reference to the entity, and the owner of the set.
+#[derive(Clone, Copy)]
+pub struct MemberOf<'a> {
+    pub set: usize,
+    pub member: &'a Expression,
+    pub owner: &'a SetOwner,
+}
+
+/// An end of a set.
+#[derive(Clone, Copy)]
+pub struct SetEnd {
+    pub set: usize,
+    pub end: End,
+}
+
 impl Generator<'_> {
     /// A reference to an entity that may be a member of a set. It is looked at where something that may fault comes between.
     pub fn member(
@@ -107,19 +122,18 @@ impl Generator<'_> {
         &mut self,
         code: &mut Piece,
         site: Site,
-        set: usize,
-        member: &Expression,
+        of: MemberOf<'_>,
         ordering: Ordering,
-        owner: &SetOwner,
     ) -> Result<(), AllocError>
-        ensures { OnOk result (Emits self.old self.new code.old code.new site (λ s. IsNumber (view_expression member.now) s × OwnerFits s set (view_owner owner.now)) (λ t. member_code t (may_fault (expression_of (view_owner owner.now))) set (view_expression member.now) ++ with_owner (beyond t (view_expression member.now)) (view_owner owner.now) (Files (filing_of ordering) set (operand t (view_expression member.now))))) }
+        ensures { OnOk result (Emits self.old self.new code.old code.new site (λ s. IsNumber (view_expression of.entry.member.now) s × OwnerFits s of.entry.set (view_owner of.entry.owner.now)) (λ t. member_code t (may_fault (expression_of (view_owner of.entry.owner.now))) of.entry.set (view_expression of.entry.member.now) ++ with_owner (beyond t (view_expression of.entry.member.now)) (view_owner of.entry.owner.now) (Files (filing_of ordering) of.entry.set (operand t (view_expression of.entry.member.now))))) }
     {
-        let member = self.member(code, site, set, member, owner_may_fault(owner))?;
-        let owner = self.owner(code, site.above(member.cells), owner)?.address;
-        let noted = is_count_watched(self.program, set);
+        let member = self.member(code, site, of.set, of.member, owner_may_fault(of.owner))?;
+        let above = site.above(member.cells);
+        let owner = self.owner(code, above, of.owner)?.address;
+        let noted = is_count_watched(self.program, of.set);
         code.put(
             site.line,
-            file_by(ordering, as_index(set)?, member.address, owner, noted),
+            file_by(ordering, as_index(of.set)?, member.address, owner, noted),
         )?;
         Ok(())
     }
@@ -129,24 +143,23 @@ impl Generator<'_> {
         &mut self,
         code: &mut Piece,
         site: Site,
-        set: usize,
-        member: &Expression,
+        of: MemberOf<'_>,
         after: bool,
         beside: &Expression,
-        owner: &SetOwner,
     ) -> Result<(), AllocError>
-        ensures { OnOk result (Emits self.old self.new code.old code.new site (λ s. IsNumber (view_expression member.now) s × IsNumber (view_expression beside.now) s × OwnerFits s set (view_owner owner.now)) (λ t. file_code t set (view_expression member.now) (if after then AfterMember (view_expression beside.now) else BeforeMember (view_expression beside.now)) (view_owner owner.now))) }
+        ensures { OnOk result (Emits self.old self.new code.old code.new site (λ s. IsNumber (view_expression of.entry.member.now) s × IsNumber (view_expression beside.now) s × OwnerFits s of.entry.set (view_owner of.entry.owner.now)) (λ t. file_code t of.entry.set (view_expression of.entry.member.now) (if after then AfterMember (view_expression beside.now) else BeforeMember (view_expression beside.now)) (view_owner of.entry.owner.now))) }
     {
-        let member = self.member(code, site, set, member, true)?;
+        let member = self.member(code, site, of.set, of.member, true)?;
         let above = site.above(member.cells);
-        let beside = self.member(code, above, set, beside, true)?;
-        let owner = self.owner(code, above.above(beside.cells), owner)?.address;
+        let beside = self.member(code, above, of.set, beside, true)?;
+        let higher = above.above(beside.cells);
+        let owner = self.owner(code, higher, of.owner)?.address;
         code.put(
             site.line,
             Instruction::FileBeside {
-                noted: is_count_watched(self.program, set),
+                noted: is_count_watched(self.program, of.set),
                 after,
-                set: as_index(set)?,
+                set: as_index(of.set)?,
                 member: member.address,
                 beside: beside.address,
                 owner,
@@ -160,26 +173,20 @@ impl Generator<'_> {
         &mut self,
         code: &mut Piece,
         site: Site,
-        set: usize,
-        member: &Expression,
+        of: MemberOf<'_>,
         position: &Position,
-        owner: &SetOwner,
     ) -> Result<(), AllocError>
-        ensures { OnOk result (Emits self.old self.new code.old code.new site (λ s. Good s (File site.line set (view_expression member.now) (view_position position.now) (view_owner owner.now))) (λ t. file_code t set (view_expression member.now) (view_position position.now) (view_owner owner.now))) }
+        ensures { OnOk result (Emits self.old self.new code.old code.new site (λ s. Good s (File site.line of.entry.set (view_expression of.entry.member.now) (view_position position.now) (view_owner of.entry.owner.now))) (λ t. file_code t of.entry.set (view_expression of.entry.member.now) (view_position position.now) (view_owner of.entry.owner.now))) }
     {
         match position {
             Position::ByDiscipline => {
-                let ordering = ordering_of(self.program, set);
-                self.file_at(code, site, set, member, ordering, owner)
+                let ordering = ordering_of(self.program, of.set);
+                self.file_at(code, site, of, ordering)
             }
-            Position::AsFirst => self.file_at(code, site, set, member, Ordering::First, owner),
-            Position::AsLast => self.file_at(code, site, set, member, Ordering::Last, owner),
-            Position::BeforeMember { member: beside } => {
-                self.file_beside(code, site, set, member, false, beside, owner)
-            }
-            Position::AfterMember { member: beside } => {
-                self.file_beside(code, site, set, member, true, beside, owner)
-            }
+            Position::AsFirst => self.file_at(code, site, of, Ordering::First),
+            Position::AsLast => self.file_at(code, site, of, Ordering::Last),
+            Position::BeforeMember { member } => self.file_beside(code, site, of, false, member),
+            Position::AfterMember { member } => self.file_beside(code, site, of, true, member),
         }
     }
 
@@ -188,21 +195,20 @@ impl Generator<'_> {
         &mut self,
         code: &mut Piece,
         site: Site,
-        set: usize,
-        member: &Expression,
-        owner: &SetOwner,
+        of: MemberOf<'_>,
     ) -> Result<(), AllocError>
-        ensures { OnOk result (Emits self.old self.new code.old code.new site (λ s. Good s (Remove site.line set (view_expression member.now) (view_owner owner.now))) (λ t. remove_code t set (view_expression member.now) (view_owner owner.now))) }
+        ensures { OnOk result (Emits self.old self.new code.old code.new site (λ s. Good s (Remove site.line of.entry.set (view_expression of.entry.member.now) (view_owner of.entry.owner.now))) (λ t. remove_code t of.entry.set (view_expression of.entry.member.now) (view_owner of.entry.owner.now))) }
     {
-        let member = self.member(code, site, set, member, owner_may_fault(owner))?;
-        let owner = self.owner(code, site.above(member.cells), owner)?.address;
+        let member = self.member(code, site, of.set, of.member, owner_may_fault(of.owner))?;
+        let above = site.above(member.cells);
+        let owner = self.owner(code, above, of.owner)?.address;
         code.put(
             site.line,
             Instruction::Remove {
-                set: as_index(set)?,
+                set: as_index(of.set)?,
                 member: member.address,
                 owner,
-                noted: is_count_watched(self.program, set),
+                noted: is_count_watched(self.program, of.set),
             },
         )?;
         Ok(())
@@ -213,19 +219,19 @@ impl Generator<'_> {
         &mut self,
         code: &mut Piece,
         site: Site,
-        end: End,
-        set: usize,
+        from: SetEnd,
         place: &Place,
         owner: &SetOwner,
     ) -> Result<(), AllocError>
-        ensures { OnOk result (Emits self.old self.new code.old code.new site (λ s. Good s (RemoveEnd site.line end set (view_place place.now) (view_owner owner.now))) (λ t. remove_end_code t end set (view_place place.now) (view_owner owner.now))) }
+        ensures { OnOk result (Emits self.old self.new code.old code.new site (λ s. Good s (RemoveEnd site.line from.end from.set (view_place place.now) (view_owner owner.now))) (λ t. remove_end_code t from.end from.set (view_place place.now) (view_owner owner.now))) }
     {
         let spot = self.looked_spot(code, site, place)?;
         let above = site.above(spot.cells());
         let owner = self.owner(code, above, owner)?.address;
         let to = self.landing(above, spot)?;
-        let noted = is_count_watched(self.program, set);
-        code.put(site.line, remove_by(end, as_index(set)?, owner, to, noted))?;
+        let noted = is_count_watched(self.program, from.set);
+        let set = as_index(from.set)?;
+        code.put(site.line, remove_by(from.end, set, owner, to, noted))?;
         self.take(code, above, spot, to)
     }
 }

@@ -12,8 +12,10 @@ ghost use Rattle.ss_code_generator.specs.Emitted.{Emits, EmitsAroundBoth};
 ghost use Rattle.ss_code_generator.specs.Spots.{GoodPlace};
 ghost use Rattle.ss_code_generator.specs.Printed.{statement_site, line_or_none, PrintsBy, EmitsStatement, EmitsBlock};
 
+use crate::events::Planned;
 use crate::generator::{Generator, Site};
-use crate::loops::cells_of;
+use crate::loops::{Cases, cells_of};
+use crate::sets::{MemberOf, SetEnd};
 use ss_base::Line;
 use ss_code_instructions::instruction::Instruction;
 use ss_code_pieces::lines::Lines;
@@ -192,7 +194,8 @@ impl Generator<'_> {
             } => {
                 let first = self.body(prints, height, found)?;
                 let second = self.body(prints, height, none)?;
-                self.find(code, site, head, phrases, first, second)
+                let phrases = phrases.as_slice();
+                self.find(code, site, Cases { head, phrases }, first, second)
             }
             Statement::Create { class, into, .. } => self.create(code, site, *class, into),
             Statement::CreateEvery { classes, .. } => self.creates(code, site, classes),
@@ -203,34 +206,49 @@ impl Generator<'_> {
                 position,
                 owner,
                 ..
-            } => self.file(code, site, *set, member, position, owner),
+            } => {
+                let set = *set;
+                self.file(code, site, MemberOf { set, member, owner }, position)
+            }
             Statement::RemoveEnd {
                 end,
                 set,
                 into,
                 owner,
                 ..
-            } => self.remove_end(code, site, *end, *set, into, owner),
+            } => {
+                let (set, end) = (*set, *end);
+                self.remove_end(code, site, SetEnd { set, end }, into, owner)
+            }
             Statement::Remove {
                 set,
                 member,
                 owner,
                 ..
-            } => self.remove(code, site, *set, member, owner),
+            } => {
+                let set = *set;
+                self.remove(code, site, MemberOf { set, member, owner })
+            }
             Statement::ScheduleNew {
                 class,
                 into,
                 given,
                 when,
                 ..
-            } => self.schedule_new(code, site, *class, into, given, when),
+            } => {
+                let class = *class;
+                self.schedule_new(code, site, Planned { class, when }, into, given)
+            }
             Statement::Schedule {
                 class,
                 notice,
                 given,
                 when,
                 ..
-            } => self.schedule(code, site, *class, notice, given, when),
+            } => {
+                let class = *class;
+                self.schedule(code, site, Planned { class, when }, notice, given)
+            }
             Statement::Cancel { class, notice, .. } => self.cancel(code, site, *class, notice),
             Statement::Reset { restarts, .. } => self.resets(code, site, restarts),
             Statement::Print {

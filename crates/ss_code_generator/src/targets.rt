@@ -6,17 +6,16 @@ ghost use Rattle.ss_base.specs.declared.layout.Mode.TheVariants.{Integer};
 ghost use Rattle.ss_program.specs.Program.{Let, Change, Place as Plain, ToVariable, ToAttribute, ToCount};
 ghost use Rattle.ss_program.specs.View.{view_expression, view_place, view_target};
 ghost use Rattle.ss_program.specs.WellTyped.{TakesMode, Good};
-ghost use Rattle.ss_meaning.specs.Values.{operator_of};
 ghost use Rattle.ss_code_instructions.specs.Instructions.{Read, Create};
-ghost use Rattle.ss_code_instructions.specs.declared.instruction.Instruction.TheVariants.{LookEntity};
+ghost use Rattle.ss_code_instructions.specs.declared.instruction.Instruction.TheVariants.{LookEntity, ChangeAttribute};
 ghost use Rattle.ss_code_instructions.specs.Facts.{is_watched};
 ghost use Rattle.ss_code_instructions.specs.Translation.{Site as At, operand_code, forget, to_place_code, place as placed, let_code, change_code, reads_code, creates_code, give_code, place_code};
-ghost use Rattle.ss_code_instructions.specs.Forms.{calculating, storing, reading};
+ghost use Rattle.ss_code_instructions.specs.Forms.{storing, reading};
 ghost use Rattle.ss_code_generator.specs.declared.generator.Site.{Site as Here};
 ghost use Rattle.ss_code_generator.specs.Emitted.{Final, Around, Grows, IsLocated, AtTarget, Makes, NoMore, Emits, IsNumber};
 ghost use Rattle.ss_code_generator.specs.Spots.{HasRoom, HoldsMode, IsWatched, IsVariable, IsAttribute, IsSpot, IsPlaceOf, spot_cells, spot_code, landing as lands_at, GoodPlace, Gives, Takes, Changed, IsHeldBy};
 
-use crate::expressions::move_of;
+use crate::expressions::{move_of, signed};
 use crate::generator::{Generator, Site};
 use ss_base::Mode;
 use ss_code_instructions::address::Address;
@@ -59,6 +58,13 @@ pub enum Spot {
     Count(u32, VariableSpot),
 }
 
+/// A variable that ADD or SUBTRACT changes, and what is assigned so: the variable itself, or N. of a class.
+#[derive(Clone, Copy)]
+pub struct ChangedSpot {
+    pub variable: VariableSpot,
+    pub spot: Spot,
+}
+
 impl Spot {
     /// How many cells it takes.
     pub fn cells(self) -> usize
@@ -69,16 +75,6 @@ impl Spot {
             Spot::Attribute(spot) => spot.cells,
             Spot::Count(_, _) => 0,
         }
-    }
-}
-
-// A number is added or subtracted.
-fn change_of(sign: Sign, left: Address, right: Address, to: Address) -> Instruction
-    ensures { result ≡ calculating (operator_of sign) left right to }
-{
-    match sign {
-        Sign::Plus => Instruction::Add { left, right, to },
-        Sign::Minus => Instruction::Subtract { left, right, to },
     }
 }
 
@@ -100,6 +96,20 @@ pub fn set_of(spot: AttributeSpot, from: Address) -> Instruction
             entity: spot.entity,
             from,
         },
+    }
+}
+
+// A number is added to an attribute, or subtracted.
+fn change_of(spot: AttributeSpot, sign: Sign, by: Address) -> Instruction
+    ensures { result ≡ ChangeAttribute spot.class spot.field spot.entity by sign spot.is_watched }
+{
+    Instruction::ChangeAttribute {
+        class: spot.class,
+        field: spot.field,
+        entity: spot.entity,
+        by,
+        sign,
+        noted: spot.is_watched,
     }
 }
 
@@ -204,7 +214,7 @@ impl Generator<'_> {
         }
     }
 
-    /// The same, and the reference is looked at: something that may fault comes before the value is assigned.
+    /// A place as what is assigned, and the reference is looked at: something that may fault comes before the value is assigned.
     pub fn looked_spot(
         &mut self,
         code: &mut Piece,
@@ -337,25 +347,6 @@ impl Generator<'_> {
         }
     }
 
-    // LET of an attribute.
-    fn let_attribute(
-        &mut self,
-        code: &mut Piece,
-        site: Site,
-        class: usize,
-        field: usize,
-        of: &Expression,
-        value: &Expression,
-    ) -> Result<(), AllocError>
-        ensures { OnOk result (Emits self.old self.new code.old code.new site (λ s. Good s (Let site.line (ToAttribute class field (view_expression of.now)) (view_expression value.now))) (λ t. let_code t (ToAttribute class field (view_expression of.now)) (view_expression value.now))) }
-    {
-        let spot = self.attribute_spot(code, site, class, field, of)?;
-        look_if(code, site, spot, must_look(class, of, value))?;
-        let from = self.operand(code, site.above(spot.cells), value)?.address;
-        code.put(site.line, set_of(spot, from))?;
-        Ok(())
-    }
-
     /// LET.
     pub fn assignment(
         &mut self,
@@ -372,7 +363,10 @@ impl Generator<'_> {
                 self.let_variable(code, site, spot, value)
             }
             Place::ToAttribute { class, field, of } => {
-                self.let_attribute(code, site, *class, *field, of, value)
+                let spot = self.attribute_spot(code, site, *class, *field, of)?;
+                look_if(code, site, spot, must_look(*class, of, value))?;
+                let from = self.operand(code, site.above(spot.cells), value)?.address;
+                code.put(site.line, set_of(spot, from))
             }
             Place::ToCount { count } => {
                 let spot = self.count_spot(*count)?;
@@ -388,45 +382,15 @@ impl Generator<'_> {
         code: &mut Piece,
         site: Site,
         sign: Sign,
-        spot: Spot,
-        variable: VariableSpot,
+        changed: ChangedSpot,
         value: &Expression,
     ) -> Result<(), AllocError>
-        ensures { OnOk result (Makes self.old self.new code.old code.new site (λ f t (c : Changed). IsSpot f t c.place spot × IsVariable t c.variable variable × IsHeldBy c × IsNumber (view_expression value.now) t.scope × HoldsMode t.scope c.place Integer) (λ t c. change_code t sign c.place (view_expression value.now)) NoMore) }
+        ensures { OnOk result (Makes self.old self.new code.old code.new site (λ f t (c : Changed). IsSpot f t c.place changed.spot × IsVariable t c.variable changed.variable × IsHeldBy c × IsNumber (view_expression value.now) t.scope × HoldsMode t.scope c.place Integer) (λ t c. change_code t sign c.place (view_expression value.now)) NoMore) }
     {
         let by = self.operand(code, site, value)?.address;
-        let to = self.landing(site, spot)?;
-        code.put(site.line, change_of(sign, variable.address, by, to))?;
-        self.take(code, site, spot, to)
-    }
-
-    // ADD and SUBTRACT, to an attribute.
-    fn change_attribute(
-        &mut self,
-        code: &mut Piece,
-        site: Site,
-        sign: Sign,
-        class: usize,
-        field: usize,
-        of: &Expression,
-        value: &Expression,
-    ) -> Result<(), AllocError>
-        ensures { OnOk result (Emits self.old self.new code.old code.new site (λ s. Good s (Change site.line sign (ToAttribute class field (view_expression of.now)) (view_expression value.now))) (λ t. change_code t sign (ToAttribute class field (view_expression of.now)) (view_expression value.now))) }
-    {
-        let by = self.operand(code, site, value)?;
-        let spot = self.attribute_spot(code, site.above(by.cells), class, field, of)?;
-        code.put(
-            site.line,
-            Instruction::ChangeAttribute {
-                class: spot.class,
-                field: spot.field,
-                entity: spot.entity,
-                by: by.address,
-                sign,
-                noted: spot.is_watched,
-            },
-        )?;
-        Ok(())
+        let to = self.landing(site, changed.spot)?;
+        code.put(site.line, signed(sign, changed.variable.address, by, to))?;
+        self.take(code, site, changed.spot, to)
     }
 
     /// ADD and SUBTRACT.
@@ -442,19 +406,22 @@ impl Generator<'_> {
     {
         match place {
             Place::ToVariable { variable } => {
-                let spot = self.variable_spot(*variable)?;
-                self.change_variable(code, site, sign, Spot::Variable(spot), spot, value)
+                let variable = self.variable_spot(*variable)?;
+                let spot = Spot::Variable(variable);
+                self.change_variable(code, site, sign, ChangedSpot { variable, spot }, value)
             }
             Place::ToAttribute { class, field, of } => {
-                self.change_attribute(code, site, sign, *class, *field, of, value)
+                let by = self.operand(code, site, value)?;
+                let above = site.above(by.cells);
+                let spot = self.attribute_spot(code, above, *class, *field, of)?;
+                code.put(site.line, change_of(spot, sign, by.address))
             }
             Place::ToCount { count } => {
-                let variable = Variable::Global {
+                let variable = self.variable_spot(Variable::Global {
                     number: count.variable,
-                };
-                let spot = self.variable_spot(variable)?;
-                let counted = Spot::Count(as_index(count.class)?, spot);
-                self.change_variable(code, site, sign, counted, spot, value)
+                })?;
+                let spot = Spot::Count(as_index(count.class)?, variable);
+                self.change_variable(code, site, sign, ChangedSpot { variable, spot }, value)
             }
         }
     }

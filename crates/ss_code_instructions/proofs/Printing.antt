@@ -4,9 +4,9 @@ use Rattle.std.specs.Prelude.{slice_get, Result as OkOr}
 use Rattle.ss_base.specs.declared.layout.Mode.TheVariants.{Integer}
 use Rattle.ss_base.specs.declared.line.Line.{Line}
 use Rattle.ss_base.specs.declared.value.Value.{Value}
-use Rattle.ss_program.specs.FieldValue.{FieldValue as Shown}
-use Rattle.ss_program.specs.FieldValue.TheVariants.{Is, Mean}
-use Rattle.ss_program.specs.Program.{Expression, Item, AValue, AMean, AMeanOf}
+use Rattle.ss_program.specs.Item.{Item}
+use Rattle.ss_program.specs.Item.TheVariants.{Is, Mean}
+use Rattle.ss_program.specs.Program.{Expression, PrintItem, AValue, AMean, AMeanOf}
 use Rattle.ss_meaning.specs.Values.{Trouble, Fails, Misfit, if_ok, turned, sure, printed}
 use Rattle.ss_meaning.specs.Store.{Store}
 use Rattle.ss_meaning.specs.Statistics.{mean}
@@ -36,7 +36,7 @@ abbrev mean_of_value : (statistic : ℕ) → Expression → Store → OkOr Value
 mean_of_value j e s = if_ok (value e s) (λ x. turned (λ (m : ℤ × ℤ). x) (mean j (Some x) s))
 
 -- the values that items take, each mean looked at in its place
-abbrev values_looked : List Item → Store → OkOr (List Value) Trouble
+abbrev values_looked : List PrintItem → Store → OkOr (List Value) Trouble
 values_looked [] s = Ok []
 values_looked (AValue e ∷ xs) s = if_ok (value e s) (λ v. turned (λ vs. v ∷ vs) (values_looked xs s))
 values_looked (AMean j ∷ xs) s = if_ok (mean j None s) (λ m. values_looked xs s)
@@ -54,7 +54,7 @@ none_many : {A : Type 0} (k : ℕ) (r : OkOr A Trouble) (o : OkOr (List Value) T
 none_many k r o h = let e : k ≡ 0 + k = omega arith in each (AsMany (0 + k)) r _ (λ a. subst (λ j. Only (AsMany j) o) e h)
 
 -- they are as many as the items take
-many_looked : (xs : List Item) (s : Store) → Only (AsMany (cells_of_kinds (map item_kind xs))) (values_looked xs s)
+many_looked : (xs : List PrintItem) (s : Store) → Only (AsMany (cells_of_kinds (map item_kind xs))) (values_looked xs s)
 many_looked [] s = refl
 many_looked (AValue e ∷ xs) s = one_many (cells_of_kinds (map item_kind xs)) (value e s) (λ v. v) (values_looked xs s) (many_looked xs s)
 many_looked (AMean j ∷ xs) s = none_many (cells_of_kinds (map item_kind xs)) (mean j None s) (values_looked xs s) (many_looked xs s)
@@ -68,11 +68,11 @@ looked_such P l (Err Misfit) w h = tt
 -- ## The items that are made of them
 
 -- an item before others
-before_sure : (x : Shown) (o : Option (List Shown)) → sure (item_before (Some x) o) ≡ turned (λ xs. x ∷ xs) (sure o)
+before_sure : (x : Item) (o : Option (List Item)) → sure (item_before (Some x) o) ≡ turned (λ xs. x ∷ xs) (sure o)
 before_sure x None = refl
 before_sure x (Some xs) = refl
 
-module _ (s : Store) (ks : List ItemKind) (others : OkOr (List Shown) Trouble) where
+module _ (s : Store) (ks : List ItemKind) (others : OkOr (List Item) Trouble) where
   -- the items after one are those that are shown
   abbrev IsShown : OkOr (List Value) Trouble → Type 0
   IsShown o = if_ok o (λ vs. sure (values_shown ks vs s)) ≡ others
@@ -110,7 +110,7 @@ module _ (s : Store) (ks : List ItemKind) (others : OkOr (List Shown) Trouble) w
           ∙ (before_sure (Mean m.0 m.1) (values_shown ks vs s) ∙ ap (turned (λ xs. Mean m.0 m.1 ∷ xs)) h)
 
 -- of the values that items take, what their kinds show is what the items mean
-items_shown : (xs : List Item) (s : Store) → if_ok (values_looked xs s) (λ vs. sure (values_shown (map item_kind xs) vs s)) ≡ shown_items xs s
+items_shown : (xs : List PrintItem) (s : Store) → if_ok (values_looked xs s) (λ vs. sure (values_shown (map item_kind xs) vs s)) ≡ shown_items xs s
 items_shown [] s = refl
 items_shown (AValue e ∷ xs) s = value_shown s (map item_kind xs) (shown_items xs s) (value e s) (values_looked xs s) (items_shown xs s)
 items_shown (AMean j ∷ xs) s = mean_alone_shown s (map item_kind xs) (shown_items xs s) j (values_looked xs s) (items_shown xs s) (mean j None s) refl
@@ -126,7 +126,7 @@ if_twice (Err t) f g = refl
 abbrev lines_shown : List ItemKind → List (List ℕ) → List Value → Store → OkOr (List ℕ) Trouble
 lines_shown ks pictures vs s = if_ok (sure (values_shown ks vs s)) (λ xs. sure (printed pictures xs))
 
-lines_meant : (xs : List Item) (pictures : List (List ℕ)) (s : Store) → if_ok (values_looked xs s) (λ vs. lines_shown (map item_kind xs) pictures vs s) ≡ if_ok (shown_items xs s) (λ ys. sure (printed pictures ys))
+lines_meant : (xs : List PrintItem) (pictures : List (List ℕ)) (s : Store) → if_ok (values_looked xs s) (λ vs. lines_shown (map item_kind xs) pictures vs s) ≡ if_ok (shown_items xs s) (λ ys. sure (printed pictures ys))
 lines_meant xs pictures s =
     sym (if_twice (values_looked xs s) (λ vs. sure (values_shown (map item_kind xs) vs s)) (λ ys. sure (printed pictures ys)))
     ∙ ap (λ o. if_ok o (λ ys. sure (printed pictures ys))) (items_shown xs s)
@@ -136,7 +136,7 @@ then_sent l (Ok a) g w = refl
 then_sent l (Err (Fails k)) g w = refl
 then_sent l (Err Misfit) g w = refl
 
-fit_lines : (l : Line) (o : Option (List Shown)) (pictures : List (List ℕ)) (go : List ℕ → Moved) → fit o (λ xs. fit (printed pictures xs) go) ≡ did l (if_ok (sure o) (λ xs. sure (printed pictures xs))) go
+fit_lines : (l : Line) (o : Option (List Item)) (pictures : List (List ℕ)) (go : List ℕ → Moved) → fit o (λ xs. fit (printed pictures xs) go) ≡ did l (if_ok (sure o) (λ xs. sure (printed pictures xs))) go
 fit_lines l None pictures go = refl
 fit_lines l (Some xs) pictures go = fit_did l (printed pictures xs) go
 
@@ -165,7 +165,7 @@ module _ (code : Code) (n : ℕ) where
       seq_look code n (height t) t.line (value e) (λ x s. turned (λ (m : ℤ × ℤ). x) (mean j (Some x) s)) (value_runs code n t e) (λ x. mean_stays t j x)
 
   -- items leave the values that they take
-  items_run : (t : Site) (xs : List Item) → Runs code n (height t) same (items_code t xs) onto (look t.line (values_looked xs))
+  items_run : (t : Site) (xs : List PrintItem) → Runs code n (height t) same (items_code t xs) onto (look t.line (values_looked xs))
   items_run t [] = none code n (height t) {after = onto} []
   items_run t (AValue e ∷ xs) =
       seq_look code n (height t) t.line (value e) (λ v s. turned (λ vs. v ∷ vs) (values_looked xs s)) (value_runs code n t e) (λ v.
@@ -179,7 +179,7 @@ module _ (code : Code) (n : ℕ) where
       (above_cells code n (height t) (put_on x) (suc (height t)) (λ cells q. ap suc q) (items_run (with_cells t (Integer ∷ t.cells)) xs)))
 
   -- the lines, from the values in cells
-  lines_run : (u : Site) (h first : ℕ) (xs : List Item) (pictures : List (List ℕ)) (vs : List Value) → slice_get code.prints first ≡ Some (lines_of xs pictures) → AsMany (cells_of_kinds (map item_kind xs)) vs → Runs code n h (onto vs) (place u (i.Print first h) ∷ []) done (λ w. outcome_then (look u.line (lines_shown (map item_kind xs) pictures vs) w) send)
+  lines_run : (u : Site) (h first : ℕ) (xs : List PrintItem) (pictures : List (List ℕ)) (vs : List Value) → slice_get code.prints first ≡ Some (lines_of xs pictures) → AsMany (cells_of_kinds (map item_kind xs)) vs → Runs code n h (onto vs) (place u (i.Print first h) ∷ []) done (λ w. outcome_then (look u.line (lines_shown (map item_kind xs) pictures vs) w) send)
   lines_run u h first xs pictures vs has many =
       let ks : List ItemKind = map item_kind xs in
       output_runs h (place u (i.Print first h)) (onto vs) (lines_shown ks pictures vs) refl (λ p cells frames s high.
@@ -187,7 +187,7 @@ module _ (code : Code) (n : ℕ) where
       ∙ block_takes vs cells (cells_of_kinds ks) h (λ us below. fit (values_shown ks us s) (λ ys. fit (printed pictures ys) (λ bytes. Sends bytes (core_at (p + 1) below frames s)))) many high
       ∙ fit_lines u.line (values_shown ks vs s) pictures (λ bytes. Sends bytes (core_at (p + 1) cells frames s)))
 
-  pub print_runs : (t : Site) (first : ℕ) (xs : List Item) (pictures : List (List ℕ)) → slice_get code.prints first ≡ Some (lines_of xs pictures) → Runs code n (height t) same (items_code t xs ++ place (after_items t xs) (i.Print first (height t)) ∷ []) done (print t.line xs pictures)
+  pub print_runs : (t : Site) (first : ℕ) (xs : List PrintItem) (pictures : List (List ℕ)) → slice_get code.prints first ≡ Some (lines_of xs pictures) → Runs code n (height t) same (items_code t xs ++ place (after_items t xs) (i.Print first (height t)) ∷ []) done (print t.line xs pictures)
   print_runs t first xs pictures has =
       let ks : List ItemKind = map item_kind xs in
       alike code n (height t) (λ w. then_sent t.line (values_looked xs w.store) (lines_shown ks pictures) w ∙ ap (λ o. outcome_then (looked t.line o w) send) (lines_meant xs pictures w.store))

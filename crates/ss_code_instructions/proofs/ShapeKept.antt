@@ -11,8 +11,8 @@ use Rattle.ss_base.specs.declared.layout.Mode.TheVariants.{Integer, Alpha}
 use Rattle.ss_base.specs.declared.value.Value.{Value}
 use Rattle.ss_base.specs.declared.value.Value.TheVariants.{Whole, Text}
 use Rattle.ss_base.specs.Layout.{mode_of, first_value}
-use Rattle.ss_program.specs.FieldValue.{FieldValue}
-use Rattle.ss_program.specs.FieldValue.TheVariants.{Is, Mean}
+use Rattle.ss_program.specs.Item.{Item}
+use Rattle.ss_program.specs.Item.TheVariants.{Is, Mean}
 use Rattle.ss_base.specs.declared.words.Relation.{Relation}
 use Rattle.ss_base.specs.declared.words.Sign.{Sign}
 use Rattle.ss_program.specs.Program.{Event, Program}
@@ -169,7 +169,7 @@ mean_there k f (Ok m) h = f m.0 m.1
 mean_there k f (Err (Fails kind)) h = f (pos 0) (pos 0)
 mean_there k f (Err Misfit) h = absurd h
 
-before_there : (k : ItemKind) (ks : List ItemKind) (o : Option FieldValue) (xs : Option (List FieldValue)) → There (IsOfKind k) o → There (AllZip IsOfKind ks) xs → There (AllZip IsOfKind (k ∷ ks)) (item_before o xs)
+before_there : (k : ItemKind) (ks : List ItemKind) (o : Option Item) (xs : Option (List Item)) → There (IsOfKind k) o → There (AllZip IsOfKind ks) xs → There (AllZip IsOfKind (k ∷ ks)) (item_before o xs)
 before_there k ks None xs h g = absurd h
 before_there k ks (Some x) None h g = absurd g
 before_there k ks (Some x) (Some xs) h g = (h, g)

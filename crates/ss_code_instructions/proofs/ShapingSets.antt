@@ -11,9 +11,9 @@ use Rattle.ss_base.specs.declared.layout.Discipline.{Discipline}
 use Rattle.ss_base.specs.declared.layout.Discipline.TheVariants as disciplines
 use Rattle.ss_program.specs.declared.statement.CountedClass.{CountedClass}
 use Rattle.ss_base.specs.declared.words.End.{End}
-use Rattle.ss_program.specs.Program.{Expression, SetOwner, Place, ToVariable, ToAttribute, ToCount, Position, ByDiscipline, AsFirst, AsLast, BeforeMember, AfterMember, When, At as AtTime, In, Now, Restart, Item, AValue, AMean, AMeanOf, Program}
-use Rattle.ss_program.specs.FieldValue.{FieldValue}
-use Rattle.ss_program.specs.FieldValue.TheVariants.{Is, Mean}
+use Rattle.ss_program.specs.Program.{Expression, SetOwner, Place, ToVariable, ToAttribute, ToCount, Position, ByDiscipline, AsFirst, AsLast, BeforeMember, AfterMember, When, At as AtTime, In, Now, Restart, PrintItem, AValue, AMean, AMeanOf, Program}
+use Rattle.ss_program.specs.Item.{Item}
+use Rattle.ss_program.specs.Item.TheVariants.{Is, Mean}
 use Rattle.ss_program.specs.WellTyped.{Scope, WellTyped, kind_of_class, HasMode, OwnerFits, TakesMode, GoodPosition, GoodWhen, GoodGiven, GoodRestart, TakesItem, GoodPrint, HasSubject, IsAlone, IsOfEntities}
 use Rattle.ss_meaning.specs.Values.{lines_with, takes, take_all}
 use Rattle.ss_code_instructions.specs.Instructions.{Operand, Filing, Placed}
@@ -38,25 +38,25 @@ given_fit s class given g =
     (g.0, (g.1.0, g.1.1, ap (λ n. take n g.1.0) (sym (values_many s given (take (length given) g.1.0) g.1.2))))
 
 -- the modes of the cells of items
-abbrev pub shown_modes : Scope → List Item → List Mode
+abbrev pub shown_modes : Scope → List PrintItem → List Mode
 shown_modes s [] = []
 shown_modes s (AValue e ∷ xs) = expression_mode s e ∷ shown_modes s xs
 shown_modes s (AMean j ∷ xs) = shown_modes s xs
 shown_modes s (AMeanOf j e ∷ xs) = Integer ∷ shown_modes s xs
 
-pub items_so : (s : Scope) (xs : List Item) (ms : List Mode) → items_cells s xs ms ≡ modes_onto (shown_modes s xs) ms
+pub items_so : (s : Scope) (xs : List PrintItem) (ms : List Mode) → items_cells s xs ms ≡ modes_onto (shown_modes s xs) ms
 items_so s [] ms = refl
 items_so s (AValue e ∷ xs) ms = items_so s xs (expression_mode s e ∷ ms)
 items_so s (AMean j ∷ xs) ms = items_so s xs ms
 items_so s (AMeanOf j e ∷ xs) ms = items_so s xs (Integer ∷ ms)
 
 -- an item shows what is there
-abbrev pub GoodItem : Scope → Item → Type 0
+abbrev pub GoodItem : Scope → PrintItem → Type 0
 GoodItem s (AValue e) = (m : Mode) × HasMode s e m
 GoodItem s (AMean j) = HasSubject s.program IsAlone j
 GoodItem s (AMeanOf j e) = HasSubject s.program IsOfEntities j × HasMode s e Integer
 
-pub items_good : (s : Scope) (fields : _) (xs : List Item) → AllZip (TakesItem s) fields xs → Every (GoodItem s) xs
+pub items_good : (s : Scope) (fields : _) (xs : List PrintItem) → AllZip (TakesItem s) fields xs → Every (GoodItem s) xs
 items_good s [] [] h = tt
 items_good s [] (x ∷ xs) h = absurd h
 items_good s (f ∷ fields) [] h = absurd h
@@ -64,14 +64,14 @@ items_good s (f ∷ fields) (AValue e ∷ xs) h = (h.0.0, items_good s fields xs
 items_good s (f ∷ fields) (AMean j ∷ xs) h = (h.0.0, items_good s fields xs h.1)
 items_good s (f ∷ fields) (AMeanOf j e ∷ xs) h = ((h.0.0, h.0.1), items_good s fields xs h.1)
 
-pub items_fit : (s : Scope) (xs : List Item) → Every (GoodItem s) xs → ItemsFit s.program (map item_kind xs) (shown_modes s xs)
+pub items_fit : (s : Scope) (xs : List PrintItem) → Every (GoodItem s) xs → ItemsFit s.program (map item_kind xs) (shown_modes s xs)
 items_fit s [] h = tt
 items_fit s (AValue e ∷ xs) h = items_fit s xs h.1
 items_fit s (AMean j ∷ xs) h = (h.0, items_fit s xs h.1)
 items_fit s (AMeanOf j e ∷ xs) h = (refl, h.0.0, items_fit s xs h.1)
 
 -- the fields take whatever the items show
-items_take : (s : Scope) (fields : _) (xs : List Item) (shown : List FieldValue) → AllZip (TakesItem s) fields xs → AllZip IsOfKind (map item_kind xs) shown → take_all fields shown ≡ true
+items_take : (s : Scope) (fields : _) (xs : List PrintItem) (shown : List Item) → AllZip (TakesItem s) fields xs → AllZip IsOfKind (map item_kind xs) shown → take_all fields shown ≡ true
 items_take s [] [] [] h k = refl
 items_take s [] [] (y ∷ shown) h k = absurd k
 items_take s [] (x ∷ xs) shown h k = absurd h
@@ -79,7 +79,7 @@ items_take s (f ∷ fields) [] shown h k = absurd h
 items_take s (f ∷ fields) (x ∷ xs) [] h k = absurd k
 items_take s (f ∷ fields) (x ∷ xs) (y ∷ shown) h k = ap (λ b. b && take_all fields shown) (one x y h.0 k.0) ∙ items_take s fields xs shown h.1 k.1
   where
-    one : (x : Item) (y : FieldValue) → TakesItem s f x → IsOfKind (item_kind x) y → takes f y ≡ true
+    one : (x : PrintItem) (y : Item) → TakesItem s f x → IsOfKind (item_kind x) y → takes f y ≡ true
     one (AValue e) (Is v) h k = eq-eqb f.decimals 0 h.1
     one (AValue e) (Mean sum number) h k = absurd k
     one (AMean j) (Is v) h k = absurd k
@@ -87,7 +87,7 @@ items_take s (f ∷ fields) (x ∷ xs) (y ∷ shown) h k = ap (λ b. b && take_a
     one (AMeanOf j e) (Is v) h k = absurd k
     one (AMeanOf j e) (Mean sum number) h k = le-leb f.decimals 9 h.2
 
-pub fields_take : (s : Scope) (xs : List Item) (pictures : List (List ℕ)) → GoodPrint s xs pictures → FieldsTake (lines_of xs pictures)
+pub fields_take : (s : Scope) (xs : List PrintItem) (pictures : List (List ℕ)) → GoodPrint s xs pictures → FieldsTake (lines_of xs pictures)
 fields_take s xs pictures g = λ shown k. ap (λ b. is_some (if b then Some (lines_with pictures shown) else None)) (items_take s _ xs shown g k)
 
 module _ (p : Program) (typed : WellTyped p) (code : Code) (ls : List Mode) (b : Bool) where
@@ -170,14 +170,14 @@ module _ (p : Program) (typed : WellTyped p) (code : Code) (ls : List Mode) (b :
 
   -- ## Items of a PRINT
 
-  item_shapes : (l : Line) (x : Item) (ms : List Mode) → GoodItem section_scope x → Shapes p code (Comes ms) (item_code (at_site l ms) x) (Comes (item_cells section_scope x ms))
+  item_shapes : (l : Line) (x : PrintItem) (ms : List Mode) → GoodItem section_scope x → Shapes p code (Comes ms) (item_code (at_site l ms) x) (Comes (item_cells section_scope x ms))
   item_shapes l (AValue e) ms h = at_own_mode p code ls b l e h.0 ms h.1
   item_shapes l (AMean j) ms h = one p code (Comes ms) (place (at_site l ms) (i.LookMean j None)) (λ q end. (h, (ms, refl, end)))
   item_shapes l (AMeanOf j e) ms h =
       seq (cell_shapes p code ls b l e Integer ms h.1)
       (one p code (Comes (Integer ∷ ms)) (place (at_site l (Integer ∷ ms)) (i.LookMean j (Some (i.Stays (length ms))))) (λ q end. (h.0, (Integer ∷ ms, (under_cell [] (length ms) Integer ms refl, refl), end))))
 
-  pub items_shapes : (l : Line) (xs : List Item) (ms : List Mode) → Every (GoodItem section_scope) xs → Shapes p code (Comes ms) (items_code (at_site l ms) xs) (Comes (items_cells section_scope xs ms))
+  pub items_shapes : (l : Line) (xs : List PrintItem) (ms : List Mode) → Every (GoodItem section_scope) xs → Shapes p code (Comes ms) (items_code (at_site l ms) xs) (Comes (items_cells section_scope xs ms))
   items_shapes l [] ms h = none p code (Comes ms)
   items_shapes l (x ∷ xs) ms h = seq (item_shapes l x ms h.0) (items_shapes l xs (item_cells section_scope x ms) h.1)
 

@@ -5,7 +5,7 @@ use Rattle.std.specs.List.{AllByRecursion as Every, AllZip}
 use Rattle.ss_base.specs.declared.line.Line.{Line}
 use Rattle.ss_base.specs.declared.layout.Mode.{Mode}
 use Rattle.ss_base.specs.declared.layout.Mode.TheVariants.{Integer}
-use Rattle.ss_program.specs.Program.{Expression, TheSystem, Entity, Head, Numbers, Members, Each, Place, Item, Statement, Let, Change, Call, Return, Stop, Read, Simulate, If, Loop, For, Find, Create, CreateEvery, Destroy, File, RemoveEnd, Remove, ScheduleNew, Schedule, Cancel, Reset, Print, Skip, Block, Done, Then, Routine, Program}
+use Rattle.ss_program.specs.Program.{Expression, TheSystem, Entity, Head, Numbers, Members, Each, Place, PrintItem, Statement, Let, Change, Call, Return, Stop, Read, Simulate, If, Loop, For, Find, Create, CreateEvery, Destroy, File, RemoveEnd, Remove, ScheduleNew, Schedule, Cancel, Reset, Print, Skip, Block, Done, Then, Routine, Program}
 use Rattle.ss_program.specs.WellTyped.{Scope, WellTyped, HaveModes, TakesMode, GoodCall, Good, GoodBlock}
 use Rattle.ss_code_instructions.specs.Instructions.{Placed, EntryPoint}
 use Rattle.ss_code_instructions.specs.Instructions as i
@@ -68,7 +68,7 @@ module _ (p : Program) (typed : WellTyped p) (code : Code) (linked : Linked code
 
   -- ## PRINT, START SIMULATION
 
-  print_shapes : (l : Line) (first : ℕ) (items : List Item) (pictures : List (List ℕ)) (ms : List Mode) → slice_get code.prints first ≡ Some (lines_of items pictures) → Every (GoodItem section_scope) items → FieldsTake (lines_of items pictures) → Shapes p code (Comes ms) (items_code (at_site l ms) items ++ place (at_site l (items_cells section_scope items ms)) (i.Print first (length ms)) ∷ []) (Comes ms)
+  print_shapes : (l : Line) (first : ℕ) (items : List PrintItem) (pictures : List (List ℕ)) (ms : List Mode) → slice_get code.prints first ≡ Some (lines_of items pictures) → Every (GoodItem section_scope) items → FieldsTake (lines_of items pictures) → Shapes p code (Comes ms) (items_code (at_site l ms) items ++ place (at_site l (items_cells section_scope items ms)) (i.Print first (length ms)) ∷ []) (Comes ms)
   print_shapes l first items pictures ms there g take =
       let block : CellBlock (length ms) (shown_modes section_scope items) (items_cells section_scope items ms) ms = record { is = items_so section_scope items ms; height = refl } in
       seq (items_shapes p typed code ls b l items ms g)

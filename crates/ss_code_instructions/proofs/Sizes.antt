@@ -12,7 +12,7 @@ use Rattle.ss_base.specs.declared.words.PhraseKind.TheVariants as kinds
 use Rattle.ss_program.specs.declared.statement.CountedClass.{CountedClass}
 use Rattle.ss_base.specs.declared.words.End.{End}
 use Rattle.ss_base.specs.declared.words.Sign.{Sign}
-use Rattle.ss_program.specs.Program.{Expression, Constant, Fetch, Attribute, OfSystemSet, OfSet, OfMember, Clock, TimeOf, Figure, FigureOf, Signed, Unary, Calculate, SetOwner, TheSystem, Entity, Test, Compare, DataEnded, Empty, Member, Condition, Head, Numbers, Members, Each, Start, AtEnd, From, After, Phrase, Guard, Place, ToVariable, ToAttribute, ToCount, Target, Position, When, At, In, Now, Restart, Item, AValue, AMean, AMeanOf, Statement, Let, Change, Call, Return, Stop, Read, Simulate, If, Loop, For, Find, Create, CreateEvery, Destroy, File, RemoveEnd, Remove, ScheduleNew, Schedule, Cancel, Reset, Print, Skip, Block, Done, Then, Routine, Event, Program}
+use Rattle.ss_program.specs.Program.{Expression, Constant, Fetch, Attribute, OfSystemSet, OfSet, OfMember, Clock, TimeOf, Figure, FigureOf, Signed, Unary, Calculate, SetOwner, TheSystem, Entity, Test, Compare, DataEnded, Empty, Member, Condition, Head, Numbers, Members, Each, Start, AtEnd, From, After, Phrase, Guard, Place, ToVariable, ToAttribute, ToCount, Target, Position, When, At, In, Now, Restart, PrintItem, AValue, AMean, AMeanOf, Statement, Let, Change, Call, Return, Stop, Read, Simulate, If, Loop, For, Find, Create, CreateEvery, Destroy, File, RemoveEnd, Remove, ScheduleNew, Schedule, Cancel, Reset, Print, Skip, Block, Done, Then, Routine, Event, Program}
 use Rattle.ss_program.specs.WellTyped.{Scope}
 use Rattle.std.specs.Prelude.{pos}
 use Rattle.ss_base.specs.declared.value.Value.TheVariants.{Whole}
@@ -419,12 +419,12 @@ restarts_length s (r ∷ rs) =
     let x : Placed = place (t.after_bearer s r.of) (i.Reset r.statistic (t.bearer s r.of)) in
     both_codes (t.bearer_code s r.of ++ x ∷ []) (t.restarts_code s rs) (z.any_size r.of + 1) (z.restarts_size s.scope.program rs) (after_code (t.bearer_code s r.of) x (z.any_size r.of) (bearer_length s r.of)) (restarts_length s rs)
 
-item_length : (s : Site) (x : Item) → length (t.item_code s x) ≡ z.item_size s.scope.program x
+item_length : (s : Site) (x : PrintItem) → length (t.item_code s x) ≡ z.item_size s.scope.program x
 item_length s (AValue e) = expression_length s (next s) e
 item_length s (AMean j) = refl
 item_length s (AMeanOf j e) = after_code (expression_code s (next s) e) (place (t.above s Integer) (i.LookMean j (Some (i.Stays (height s))))) (expression_size e) (expression_length s (next s) e)
 
-items_length : (s : Site) (xs : List Item) → length (t.items_code s xs) ≡ z.items_size s.scope.program xs
+items_length : (s : Site) (xs : List PrintItem) → length (t.items_code s xs) ≡ z.items_size s.scope.program xs
 items_length s [] = refl
 items_length s (x ∷ xs) =
     both_codes (t.item_code s x) (t.items_code (t.with_cells s (t.item_cells s.scope x s.cells)) xs) (z.item_size s.scope.program x) (z.items_size s.scope.program xs) (item_length s x) (items_length (t.with_cells s (t.item_cells s.scope x s.cells)) xs)

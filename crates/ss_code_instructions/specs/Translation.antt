@@ -17,7 +17,7 @@ use Rattle.ss_base.specs.declared.words.PhraseKind.{PhraseKind}
 use Rattle.ss_base.specs.declared.words.PhraseKind.TheVariants as kinds
 use Rattle.ss_base.specs.declared.words.End.{End}
 use Rattle.ss_program.specs.declared.statement.CountedClass.{CountedClass}
-use Rattle.ss_program.specs.Program.{Expression, Constant, Fetch, Attribute, OfSystemSet, OfSet, OfMember, Clock, TimeOf, Figure, FigureOf, Signed, Unary, Calculate, SetOwner, TheSystem, Entity, Test, Compare, DataEnded, Empty, Member, Condition, Head, Numbers, Members, Each, Start, AtEnd, From, After, Phrase, Guard, Place, ToVariable, ToAttribute, ToCount, Target, Position, ByDiscipline, AsFirst, AsLast, BeforeMember, AfterMember, When, At, In, Now, Restart, Item, AValue, AMean, AMeanOf, Statement, Let, Change, Call, Return, Stop, Read, Simulate, If, Loop, For, Find, Create, CreateEvery, Destroy, File, RemoveEnd, Remove, ScheduleNew, Schedule, Cancel, Reset, Print, Skip, Block, Done, Then, Routine, Event, Program}
+use Rattle.ss_program.specs.Program.{Expression, Constant, Fetch, Attribute, OfSystemSet, OfSet, OfMember, Clock, TimeOf, Figure, FigureOf, Signed, Unary, Calculate, SetOwner, TheSystem, Entity, Test, Compare, DataEnded, Empty, Member, Condition, Head, Numbers, Members, Each, Start, AtEnd, From, After, Phrase, Guard, Place, ToVariable, ToAttribute, ToCount, Target, Position, ByDiscipline, AsFirst, AsLast, BeforeMember, AfterMember, When, At, In, Now, Restart, PrintItem, AValue, AMean, AMeanOf, Statement, Let, Change, Call, Return, Stop, Read, Simulate, If, Loop, For, Find, Create, CreateEvery, Destroy, File, RemoveEnd, Remove, ScheduleNew, Schedule, Cancel, Reset, Print, Skip, Block, Done, Then, Routine, Event, Program}
 use Rattle.ss_program.specs.WellTyped.{Scope, mode_at, field_mode}
 use Rattle.ss_meaning.specs.Values.{operator_of}
 use Rattle.ss_meaning.specs.Meaning.{setting_of, tie_shapes}
@@ -515,35 +515,35 @@ restarts_code t (r ∷ rs) =
 -- ## PRINT
 
 -- an item: the value that it takes in a new cell; a mean is looked at in its place
-abbrev pub item_code : Site → Item → List Placed
+abbrev pub item_code : Site → PrintItem → List Placed
 item_code t (AValue e) = expression_code t (next t) e
 item_code t (AMean j) = place t (i.LookMean j None) ∷ []
 item_code t (AMeanOf j e) = expression_code t (next t) e ++ place (above t Integer) (i.LookMean j (Some (i.Stays (height t)))) ∷ []
 
-abbrev pub item_cells : Scope → Item → List Mode → List Mode
+abbrev pub item_cells : Scope → PrintItem → List Mode → List Mode
 item_cells s (AValue e) ms = expression_mode s e ∷ ms
 item_cells s (AMean j) ms = ms
 item_cells s (AMeanOf j e) ms = Integer ∷ ms
 
-abbrev pub items_code : Site → List Item → List Placed
+abbrev pub items_code : Site → List PrintItem → List Placed
 items_code t [] = []
 items_code t (x ∷ xs) = item_code t x ++ items_code (with_cells t (item_cells t.scope x t.cells)) xs
 
-abbrev pub items_cells : Scope → List Item → List Mode → List Mode
+abbrev pub items_cells : Scope → List PrintItem → List Mode → List Mode
 items_cells s [] ms = ms
 items_cells s (x ∷ xs) ms = items_cells s xs (item_cells s x ms)
 
-abbrev pub after_items : Site → List Item → Site
+abbrev pub after_items : Site → List PrintItem → Site
 after_items t xs = with_cells t (items_cells t.scope xs t.cells)
 
 -- what an item is
-abbrev pub item_kind : Item → ItemKind
+abbrev pub item_kind : PrintItem → ItemKind
 item_kind (AValue e) = i.ShowsValue
 item_kind (AMean j) = i.ShowsMean j
 item_kind (AMeanOf j e) = i.ShowsMeanOf j
 
 -- the lines of a PRINT of these items
-abbrev pub lines_of : List Item → (pictures : List (List ℕ)) → Lines
+abbrev pub lines_of : List PrintItem → (pictures : List (List ℕ)) → Lines
 lines_of items pictures = record { pictures = pictures; items = map item_kind items }
 
 -- ## Statements

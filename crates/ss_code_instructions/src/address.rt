@@ -11,8 +11,8 @@ ghost use Rattle.std.specs.Prelude.{◌≡◌};
 /// `(frame & mask) + number`.
 #[derive(Clone, Copy, Debug, PartialEq, Eq)]
 pub struct Address {
-    pub number: u32,
-    pub mask: u32,
+    pub number: usize,
+    pub mask: usize,
 }
 
 impl Address {
@@ -20,16 +20,19 @@ impl Address {
     pub fn fixed(number: u32) -> Address
         ensures { result ≡ record { number = number; mask = 0 } }
     {
-        Address { number, mask: 0 }
+        Address {
+            number: number as usize,
+            mask: 0,
+        }
     }
 
     /// A local variable or a cell, counted from where the frame begins.
     pub fn in_frame(number: u32) -> Address
-        ensures { result ≡ record { number = number; mask = 4294967295 } }
+        ensures { result ≡ record { number = number; mask = 18446744073709551615 } }
     {
         Address {
-            number,
-            mask: u32::MAX,
+            number: number as usize,
+            mask: usize::MAX,
         }
     }
 }

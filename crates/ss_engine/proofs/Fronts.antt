@@ -57,7 +57,7 @@ lexer_refused text e h = h (λ q. cc)
 
 pub parser_refused : (text : List ℕ) (ts : List Token) → AreTokens text ts → (e : ParseError) → Is_refused ts e → Has_line ts e → IsRefusedWith text (parsed e)
 parser_refused text ts are parsing.Memory h l = tt
-parser_refused text ts are e h l = record { tokens = ts; are = are; refused = h; line = l }
+parser_refused text ts are e h l = record { tokens = ts; are = are; refused = h; other = λ q. cc; line = l }
 
 pub tables_refused : (text : List ℕ) (tree : ProgramTree) → IsTreeOf text tree → (e : TableError) → ReportsTableError e (declaration_refusal tree) → IsRefusedWith text (declared e)
 tables_refused text tree r declaring.Memory h = tt

@@ -1,30 +1,65 @@
 -- A well-formed text has one program, which is well typed, and one meaning.
-use Rattle.std.proofs.Common.{◌≡◌, ◌≢◌, ℕ, ◌+◌, List, Some, refl, sym, ap, subst, ◌∙◌}
-use Rattle.ss_lex.specs.Laws.{OneList}
+use Rattle.std.proofs.Common.{◌≡◌, ◌≢◌, ℕ, ◌+◌, List, Option, Some, None, refl, sym, ap, subst, ◌∙◌}
+use Rattle.ss_lex.specs.Laws.{OneList, OneAnswer}
 use Rattle.ss_lex.specs.declared.token.Token.{Token}
-use Rattle.ss_parse.specs.Promise.{One_tree}
+use Rattle.ss_parse.specs.declared.error.ParseError.{ParseError}
+use Rattle.ss_parse.specs.declared.error.ParseError.TheVariants as parsing
+use Rattle.ss_parse.specs.Promise.{One_tree, Is_refused}
 use Rattle.ss_parse.specs.SpelledPrograms.{Spell}
 use Rattle.ss_program.specs.Program.{Program}
 use Rattle.ss_program.specs.WellTyped.{WellTyped}
-use Rattle.ss_check.specs.Checking.{program_of}
+use Rattle.ss_check.specs.Checking.{program_of, refusal_of as use_refusal}
 use Rattle.ss_check.specs.ProgramLaws.{ProgramsResolve}
 use Rattle.ss_meaning.specs.Laws.{NeverWrong}
 use Rattle.ss_meaning.specs.Meaning.{Run, WentWrong, meaning}
 use Rattle.ss_code_instructions.specs.Laws.{EndingsStay, Grows, Prefixes}
 use Rattle.ss_parse.specs.Openers.{nesting_limit}
-use Rattle.ss_engine.specs.Accepting.{IsProgramOf}
-use Rattle.ss_engine.specs.Laws.{OneProgram, OneMeaning, EachHasOne, ProgramsAreTyped, NeverGoesWrong, ReportsGrow, TextEndingsStay}
+use Rattle.ss_tree.specs.Tree.{ProgramTree}
+use Rattle.ss_tables_rules.specs.Broken.{refusal_of_declarations as declaration_refusal}
+use Rattle.ss_engine.specs.declared.refusal.Refusal.{Refusal}
+use Rattle.ss_engine.specs.declared.refusal.Refusal.TheVariants.{Lexed, Parsed, Declared, Used, CodeTooLong, Memory}
+use Rattle.ss_engine.specs.Accepting.{IsTreeOf, IsProgramOf, IsRefusedWith}
+use Rattle.ss_engine.specs.Laws.{OneProgram, OneMeaning, EachHasOne, ProgramsAreTyped, NeverGoesWrong, ReportsGrow, TextEndingsStay, RefusedIsIllFormed, AcceptedIsWellFormed}
 
 same_program : (p q : Program) → Some p ≡ Some q → p ≡ q
 same_program p q e = cc
 
+-- a text has one tree at most
+pub same_tree : OneList → One_tree → (text : List ℕ) (tree other : ProgramTree) → IsTreeOf text tree → IsTreeOf text other → tree ≡ other
+same_tree one_list one_tree text tree other a b =
+    let tokens = one_list text a.tokens b.tokens a.are b.are in
+    one_tree b.tokens nesting_limit nesting_limit tree other (subst (λ (ts : List Token). Spell ts nesting_limit tree) tokens a.spelled) b.spelled
+
 pub one_program : OneList → One_tree → OneProgram
 one_program one_list one_tree text p q m n =
-    let a = m.keeps.read in
-    let b = n.keeps.read in
-    let tokens = one_list text a.tokens b.tokens a.are b.are in
-    let trees = one_tree b.tokens nesting_limit nesting_limit m.tree n.tree (subst (λ (ts : List Token). Spell ts nesting_limit m.tree) tokens a.spelled) b.spelled in
+    let trees = same_tree one_list one_tree text m.tree n.tree m.keeps.read n.keeps.read in
     same_program p q (sym m.resolved ∙ ap program_of trees ∙ n.resolved)
+
+none_is_no_some : {A : Type 0} (o : Option A) (x : A) → o ≡ None → o ≡ Some x → ⊥
+none_is_no_some o x none some = cc
+
+-- tokens that are refused for another cause than memory spell no tree
+spells_none : (ts : List Token) (e : ParseError) (tree : ProgramTree) → e ≢ parsing.Memory → Is_refused ts e → Spell ts nesting_limit tree → ⊥
+spells_none ts (parsing.Syntax line) tree other refused spelled = refused nesting_limit tree spelled
+spells_none ts (parsing.TooDeep line) tree other refused spelled = refused.0 tree spelled
+spells_none ts parsing.Memory tree other refused spelled = other refl
+
+pub refused_is_ill_formed : OneList → OneAnswer → One_tree → RefusedIsIllFormed
+refused_is_ill_formed one_list answers one_tree text (Lexed e) r memory long (tree, keeps) = answers.never_both text keeps.read.tokens e keeps.read.are r
+refused_is_ill_formed one_list answers one_tree text (Parsed e) r memory long (tree, keeps) =
+    let tokens = one_list text keeps.read.tokens r.tokens keeps.read.are r.are in
+    spells_none r.tokens e tree r.other r.refused (subst (λ (ts : List Token). Spell ts nesting_limit tree) tokens keeps.read.spelled)
+refused_is_ill_formed one_list answers one_tree text (Declared e) r memory long (tree, keeps) =
+    let same = same_tree one_list one_tree text r.tree tree r.read keeps.read in
+    none_is_no_some (declaration_refusal r.tree) e (ap declaration_refusal same ∙ keeps.declared) r.broken
+refused_is_ill_formed one_list answers one_tree text (Used e) r memory long (tree, keeps) =
+    let same = same_tree one_list one_tree text r.tree tree r.read keeps.read in
+    none_is_no_some (use_refusal r.tree) e (ap use_refusal same ∙ keeps.kept) r.broken
+refused_is_ill_formed one_list answers one_tree text CodeTooLong r memory long well = long refl
+refused_is_ill_formed one_list answers one_tree text Memory r memory long well = memory refl
+
+pub accepted_is_well_formed : AcceptedIsWellFormed
+accepted_is_well_formed text p m = (m.tree, m.keeps)
 
 pub one_meaning : OneProgram → OneMeaning
 one_meaning one text input n run other a b =

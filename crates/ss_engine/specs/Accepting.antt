@@ -1,11 +1,12 @@
 -- What a text is a program of, and why one is refused.
-use Rattle.std.specs.Prelude.{◌≡◌, ℕ, ◌<◌, List, Some, None}
+use Rattle.std.specs.Prelude.{◌≡◌, ◌≢◌, ℕ, ◌<◌, List, Some, None}
 use Rattle.ss_lex.specs.declared.token.Token.{Token}
 use Rattle.ss_lex.specs.Tokens.{AreTokens}
 use Rattle.ss_lex.specs.Refusals.{IsRefused}
 use Rattle.ss_tree.specs.Tree.{ProgramTree}
 use Rattle.ss_tree.specs.Nodes.{nodes}
 use Rattle.ss_parse.specs.declared.error.ParseError.{ParseError}
+use Rattle.ss_parse.specs.declared.error.ParseError.TheVariants as parsing
 use Rattle.ss_parse.specs.Openers.{nesting_limit}
 use Rattle.ss_parse.specs.Promise.{Is_refused, Has_line}
 use Rattle.ss_parse.specs.SpelledPrograms.{Spell}
@@ -53,11 +54,12 @@ pub record Compiles (text : List ℕ) (code : Generated) : Type 0 where
   pub behaves : Behaves program (code_of program)
 
 -- the text has tokens, and they spell no program: for syntax none of any depth; where it is too deep, none within the
--- limit on nesting, while more tokens than that open a level; the line is that of a token
+-- limit on nesting, while more tokens than that open a level; the line is that of a token. Memory is no such cause.
 pub record IsNoProgram (text : List ℕ) (e : ParseError) : Type 0 where
   pub tokens : List Token
   pub are : AreTokens text tokens
   pub refused : Is_refused tokens e
+  pub other : e ≢ parsing.Memory
   pub line : Has_line tokens e
 
 -- the text has a tree whose declarations break this rule first, in the line of the first place

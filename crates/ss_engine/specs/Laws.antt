@@ -4,7 +4,9 @@ use Rattle.ss_program.specs.Program.{Program}
 use Rattle.ss_program.specs.WellTyped.{WellTyped}
 use Rattle.ss_meaning.specs.Meaning.{Paused, Run, WentWrong}
 use Rattle.ss_code_instructions.specs.Laws.{Grows}
-use Rattle.ss_engine.specs.Accepting.{IsProgramOf, IsWellFormed}
+use Rattle.ss_engine.specs.declared.refusal.Refusal.{Refusal}
+use Rattle.ss_engine.specs.declared.refusal.Refusal.TheVariants.{CodeTooLong, Memory}
+use Rattle.ss_engine.specs.Accepting.{IsProgramOf, IsRefusedWith, IsWellFormed}
 use Rattle.ss_engine.specs.Headline.{IsMeaning}
 
 -- two programs of one text are equal
@@ -34,3 +36,11 @@ ReportsGrow = (text input : List ℕ) (n more : ℕ) (run longer : Run) → IsMe
 -- an ending other than a pause stays, with its report, for more ticks, which are left
 abbrev pub TextEndingsStay : Type 0
 TextEndingsStay = (text input : List ℕ) (n more : ℕ) (run : Run) → IsMeaning text input n run → run.ending ≢ Paused → IsMeaning text input (n + more) (record run { ticks = run.ticks + more })
+
+-- a text that is refused is not well formed, but where memory was refused or its code is too long
+abbrev pub RefusedIsIllFormed : Type 0
+RefusedIsIllFormed = (text : List ℕ) (cause : Refusal) → IsRefusedWith text cause → cause ≢ Memory → cause ≢ CodeTooLong → IsWellFormed text → ⊥
+
+-- and a text that has a program is well formed
+abbrev pub AcceptedIsWellFormed : Type 0
+AcceptedIsWellFormed = (text : List ℕ) (p : Program) → IsProgramOf text p → IsWellFormed text

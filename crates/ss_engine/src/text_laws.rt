@@ -1,10 +1,10 @@
 //! Laws of what a text means.
 
-ghost use Rattle.ss_engine.specs.Laws.{EachHasOne, TextEndingsStay, NeverGoesWrong, OneMeaning, OneProgram, ProgramsAreTyped, ReportsGrow};
+ghost use Rattle.ss_engine.specs.Laws.{AcceptedIsWellFormed, EachHasOne, TextEndingsStay, NeverGoesWrong, OneMeaning, OneProgram, ProgramsAreTyped, RefusedIsIllFormed, ReportsGrow};
 
 use ss_check::programs_resolve;
 use ss_code_instructions::laws::laws_of_pieces;
-use ss_lex::one_list;
+use ss_lex::{one_answer, one_list};
 use ss_meaning::laws::laws as laws_of_types;
 use ss_parse::one_tree;
 
@@ -21,6 +21,17 @@ pub fn laws()
     one_tree();
     programs_resolve();
     laws_of_types();
+}
+
+/// A text that is refused is not well formed, but where memory was refused or its code is too long. A text that has a program is
+/// well formed.
+pub fn refusals_are_due()
+    ensures refused { RefusedIsIllFormed }
+    ensures accepted { AcceptedIsWellFormed }
+{
+    one_list();
+    one_answer();
+    one_tree();
 }
 
 /// More ticks extend the report of a text; and where it ends otherwise than by a pause, its

@@ -205,10 +205,12 @@ pub any-append : (z : ℤ) (es fs : List Entry) → list_any (int_eq z) (notices
 any-append z es fs = ap (list_any (int_eq z)) (notices-append es fs) ∙ list_any-append (int_eq z) (notices_of es) (notices_of fs)
 
 module _ (h : HeapEntries) (entries : List Entry) (view : in_order (all_of h) ≡ entries) where
+  pub any-pending : (notice : ℤ) → list_any (int_eq notice) (notices_of (all_of h)) ≡ is_pending notice entries
+  any-pending notice = any-notices notice (all_of h) ∙ sym (pending-in_order notice (all_of h)) ∙ ap (is_pending notice) view
+
   pub found-pending : (anew : HeapEntries) (z notice : ℤ) (b : Bool) → all_of anew ≡ all_of h → z ≡ notice → b ≡ (list_any (int_eq z) (notices_of anew.entries) || list_any (int_eq z) (notices_of anew.followers)) → b ≡ is_pending notice entries
   found-pending anew z notice b same is found =
-      found ∙ sym (any-append z anew.entries anew.followers) ∙ (λ i. list_any (int_eq (is i)) (notices_of (same i)))
-      ∙ any-notices notice (all_of h) ∙ sym (pending-in_order notice (all_of h)) ∙ ap (is_pending notice) view
+      found ∙ sym (any-append z anew.entries anew.followers) ∙ (λ i. list_any (int_eq (is i)) (notices_of (same i))) ∙ any-pending notice
 
   pub as_long : length h.entries ≤ length entries
   as_long = omega (arith, sym (length-in_order (all_of h)) ∙ ap length view, length-append h.entries h.followers)

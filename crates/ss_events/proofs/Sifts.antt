@@ -1,8 +1,9 @@
 -- Each step of an entry that rises or sinks in a heap.
-use Rattle.std.proofs.Common.{◌≡◌, ◌∙◌, ℕ, ◌+◌, ◌-◌, ◌*◌, ◌/◌, ◌<◌, ◌≤◌, ◌^◌, zero, suc, true, false, List, length, get_or, set, swap, refl, sym, ap, subst, ⊎_elim, arith, [], ◌∷◌, ◌++◌, length-append, pow-suc, pow_mono, pow-add}
+use Rattle.std.proofs.Common.{◌≡◌, ◌≢◌, ◌∙◌, ℕ, ◌+◌, ◌-◌, ◌*◌, ◌/◌, ◌<◌, ◌≤◌, ◌^◌, zero, suc, Bool, true, false, List, length, get_or, set, swap, refl, sym, ap, subst, ⊎_elim, arith, [], ◌∷◌, ◌++◌, length-append, pow-suc, pow_mono, pow-add}
 use Rattle.std.specs.List.Sorted.{IsPermutation}
-use Rattle.std.specs.List.{swap_remove}
-use Rattle.std.proofs.lemmas.List.Sorted.{IsPermutation-sym, IsPermutation-to_front, IsPermutation-cons, IsPermutation-swap_remove, IsPermutation-refl, IsPermutation-swap, IsPermutation-trans, length_permutation}
+use Rattle.std.specs.List.{swap_remove, list_any}
+use Rattle.std.specs.Ordering.{int_eq}
+use Rattle.std.proofs.lemmas.List.Sorted.{IsPermutation-append_left, IsPermutation-sym, IsPermutation-to_front, IsPermutation-swap_remove, IsPermutation-refl, IsPermutation-swap, IsPermutation-trans, length_permutation}
 use Rattle.std.proofs.lemmas.List.{length-set}
 use Rattle.std.proofs.lemmas.List.Edits.{length-swap}
 use Rattle.std.proofs.lemmas.Nat.{pow_below}
@@ -10,10 +11,12 @@ use Rattle.std.proofs.lemmas.Grind.{pow_more}
 use Rattle.std.proofs.lemmas.Bool.{cases_lt}
 use Rattle.std.proofs.Math.Nat.{mul-le-mul_right}
 use Rattle.ss_events_entries.specs.declared.entry.Entry.{Entry}
-use Rattle.ss_events_entries.specs.HeapEntries.{HeapEntries, but_one}
+use Rattle.ss_events_entries.specs.CountedList.{Work}
+use Rattle.ss_events_entries.specs.HeapEntries.{HeapEntries, HeadsAndFollowers, heap_lines, all_of, notices_of, but_one}
 use Rattle.ss_events_entries.specs.HeapOrder.{IsChild, IsHeap, IsUnderParent, IsOverChildren, IsHeapBut, IsFirstChild}
 use Rattle.ss_world.specs.Order.{comes_before}
-use Rattle.ss_events.specs.Sifting.{Raises, CostsToRaise, Lowers, CostsToLower, Mends, CostsToMend, IsLogarithmic}
+use Rattle.ss_world.specs.PendingList.{scheduling_limit}
+use Rattle.ss_events.specs.Sifting.{Raises, CostsToRaise, Lowers, CostsToLower, Mends, CostsToMend, IsLogarithmic, IsTried, GoesIn, StaysOut, Inserts}
 use Rattle.ss_events_entries.specs.Digits.{binary_digits}
 use Rattle.std.specs.Int.Digits.{digits_of, number_from_digits}
 use Rattle.std.proofs.lemmas.Int.Digits.{number_lt, number_digits_of, all_below_base_digits_of, length-digits_of-le}
@@ -198,19 +201,6 @@ sinking_few old new from at r small =
     let few = few_levels r.levels (3 * at + 1) (levels_above from (3 * at + 1) r.levels r.quadrupled) (omega (arith, r.within, length_permutation old.entries new.entries r.permutation)) in
     (omega (arith, r.comparisons, few), omega (arith, r.moves, few))
 
-pub sinking_begins : (old : HeapEntries) (from : ℕ) → from < length old.entries → Sinking old old from from
-sinking_begins old from within = record {
-  permutation = IsPermutation-refl old.entries;
-  within = within;
-  but = λ h under. (h, under);
-  levels = 0;
-  quadrupled = omega arith;
-  comparisons = omega arith;
-  moves = omega arith;
-  followers = refl;
-  before = refl;
-}
-
 -- four times as far at four times the power
 quadruples : (from at c k : ℕ) → IsChild at c → (3 * from + 1) * 4 ^ k ≤ 3 * at + 1 → (3 * from + 1) * 4 ^ (k + 1) ≤ 3 * c + 1
 quadruples from at c k child h =
@@ -285,31 +275,15 @@ levels_digits k held fits =
     (λ le. le)
     (cases_lt (b + 1) (2 * k))
 
--- two or more have two digits
-two_digits : (held : ℕ) → 2 ≤ held → 2 ≤ binary_digits held
-two_digits held two =
-    ⊎_elim (λ lt. let low : 2 ^ binary_digits held ≤ 2 ^ 1 = pow_mono {j = 1} (omega arith) in absurd (omega (arith, low, below_power held))) (λ le. le) (cases_lt (binary_digits held) 2)
-
-pub mended_up : (old new : List Entry) (at to : ℕ) → (to ≡ at → ⊥) → Raises old new at to → Mends old new at
-mended_up old new at to moved r = record {
-  permutation = r.permutation;
-  heap = λ h. closes comes_before new to (r.but h) (r.under h) (r.over h (omega (arith, r.up)));
-}
+-- the more binary digits the greater
+digits_above : (k held : ℕ) → 2 ^ k ≤ held → k < binary_digits held
+digits_above k held le =
+    ⊎_elim (λ lt. lt) (λ few. let low : 2 ^ binary_digits held ≤ 2 ^ k = pow_mono few in absurd (omega (arith, low, le, below_power held))) (cases_lt k (binary_digits held))
 
 pub mended_down : (old was new : List Entry) (at to : ℕ) → to ≡ at → Raises old was at to → Lowers was new at → Mends old new at
 mended_down old was new at to still r l = record {
   permutation = IsPermutation-trans old was new r.permutation l.permutation;
   heap = λ h. l.heap (subst (IsHeapBut comes_before was) still (r.but h)) (subst (IsUnderParent comes_before was) still (r.under h));
-}
-
-pub cost_up : (old new : HeapEntries) (at to : ℕ) → at < length old.entries → CostsToRaise old new at to → CostsToMend old new
-cost_up old new at to within u = record {
-  levels = u.levels;
-  fits = omega (arith, u.quartered);
-  comparisons = omega (arith, u.comparisons);
-  moves = u.moves;
-  followers = u.followers;
-  before = u.before;
 }
 
 pub cost_down : (old was new : HeapEntries) (at to : ℕ) → length was.entries ≡ length old.entries → CostsToRaise old was at to → CostsToLower was new at → CostsToMend old new
@@ -339,11 +313,6 @@ module _ (old put new : List Entry) (entry : Entry) (from to : ℕ) (is : put �
   pub inserted_all : IsPermutation (entry ∷ old) new
   inserted_all = IsPermutation-trans (entry ∷ old) (old ++ entry ∷ []) new (IsPermutation-sym (old ++ entry ∷ []) (entry ∷ old) (IsPermutation-to_front old entry)) r.permutation
 
--- one or more have a digit
-one_digit : (held : ℕ) → 1 ≤ held → 1 ≤ binary_digits held
-one_digit held one =
-    ⊎_elim (λ lt. let low : 2 ^ binary_digits held ≤ 2 ^ 0 = pow_mono {j = 0} (omega arith) in absurd (omega (arith, low, below_power held))) (λ le. le) (cases_lt (binary_digits held) 1)
-
 -- the more there are the more digits
 pub digits_mono : (less more : ℕ) → less ≤ more → binary_digits less ≤ binary_digits more
 digits_mono less more le = length-digits_of-le 2 (binary_digits more) less (omega arith) (omega (arith, below_power more))
@@ -353,25 +322,54 @@ insert_work old new held from to none one moved last u =
     let few = levels_digits u.levels held (omega (arith, u.quartered)) in
     record {
       comparisons = ⊎_elim
-          (λ lt. omega (arith, u.comparisons, one_digit held (omega arith)))
+          (λ lt. omega (arith, u.comparisons, digits_above 0 held (omega arith)))
           (λ le. omega (arith, u.comparisons, few))
           (cases_lt 0 held);
       moves = omega (arith, u.moves);
     }
 
--- one that was not put anywhere
-pub tried_work : (new : HeapEntries) (held : ℕ) → new.comparisons ≤ held → new.comparisons ≤ 1 → new.moves ≡ 0 → IsLogarithmic held new
-tried_work new held none one moved = record {
+pub tried_work : (h : HeapEntries) → IsTried h → IsLogarithmic (length h.entries) h
+tried_work h t = record {
   comparisons = ⊎_elim
-      (λ lt. omega (arith, one_digit held (omega arith)))
-      (λ le. omega arith)
-      (cases_lt 0 held);
-  moves = omega arith;
+      (λ lt. omega (arith, t.one, digits_above 0 (length h.entries) (omega arith)))
+      (λ le. omega (arith, t.few))
+      (cases_lt 0 (length h.entries));
+  moves = omega (arith, t.unmoved);
 }
 
 -- where the new entry only follows another
 pub append_work : (new : HeapEntries) (held : ℕ) → 0 < held → new.comparisons ≡ 1 → new.moves ≡ 1 → IsLogarithmic held new
-append_work new held some one moved = record { comparisons = omega (arith, one_digit held some); moves = omega arith }
+append_work new held some one moved = record { comparisons = omega (arith, digits_above 0 held some); moves = omega arith }
+
+-- no entry goes in by itself
+pub stays : (h : HeapEntries) → IsTried h → StaysOut (heap_lines h) h.before h
+stays h t = record { lines = refl; tried = t; before = refl }
+
+-- after an attempt in vain
+pub retried : (e : Entry) (old : HeadsAndFollowers) (work : Work) (mid new : HeapEntries) (b : Bool) → StaysOut old work mid → Inserts e (heap_lines mid) mid.before new b → Inserts e old work new b
+retried e old work mid new b s it = subst (λ (p : HeadsAndFollowers × Work). Inserts e p.0 p.1 new b) (λ i. (s.lines i, s.before i)) it
+
+-- an entry that was put after all heads, and rose
+module _ (e : Entry) (mid put new : HeapEntries) (from to : ℕ) (pushed : put ≡ record mid { entries = mid.entries ++ e ∷ []; moves = mid.moves + 1 }) (last : from ≡ length mid.entries) (raised : Raises put.entries new.entries from to) (cost : CostsToRaise put new from to) where
+  pub goes_in : IsTried mid → IsHeap comes_before mid.entries → list_any (int_eq e.notice) (notices_of (all_of mid)) ≡ false → e.number ≢ scheduling_limit → GoesIn e (heap_lines mid) mid.before new
+  goes_in tried ordered apart room =
+      let heads = ap (λ h. h.entries) pushed in
+      let others : new.followers ≡ mid.followers = cost.followers ∙ ap (λ h. h.followers) pushed in
+      record {
+        order = inserted mid.entries put.entries new.entries e from to heads last raised ordered;
+        all = subst (λ fs. IsPermutation (e ∷ all_of mid) (new.entries ++ fs)) (sym others)
+            (IsPermutation-append_left mid.followers (e ∷ mid.entries) new.entries (inserted_all mid.entries put.entries new.entries e from to heads last raised));
+        apart = apart;
+        room = room;
+        cost = insert_work put new (length mid.entries) from to
+            (omega (arith, ap (λ h. h.comparisons) pushed, tried.few, last))
+            (omega (arith, ap (λ h. h.comparisons) pushed, tried.one))
+            (omega (arith, ap (λ h. h.moves) pushed, tried.unmoved))
+            last cost;
+        moved = omega (arith, ap (λ h. h.moves) pushed, cost.grows);
+        compared = λ some. omega (arith, cost.comparisons, cost.some (omega (arith, last, some)));
+        before = cost.before ∙ ap (λ h. h.before) pushed;
+      }
 
 -- an entry that was taken out of a heap, where the last entry took its place
 module _ (old mid : List Entry) (at : ℕ) (entry : Entry) (within : at < length old) (is : entry ≡ get_or old at entry) (rest : mid ≡ swap_remove old at entry) where
@@ -386,9 +384,6 @@ module _ (old mid : List Entry) (at : ℕ) (entry : Entry) (within : at < length
 
   pub taken_but : IsHeap comes_before old → IsHeapBut comes_before mid at
   taken_but h = subst (λ es. IsHeapBut comes_before es at) (sym rest) (removed_but comes_before old at entry within entries_rank h)
-
-  pub taken_mended : (new : List Entry) → Mends mid new at → IsPermutation old (entry ∷ new)
-  taken_mended new m = IsPermutation-trans old (entry ∷ mid) (entry ∷ new) taken_all (IsPermutation-cons entry mid new m.permutation)
 
 -- taking out an entry whose place the next of its line took
 module _ (old mid : List Entry) (at : ℕ) (next : Entry) (within : at < length old) (rest : mid ≡ set old at next) where
@@ -405,7 +400,7 @@ take_work old new held none one less u =
       comparisons = ⊎_elim
           (λ lt.
           let low : 2 ^ 2 ≤ 2 ^ (2 * u.levels) = pow_mono {i = 2} (omega arith) in
-          let two = two_digits held (omega (arith, u.fits, squares u.levels, low)) in
+          let two = digits_above 1 held (omega (arith, u.fits, squares u.levels, low)) in
           omega (arith, u.comparisons))
           (λ le. omega (arith, u.comparisons))
           (cases_lt 0 u.levels);

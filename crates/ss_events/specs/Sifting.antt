@@ -1,10 +1,14 @@
 -- What it does and costs to let an entry of a heap rise or sink.
-use Rattle.std.specs.Prelude.{◌≡◌, ℕ, ◌+◌, ◌*◌, ◌<◌, ◌≤◌, ◌^◌, List, length}
+use Rattle.std.specs.Prelude.{◌≡◌, ◌≢◌, ℕ, ◌+◌, ◌*◌, ◌<◌, ◌≤◌, ◌^◌, Bool, true, false, List, ◌∷◌, ◌++◌, length}
+use Rattle.std.specs.Ordering.{int_eq}
+use Rattle.std.specs.List.{list_any}
 use Rattle.std.specs.List.Sorted.{IsPermutation}
 use Rattle.ss_events_entries.specs.declared.entry.Entry.{Entry}
-use Rattle.ss_events_entries.specs.HeapEntries.{HeapEntries}
+use Rattle.ss_events_entries.specs.CountedList.{Work}
+use Rattle.ss_events_entries.specs.HeapEntries.{HeapEntries, HeadsAndFollowers, heap_lines, all_of, notices_of}
 use Rattle.ss_events_entries.specs.HeapOrder.{IsHeap, IsHeapBut, IsUnderParent, IsOverChildren}
 use Rattle.ss_world.specs.Order.{comes_before}
+use Rattle.ss_world.specs.PendingList.{scheduling_limit}
 use Rattle.ss_events_entries.specs.Digits.{binary_digits}
 
 -- the entry at `from` rose to the place `to`, under its parent, and if it moved it is over its children
@@ -59,3 +63,31 @@ pub record CostsToMend (old new : HeapEntries) : Type 0 where
 pub record IsLogarithmic (held : ℕ) (new : HeapEntries) : Type 0 where
   pub comparisons : new.comparisons ≤ 3 * binary_digits held
   pub moves : new.moves ≤ 3 * binary_digits held + 4
+
+-- one comparison was made at most, if there is any entry, and no move
+pub record IsTried (h : HeapEntries) : Type 0 where
+  pub one : h.comparisons ≤ 1
+  pub few : h.comparisons ≤ length h.entries
+  pub unmoved : h.moves ≡ 0
+
+-- an entry went in, of a new notice and with the number of a scheduling, after the work of all calls before
+pub record GoesIn (e : Entry) (old : HeadsAndFollowers) (work : Work) (new : HeapEntries) : Type 0 where
+  pub order : IsHeap comes_before new.entries
+  pub all : IsPermutation (e ∷ (old.heads ++ old.followers)) (all_of new)
+  pub apart : list_any (int_eq e.notice) (notices_of (old.heads ++ old.followers)) ≡ false
+  pub room : e.number ≢ scheduling_limit
+  pub cost : IsLogarithmic (length old.heads) new
+  pub moved : 0 < new.moves
+  pub compared : 0 < length old.heads → 0 < new.comparisons
+  pub before : new.before ≡ work
+
+-- no entry went in
+pub record StaysOut (old : HeadsAndFollowers) (work : Work) (new : HeapEntries) : Type 0 where
+  pub lines : heap_lines new ≡ old
+  pub tried : IsTried new
+  pub before : new.before ≡ work
+
+-- whether an entry went in
+abbrev pub Inserts : Entry → HeadsAndFollowers → Work → HeapEntries → Bool → Type 0
+Inserts e old work new true = GoesIn e old work new
+Inserts e old work new false = StaysOut old work new

@@ -53,7 +53,7 @@ impl Pending {
     }
 
     /// Makes calls in turn, and answers what each answered. Where memory is refused, the calls before that one were
-    /// made, and no other.
+    /// made, and no other. What is counted then is that of the last call made.
     pub fn run(&mut self, alloc: Global, calls: &[Call]) -> Result<Vec<Answer>, AllocError>
         requires { All (FitsCall self.old.list.classes) calls.now }
         ensures answers { IfOk result (λ answers. answers.items ≡ answers_of calls.now self.old.list) }

@@ -1,10 +1,10 @@
-ghost use Rattle.std.specs.Prelude.{◌≡◌, ℕ, ◌+◌, ◌*◌, ◌<◌, ◌≤◌, true, false, [], IfOk, IfErr, IsOk, OnOk, OnErr, Ok, Err, Some, is_some, slice_get, length, map, IsTrue, ◌↔◌};
+ghost use Rattle.std.specs.Prelude.{◌≡◌, ◌+◌, ◌*◌, ◌<◌, ◌≤◌, IfOk, IfErr, IsOk, OnOk, OnErr, Ok, Err, Some, slice_get, length, map, IsTrue, ◌↔◌};
 ghost use Rattle.ss_world.specs.Shape.{shape_of};
 ghost use Rattle.ss_world.specs.SortKey.{SortKey};
 
-use crate::sift::{insert, insert_plain, take_out};
+use crate::sift::{insert, take_out};
 use ss_base::{FaultKind, Refused};
-use ss_events_entries::entry::{EntryHeap, Key, PLAIN_NUMBERS, PLAIN_RANKS};
+use ss_events_entries::entry::{EntryHeap, Key};
 use ss_events_entries::key;
 use ss_world::{Tie, TieShape};
 use std::alloc::{AllocError, Global};
@@ -40,7 +40,7 @@ impl Model for Pending {
 }
 
 impl Pending {
-    ghost use Rattle.ss_events_entries.specs.CountedList.{no_work, with_work, WorksTwice};
+    ghost use Rattle.ss_events_entries.specs.CountedList.{no_work, with_work};
     ghost use Rattle.ss_events_entries.specs.Digits.{binary_digits};
     ghost use Rattle.ss_world.specs.PendingList.{none_pending, FitsClass, is_pending, scheduled, IsRefusal, cancelled, next, after_next};
 
@@ -86,6 +86,7 @@ impl Pending {
 
     /// Schedules a notice under a key. Refused where the notice is pending (`AlreadyScheduled`), then where there were
     /// `MOST_SCHEDULINGS` schedulings (`Overflow`), then where no memory is left (`Memory`), with the list as it was.
+    #[inline(always)]
     pub fn schedule(&mut self, key: Key, notice: i64) -> Result<(), Refused>
         ensures ok { OnOk result (scheduled key notice self.old.list ≡ Ok self.new.list) }
         ensures refused { IfErr result (λ refused. IsRefusal refused (scheduled key notice self.old.list)) }
@@ -98,74 +99,24 @@ impl Pending {
         ensures total { self.new.total ≡ with_work self.old.total self.new.comparisons self.new.moves }
     {
         self.heap.reset_counts();
-        if self.heap.holds(notice) {
-            return Err(Refused::Fault(FaultKind::AlreadyScheduled));
-        }
-        if self.schedulings == MOST_SCHEDULINGS {
-            return Err(Refused::Fault(FaultKind::Overflow));
-        }
         self.heap.are_after_heads();
-        let number = self.schedulings;
-        insert(&mut self.heap, key, number, notice)?;
-        self.schedulings += 1;
-        Ok(())
-    }
-
-    /// Schedules a notice without ties, and says whether it did: not where `may_schedule` refuses it, nor where no memory is left. The
-    /// list is then as it was.
-    #[inline(always)]
-    pub fn schedule_untied(&mut self, alloc: Global, time: i64, rank: usize, notice: i64) -> bool
-        ensures done { result ≡ true → scheduled (record { time = time; rank = rank; ties = [] }) notice self.old.list ≡ Ok self.new.list }
-        ensures kept { result ≡ false → self.new.list ≡ self.old.list }
-
-        ensures work { WorksTwice (length self.old.list.entries) self.old.total self.new.total }
-    {
-        if self.schedule_at_once(time, rank, notice) {
-            return true;
+        if insert(&mut self.heap, key, self.schedulings, notice) {
+            self.schedulings += 1;
+            return Ok(());
         }
-        self.schedule_slowly(alloc, time, rank, notice)
+        Err(self.refusal(notice))
     }
 
-    // Does the work of `schedule_untied` where it takes room or a search.
+    // Why a notice was not scheduled.
     #[cold]
     #[inline(never)]
-    fn schedule_slowly(&mut self, alloc: Global, time: i64, rank: usize, notice: i64) -> bool
-        ensures done { result ≡ true → scheduled (record { time = time; rank = rank; ties = [] }) notice self.old.list ≡ Ok self.new.list }
-        ensures kept { result ≡ false → self.new.list ≡ self.old.list }
-
-        ensures comparisons { self.new.comparisons ≤ 3 * binary_digits (length self.old.list.entries) }
-        ensures moves { self.new.moves ≤ 3 * binary_digits (length self.old.list.entries) + 4 }
-        ensures total { self.new.total ≡ with_work self.old.total self.new.comparisons self.new.moves }
+    fn refusal(&self, notice: i64) -> Refused
+        ensures { (key : SortKey) → IsRefusal result (scheduled key notice self.now.list) }
     {
-        match self.schedule(Key::with_ties(time, rank, Vec::new(alloc)), notice) {
-            Ok(()) => true,
-            Err(_) => false,
+        match self.may_schedule(notice) {
+            Err(kind) => Refused::Fault(kind),
+            Ok(()) => Refused::Memory,
         }
-    }
-
-    // Schedules a notice without ties, and says whether it did. It may say no where there is no room yet, where a search is needed to
-    // see that the notice isn't pending, or where the rank or the number of schedulings is great. The list is then as it was.
-    #[inline(always)]
-    fn schedule_at_once(&mut self, time: i64, rank: usize, notice: i64) -> bool
-        ensures done { result ≡ true → scheduled (record { time = time; rank = rank; ties = [] }) notice self.old.list ≡ Ok self.new.list }
-        ensures kept { result ≡ false → self.new.list ≡ self.old.list }
-
-        ensures comparisons { self.new.comparisons ≤ 3 * binary_digits (length self.old.list.entries) }
-        ensures moves { self.new.moves ≤ 3 * binary_digits (length self.old.list.entries) + 4 }
-        ensures moved { result ≡ true → 0 < self.new.moves }
-        ensures compared { result ≡ true → 0 < length self.old.list.entries → 0 < self.new.comparisons }
-        ensures total { self.new.total ≡ with_work self.old.total self.new.comparisons self.new.moves }
-    {
-        self.heap.reset_counts();
-        if rank >= PLAIN_RANKS || self.schedulings >= PLAIN_NUMBERS {
-            return false;
-        }
-        self.heap.are_after_heads();
-        if !insert_plain(&mut self.heap, time, rank, self.schedulings, notice) {
-            return false;
-        }
-        self.schedulings += 1;
-        true
     }
 
     /// Cancels a notice that is pending. Refused with the list as it was where it isn't (`NotScheduled`).
@@ -189,7 +140,8 @@ impl Pending {
         Err(FaultKind::NotScheduled)
     }
 
-    /// The time and the notice that come out next, where one is pending.
+    /// The time and the notice that come out next, where one is pending. What will be read as that one is taken out is read ahead.
+    #[inline(always)]
     pub fn least(&mut self) -> Option<(i64, i64)>
         ensures next { result ≡ next self.old.list }
         ensures unchanged { self.new.list ≡ self.old.list }
@@ -198,11 +150,10 @@ impl Pending {
         ensures total { self.new.total ≡ with_work self.old.total self.new.comparisons self.new.moves }
     {
         self.heap.reset_counts();
+        self.heap.are_after_heads();
         if self.heap.len() == 0 {
-            self.heap.are_after_heads();
             return None;
         }
-        self.heap.are_after_heads();
         let event = self.heap.first();
         self.heap.look_ahead();
         Some(event)
@@ -218,26 +169,11 @@ impl Pending {
         ensures total { self.new.total ≡ with_work self.old.total self.new.comparisons self.new.moves }
     {
         self.heap.reset_counts();
+        self.heap.are_after_heads();
         if self.heap.len() == 0 {
-            self.heap.are_after_heads();
             return None;
         }
-        self.heap.are_after_heads();
         Some(take_out(&mut self.heap, 0))
-    }
-
-    /// Whether a notice is pending. What will be read as the first is taken out is read ahead.
-    #[inline(always)]
-    pub fn is_awaited(&mut self) -> bool
-        ensures value { result ≡ is_some (next self.old.list) }
-        ensures same { self.new ≡ self.old }
-    {
-        self.heap.are_after_heads();
-        if self.heap.len() == 0 {
-            return false;
-        }
-        self.heap.look_ahead();
-        true
     }
 
     /// Whether a notice is pending.
@@ -245,8 +181,8 @@ impl Pending {
     pub fn is_scheduled(&self, notice: i64) -> bool
         ensures { result ≡ is_pending notice self.now.list.entries }
     {
+        self.heap.are_after_heads();
         if self.heap.len() == 0 {
-            self.heap.are_after_heads();
             return false;
         }
         self.heap.holds(notice)

@@ -1,73 +1,68 @@
 // How entries go into a heap in order and come out of it.
-ghost use Rattle.std.specs.Prelude.{true, false, [], ◌∷◌, OnOk, OnErr, ℕ, ◌≡◌, ◌<◌, ◌≤◌, ◌-◌, ◌/◌, ◌^◌, length, slice_index_or};
+ghost use Rattle.std.specs.Prelude.{true, ◌≡◌, ◌<◌, ◌≤◌, ◌-◌, ◌/◌, ◌^◌, length, slice_index_or};
 ghost use Rattle.ss_events_entries.specs.declared.entry.Entry.{Entry};
-ghost use Rattle.ss_events_entries.specs.HeapEntries.{all_of, notices_of, but_one, AreAfterHeads, TakesOut};
-ghost use Rattle.std.specs.Ordering.{int_eq};
-ghost use Rattle.std.specs.List.{list_any};
-ghost use Rattle.std.specs.List.Sorted.{IsPermutation};
+ghost use Rattle.ss_events_entries.specs.HeapEntries.{heap_lines, but_one, TakesOut};
 ghost use Rattle.ss_events_entries.specs.HeapOrder.{IsHeap};
 ghost use Rattle.ss_world.specs.Order.{comes_before};
-ghost use Rattle.ss_events_entries.specs.Slots.{plain_ranks, plain_numbers};
-ghost use Rattle.ss_events.specs.Sifting.{Raises, CostsToRaise, Lowers, CostsToLower, Mends, CostsToMend, IsLogarithmic};
+ghost use Rattle.ss_events.specs.Sifting.{Raises, CostsToRaise, Lowers, CostsToLower, Mends, CostsToMend, IsLogarithmic, IsTried, Inserts};
 
 use crate::children::first_child;
+use crate::pending::MOST_SCHEDULINGS;
 use ss_events_entries::entry::{EntryHeap, Key, MANY, PLAIN_NUMBERS, PLAIN_RANKS};
-use std::alloc::AllocError;
 
-/// Puts an entry of a notice into a heap in order.
-pub fn insert(heap: &mut EntryHeap, key: Key, number: u64, notice: i64) -> Result<(), AllocError>
+/// Puts an entry of a notice into a heap in order, and says whether it did: not where there is one of that notice, where its number is
+/// past that of the last scheduling, or where memory is refused. If not, the entries are what they were.
+#[inline(always)]
+pub fn insert(heap: &mut EntryHeap, key: Key, number: u64, notice: i64) -> bool
     requires order { IsHeap comes_before heap.old.entries }
-    requires apart { list_any (int_eq notice) (notices_of heap.old.entries) ≡ false }
-    requires fresh { list_any (int_eq notice) (notices_of heap.old.followers) ≡ false }
-    requires uncompared { heap.old.comparisons ≡ 0 }
-    requires unmoved { heap.old.moves ≡ 0 }
-    ensures order { IsHeap comes_before heap.new.entries }
-    ensures ok { OnOk result (IsPermutation (record { key = key; number = number; notice = notice } ∷ all_of heap.old) (all_of heap.new)) }
-    ensures err_entries { OnErr result (heap.new.entries ≡ heap.old.entries) }
-    ensures err_followers { OnErr result (heap.new.followers ≡ heap.old.followers) }
-    ensures work { IsLogarithmic (length heap.old.entries) heap.new }
-    ensures before { heap.new.before ≡ heap.old.before }
-    ensures moved { OnOk result (0 < heap.new.moves) }
-    ensures compared { OnOk result (0 < length heap.old.entries → 0 < heap.new.comparisons) }
+    requires tried { IsTried heap.old }
+    ensures { Inserts (record { key = key; number = number; notice = notice }) (heap_lines heap.old) heap.old.before heap.new result }
 {
-    heap.make_room()?;
-    if let Some((time, rank)) = key.untied()
-        && rank < PLAIN_RANKS
-        && number < PLAIN_NUMBERS
-    {
-        if insert_plain(heap, time, rank, number, notice) {
-            return Ok(());
-        }
+    if insert_at_once(heap, &key, number, notice) {
+        return true;
     }
-    let place = heap.len();
-    heap.push(key, number, notice)?;
-    raise(heap, place);
-    Ok(())
+    insert_slowly(heap, key, number, notice)
 }
 
-/// Puts a plain entry into a heap in order, if there is room for it and its notice is found to be new at once; and says whether it
-/// did. If not, the entries are what they were, after one comparison at most.
-#[inline(always)]
-pub fn insert_plain(heap: &mut EntryHeap, time: i64, rank: usize, number: u64, notice: i64) -> bool
+// Puts an entry into a heap where that takes room, a search for its notice, or its ties.
+#[cold]
+#[inline(never)]
+fn insert_slowly(heap: &mut EntryHeap, key: Key, number: u64, notice: i64) -> bool
     requires order { IsHeap comes_before heap.old.entries }
-    requires rank { rank < plain_ranks }
-    requires number { number < plain_numbers }
-    requires uncompared { heap.old.comparisons ≡ 0 }
-    requires unmoved { heap.old.moves ≡ 0 }
-    ensures order { IsHeap comes_before heap.new.entries }
-    ensures done { result ≡ true → IsPermutation (record { key = record { time = time; rank = rank; ties = [] }; number = number; notice = notice } ∷ all_of heap.old) (all_of heap.new) }
-    ensures apart { result ≡ true → list_any (int_eq notice) (notices_of heap.old.entries) ≡ false }
-    ensures fresh { result ≡ true → list_any (int_eq notice) (notices_of heap.old.followers) ≡ false }
-    ensures kept_entries { result ≡ false → heap.new.entries ≡ heap.old.entries }
-    ensures kept_followers { result ≡ false → heap.new.followers ≡ heap.old.followers }
-    ensures work { IsLogarithmic (length heap.old.entries) heap.new }
-    ensures before { heap.new.before ≡ heap.old.before }
-    ensures moved { result ≡ true → 0 < heap.new.moves }
-    ensures compared { result ≡ true → 0 < length heap.old.entries → 0 < heap.new.comparisons }
-    ensures one { result ≡ false → heap.new.comparisons ≤ 1 }
-    ensures few { result ≡ false → heap.new.comparisons ≤ length heap.old.entries }
-    ensures unmoved { result ≡ false → heap.new.moves ≡ 0 }
+    requires tried { IsTried heap.old }
+    ensures { Inserts (record { key = key; number = number; notice = notice }) (heap_lines heap.old) heap.old.before heap.new result }
 {
+    if number == MOST_SCHEDULINGS || heap.holds(notice) {
+        return false;
+    }
+    let Ok(()) = heap.make_room() else {
+        return false;
+    };
+    if insert_at_once(heap, &key, number, notice) {
+        return true;
+    }
+    let place = heap.len();
+    let Ok(()) = heap.push(key, number, notice) else {
+        return false;
+    };
+    raise(heap, place);
+    true
+}
+
+// Puts an entry into a heap, and says whether it did. It may say no where the entry has ties, where its rank or its number is great,
+// where there is no room for it yet, where a search is needed to see that its notice is new, or after a comparison that was in vain.
+#[inline(always)]
+fn insert_at_once(heap: &mut EntryHeap, key: &Key, number: u64, notice: i64) -> bool
+    requires order { IsHeap comes_before heap.old.entries }
+    requires tried { IsTried heap.old }
+    ensures { Inserts (record { key = key.now; number = number; notice = notice }) (heap_lines heap.old) heap.old.before heap.new result }
+{
+    let Some((time, rank)) = key.untied() else {
+        return false;
+    };
+    if rank >= PLAIN_RANKS || number >= PLAIN_NUMBERS || heap.comparisons() > 0 {
+        return false;
+    }
     let place = heap.len();
     if place >= MANY && heap.append_plain(time, rank, number, notice) {
         return true;

@@ -68,6 +68,3 @@ unfolding comes_before
 tied_numbers a b f g =
     let alike = neither_first (entry_order a b) (entry_order b a) (entries_total.antisymm b a) f g in
     ranked a.number b.number Equal (sym (then_equal (key_order a.key b.key) (nat_cmp a.number b.number) alike))
-
-pub equal_numbers : (a b : Entry) → entry_order a b ≡ Equal → a.number ≡ b.number
-equal_numbers a b e = ranked a.number b.number Equal (sym (then_equal (key_order a.key b.key) (nat_cmp a.number b.number) e))

@@ -1,8 +1,6 @@
 -- Two places of a list that are exchanged.
-use Rattle.std.proofs.Common.{◌≡◌, ℕ, ◌-◌, ◌<◌, List, [], ◌∷◌, map, length, get_or, take, set, swap, sym, refl, ap, ◌∙◌, arith, ◌==◌, if◌then◌else◌}
-use Rattle.std.specs.Prelude.{slice_set, slice_index_or}
-use Rattle.std.specs.List.{swap_remove}
-use Rattle.std.proofs.lemmas.List.{map-set, take-map, length-map, get_or-map as get_or-mapped}
+use Rattle.std.proofs.Common.{◌≡◌, ℕ, ◌-◌, ◌<◌, List, [], ◌∷◌, map, length, get_or, set, swap, sym, refl, ap, ◌∙◌, arith, ◌==◌, if◌then◌else◌}
+use Rattle.std.proofs.lemmas.List.{map-set}
 use Rattle.std.proofs.lemmas.List.Edits.{swapped_from_swap}
 use Rattle.std.proofs.lemmas.Bool.Decides.{nat_tests}
 use lib.ListN.{get_or-map}
@@ -36,10 +34,3 @@ module _ {X Y : Type 0} (f : X → Y) where
   map-swap (x ∷ xs) i j =
       map-set f _ j _ ∙ (λ z. set (map-set f (x ∷ xs) i (get_or (x ∷ xs) j x) z) j (sym (get_or-map f (x ∷ xs) i x) z))
       ∙ ap (λ y. set (set (map f (x ∷ xs)) i y) j (get_or (map f (x ∷ xs)) i (f x))) (sym (get_or-map f (x ∷ xs) j x))
-
-  pub map-swap_remove : (xs : List X) (i : ℕ) (d : X) → 0 < length xs → map f (swap_remove xs i d) ≡ swap_remove (map f xs) i (f d)
-  map-swap_remove xs i d some =
-      let n = length xs - 1 in
-      let same : length (map f xs) ≡ length xs = length-map xs f in
-      let e = sym (take-map f n (slice_set xs i (slice_index_or xs n d))) ∙ ap (take n) (map-set f xs i _) in
-      e ∙ (λ j. take (ap (λ l. l - 1) (sym same) j) (slice_set (map f xs) i (sym (get_or-mapped f xs n d (f d) (omega arith)) j))) ∙ ap (λ m. take (length (map f xs) - 1) (slice_set (map f xs) i (slice_index_or (map f xs) m (f d)))) (ap (λ l. l - 1) (sym same))

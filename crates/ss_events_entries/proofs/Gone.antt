@@ -17,7 +17,7 @@ use Rattle.ss_events_entries.proofs.Lists.{removed_by_swap, each_fails, none_pas
 use Rattle.ss_events_entries.proofs.Exchanging.{exchange}
 use Rattle.ss_events_entries.proofs.Swapped.{slot_at-exchanged, node-swapped, held-swapped, heads-swapped, followers-swapped}
 use Rattle.ss_events_entries.proofs.HeadsAndFollowers.{long_heads, head_at, follower, follower_at, slot_of_follower}
-use Rattle.ss_events_entries.proofs.Removed.{followers-advanced, heads-advanced, heads-dropped, held-advanced, held-dropped, advanced, advanced_nodes, differ}
+use Rattle.ss_events_entries.proofs.Advanced.{followers-advanced, heads-advanced, heads-dropped, held-advanced, held-dropped, advanced, advanced_nodes, differ}
 
 -- what is seen of them
 abbrev pub lines : ℕ → List Slot → List Entry → List HeapNode → HeadsAndFollowers

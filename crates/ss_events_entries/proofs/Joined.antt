@@ -8,7 +8,7 @@ use Rattle.ss_events_entries.specs.declared.entry.Mark.{Mark}
 use Rattle.ss_events_entries.specs.declared.entry.directory.SlotDirectory.{SlotDirectory}
 use Rattle.ss_events_entries.specs.declared.entry.slots.Slot.{Slot}
 use Rattle.ss_events_entries.specs.declared.entry.slots.HeapNode.{HeapNode}
-use Rattle.ss_events_entries.specs.Slots.{no_entry, no_slot, following, slot_at, node, plain_ranks, plain_numbers, mark_of, plain_entry, entry_in, entry_at, heads, followers, first_guess, second_guess, IsGuess, IsTaken, IsBefore, AreHeld, next_put}
+use Rattle.ss_events_entries.specs.Slots.{no_entry, no_slot, following, slot_at, node, plain_ranks, plain_numbers, mark_of, plain_entry, entry_in, entry_at, heads, followers, IsGuess, IsTaken, IsBefore, AreHeld, next_put}
 use Rattle.ss_events_entries.proofs.Marks.{in-plain, plain_differs, plain_mark}
 use Rattle.ss_events_entries.proofs.HeadsAndFollowers.{slot_at-same, slot_at-other, same_heads, follower, followers-placed, followers-kept, followers-joined}
 
@@ -26,14 +26,6 @@ joined slots before slot notice mark = set (next_put slots before slot) slot (li
 
 pub length-joined : (slots : List Slot) (p s : ℕ) (n : ℤ) (m : Mark) → length (joined slots p s n m) ≡ length slots
 length-joined slots p s n m = length-set (next_put slots p s) s (lined_up n m p) ∙ length-set slots p (followed (slot_at slots p) s)
-
--- a notice for which no slot is named is that of no entry
-pub never_led : (count free : ℕ) (slots : List Slot) (wholes : List Entry) (nodes : List HeapNode) (d : SlotDirectory) → AreHeld count free slots wholes nodes d
-    → (n : ℤ) → first_guess d n ≡ no_slot → second_guess d n ≡ no_slot → (t : ℕ) → t < length slots → IsTaken count (slot_at slots t) → (slot_at slots t).notice ≢ n
-never_led count free slots wholes nodes d h n first second t t_in taken is = ⊎_elim
-    (λ here. omega (arith, here, first, t_in, h.small))
-    (λ here. omega (arith, here, second, t_in, h.small))
-    (subst (λ i. IsGuess d i t) is (h.led t t_in taken))
 
 module _ (count free : ℕ) (slots : List Slot) (wholes : List Entry) (nodes : List HeapNode) (d : SlotDirectory) (h : AreHeld count free slots wholes nodes d)
     (some : 0 < free) (s : ℕ) (slot : s ≡ (node nodes (count + free - 1)).slot)

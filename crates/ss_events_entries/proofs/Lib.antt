@@ -8,8 +8,11 @@ pub mod HeadsAndFollowers
 pub mod Seen
 pub mod Swapped
 pub mod Fewer
+pub mod Released
 pub mod Removed
+pub mod Advanced
 pub mod Gone
 pub mod Joined
 pub mod Grown
+pub mod Pushed
 pub mod Rises

@@ -1,13 +1,13 @@
 -- Lists that calls change.
-use Rattle.std.proofs.Common.{◌≡◌, ℕ, zero, suc, ◌+◌, ◌-◌, ◌<◌, ◌≤◌, Bool, true, false, cond, ltb, Vec, List, [], ◌∷◌, length, get_or, set, take, swap, position, Some, None, refl, sym, ap, ◌∙◌, arith}
+use Rattle.std.proofs.Common.{◌≡◌, ℕ, zero, suc, ◌+◌, ◌-◌, ◌<◌, Bool, true, false, cond, ltb, Vec, List, [], ◌∷◌, length, get_or, set, take, swap, position, Some, None, refl, sym, ap, ◌∙◌, arith}
 use Rattle.std.specs.List.{list_any, swap_remove}
 use Rattle.std.specs.Vec.{with_items}
 use Rattle.std.proofs.lemmas.Bool.{or_parts, or_from, lt-ltb, le-ltb}
 use Rattle.std.proofs.lemmas.Bool.Decides.{nat_tests}
-use Rattle.std.proofs.lemmas.List.{length-take-le, with_items_is, get_or_default, get_or-take, same_lists, take-set}
-use Rattle.std.proofs.lemmas.List.Edits.{length-swap, swap_is}
+use Rattle.std.proofs.lemmas.List.{with_items_is, take-set}
+use Rattle.std.proofs.lemmas.List.Edits.{swap_is}
 use Rattle.std.proofs.lemmas.List.Sums.{position_or_len_is}
-use Rattle.ss_events_entries.proofs.Exchanging.{exchange, exchange-within, get_or-swap}
+use Rattle.ss_events_entries.proofs.Exchanging.{exchange}
 
 -- ---- what a call left
 
@@ -42,9 +42,6 @@ module _ {X : Type 0} (p : X → Bool) where
 pub exchange-first : (a b m : ℕ) → m ≡ a → exchange a b m ≡ b
 exchange-first a b m e = grind (arith, nat_tests)
 
-exchange-second : (a b m : ℕ) → m ≡ b → exchange a b m ≡ a
-exchange-second a b m e = grind (arith, nat_tests)
-
 pub exchange-other : (a b m : ℕ) → (m ≡ a → ⊥) → (m ≡ b → ⊥) → exchange a b m ≡ m
 exchange-other a b m na nb = grind (arith, nat_tests)
 
@@ -57,20 +54,3 @@ removed_by_swap xs i n d long within =
     ap (λ m. take m (set xs i (get_or xs m d))) less
     ∙ sym (take-set (set xs i (get_or xs n d)) n (get_or xs i d))
     ∙ ap (take n) (swap_is xs i n d within (omega (arith, long)))
-
--- the default for an item that isn't there is read of an empty list alone
-pub whatever_default : {X : Type 0} (xs : List X) (i : ℕ) (d c : X) → 0 < length xs → swap_remove xs i d ≡ swap_remove xs i c
-whatever_default xs i d c some = ap (λ x. take (length xs - 1) (set xs i x)) (get_or_default xs (length xs - 1) d c (omega arith))
-
--- the first few, after two of them changed places
-pub take-swap : {X : Type 0} (n : ℕ) (xs : List X) (a b : ℕ) → a < n → b < n → n ≤ length xs → take n (swap xs a b) ≡ swap (take n xs) a b
-take-swap n xs a b a_in b_in few =
-    let cut : length (take n xs) ≡ n = length-take-le n xs few in
-    let cut_too : length (take n (swap xs a b)) ≡ n = length-take-le n (swap xs a b) (omega (arith, few, length-swap xs a b)) in
-    same_lists (take n (swap xs a b)) (swap (take n xs) a b) (cut_too ∙ sym cut ∙ sym (length-swap (take n xs) a b))
-    (λ k d k_in.
-    let lt : k < n = omega (arith, k_in, cut_too) in
-    get_or-take n (swap xs a b) k d lt
-    ∙ get_or-swap xs a b d (omega (arith, a_in, few)) (omega (arith, b_in, few)) k
-    ∙ sym (get_or-take n xs (exchange a b k) d (exchange-within a b n k a_in b_in lt))
-    ∙ sym (get_or-swap (take n xs) a b d (omega (arith, a_in, cut)) (omega (arith, b_in, cut)) k))

@@ -4,8 +4,8 @@ use Rattle.std.specs.List.{flat_map, AllByRecursion}
 use Rattle.std.proofs.lemmas.List.{drop_more, take_min, drop_min}
 use Rattle.std.proofs.lemmas.Bool.{eqb-true, leb-true}
 use Rattle.ss_picture.specs.declared.field.Field.{Field}
-use Rattle.ss_picture.specs.declared.items.FieldValue.{FieldValue}
-use Rattle.ss_picture.specs.declared.items.FieldValue.TheVariants.{Is, Mean}
+use Rattle.ss_picture.specs.declared.items.Item.{Item}
+use Rattle.ss_picture.specs.declared.items.Item.TheVariants.{Is, Mean}
 use Rattle.ss_picture.specs.Pictures.{picture_fields}
 use Rattle.ss_picture.specs.Suited.{Suits, EachSuits}
 use Rattle.ss_meaning.specs.Values.{takes, take_all}
@@ -26,28 +26,28 @@ then_true : (a b : Bool) → (a && b) ≡ true → b ≡ true
 then_true true b e = e
 then_true false b e = absurd cc
 
-suits : (f : Field) (x : FieldValue) → takes f x ≡ true → IsPrintable x → Suits f.decimals x
+suits : (f : Field) (x : Item) → takes f x ≡ true → IsPrintable x → Suits f.decimals x
 suits f (Is v) t p = eqb-true f.decimals 0 t
 suits f (Mean sum number) t p = (leb-true f.decimals 9 t, p)
 
-pub each_suits : (fields : List Field) (items : List FieldValue) → take_all fields items ≡ true → AllByRecursion IsPrintable items → EachSuits fields items
+pub each_suits : (fields : List Field) (items : List Item) → take_all fields items ≡ true → AllByRecursion IsPrintable items → EachSuits fields items
 each_suits [] [] t p = tt
 each_suits [] (x ∷ xs) t p = tt
 each_suits (f ∷ fields) [] t p = tt
 each_suits (f ∷ fields) (x ∷ xs) t p = (suits f x (first_true (takes f x) (take_all fields xs) t) p.0, each_suits fields xs (then_true (takes f x) (take_all fields xs) t) p.1)
 
 -- those of the first fields, and those after them
-suits_front : (fields more : List Field) (items : List FieldValue) → EachSuits (fields ++ more) items → EachSuits fields (take (length fields) items)
+suits_front : (fields more : List Field) (items : List Item) → EachSuits (fields ++ more) items → EachSuits fields (take (length fields) items)
 suits_front [] more items h = tt
 suits_front (f ∷ fields) more [] h = tt
 suits_front (f ∷ fields) more (x ∷ xs) h = (h.0, suits_front fields more xs h.1)
 
-suits_back : (fields more : List Field) (items : List FieldValue) → EachSuits (fields ++ more) items → EachSuits more (drop (length fields) items)
+suits_back : (fields more : List Field) (items : List Item) → EachSuits (fields ++ more) items → EachSuits more (drop (length fields) items)
 suits_back [] more items h = h
 suits_back (f ∷ fields) more [] h = tt
 suits_back (f ∷ fields) more (x ∷ xs) h = suits_back fields more xs h.1
 
-module _ (ps : List (List ℕ)) (i : ℕ) (p : List ℕ) (xs : List FieldValue) (count : ℕ) (lt : i < length ps) (is : p ≡ get_or ps i p) (e : count ≡ min (length (picture_fields p)) (length xs)) (h : EachSuits (flat_map picture_fields (drop i ps)) xs) where
+module _ (ps : List (List ℕ)) (i : ℕ) (p : List ℕ) (xs : List Item) (count : ℕ) (lt : i < length ps) (is : p ≡ get_or ps i p) (e : count ≡ min (length (picture_fields p)) (length xs)) (h : EachSuits (flat_map picture_fields (drop i ps)) xs) where
   parted : EachSuits (picture_fields p ++ flat_map picture_fields (drop (i + 1) ps)) xs
   parted = subst (λ fs. EachSuits fs xs) (one_picture ps i p lt is) h
 

@@ -6,8 +6,8 @@ use Rattle.std.proofs.lemmas.List.{append_assoc, append-nil, drop_more, drop_all
 use Rattle.ss_base.specs.declared.fault.FaultKind.{FaultKind}
 use Rattle.ss_base.specs.declared.value.Value.{Value}
 use Rattle.ss_base.specs.declared.value.Value.TheVariants.{Whole, Text}
-use Rattle.ss_picture.specs.declared.items.FieldValue.{FieldValue}
-use Rattle.ss_picture.specs.declared.items.FieldValue.TheVariants.{Is, Mean}
+use Rattle.ss_picture.specs.declared.items.Item.{Item}
+use Rattle.ss_picture.specs.declared.items.Item.TheVariants.{Is, Mean}
 use Rattle.ss_meaning.specs.Values.{Trouble, Fails, Misfit, due}
 use Rattle.ss_meaning.specs.Store.{Store}
 use Rattle.ss_meaning.specs.Statistics.{mean}
@@ -24,16 +24,16 @@ use Rattle.ss_machine.specs.Shown.{IsPrintable, AreShown, IsShown, CanShow, CanS
 -- ## One item
 
 -- an item before others that there are
-pub record Before (x : FieldValue) (o : Option (List FieldValue)) (given : List FieldValue) : Type 0 where
-  pub later : List FieldValue
+pub record Before (x : Item) (o : Option (List Item)) (given : List Item) : Type 0 where
+  pub later : List Item
   pub there : o ≡ Some later
   pub is : given ≡ x ∷ later
 
-before_some : (x : FieldValue) (o : Option (List FieldValue)) (given : List FieldValue) → item_before (Some x) o ≡ Some given → Before x o given
+before_some : (x : Item) (o : Option (List Item)) (given : List Item) → item_before (Some x) o ≡ Some given → Before x o given
 before_some x None given e = absurd cc
 before_some x (Some xs) given e = let q : x ∷ xs ≡ given = cc in record { later = xs; there = refl; is = sym q }
 
-before_item : (item : FieldValue) (x : Option FieldValue) (o : Option (List FieldValue)) (given : List FieldValue) → ((y : FieldValue) → x ≡ Some y → y ≡ item) → item_before x o ≡ Some given → Before item o given
+before_item : (item : Item) (x : Option Item) (o : Option (List Item)) (given : List Item) → ((y : Item) → x ≡ Some y → y ≡ item) → item_before x o ≡ Some given → Before item o given
 before_item item None o given h e = absurd cc
 before_item item (Some y) o given h e =
     let b = before_some y o given e in
@@ -58,13 +58,13 @@ module _ (e : Seen) (r : TwoRows) (at : ℕ) where
       record { later = b.later; rest = vs; is = b.is ∙ ap (λ k. Is (Text k) ∷ b.later) same; lie = lie.1; modes = cc; shown = b.there }
   text_first t has s ks (Whole z ∷ vs) given lie modes shown = absurd cc
 
-  pub mean_first : (j : ℕ) (item : FieldValue) → ((s : Store) (x : FieldValue) → mean_item (mean j None (with_seen s e)) ≡ Some x → x ≡ item) → IsShown e r at (shows.Mean j) item
+  pub mean_first : (j : ℕ) (item : Item) → ((s : Store) (x : Item) → mean_item (mean j None (with_seen s e)) ≡ Some x → x ≡ item) → IsShown e r at (shows.Mean j) item
   mean_first j item h s ks vs given lie modes shown =
       let b = before_item item (mean_item (mean j None (with_seen s e))) (values_shown (map kind_of_item ks) vs (with_seen s e)) given (h s) shown in
       let n : at ≡ at + 0 = omega arith in
       record { later = b.later; rest = vs; is = b.is; lie = subst (λ k. AllAt r k vs) n lie; modes = modes; shown = b.there }
 
-  pub mean_of_first : (j : ℕ) (n : ℤ) (item : FieldValue) → slice_get r.numbers at ≡ Some n → ((s : Store) (x : FieldValue) → mean_item (mean j (Some (Whole n)) (with_seen s e)) ≡ Some x → x ≡ item) → IsShown e r at (shows.MeanOf j) item
+  pub mean_of_first : (j : ℕ) (n : ℤ) (item : Item) → slice_get r.numbers at ≡ Some n → ((s : Store) (x : Item) → mean_item (mean j (Some (Whole n)) (with_seen s e)) ≡ Some x → x ≡ item) → IsShown e r at (shows.MeanOf j) item
   mean_of_first j n item has h s ks [] given lie modes shown = absurd cc
   mean_of_first j n item has h s ks (Whole z ∷ vs) given lie modes shown =
       let q : Some z ≡ Some n = sym lie.0 ∙ has in
@@ -76,11 +76,11 @@ module _ (e : Seen) (r : TwoRows) (at : ℕ) where
 
 -- ## A mean, by what the scene answers
 
-abbrev pub item_for : Result (ℤ × ℤ) FaultKind → FieldValue
+abbrev pub item_for : Result (ℤ × ℤ) FaultKind → Item
 item_for (Ok m) = Mean m.0 m.1
 item_for (Err kind) = Mean (pos 0) (pos 0)
 
-pub mean_is : (answer : Result (ℤ × ℤ) FaultKind) (m : Result (ℤ × ℤ) Trouble) → (IsRight m → m ≡ due answer) → (x : FieldValue) → mean_item m ≡ Some x → x ≡ item_for answer
+pub mean_is : (answer : Result (ℤ × ℤ) FaultKind) (m : Result (ℤ × ℤ) Trouble) → (IsRight m → m ≡ due answer) → (x : Item) → mean_item m ≡ Some x → x ≡ item_for answer
 mean_is (Ok a) (Ok m) h x e =
     let q : Ok m ≡ Ok a = h (λ q. cc) in
     let same : m ≡ a = cc in
@@ -92,7 +92,7 @@ mean_is (Err found) (Err (Fails kind)) h x e = let is : Mean (pos 0) (pos 0) ≡
 mean_is answer (Err Misfit) h x e = absurd cc
 
 -- the place after the cells of an item is one
-pub place_small : (e : Seen) (r : TwoRows) (at : ℕ) (k : ItemKind) → CanShowOne e r at k → length r.numbers < 2 ^ 32 → at < 2 ^ 64 → at + cells_of k < 2 ^ 64
+pub place_small : (e : Seen) (r : TwoRows) (at : ℕ) (k : ItemKind) → CanShowOne e r at k → length r.numbers < 2 ^ 63 → at < 2 ^ 64 → at + cells_of k < 2 ^ 64
 place_small e r at shows.Number h few low = omega (arith, h, few)
 place_small e r at shows.Text h few low = omega (arith, h, few)
 place_small e r at (shows.Mean j) h few low = omega (arith, low)
@@ -100,17 +100,17 @@ place_small e r at (shows.MeanOf j) h few low = omega (arith, h.0, few)
 
 -- ## The items so far
 
-pub record ShownSoFar (e : Seen) (r : TwoRows) (at : ℕ) (ks : List ItemKind) (xs : List FieldValue) (s : Store) (given : List FieldValue) : Type 0 where
-  pub later : List FieldValue
+pub record ShownSoFar (e : Seen) (r : TwoRows) (at : ℕ) (ks : List ItemKind) (xs : List Item) (s : Store) (given : List Item) : Type 0 where
+  pub later : List Item
   pub rest : List Value
   pub is : given ≡ xs ++ later
   pub lie : AllAt r at rest
   pub modes : Hold rest (item_modes ks)
   pub shown : values_shown (map kind_of_item ks) rest (with_seen s e) ≡ Some later
 
-abbrev pub AreSoFar : Seen → TwoRows → (from at : ℕ) → (all ks : List ItemKind) → List FieldValue → Type 0
+abbrev pub AreSoFar : Seen → TwoRows → (from at : ℕ) → (all ks : List ItemKind) → List Item → Type 0
 AreSoFar e r from at all ks xs =
-    (s : Store) (vs : List Value) (given : List FieldValue) → AllAt r from vs → Hold vs (item_modes all) →
+    (s : Store) (vs : List Value) (given : List Item) → AllAt r from vs → Hold vs (item_modes all) →
     values_shown (map kind_of_item all) vs (with_seen s e) ≡ Some given → ShownSoFar e r at ks xs s given
 
 module _ (e : Seen) (r : TwoRows) (from : ℕ) (all : List ItemKind) where
@@ -133,7 +133,7 @@ module _ (e : Seen) (r : TwoRows) (from : ℕ) (all : List ItemKind) where
     pub can_now : CanShow e r at (drop i all) → CanShowOne e r at kind
     can_now h = (can_both h).0
 
-    more : (xs : List FieldValue) (item : FieldValue) → AreSoFar e r from at all (drop i all) xs → IsShown e r at kind item → AreSoFar e r from (at + cells_of kind) all (drop (i + 1) all) (xs ++ item ∷ [])
+    more : (xs : List Item) (item : Item) → AreSoFar e r from at all (drop i all) xs → IsShown e r at kind item → AreSoFar e r from (at + cells_of kind) all (drop (i + 1) all) (xs ++ item ∷ [])
     more xs item h first s vs given lie modes shown =
         let f = h s vs given lie modes shown in
         let ms : Hold f.rest (item_modes (kind ∷ drop (i + 1) all)) = subst (λ ks. Hold f.rest (item_modes ks)) left f.modes in
@@ -154,28 +154,28 @@ module _ (e : Seen) (r : TwoRows) (from : ℕ) (all : List ItemKind) where
       can_then h = subst (λ n. CanShow e r (at + n) (drop (i + 1) all)) (sym cells) (can_both h).1
 
       -- the place after its cells is one
-      pub small_then : CanShow e r at (drop i all) → length r.numbers < 2 ^ 32 → at < 2 ^ 64 → at + n < 2 ^ 64
+      pub small_then : CanShow e r at (drop i all) → length r.numbers < 2 ^ 63 → at < 2 ^ 64 → at + n < 2 ^ 64
       small_then h few low = subst (λ n. at + n < 2 ^ 64) (sym cells) (place_small e r at kind (can_both h).0 few low)
 
       -- one more
-      pub one_more : (xs ys : List FieldValue) (item : FieldValue) → AreSoFar e r from at all (drop i all) xs → IsShown e r at kind item → ys ≡ xs ++ item ∷ [] → AreSoFar e r from (at + n) all (drop (i + 1) all) ys
+      pub one_more : (xs ys : List Item) (item : Item) → AreSoFar e r from at all (drop i all) xs → IsShown e r at kind item → ys ≡ xs ++ item ∷ [] → AreSoFar e r from (at + n) all (drop (i + 1) all) ys
       one_more xs ys item h first same =
           subst (λ n. AreSoFar e r from (at + n) all (drop (i + 1) all) ys) (sym cells)
           (subst (λ ys. AreSoFar e r from (at + cells_of kind) all (drop (i + 1) all) ys) (sym same) (more xs item h first))
 
   -- all of them
-  pub all_shown : (at i : ℕ) (xs : List FieldValue) → length all < i + 1 → AreSoFar e r from at all (drop i all) xs → AreShown e r from all xs
+  pub all_shown : (at i : ℕ) (xs : List Item) → length all < i + 1 → AreSoFar e r from at all (drop i all) xs → AreShown e r from all xs
   all_shown at i xs past h s vs given lie modes shown =
       let none : drop i all ≡ [] = drop_all i all (omega (arith, past)) in
       let f = h s vs given lie modes shown in
       let sh : values_shown [] f.rest (with_seen s e) ≡ Some f.later = subst (λ ks. values_shown (map kind_of_item ks) f.rest (with_seen s e) ≡ Some f.later) none f.shown in
       f.is ∙ ap (λ l. xs ++ l) (nothing f.rest f.later sh) ∙ append-nil xs
     where
-      nothing : (rest : List Value) (later : List FieldValue) → values_shown [] rest (with_seen s e) ≡ Some later → later ≡ []
+      nothing : (rest : List Value) (later : List Item) → values_shown [] rest (with_seen s e) ≡ Some later → later ≡ []
       nothing [] later e = let q : [] ≡ later = cc in sym q
       nothing (v ∷ rest) later e = absurd cc
 
 -- one more that can be printed
-pub printable_more : (xs : List FieldValue) (x : FieldValue) → AllByRecursion IsPrintable xs → IsPrintable x → AllByRecursion IsPrintable (xs ++ x ∷ [])
+pub printable_more : (xs : List Item) (x : Item) → AllByRecursion IsPrintable xs → IsPrintable x → AllByRecursion IsPrintable (xs ++ x ∷ [])
 printable_more [] x h p = (p, tt)
 printable_more (y ∷ xs) x h p = (h.0, printable_more xs x h.1 p)

@@ -18,6 +18,7 @@ mod Turning
 mod Resting
 mod Rising
 mod Laying
+mod Leads
 pub mod Starting
 mod Resuming
 mod Readiness

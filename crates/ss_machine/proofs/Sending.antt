@@ -2,7 +2,7 @@
 use Rattle.std.proofs.Common.{◌≡◌, ℕ, ◌+◌, List, [], ◌++◌, Option, Some, Result, Ok, Err, OnOk, OnErr, sym, ◌∙◌, subst, inl, inr, ◌⊎◌}
 use Rattle.std.specs.Prelude.{slice_get}
 use Rattle.std.specs.Io.KnownBytes.{Appends}
-use Rattle.ss_picture.specs.declared.items.FieldValue.{FieldValue}
+use Rattle.ss_picture.specs.declared.items.Item.{Item}
 use Rattle.ss_meaning.specs.Values.{lines_with}
 use Rattle.ss_code_instructions.specs.declared.instruction.Instruction.TheVariants as r
 use Rattle.ss_code_instructions.specs.Carried.{RunningLines}
@@ -18,7 +18,7 @@ use Rattle.ss_machine.specs.Shown.{AreShown, SentAll, SentPart}
 use Rattle.ss_machine.specs.Writing.{Sending, Wrote, WrotePart}
 use Rattle.ss_machine.proofs.Written.{sends_shown, goes_on}
 
-module _ (e : Seen) (rows : TwoRows) (at : ℕ) (l : RunningLines) (items : List FieldValue) (shown : AreShown e rows at l.items items) (before after : Option (List ℕ)) where
+module _ (e : Seen) (rows : TwoRows) (at : ℕ) (l : RunningLines) (items : List Item) (shown : AreShown e rows at l.items items) (before after : Option (List ℕ)) where
   pub sent_all : (answer : Result (Unit {0}) Ending) (bytes : List ℕ) → bytes ≡ lines_with l.pictures items → OnOk answer (Appends before after bytes) → OnOk answer (SentAll e rows at l before after)
   sent_all (Ok u) bytes q h = record { items = items; shown = shown; took = subst (Appends before after) q h }
   sent_all (Err k) bytes q h = h
@@ -42,7 +42,7 @@ module _ (here : Here) (s : State) (number cell : ℕ) (l : RunningLines) (befor
   pub part_sent : SentPart s.scene s.rows (here.frame + cell) l before after → WrotePart Hands here s (r.Print number cell) before after
   part_sent h = record { part = h.part; took = h.took; within = by h.within }
     where
-      by : (h.part ≡ []) ⊎ ((items : List FieldValue) × (rest : List ℕ) × AreShown s.scene s.rows (here.frame + cell) l.items items × (lines_with l.pictures items ≡ h.part ++ rest))
+      by : (h.part ≡ []) ⊎ ((items : List Item) × (rest : List ℕ) × AreShown s.scene s.rows (here.frame + cell) l.items items × (lines_with l.pictures items ≡ h.part ++ rest))
           → (h.part ≡ []) ⊎ ((w : Compiled) (c : Core) → Hands w → (ready : Ready w c here s (r.Print number cell)) → (rest : List ℕ) × Sending here s (r.Print number cell) w c ready (h.part ++ rest))
       by (inl none) = inl none
       by (inr x) = inr (λ w c there ready. (x.1, subst (Sending here s (r.Print number cell) w c ready) x.3 (sends_shown w c here s number cell ready l there x.0 x.2)))

@@ -86,7 +86,7 @@ cleared_texts r i [] = refl
 cleared_texts r i (m ∷ ms) = cleared_texts (with_value r i (first_value m)) (i + 1) ms ∙ value_texts r i (first_value m)
 
 -- the frame of MAIN begins at a place that has a number
-pub frame_small : (code : Generated) (s : State) → IsFirstState code s → length code.globals + length code.run.constants < 2 ^ 32
+pub frame_small : (code : Generated) (s : State) → IsFirstState code s → length code.globals + length code.run.constants < 2 ^ 63
 frame_small code s first = omega (arith, first.rows.room, first.rows.small)
 
 -- ## The scene
@@ -171,7 +171,7 @@ scene_made code layout disciplines notices shapes statistics (Err e) l d n t s i
 
 -- rows as they are laid
 pub laid : (code : Generated) (all grown rows : TwoRows) → all ≡ values_laid (firsts_laid none_laid code.globals) code.run.constants → Grown all grown → length grown.texts ≡ length grown.numbers
-    → length all.numbers + code.run.main.room ≤ length grown.numbers → length grown.numbers < 2 ^ 32 → rows ≡ cleared grown (length all.numbers) code.run.main.others.items → Laid code rows
+    → length all.numbers + code.run.main.room ≤ length grown.numbers → length grown.numbers < 2 ^ 63 → rows ≡ cleared grown (length all.numbers) code.run.main.others.items → Laid code rows
 laid code all grown rows is grows even room small made =
     let first : length (firsts_laid none_laid code.globals).numbers ≡ length code.globals = omega (arith, laid_long none_laid (first_values code.globals), firsts_long code.globals) in
     let long : length all.numbers ≡ length code.globals + length code.run.constants = ap (λ (r : TwoRows). length r.numbers) is ∙ omega (arith, laid_long (firsts_laid none_laid code.globals) code.run.constants, first) in

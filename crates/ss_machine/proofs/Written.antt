@@ -8,7 +8,7 @@ use Rattle.ss_base.specs.declared.layout.Mode.{Mode}
 use Rattle.ss_base.specs.declared.layout.Mode.TheVariants.{Integer}
 use Rattle.ss_base.specs.declared.value.Value.{Value}
 use Rattle.ss_base.specs.declared.value.Value.TheVariants.{Whole}
-use Rattle.ss_picture.specs.declared.items.FieldValue.{FieldValue}
+use Rattle.ss_picture.specs.declared.items.Item.{Item}
 use Rattle.ss_picture.specs.Pictures.{picture_fields}
 use Rattle.ss_meaning.specs.Values.{Fails, unless_fault, printed, lines_with, take_all, line_end, empty_lines}
 use Rattle.ss_code_instructions.specs.declared.address.Address.{Address}
@@ -83,7 +83,7 @@ module _ (w : Compiled) (c : Core) (here : Here) (s : State) (number cell : ℕ)
   abbrev below : List Value
   below = block.taken.below
 
-  abbrev With : Option (List FieldValue) → Moved
+  abbrev With : Option (List Item) → Moved
   With o = fit o (λ items. fit (printed l.pictures items) (λ bytes. Sends bytes (core_at (c.place + 1) below c.frames c.store)))
 
   acts : act w.code ready.placed.line ready.placed.instruction c ≡ at_height z.0 below (With (values_shown (map kind_of_item l.items) values c.store))
@@ -95,7 +95,7 @@ module _ (w : Compiled) (c : Core) (here : Here) (s : State) (number cell : ℕ)
 
   -- the definition is not stuck, so that it prints
   pub record Prints : Type 0 where
-    pub given : List FieldValue
+    pub given : List Item
     pub high : length below ≡ z.0
     pub shown : values_shown (map kind_of_item l.items) values c.store ≡ Some given
     pub fields : take_all (flat_map picture_fields l.pictures) given ≡ true
@@ -107,7 +107,7 @@ module _ (w : Compiled) (c : Core) (here : Here) (s : State) (number cell : ℕ)
       stuck : act w.code ready.placed.line ready.placed.instruction c ≡ Stuck → Prints
       stuck e = absurd (ready.goes e)
 
-      by_fields : length below ≡ z.0 → (length below == z.0) ≡ true → (given : List FieldValue) → values_shown (map kind_of_item l.items) values c.store ≡ Some given → (b : Bool) → take_all (flat_map picture_fields l.pictures) given ≡ b → Prints
+      by_fields : length below ≡ z.0 → (length below == z.0) ≡ true → (given : List Item) → values_shown (map kind_of_item l.items) values c.store ≡ Some given → (b : Bool) → take_all (flat_map picture_fields l.pictures) given ≡ b → Prints
       by_fields high at given shown b q = by b q (first ∙ ap (λ b. fit (if b then Some (lines_with l.pictures given) else None) (λ bytes. Sends bytes (core_at (c.place + 1) below c.frames c.store))) q)
         where
           first : act w.code ready.placed.line ready.placed.instruction c ≡ With (Some given)
@@ -117,7 +117,7 @@ module _ (w : Compiled) (c : Core) (here : Here) (s : State) (number cell : ℕ)
           by true q e = record { given = given; high = high; shown = shown; fields = q; sends = e }
           by false q e = stuck e
 
-      by_shown : length below ≡ z.0 → (length below == z.0) ≡ true → (o : Option (List FieldValue)) → values_shown (map kind_of_item l.items) values c.store ≡ o → Prints
+      by_shown : length below ≡ z.0 → (length below == z.0) ≡ true → (o : Option (List Item)) → values_shown (map kind_of_item l.items) values c.store ≡ o → Prints
       by_shown high at None q = stuck (acts ∙ ap (λ b. if b then With (values_shown (map kind_of_item l.items) values c.store) else Stuck) at ∙ ap With q)
       by_shown high at (Some given) q = by_fields high at given q (take_all (flat_map picture_fields l.pictures) given) refl
 
@@ -136,7 +136,7 @@ module _ (w : Compiled) (c : Core) (here : Here) (s : State) (number cell : ℕ)
   lie = subst (λ k. AllAt s.rows k values) (sym begins) parts.values
 
   -- whatever items are shown of what lies there, the lines are made of them
-  pub given_are : (items : List FieldValue) → AreShown s.scene s.rows (here.frame + cell) l.items items → prints.given ≡ items
+  pub given_are : (items : List Item) → AreShown s.scene s.rows (here.frame + cell) l.items items → prints.given ≡ items
   given_are items shown =
       shown c.store values prints.given lie block.values
       (ap (values_shown (map kind_of_item l.items) values) (sym (seen_is w c here s (r.Print number cell) ready)) ∙ prints.shown)
@@ -144,14 +144,14 @@ module _ (w : Compiled) (c : Core) (here : Here) (s : State) (number cell : ℕ)
   pub take_given : TakeAll s.scene s.rows (here.frame + cell) l
   take_given items shown = subst (λ xs. take_all (flat_map picture_fields l.pictures) xs ≡ true) (given_are items shown) prints.fields
 
-  pub sends_shown : (items : List FieldValue) → AreShown s.scene s.rows (here.frame + cell) l.items items → Sending here s (r.Print number cell) w c ready (lines_with l.pictures items)
+  pub sends_shown : (items : List Item) → AreShown s.scene s.rows (here.frame + cell) l.items items → Sending here s (r.Print number cell) w c ready (lines_with l.pictures items)
   sends_shown items shown = record {
     core = core_at (c.place + 1) below c.frames c.store;
     sends = subst (λ xs. act w.code ready.placed.line ready.placed.instruction c ≡ Sends (lines_with l.pictures xs) (core_at (c.place + 1) below c.frames c.store)) (given_are items shown) prints.sends;
     input = refl;
   }
 
-  pub goes_on : (items : List FieldValue) (shown : AreShown s.scene s.rows (here.frame + cell) l.items items) → SendingOn here s (r.Print number cell) w c ready (lines_with l.pictures items) s (record { place = here.place + 1; frame = here.frame })
+  pub goes_on : (items : List Item) (shown : AreShown s.scene s.rows (here.frame + cell) l.items items) → SendingOn here s (r.Print number cell) w c ready (lines_with l.pictures items) s (record { place = here.place + 1; frame = here.frame })
   unfolding sends_shown
   goes_on items shown = record {
     sending = sends_shown items shown;

@@ -34,7 +34,7 @@ pub record Laid (code : Generated) (rows : TwoRows) : Type 0 where
   pub grows : Grown (values_laid (firsts_laid none_laid code.globals) code.run.constants) grown
   pub even : length grown.texts ≡ length grown.numbers
   pub room : length code.globals + length code.run.constants + code.run.main.room ≤ length grown.numbers
-  pub small : length grown.numbers < 2 ^ 32
+  pub small : length grown.numbers < 2 ^ 63
   pub is : rows ≡ cleared grown (length code.globals + length code.run.constants) code.run.main.others.items
 
 -- ## The scene

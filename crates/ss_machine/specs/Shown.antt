@@ -4,8 +4,8 @@ use Rattle.std.specs.List.{flat_map}
 use Rattle.std.specs.Io.KnownBytes.{Appends}
 use Rattle.ss_base.specs.declared.value.Value.{Value}
 use Rattle.ss_base.specs.declared.value.Value.TheVariants.{Whole}
-use Rattle.ss_picture.specs.declared.items.FieldValue.{FieldValue}
-use Rattle.ss_picture.specs.declared.items.FieldValue.TheVariants.{Is, Mean}
+use Rattle.ss_picture.specs.declared.items.Item.{Item}
+use Rattle.ss_picture.specs.declared.items.Item.TheVariants.{Is, Mean}
 use Rattle.ss_picture.specs.Pictures.{picture_fields}
 use Rattle.ss_picture.specs.Suited.{IsMean}
 use Rattle.ss_meaning.specs.Values.{lines_with, take_all}
@@ -21,7 +21,7 @@ use Rattle.ss_machine_frames.specs.Rows.{TwoRows}
 use Rattle.ss_machine_frames.specs.Holding.{AllAt}
 
 -- an item that can be printed in a field that takes it
-abbrev pub IsPrintable : FieldValue → Type 0
+abbrev pub IsPrintable : Item → Type 0
 IsPrintable (Is v) = Unit {0}
 IsPrintable (Mean sum number) = IsMean sum number
 
@@ -52,16 +52,16 @@ CanShow e r at [] = Unit {0}
 CanShow e r at (k ∷ ks) = CanShowOne e r at k × CanShow e r (at + cells_of k) ks
 
 -- what the definition shows of the values that lie from a place on, where it shows anything, are these items
-abbrev pub AreShown : Seen → TwoRows → (at : ℕ) → List ItemKind → List FieldValue → Type 0
+abbrev pub AreShown : Seen → TwoRows → (at : ℕ) → List ItemKind → List Item → Type 0
 AreShown e r at kinds items =
-    (s : Store) (vs : List Value) (given : List FieldValue) → AllAt r at vs → Hold vs (item_modes kinds) →
+    (s : Store) (vs : List Value) (given : List Item) → AllAt r at vs → Hold vs (item_modes kinds) →
     values_shown (map kind_of_item kinds) vs (with_seen s e) ≡ Some given → given ≡ items
 
 -- ## One item after the other
 
 -- the items begin with this one, and the others are shown of what lies after its cells
-pub record ShowsFirst (e : Seen) (r : TwoRows) (after : ℕ) (ks : List ItemKind) (item : FieldValue) (s : Store) (given : List FieldValue) : Type 0 where
-  pub later : List FieldValue
+pub record ShowsFirst (e : Seen) (r : TwoRows) (after : ℕ) (ks : List ItemKind) (item : Item) (s : Store) (given : List Item) : Type 0 where
+  pub later : List Item
   pub rest : List Value
   pub is : given ≡ item ∷ later
   pub lie : AllAt r after rest
@@ -69,9 +69,9 @@ pub record ShowsFirst (e : Seen) (r : TwoRows) (after : ℕ) (ks : List ItemKind
   pub shown : values_shown (map kind_of_item ks) rest (with_seen s e) ≡ Some later
 
 -- this is the item of a kind, before those of any others
-abbrev pub IsShown : Seen → TwoRows → (at : ℕ) → ItemKind → FieldValue → Type 0
+abbrev pub IsShown : Seen → TwoRows → (at : ℕ) → ItemKind → Item → Type 0
 IsShown e r at k item =
-    (s : Store) (ks : List ItemKind) (vs : List Value) (given : List FieldValue) → AllAt r at vs → Hold vs (item_modes (k ∷ ks)) →
+    (s : Store) (ks : List ItemKind) (vs : List Value) (given : List Item) → AllAt r at vs → Hold vs (item_modes (k ∷ ks)) →
     values_shown (map kind_of_item (k ∷ ks)) vs (with_seen s e) ≡ Some given → ShowsFirst e r (at + cells_of k) ks item s given
 
 -- ## Lines
@@ -80,14 +80,14 @@ IsShown e r at k item =
 pub record SentPart (e : Seen) (r : TwoRows) (at : ℕ) (l : RunningLines) (before after : Option (List ℕ)) : Type 0 where
   pub part : List ℕ
   pub took : Appends before after part
-  pub within : (part ≡ []) ⊎ ((items : List FieldValue) × (rest : List ℕ) × AreShown e r at l.items items × (lines_with l.pictures items ≡ part ++ rest))
+  pub within : (part ≡ []) ⊎ ((items : List Item) × (rest : List ℕ) × AreShown e r at l.items items × (lines_with l.pictures items ≡ part ++ rest))
 
 -- all lines were sent
 pub record SentAll (e : Seen) (r : TwoRows) (at : ℕ) (l : RunningLines) (before after : Option (List ℕ)) : Type 0 where
-  pub items : List FieldValue
+  pub items : List Item
   pub shown : AreShown e r at l.items items
   pub took : Appends before after (lines_with l.pictures items)
 
 -- the fields of the lines take the items that are shown
 abbrev pub TakeAll : Seen → TwoRows → (at : ℕ) → RunningLines → Type 0
-TakeAll e r at l = (items : List FieldValue) → AreShown e r at l.items items → take_all (flat_map picture_fields l.pictures) items ≡ true
+TakeAll e r at l = (items : List Item) → AreShown e r at l.items items → take_all (flat_map picture_fields l.pictures) items ≡ true

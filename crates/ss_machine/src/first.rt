@@ -88,12 +88,12 @@ pub fn first_state(alloc: Global, code: &Code) -> Result<State, AllocError>
 
 /// Where the machine is before the first instruction of this code, but for its ticks: the place, and where the frame of MAIN
 /// begins.
-pub fn first_place(code: &Code) -> (usize, u32)
-    requires { length code.now.globals + length code.now.run.constants < 2 ^ 32 }
+pub fn first_place(code: &Code) -> (usize, usize)
+    requires { length code.now.globals + length code.now.run.constants < 2 ^ 63 }
     ensures { record { place = result.0; frame = result.1 } ≡ first_here code.now }
 {
     let frame = code.globals().len() + code.constants().len();
-    (code.main().place, frame as u32)
+    (code.main().place, frame)
 }
 
 /// A machine holds its first state there.

@@ -39,7 +39,7 @@ pub struct Machine {
     code: Code,
     state: State,
     place: usize,
-    frame: u32,
+    frame: usize,
     buffers: Buffers,
     used: u64,
     stopped: Option<Stop>,

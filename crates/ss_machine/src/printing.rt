@@ -13,6 +13,7 @@ ghost use Rattle.ss_machine.specs.Reading.{IsQuiet};
 ghost use Rattle.ss_machine.specs.Sent.{TookPart};
 ghost use Rattle.ss_machine.specs.Shown.{CanShow, TakeAll, SentAll, SentPart};
 ghost use Rattle.ss_machine.specs.Writing.{IsUnsent, DidWrite};
+ghost use Rattle.ss_machine_instructions.specs.Ways.{on_after};
 
 use crate::showing::{Buffers, show};
 use ss_base::{FaultKind, FaultyWrite};
@@ -21,7 +22,7 @@ use ss_code_instructions::instruction::Instruction;
 use ss_code_pieces::lines::Lines;
 use ss_machine_instructions::flow::{Ending, Here};
 use ss_machine_instructions::state::State;
-use ss_picture::{FieldValue, Picture, Sink};
+use ss_picture::{Item, Picture, Sink};
 
 /// The most empty lines of a SKIP.
 const MOST_LINES: i64 = 1000;
@@ -30,7 +31,7 @@ const MOST_LINES: i64 = 1000;
 fn print_line<W: FaultyWrite>(
     line: &mut Vec<u8>,
     picture: &Picture,
-    items: &[FieldValue],
+    items: &[Item],
     sink: &mut Sink<W>,
 ) -> Result<(), Ending>
     requires fields { length items.now ≤ field_count picture.now }
@@ -55,7 +56,7 @@ fn print_line<W: FaultyWrite>(
 fn print_lines<W: FaultyWrite>(
     line: &mut Vec<u8>,
     pictures: &[Picture],
-    items: &[FieldValue],
+    items: &[Item],
     sink: &mut Sink<W>,
 ) -> Result<(), Ending>
     requires suited { EachSuits (flat_map picture_fields pictures.now) items.now }
@@ -85,7 +86,7 @@ fn print_from<W: FaultyWrite>(
     sink: &mut Sink<W>,
 ) -> Result<(), Ending>
     requires can { CanShow state.now.scene state.now.rows from lines.now.items }
-    requires small { length state.now.rows.numbers < 2 ^ 32 }
+    requires small { length state.now.rows.numbers < 2 ^ 63 }
     requires fields { TakeAll state.now.scene state.now.rows from lines.now }
     ensures ok { OnOk result (SentAll state.now.scene state.now.rows from lines.now (W.contents sink.old.writer) (W.contents sink.new.writer)) }
     ensures err { OnErr result (SentPart state.now.scene state.now.rows from lines.now (W.contents sink.old.writer) (W.contents sink.new.writer)) }
@@ -108,16 +109,16 @@ pub(crate) fn print<W: FaultyWrite>(
     lines: &Lines,
     cell: u32,
     sink: &mut Sink<W>,
-) -> Option<Here>
+) -> Option<()>
     requires { (number : ℕ) × CanWhere (λ w. slice_get w.run.prints number ≡ Some lines.now) here state.old (Instruction.Print number cell) }
-    ensures written { (number : ℕ) → DidWrite (λ w. slice_get w.run.prints number ≡ Some lines.now) here state.old (Instruction.Print number cell) (W.contents sink.old.writer) (W.contents sink.new.writer) state.new result }
+    ensures written { (number : ℕ) → DidWrite (λ w. slice_get w.run.prints number ≡ Some lines.now) here state.old (Instruction.Print number cell) (W.contents sink.old.writer) (W.contents sink.new.writer) state.new (on_after here result) }
     ensures quiet { IsQuiet state.old state.new }
     ensures output { result ≡ None → state.new.ending ≡ Ending.NoOutput → HasRisen (W.faults sink.old.writer) (W.faults sink.new.writer) }
     ensures never_falls { HasRisenBy 0 (W.faults sink.old.writer) (W.faults sink.new.writer) }
 {
     let from = state.cell(here, cell);
     match print_from(state, buffers, lines, from, sink) {
-        Ok(()) => here.on(),
+        Ok(()) => Some(()),
         Err(ending) => state.stop(ending),
     }
 }
@@ -164,9 +165,9 @@ pub(crate) fn skip<W: FaultyWrite>(
     here: Here,
     count: &Address,
     sink: &mut Sink<W>,
-) -> Option<Here>
+) -> Option<()>
     requires { Can here state.old (Instruction.Skip count.now) }
-    ensures written { DidWrite (λ w. Unit {0}) here state.old (Instruction.Skip count.now) (W.contents sink.old.writer) (W.contents sink.new.writer) state.new result }
+    ensures written { DidWrite (λ w. Unit {0}) here state.old (Instruction.Skip count.now) (W.contents sink.old.writer) (W.contents sink.new.writer) state.new (on_after here result) }
     ensures quiet { IsQuiet state.old state.new }
     ensures output { result ≡ None → state.new.ending ≡ Ending.NoOutput → HasRisen (W.faults sink.old.writer) (W.faults sink.new.writer) }
     ensures never_falls { HasRisenBy 0 (W.faults sink.old.writer) (W.faults sink.new.writer) }
@@ -176,7 +177,7 @@ pub(crate) fn skip<W: FaultyWrite>(
         return state.fault(FaultKind::BadCount);
     }
     match send_empty(lines_in(count), sink) {
-        Ok(()) => here.on(),
+        Ok(()) => Some(()),
         Err(ending) => state.stop(ending),
     }
 }

@@ -10,6 +10,7 @@ ghost use Rattle.ss_input.specs.Inputs.{source_block, source_missed, source_read
 ghost use Rattle.ss_input.specs.Words.{value_given, is_ended};
 ghost use Rattle.ss_machine_instructions.specs.Doing.{Can};
 ghost use Rattle.ss_machine.specs.Reading.{missed_by, DidRead, IsQuiet};
+ghost use Rattle.ss_machine_instructions.specs.Ways.{on_after, tested_at};
 
 use ss_base::{Alpha, FaultyRead};
 use ss_code_instructions::address::Address;
@@ -20,7 +21,7 @@ use ss_machine_instructions::state::State;
 
 // Where no word was read.
 #[inline(always)]
-fn unread(state: &mut State, missed: Missed) -> Option<Here>
+fn unread<T>(state: &mut State, missed: Missed) -> Option<T>
     ensures none { result ≡ None }
     ensures state { state.new ≡ missed_by missed state.old }
 {
@@ -82,10 +83,10 @@ pub(crate) fn read_number<R: FaultyRead>(
     here: Here,
     to: &Address,
     source: &mut Source<R>,
-) -> Option<Here>
+) -> Option<()>
     requires can { Can here state.old (Instruction.Read to.now) }
     requires unmissed { source_missed source.old ≡ None }
-    ensures read { DidRead R.remaining here state.old (Instruction.Read to.now) source.old source.new state.new result }
+    ensures read { DidRead R.remaining here state.old (Instruction.Read to.now) source.old source.new state.new (on_after here result) }
     ensures quiet { IsQuiet state.old state.new }
     ensures unmissed { is_some result ≡ true → source_missed source.new ≡ None }
     ensures input { result ≡ None → state.new.ending ≡ Ending.NoInput → HasRisen (R.faults (source_reader source.old)) (R.faults (source_reader source.new)) }
@@ -96,7 +97,7 @@ pub(crate) fn read_number<R: FaultyRead>(
         Err(missed) => unread(state, missed),
         Ok(number) => {
             state.set_number(here, to, number);
-            here.on()
+            Some(())
         }
     }
 }
@@ -108,10 +109,10 @@ pub(crate) fn read_text<R: FaultyRead>(
     here: Here,
     to: &Address,
     source: &mut Source<R>,
-) -> Option<Here>
+) -> Option<()>
     requires can { Can here state.old (Instruction.ReadText to.now) }
     requires unmissed { source_missed source.old ≡ None }
-    ensures read { DidRead R.remaining here state.old (Instruction.ReadText to.now) source.old source.new state.new result }
+    ensures read { DidRead R.remaining here state.old (Instruction.ReadText to.now) source.old source.new state.new (on_after here result) }
     ensures quiet { IsQuiet state.old state.new }
     ensures unmissed { is_some result ≡ true → source_missed source.new ≡ None }
     ensures input { result ≡ None → state.new.ending ≡ Ending.NoInput → HasRisen (R.faults (source_reader source.old)) (R.faults (source_reader source.new)) }
@@ -122,7 +123,7 @@ pub(crate) fn read_text<R: FaultyRead>(
         Err(missed) => unread(state, missed),
         Ok(text) => {
             state.set_text(here, to, text);
-            here.on()
+            Some(())
         }
     }
 }
@@ -132,13 +133,12 @@ pub(crate) fn read_text<R: FaultyRead>(
 pub(crate) fn unless_ended<R: FaultyRead>(
     state: &mut State,
     here: Here,
-    skip: u32,
     negated: bool,
     source: &mut Source<R>,
-) -> Option<Here>
-    requires can { Can here state.old (Instruction.UnlessEnded skip negated) }
+) -> Option<bool>
+    requires can { (skip : ℕ) × Can here state.old (Instruction.UnlessEnded skip negated) }
     requires unmissed { source_missed source.old ≡ None }
-    ensures read { DidRead R.remaining here state.old (Instruction.UnlessEnded skip negated) source.old source.new state.new result }
+    ensures read { (skip : ℕ) → DidRead R.remaining here state.old (Instruction.UnlessEnded skip negated) source.old source.new state.new (tested_at here result skip) }
     ensures quiet { IsQuiet state.old state.new }
     ensures unmissed { is_some result ≡ true → source_missed source.new ≡ None }
     ensures input { result ≡ None → state.new.ending ≡ Ending.NoInput → HasRisen (R.faults (source_reader source.old)) (R.faults (source_reader source.new)) }
@@ -147,6 +147,6 @@ pub(crate) fn unless_ended<R: FaultyRead>(
 {
     match is_ended(source) {
         Err(missed) => unread(state, missed),
-        Ok(ended) => here.on_if(ended != negated, skip),
+        Ok(ended) => Some(ended != negated),
     }
 }

@@ -8,13 +8,13 @@ ghost use Rattle.ss_meaning.specs.Statistics.{mean};
 ghost use Rattle.ss_meaning.specs.Store.{Store};
 ghost use Rattle.ss_machine_world.specs.Seen.{with_seen};
 ghost use Rattle.ss_machine_world.specs.Numbers.{HasSubject, RefersToSubject};
-ghost use Rattle.ss_picture.specs.declared.items.FieldValue.{FieldValue as ItemSeen};
+ghost use Rattle.ss_picture.specs.declared.items.Item.{Item as ItemSeen};
 ghost use Rattle.ss_machine.specs.Shown.{IsPrintable, CanShowOne, CanShow, AreShown, IsShown, cells_of};
 
 use ss_base::Value;
 use ss_code_instructions::item::ItemKind;
 use ss_machine_instructions::state::State;
-use ss_picture::FieldValue;
+use ss_picture::Item;
 use std::alloc::{AllocError, Global};
 
 /// What printing uses again and again, so that it takes no memory once it has some: the line that is filled, and the items
@@ -22,7 +22,7 @@ use std::alloc::{AllocError, Global};
 #[derive(Drop)]
 pub struct Buffers {
     pub(crate) line: Vec<u8>,
-    pub(crate) items: Vec<FieldValue>,
+    pub(crate) items: Vec<Item>,
 }
 
 impl Buffers {
@@ -36,26 +36,26 @@ impl Buffers {
 }
 
 // A mean as an item. It was looked at before, so that there is one.
-fn mean_item(state: &State, statistic: usize, entity: i64) -> FieldValue
+fn mean_item(state: &State, statistic: usize, entity: i64) -> Item
     requires { HasSubject state.now.scene statistic }
     ensures shown { (o : Option ValueSeen) → RefersToSubject state.now.scene statistic o entity → (s : Store) (x : ItemSeen) → mean_item (mean statistic o (with_seen s state.now.scene)) ≡ Some x → x ≡ result }
     ensures printable { IsPrintable result }
 {
     match state.scene.mean(statistic, entity) {
-        Ok((sum, number)) => FieldValue::Mean(sum, number),
-        Err(_) => FieldValue::Mean(0, 0),
+        Ok((sum, number)) => Item::Mean(sum, number),
+        Err(_) => Item::Mean(0, 0),
     }
 }
 
 // The item of a kind, which takes the value at a place, if it takes one.
-fn item_of(state: &State, kind: ItemKind, at: usize) -> FieldValue
+fn item_of(state: &State, kind: ItemKind, at: usize) -> Item
     requires { CanShowOne state.now.scene state.now.rows at kind }
     ensures shown { IsShown state.now.scene state.now.rows at kind result }
     ensures printable { IsPrintable result }
 {
     match kind {
-        ItemKind::Number => FieldValue::Is(Value::Whole(state.rows.number_at(at))),
-        ItemKind::Text => FieldValue::Is(Value::Text(state.rows.text_at(at))),
+        ItemKind::Number => Item::Is(Value::Whole(state.rows.number_at(at))),
+        ItemKind::Text => Item::Is(Value::Text(state.rows.text_at(at))),
         ItemKind::Mean { statistic } => mean_item(state, statistic, 0),
         ItemKind::MeanOf { statistic } => {
             let entity = state.rows.number_at(at);
@@ -76,13 +76,13 @@ fn cells_of(kind: ItemKind) -> usize
 
 /// Fills a buffer, whatever it holds, with the items of these kinds, which take the values from a place on.
 pub(crate) fn show(
-    items: &mut Vec<FieldValue>,
+    items: &mut Vec<Item>,
     state: &State,
     kinds: &[ItemKind],
     from: usize,
 ) -> Result<(), AllocError>
     requires can { CanShow state.now.scene state.now.rows from kinds.now }
-    requires small { length state.now.rows.numbers < 2 ^ 32 }
+    requires small { length state.now.rows.numbers < 2 ^ 63 }
     ensures shown { OnOk result (AreShown state.now.scene state.now.rows from kinds.now items.new.items) }
     ensures printable { OnOk result (AllByRecursion IsPrintable items.new.items) }
 {

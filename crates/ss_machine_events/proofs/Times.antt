@@ -1,5 +1,5 @@
 -- What passes in time, as a scene has it, and as the meaning has it.
-use Rattle.std.proofs.Common.{◌≡◌, ℤ, Bool, true, false, List, Option, Some, None, Ok, Err, refl, ap, sym, ◌∙◌}
+use Rattle.std.proofs.Common.{◌≡◌, ℤ, Bool, true, false, List, Option, Some, None, Ok, Err, refl, ap}
 use Rattle.std.specs.Prelude.{int_lt, IsOk, Result as OkOr, if◌then◌else◌}
 use Rattle.ss_base.specs.declared.fault.FaultKind.{FaultKind}
 use Rattle.ss_base.specs.declared.fault.FaultKind.TheVariants.{PastTime}
@@ -13,8 +13,7 @@ use Rattle.ss_meaning.specs.Values.{Fails, turned, due, unless_fault}
 use Rattle.ss_meaning.specs.Store.{Notices, Store, with_pending}
 use Rattle.ss_meaning.specs.Events.{not_past}
 use Rattle.ss_machine_time.specs.Times.{Times, Schedules, TakesNext}
-use Rattle.ss_machine_world.specs.Seen.{Seen, IsRight, with_seen}
-use Rattle.ss_machine_events.specs.Scheduled.{scheduled_known}
+use Rattle.ss_machine_world.specs.Seen.{Seen, IsRight}
 
 -- a scene, by what passes in time in it
 abbrev pub timed_as : List Discipline → List Notices → State → Times → Seen
@@ -61,20 +60,6 @@ module _ (past : Bool) (r : OkOr PendingList FaultKind) (s : Store) where
       by true r e = cc
       by false (Ok p) e = absurd cc
       by false (Err k) e = cc
-
-  known_ok : (p : PendingList) → (if past then Err PastTime else r) ≡ Ok p → unless_fault past PastTime (turned (with_pending s) (due r)) ≡ Ok (with_pending s p)
-  known_ok p e = by past r e
-    where
-      by : (b : Bool) (r : OkOr PendingList FaultKind) → (if b then Err PastTime else r) ≡ Ok p → unless_fault b PastTime (turned (with_pending s) (due r)) ≡ Ok (with_pending s p)
-      by true r e = absurd cc
-      by false (Ok q) e = let same : q ≡ p = cc in ap (λ q. Ok (with_pending s q)) same
-      by false (Err k) e = absurd cc
-
--- a notice is scheduled
-pub settles : (ds : List Discipline) (ns : List Notices) (h : State) (t u : Times) (key : SortKey) (n : ℤ) → Schedules key n t u (Ok tt) → (s : Store) → scheduled_known key n (with_seen s (timed_as ds ns h t)) ≡ Ok (with_seen s (timed_as ds ns h u))
-settles ds ns h t u key n e s =
-    known_ok (int_lt key.time t.time) (scheduled key n t.pending) (with_seen s (timed_as ds ns h t)) u.pending e.0
-    ∙ ap (λ (w : Times). Ok (with_seen s (timed_as ds ns h w))) (sym e.1)
 
 -- no statistic changes
 pub scheduled_statistics : (t u : Times) (key : SortKey) (n : ℤ) (r : OkOr (Unit {0}) Refused) → Schedules key n t u r → u.histories.statistics ≡ t.histories.statistics

@@ -1,6 +1,6 @@
 //! Scheduling: the time of an event, and filing a notice among those that are pending.
 
-ghost use Rattle.std.specs.Prelude.{◌≡◌, ◌<◌, [], length, slice_get, Some, Ok, IfOk};
+ghost use Rattle.std.specs.Prelude.{◌≡◌, ◌<◌, length, slice_get, Some, Ok, IfOk};
 ghost use Rattle.std.specs.List.{All};
 ghost use Rattle.ss_base.specs.declared.value.Value.TheVariants.{Whole};
 ghost use Rattle.ss_world.specs.State.{known_in};
@@ -103,17 +103,6 @@ fn file_under(scene: &mut Scene, key: Key, notice: i64) -> bool
     }
 }
 
-// A notice is pending for a time and by a rank, without ties; and says whether it is.
-#[inline(always)]
-fn file_untied(scene: &mut Scene, alloc: Global, time: i64, rank: usize, notice: i64) -> bool
-    ensures { Does (scheduled_known (record { time = time; rank = rank; ties = [] }) notice) result scene.old scene.new }
-{
-    if scene.timeline.schedule_untied(alloc, time, rank, notice) {
-        return true;
-    }
-    false
-}
-
 // The attributes that break ties of the notices of the class of this rank.
 #[inline(always)]
 fn keys_of(scene: &Scene, rank: usize) -> &[RankKey]
@@ -140,7 +129,7 @@ fn schedule_tied(scene: &mut Scene, alloc: Global, class: usize, notice: i64, ti
     }
 }
 
-// The same of a class without ties.
+// A notice of a class without ties is pending; and says whether it is.
 #[inline(never)]
 fn schedule_untied(scene: &mut Scene, alloc: Global, class: usize, notice: i64, time: i64) -> bool
     requires notices { IsNoticeClass scene.old class }
@@ -149,7 +138,7 @@ fn schedule_untied(scene: &mut Scene, alloc: Global, class: usize, notice: i64, 
     ensures { Does (filed_notice class (Whole notice) time) result scene.old scene.new }
 {
     let rank = scene.rank(class);
-    file_untied(scene, alloc, time, rank, notice)
+    file_under(scene, Key::with_ties(time, rank, Vec::new(alloc)), notice)
 }
 
 // A notice that is there is pending; and says whether it is.

@@ -10,7 +10,7 @@ use std::marker::Model;
 #[derive(Clone, Copy, Debug, PartialEq, Eq)]
 pub struct Frame {
     pub back: usize,
-    pub caller: u32,
+    pub caller: usize,
     pub given: u32,
     pub yielding: u32,
 }

@@ -30,10 +30,11 @@ impl Model for Rows {
 
 /// The place of an address, where the frame begins here.
 #[inline(always)]
-pub fn place_of(frame: u32, address: &Address) -> usize
+pub fn place_of(frame: usize, address: &Address) -> usize
+    requires { place_at frame address.now < 2 ^ 64 }
     ensures { result ≡ place_at frame address.now }
 {
-    (frame & address.mask) as usize + address.number as usize
+    (frame & address.mask) + address.number
 }
 
 // So many numbers from a place on change their order.
@@ -107,8 +108,9 @@ impl Rows {
     pub fn len(&self) -> usize
         ensures numbers { result ≡ length self.now.numbers }
         ensures texts { result ≡ length self.now.texts }
+        ensures small { result < 2 ^ 63 }
     {
-        self.numbers.len()
+        self.numbers.as_slice().len()
     }
 
     // One place more, which holds this number and this text.
@@ -134,20 +136,16 @@ impl Rows {
         }
     }
 
-    /// At least so many places. The error comes where memory was refused, and where a place would have no number. Then there may
-    /// be more places than before.
+    /// At least so many places. The error comes where memory was refused. Then there may be more places than before.
     #[inline(never)]
     pub fn lengthen(&mut self, count: usize) -> Result<(), AllocError>
         ensures grown { Grown self.old self.new }
         ensures even { length self.new.texts ≡ length self.new.numbers }
         ensures room { OnOk result (count ≤ length self.new.numbers) }
-        ensures small { OnOk result (count < 2 ^ 32) }
+        ensures small { OnOk result (count < 2 ^ 63) }
         ensures most { OnOk result (length self.old.numbers ≤ count → length self.new.numbers ≡ count) }
     {
         let _ = &self.numbers;
-        if count > u32::MAX as usize {
-            return Err(AllocError);
-        }
         while self.len() < count {
             self.push_both(0, Alpha::empty())?;
         }
@@ -157,11 +155,10 @@ impl Rows {
     /// At least so many places, as `lengthen`. Where there are as many, nothing changes.
     #[inline(always)]
     pub fn reach(&mut self, count: usize) -> Result<(), AllocError>
-        requires { length self.old.numbers < 2 ^ 32 }
         ensures grown { Grown self.old self.new }
         ensures even { length self.new.texts ≡ length self.new.numbers }
         ensures room { OnOk result (count ≤ length self.new.numbers) }
-        ensures small { OnOk result (length self.new.numbers < 2 ^ 32) }
+        ensures small { OnOk result (length self.new.numbers < 2 ^ 63) }
     {
         if self.len() < count {
             self.lengthen(count)?;
@@ -207,7 +204,7 @@ impl Rows {
 
     /// The number at an address.
     #[inline(always)]
-    pub fn number(&self, frame: u32, address: &Address) -> i64
+    pub fn number(&self, frame: usize, address: &Address) -> i64
         requires { place_at frame address.now < length self.now.numbers }
         ensures { slice_get self.now.numbers (place_at frame address.now) ≡ Some result }
     {
@@ -216,7 +213,7 @@ impl Rows {
 
     /// A number goes to an address.
     #[inline(always)]
-    pub fn set_number(&mut self, frame: u32, address: &Address, number: i64)
+    pub fn set_number(&mut self, frame: usize, address: &Address, number: i64)
         requires { place_at frame address.now < length self.old.numbers }
         ensures { self.new ≡ with_number self.old (place_at frame address.now) number }
     {
@@ -225,7 +222,7 @@ impl Rows {
 
     /// The text at an address.
     #[inline(always)]
-    pub fn text(&self, frame: u32, address: &Address) -> Alpha
+    pub fn text(&self, frame: usize, address: &Address) -> Alpha
         requires { place_at frame address.now < length self.now.numbers }
         ensures { slice_get self.now.texts (place_at frame address.now) ≡ Some result }
     {
@@ -234,7 +231,7 @@ impl Rows {
 
     /// A text goes to an address.
     #[inline(always)]
-    pub fn set_text(&mut self, frame: u32, address: &Address, text: Alpha)
+    pub fn set_text(&mut self, frame: usize, address: &Address, text: Alpha)
         requires { place_at frame address.now < length self.old.numbers }
         ensures { self.new ≡ with_text self.old (place_at frame address.now) text }
     {

@@ -35,7 +35,7 @@ use Rattle.ss_machine_frames.proofs.Reading.{only_number, reads, read_within}
 use Rattle.ss_machine_instructions.specs.declared.flow.Here.{Here}
 use Rattle.ss_machine_instructions.specs.declared.state.State.{State}
 use Rattle.ss_machine_instructions.specs.Doing.{Compiled, Ready, Comes, Delivers, IsDelivered}
-use Rattle.ss_machine_instructions.specs.Ways.{on_at, on_unless, faulted_by, refused_by}
+use Rattle.ss_machine_instructions.specs.Ways.{on_at, on_after, unless_fault, faulted_by, refused_by}
 use Rattle.ss_machine_instructions.proofs.Placing.{site, located, suits, small, deep_at, deep_here, calm}
 use Rattle.ss_machine_instructions.proofs.Seeing.{makes_not, changes_not, seen_is, layout_is, goes_seeing, changes, refuses}
 use Rattle.ss_machine_instructions.proofs.Figuring.{global_within, global_is}
@@ -109,10 +109,10 @@ module _ (w : Compiled) (c : Core) (here : Here) (s : State) (run : Running) (r 
         };
       }
 
-  pub created : (class : ℕ) (to : Address) (n : ℤ) (e : Seen) (new : State) (result : Option Here) → Creates class to → Makes (made_one class) s.scene e (Ok n) → IsDelivered here (record s { scene = e }) new result to (Ok (Whole n)) → Comes (is_due r.placed.instruction) w r.placed.line does s new result
+  pub created : (class : ℕ) (to : Address) (n : ℤ) (e : Seen) (new : State) (result : Option (Unit {0})) → Creates class to → Makes (made_one class) s.scene e (Ok n) → IsDelivered here (record s { scene = e }) new result to (Ok (Whole n)) → Comes (is_due r.placed.instruction) w r.placed.line does s new (on_after here result)
   created class to n e new result z made delivered =
       let h = delivered w c r.placed.line does (creates class to n e z made) in
-      calm w c here s run r new result (ap is_due z.2) (record { leads = h.leads; ticks = h.ticks; steps = h.steps })
+      calm w c here s run r new (on_after here result) (ap is_due z.2) (record { leads = h.leads; ticks = h.ticks; steps = h.steps })
 
   pub creates_not : (class : ℕ) (to : Address) (e : Seen) (refused : Refused) (new : State) (result : Option Here) → Creates class to → Makes (made_one class) s.scene e (Err refused) → new ≡ refused_by refused (record s { scene = e }) → result ≡ None → Comes (is_due r.placed.instruction) w r.placed.line does s new result
   creates_not class to e refused new result z made same none =
@@ -183,7 +183,7 @@ module _ (w : Compiled) (c : Core) (here : Here) (s : State) (run : Running) (r 
   pub destroys_single : (class : ℕ) (entity : Address) → Destroys class entity → is_single (slice_get s.scene.heap.layout.classes class) ≡ true
   destroys_single class entity z = let y = subst SuitsHere z.2 (suits w c here s run r) in single_here class y.0
 
-  pub destroys : (class : ℕ) (entity : Address) (n : ℤ) (e : Seen) (answer : OkOr (Unit {0}) FaultKind) (new : State) (result : Option Here) → Destroys class entity → slice_get s.rows.numbers (place_at here.frame entity) ≡ Some n → Changes (without class (Whole n)) s.scene e answer → new ≡ faulted_by answer (record s { scene = e }) → result ≡ on_unless here answer → Comes (is_due r.placed.instruction) w r.placed.line does s new result
+  pub destroys : (class : ℕ) (entity : Address) (n : ℤ) (e : Seen) (answer : OkOr (Unit {0}) FaultKind) (new : State) (result : Option Here) → Destroys class entity → slice_get s.rows.numbers (place_at here.frame entity) ≡ Some n → Changes (without class (Whole n)) s.scene e answer → new ≡ faulted_by answer (record s { scene = e }) → result ≡ on_after here (unless_fault answer) → Comes (is_due r.placed.instruction) w r.placed.line does s new result
   destroys class entity n e answer new result z at changed same q =
       let is = z.2 in
       let y = subst SuitsHere is (suits w c here s run r) in

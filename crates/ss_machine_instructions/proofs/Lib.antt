@@ -1,5 +1,6 @@
 pub mod Placing
 pub mod Delivering
+pub mod Leading
 pub mod Calculating
 pub mod Comparing
 pub mod Ticking

@@ -1,5 +1,5 @@
 -- An operation of the world is done, and the machine goes on, or there is a fault.
-use Rattle.std.proofs.Common.{◌≡◌, ℕ, ◌+◌, ◌<◌, ◌^◌, Bool, false, List, length, Option, None, Ok, Err, refl, sym, ap, ◌∙◌, subst, arith}
+use Rattle.std.proofs.Common.{◌≡◌, ℕ, ◌+◌, Bool, false, List, length, Option, None, Ok, Err, refl, sym, ap, ◌∙◌, subst}
 use Rattle.std.specs.Prelude.{Result as OkOr}
 use Rattle.ss_base.specs.declared.fault.FaultKind.{FaultKind}
 use Rattle.ss_base.specs.declared.value.Value.{Value}
@@ -18,9 +18,9 @@ use Rattle.ss_machine_world.specs.Seen.{Seen, IsRight, Changes, with_seen}
 use Rattle.ss_machine_instructions.specs.declared.flow.Here.{Here}
 use Rattle.ss_machine_instructions.specs.declared.state.State.{State}
 use Rattle.ss_machine_instructions.specs.Doing.{Compiled, Holds, Ready, NoTick, Comes}
-use Rattle.ss_machine_instructions.specs.Ways.{on_at, on_unless, faulted, faulted_by}
+use Rattle.ss_machine_instructions.specs.Ways.{on_at, on_after, unless_fault, faulted, faulted_by}
 use Rattle.ss_machine_instructions.specs.Worldly.{Settled, Settles, IsTold}
-use Rattle.ss_machine_instructions.proofs.Placing.{site, located, small, calm}
+use Rattle.ss_machine_instructions.proofs.Placing.{site, located, calm}
 use Rattle.ss_machine_instructions.proofs.Delivering.{faults}
 
 -- ## Operations that do not go wrong
@@ -60,10 +60,6 @@ module _ (w : Compiled) (c : Core) (here : Here) (s : State) (run : Running) (r 
   -- what the running instruction does not note no statistic watches
   pub is_told : (notes : Bool) (subject : Subject) → (notes ≡ false → watch w.code.setting.statistics subject ≡ false) → IsTold notes subject s.scene
   is_told notes subject reported none = ap (λ (ss : List Statistic). watch ss subject) statistics_seen ∙ reported none
-
-  -- there is a next place
-  pub next_small : here.place + 1 < 2 ^ 64
-  next_small = let lt = small w c here s run r in omega (arith, lt)
 
   -- ## What is held once more is seen
 
@@ -134,6 +130,6 @@ module _ (w : Compiled) (c : Core) (here : Here) (s : State) (run : Running) (r 
       z.acts ∙ ap (λ q. did r.placed.line q (λ t. onward z.below c t)) (ap f store_is ∙ d c.store (λ wrong. z.right (ap f store_is ∙ wrong)))
 
   -- by the answer
-  pub settles : (f : Store → OkOr Store Trouble) (e : Seen) (answer : OkOr (Unit {0}) FaultKind) (new : State) (result : Option Here) → is_due r.placed.instruction ≡ false → Settles c r.placed.line (act w.code r.placed.line r.placed.instruction c) here s f → Settled f s.scene e answer → new ≡ faulted_by answer (record s { scene = e }) → result ≡ on_unless here answer → Comes (is_due r.placed.instruction) w r.placed.line (act w.code r.placed.line r.placed.instruction c) s new result
+  pub settles : (f : Store → OkOr Store Trouble) (e : Seen) (answer : OkOr (Unit {0}) FaultKind) (new : State) (result : Option Here) → is_due r.placed.instruction ≡ false → Settles c r.placed.line (act w.code r.placed.line r.placed.instruction c) here s f → Settled f s.scene e answer → new ≡ faulted_by answer (record s { scene = e }) → result ≡ on_after here (unless_fault answer) → Comes (is_due r.placed.instruction) w r.placed.line (act w.code r.placed.line r.placed.instruction c) s new result
   settles f e (Ok u) new result calmly z d same way = went_on f e new result calmly z (d c.store (λ wrong. z.right (ap f store_is ∙ wrong))) same way
   settles f e (Err kind) new result calmly z d same way = fails_on kind e new result calmly (fails_by f e kind z d) same way

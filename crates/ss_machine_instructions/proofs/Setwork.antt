@@ -40,7 +40,7 @@ use Rattle.ss_machine_world.specs.Seen.{Seen, IsRight, with_seen}
 use Rattle.ss_machine_instructions.specs.declared.flow.Here.{Here}
 use Rattle.ss_machine_instructions.specs.declared.state.State.{State}
 use Rattle.ss_machine_instructions.specs.Doing.{Compiled, Ready, NoTick, Comes, Delivers, as_value}
-use Rattle.ss_machine_instructions.specs.Ways.{faulted, faulted_by, on_unless}
+use Rattle.ss_machine_instructions.specs.Ways.{faulted, faulted_by, on_after, unless_fault}
 use Rattle.ss_machine_instructions.specs.Worldly.{Given, Settles, IsOwner, IsRuled, Files, Removes, Takes, one_of, member_answer}
 use Rattle.ss_machine_instructions.proofs.Placing.{site, located, suits, small, deep_at, deep_here, calm}
 use Rattle.ss_machine_instructions.proofs.Delivering.{delivers, deliver_is, number_right}
@@ -251,7 +251,7 @@ module _ (w : Compiled) (c : Core) (here : Here) (s : State) (run : Running) (r 
         ruled_set = ruled_here set o z.0;
       }
 
-  files_by : (filing : Filing) (at : Position) (set : ℕ) (y : Operand) (o : Bearer) (member owner : Address) (n m : ℤ) (notes : Bool) (e : Seen) (answer : OkOr (Unit {0}) FaultKind) (new : State) (result : Option Here) → r.placed.instruction ≡ i.File filing set y o → OperandAt w.code w.run.constants r.placed y member → BearerAt w.code w.run.constants r.placed o owner → Positions filing at → FilingOk w.program r.compiled.typed r.placed.locals at → (notes ≡ false → watch w.code.setting.statistics (OfCount set) ≡ false) → slice_get s.rows.numbers (place_at here.frame member) ≡ Some n → slice_get s.rows.numbers (place_at here.frame owner) ≡ Some m → Files at set notes s.scene e answer m n → new ≡ faulted_by answer (record s { scene = e }) → result ≡ on_unless here answer → Comes (is_due r.placed.instruction) w r.placed.line (act w.code r.placed.line r.placed.instruction c) s new result
+  files_by : (filing : Filing) (at : Position) (set : ℕ) (y : Operand) (o : Bearer) (member owner : Address) (n m : ℤ) (notes : Bool) (e : Seen) (answer : OkOr (Unit {0}) FaultKind) (new : State) (result : Option Here) → r.placed.instruction ≡ i.File filing set y o → OperandAt w.code w.run.constants r.placed y member → BearerAt w.code w.run.constants r.placed o owner → Positions filing at → FilingOk w.program r.compiled.typed r.placed.locals at → (notes ≡ false → watch w.code.setting.statistics (OfCount set) ≡ false) → slice_get s.rows.numbers (place_at here.frame member) ≡ Some n → slice_get s.rows.numbers (place_at here.frame owner) ≡ Some m → Files at set notes s.scene e answer m n → new ≡ faulted_by answer (record s { scene = e }) → result ≡ on_after here (unless_fault answer) → Comes (is_due r.placed.instruction) w r.placed.line (act w.code r.placed.line r.placed.instruction c) s new result
   files_by filing at set y o member owner n m notes e answer new result is at_y at_o position good reported at_member at_owner filed same way =
       let t = site w c here s run r in
       let st = located w c here s run r in
@@ -288,7 +288,7 @@ module _ (w : Compiled) (c : Core) (here : Here) (s : State) (run : Running) (r 
 
   -- what the machine did, for an operation that a function carried out
   abbrev IsDone : (e : Seen) → OkOr (Unit {0}) FaultKind → (new : State) → Option Here → Type 0
-  IsDone e answer new result = (new ≡ faulted_by answer (record s { scene = e })) × (result ≡ on_unless here answer)
+  IsDone e answer new result = (new ≡ faulted_by answer (record s { scene = e })) × (result ≡ on_after here (unless_fault answer))
 
   pub files_first : (set : ℕ) (member owner : Address) (n m : ℤ) (notes : Bool) (e : Seen) (answer : OkOr (Unit {0}) FaultKind) (new : State) (result : Option Here) → IsQuiet notes set → FilesBy First set member owner → slice_get s.rows.numbers (place_at here.frame member) ≡ Some n → slice_get s.rows.numbers (place_at here.frame owner) ≡ Some m → Files Foremost set notes s.scene e answer m n → IsDone e answer new result → Comes (is_due r.placed.instruction) w r.placed.line (act w.code r.placed.line r.placed.instruction c) s new result
   files_first set member owner n m notes e answer new result reported z at_member at_owner filed done =

@@ -17,7 +17,7 @@ pub record Enters (here : Here) (old new : State) (entry : Entry) (cell frame : 
   pub grows : Grown old.rows grown
   pub even : length grown.texts ≡ length grown.numbers
   pub room : frame + entry.room ≤ length grown.numbers
-  pub small : length grown.numbers < 2 ^ 32
+  pub small : length grown.numbers < 2 ^ 63
   pub is : new ≡ record old { rows = cleared grown (frame + length entry.given.items) entry.others.items; frames = call_of here entry ∷ old.frames }
 
 -- memory was refused: no tick is taken, the world is as it was, and the rows are no shorter

@@ -4,9 +4,8 @@ use Rattle.ss_base.specs.declared.fault.FaultKind.{FaultKind}
 use Rattle.ss_meaning.specs.Values.{Trouble}
 use Rattle.ss_meaning.specs.Store.{Store}
 use Rattle.ss_machine_world.specs.Seen.{Seen, Changes}
-use Rattle.ss_machine_instructions.specs.declared.flow.Here.{Here}
 use Rattle.ss_machine_instructions.specs.declared.state.State.{State}
-use Rattle.ss_machine_instructions.specs.Ways.{on_unless, faulted_by}
+use Rattle.ss_machine_instructions.specs.Ways.{unless_fault, faulted_by}
 
 -- a note where it is asked for; else nothing changes
 abbrev pub NotedIf : (noted : Bool) → (Store → Result Store Trouble) → (old new : Seen) → (said : Result (Unit {0}) FaultKind) → Type 0
@@ -19,9 +18,9 @@ NotedAfter (Ok u) noted note old new said = NotedIf noted note old new said
 NotedAfter (Err kind) noted note old new said = (said ≡ Err kind) × (new ≡ old)
 
 -- the machine goes on after a change and its note, or there is a fault
-pub record Notes (noted : Bool) (note : Store → Result Store Trouble) (here : Here) (change : Result (Unit {0}) FaultKind) (old new : State) (result : Option Here) : Type 0 where
+pub record Notes (noted : Bool) (note : Store → Result Store Trouble) (change : Result (Unit {0}) FaultKind) (old new : State) (result : Option (Unit {0})) : Type 0 where
   pub scene : Seen
   pub said : Result (Unit {0}) FaultKind
   pub after : NotedAfter change noted note old.scene scene said
   pub state : new ≡ faulted_by said (record old { scene = scene })
-  pub way : result ≡ on_unless here said
+  pub way : result ≡ unless_fault said

@@ -100,9 +100,9 @@ member_answer Membership h set n = one_of (owner_of_member h set n)
 
 -- ## Where it leads, where memory may be refused
 
-abbrev pub on_where : Here → Result (Unit {0}) Refused → Option Here
-on_where h (Ok u) = on_at h
-on_where h (Err refused) = None
+abbrev pub unless_refused : Result (Unit {0}) Refused → Option (Unit {0})
+unless_refused (Ok u) = Some u
+unless_refused (Err refused) = None
 
 abbrev pub refused_where : Result (Unit {0}) Refused → Machine → Machine
 refused_where (Ok u) s = s

@@ -7,6 +7,7 @@ ghost use Rattle.ss_meaning.specs.Values.{computed, operator_of};
 ghost use Rattle.ss_records.specs.Attributes.{changed_number, IsAssigned, IsChanged};
 ghost use Rattle.ss_world.specs.State.{modes_of, value_in, assigned};
 ghost use Rattle.ss_machine_instructions.specs.Doing.{Can, Does};
+ghost use Rattle.ss_machine_instructions.specs.Ways.{on_after};
 
 use crate::flow::Here;
 use crate::state::State;
@@ -102,9 +103,9 @@ impl State {
         field: u32,
         entity: &Address,
         to: &Address,
-    ) -> Option<Here>
+    ) -> Option<()>
         requires { Can here self.old (Instruction.Attribute class field entity.now to.now) }
-        ensures { Does here self.old self.new result (Instruction.Attribute class field entity.now to.now) }
+        ensures { Does here self.old self.new (on_after here result) (Instruction.Attribute class field entity.now to.now) }
     {
         let entity = self.number(here, entity);
         let answer = self
@@ -123,9 +124,9 @@ impl State {
         field: u32,
         entity: &Address,
         to: &Address,
-    ) -> Option<Here>
+    ) -> Option<()>
         requires { Can here self.old (Instruction.TextAttribute class field entity.now to.now) }
-        ensures { Does here self.old self.new result (Instruction.TextAttribute class field entity.now to.now) }
+        ensures { Does here self.old self.new (on_after here result) (Instruction.TextAttribute class field entity.now to.now) }
     {
         let entity = self.number(here, entity);
         let answer = self
@@ -145,14 +146,14 @@ impl State {
         entity: &Address,
         from: &Address,
         noted: bool,
-    ) -> Option<Here>
+    ) -> Option<()>
         requires { Can here self.old (Instruction.SetAttribute class field entity.now from.now noted) }
-        ensures { Does here self.old self.new result (Instruction.SetAttribute class field entity.now from.now noted) }
+        ensures { Does here self.old self.new (on_after here result) (Instruction.SetAttribute class field entity.now from.now noted) }
     {
         let (entity, number) = (self.number(here, entity), self.number(here, from));
         let (class, field) = (class as usize, field as usize);
         let answer = assign_number(&mut self.scene, class, field, entity, number);
-        self.assigned(here, answer, class, field, entity, noted)
+        self.assigned(answer, class, field, entity, noted)
     }
 
     /// SetTextAttribute.
@@ -164,9 +165,9 @@ impl State {
         field: u32,
         entity: &Address,
         from: &Address,
-    ) -> Option<Here>
+    ) -> Option<()>
         requires { Can here self.old (Instruction.SetTextAttribute class field entity.now from.now) }
-        ensures { Does here self.old self.new result (Instruction.SetTextAttribute class field entity.now from.now) }
+        ensures { Does here self.old self.new (on_after here result) (Instruction.SetTextAttribute class field entity.now from.now) }
     {
         let (entity, text) = (self.number(here, entity), self.text(here, from));
         let answer = assign_text(
@@ -176,7 +177,7 @@ impl State {
             entity,
             text,
         );
-        self.done(here, answer)
+        self.done(answer)
     }
 
     /// ChangeAttribute. The attribute is a class and a field of it.
@@ -189,21 +190,21 @@ impl State {
         entity: &Address,
         by: &Address,
         noted: bool,
-    ) -> Option<Here>
+    ) -> Option<()>
         requires { Can here self.old (Instruction.ChangeAttribute attribute.0 attribute.1 entity.now by.now sign noted) }
-        ensures { Does here self.old self.new result (Instruction.ChangeAttribute attribute.0 attribute.1 entity.now by.now sign noted) }
+        ensures { Does here self.old self.new (on_after here result) (Instruction.ChangeAttribute attribute.0 attribute.1 entity.now by.now sign noted) }
     {
         let (entity, number) = (self.number(here, entity), self.number(here, by));
         let (class, field) = (attribute.0 as usize, attribute.1 as usize);
         let answer = change(&mut self.scene, sign, class, field, entity, number);
-        self.assigned(here, answer, class, field, entity, noted)
+        self.assigned(answer, class, field, entity, noted)
     }
 
     /// Clock.
     #[inline]
-    pub fn clock(&mut self, here: Here, to: &Address) -> Option<Here>
+    pub fn clock(&mut self, here: Here, to: &Address) -> Option<()>
         requires { Can here self.old (Instruction.Clock to.now) }
-        ensures { Does here self.old self.new result (Instruction.Clock to.now) }
+        ensures { Does here self.old self.new (on_after here result) (Instruction.Clock to.now) }
     {
         let time = self.scene.timeline.time();
         self.put(here, to, Ok(time))
@@ -211,9 +212,9 @@ impl State {
 
     /// TimeOf.
     #[inline]
-    pub fn time_of(&mut self, here: Here, notice: &Address, to: &Address) -> Option<Here>
+    pub fn time_of(&mut self, here: Here, notice: &Address, to: &Address) -> Option<()>
         requires { Can here self.old (Instruction.TimeOf notice.now to.now) }
-        ensures { Does here self.old self.new result (Instruction.TimeOf notice.now to.now) }
+        ensures { Does here self.old self.new (on_after here result) (Instruction.TimeOf notice.now to.now) }
     {
         let notice = self.number(here, notice);
         let answer = self.scene.population.time_a(notice);

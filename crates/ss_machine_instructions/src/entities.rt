@@ -1,6 +1,7 @@
 //! Entities that come and go.
 
 ghost use Rattle.ss_machine_instructions.specs.Doing.{Can, Does};
+ghost use Rattle.ss_machine_instructions.specs.Ways.{on_after};
 
 use crate::flow::Here;
 use crate::state::State;
@@ -10,9 +11,9 @@ use ss_code_instructions::instruction::Instruction;
 impl State {
     /// Create.
     #[inline]
-    pub fn create(&mut self, here: Here, class: u32, to: &Address) -> Option<Here>
+    pub fn create(&mut self, here: Here, class: u32, to: &Address) -> Option<()>
         requires { Can here self.old (Instruction.Create class to.now) }
-        ensures { Does here self.old self.new result (Instruction.Create class to.now) }
+        ensures { Does here self.old self.new (on_after here result) (Instruction.Create class to.now) }
     {
         match self.scene.create(class as usize) {
             Ok(number) => self.put(here, to, Ok(number)),
@@ -22,25 +23,25 @@ impl State {
 
     /// CreateAll.
     #[inline]
-    pub fn create_all(&mut self, here: Here, class: u32, variable: u32) -> Option<Here>
+    pub fn create_all(&mut self, here: Here, class: u32, variable: u32) -> Option<()>
         requires { Can here self.old (Instruction.CreateAll class variable) }
-        ensures { Does here self.old self.new result (Instruction.CreateAll class variable) }
+        ensures { Does here self.old self.new (on_after here result) (Instruction.CreateAll class variable) }
     {
         let count = self.rows.number_at(variable as usize);
         match self.scene.create_all(class as usize, count) {
-            Ok(()) => here.on(),
+            Ok(()) => Some(()),
             Err(refused) => self.refused(refused),
         }
     }
 
     /// Destroy.
     #[inline]
-    pub fn destroy(&mut self, here: Here, class: u32, entity: &Address) -> Option<Here>
+    pub fn destroy(&mut self, here: Here, class: u32, entity: &Address) -> Option<()>
         requires { Can here self.old (Instruction.Destroy class entity.now) }
-        ensures { Does here self.old self.new result (Instruction.Destroy class entity.now) }
+        ensures { Does here self.old self.new (on_after here result) (Instruction.Destroy class entity.now) }
     {
         let entity = self.number(here, entity);
         let answer = self.scene.destroy(class as usize, entity);
-        self.done(here, answer)
+        self.done(answer)
     }
 }

@@ -1,6 +1,6 @@
 //! Tests and jumps.
 
-ghost use Rattle.std.specs.Prelude.{◌≡◌, ◌<◌, length, Some, is_some};
+ghost use Rattle.std.specs.Prelude.{◌≡◌, ◌<◌, ℕ, length, Some, is_some};
 ghost use Rattle.ss_base.specs.declared.value.Value.TheVariants.{Whole, Text};
 ghost use Rattle.ss_world.specs.PendingList.{next};
 ghost use Rattle.ss_world.specs.Sets.{count_in};
@@ -9,7 +9,8 @@ ghost use Rattle.ss_meaning.specs.Values.{allows, related};
 ghost use Rattle.ss_meaning.specs.Sets.{is_none};
 ghost use Rattle.ss_code_instructions.specs.Forms.{comparing_numbers};
 ghost use Rattle.ss_machine_instructions.specs.Doing.{Can, Does};
-ghost use Rattle.ss_machine_instructions.specs.Ways.{none_of};
+ghost use Rattle.ss_machine_instructions.specs.declared.flow.Here.{Here as HereSeen};
+ghost use Rattle.ss_machine_instructions.specs.Ways.{none_of, back_if_at, on_if_at, tested_at};
 
 use crate::flow::Here;
 use crate::state::State;
@@ -114,17 +115,11 @@ impl State {
         relation: Relation,
         left: &Address,
         right: &Address,
-        skip: u32,
-    ) -> Option<Here>
-        requires { Can here self.now (comparing_numbers relation left.now right.now skip) }
-        ensures { Does here self.now self.now result (comparing_numbers relation left.now right.now skip) }
+    ) -> bool
+        requires { (skip : ℕ) × Can here self.now (comparing_numbers relation left.now right.now skip) }
+        ensures { (skip : ℕ) → Does here self.now self.now (on_if_at here result skip) (comparing_numbers relation left.now right.now skip) }
     {
-        let holds = are_numbers_related(
-            relation,
-            self.number(here, left),
-            self.number(here, right),
-        );
-        here.on_if(holds, skip)
+        are_numbers_related(relation, self.number(here, left), self.number(here, right))
     }
 
     /// UnlessTexts.
@@ -135,13 +130,11 @@ impl State {
         relation: Relation,
         left: &Address,
         right: &Address,
-        skip: u32,
-    ) -> Option<Here>
-        requires { Can here self.now (Instruction.UnlessTexts left.now right.now skip relation) }
-        ensures { Does here self.now self.now result (Instruction.UnlessTexts left.now right.now skip relation) }
+    ) -> bool
+        requires { (skip : ℕ) × Can here self.now (Instruction.UnlessTexts left.now right.now skip relation) }
+        ensures { (skip : ℕ) → Does here self.now self.now (on_if_at here result skip) (Instruction.UnlessTexts left.now right.now skip relation) }
     {
-        let holds = are_texts_related(relation, self.text(here, left), self.text(here, right));
-        here.on_if(holds, skip)
+        are_texts_related(relation, self.text(here, left), self.text(here, right))
     }
 
     /// UnlessEmpty.
@@ -151,15 +144,14 @@ impl State {
         here: Here,
         set: u32,
         owner: &Address,
-        skip: u32,
         negated: bool,
-    ) -> Option<Here>
-        requires { Can here self.old (Instruction.UnlessEmpty set owner.now skip negated) }
-        ensures { Does here self.old self.new result (Instruction.UnlessEmpty set owner.now skip negated) }
+    ) -> Option<bool>
+        requires { (skip : ℕ) × Can here self.old (Instruction.UnlessEmpty set owner.now skip negated) }
+        ensures { (skip : ℕ) → Does here self.old self.new (tested_at here result skip) (Instruction.UnlessEmpty set owner.now skip negated) }
     {
         let owner = self.number(here, owner);
         let answer = are_none(number_in(&mut self.scene, set as usize, owner));
-        self.branch(here, answer, negated, skip)
+        self.tested(answer, negated)
     }
 
     /// UnlessMember.
@@ -169,36 +161,31 @@ impl State {
         here: Here,
         set: u32,
         both: (&Address, &Address),
-        skip: u32,
         negated: bool,
-    ) -> Option<Here>
-        requires { Can here self.old (Instruction.UnlessMember set both.0.now both.1.now skip negated) }
-        ensures { Does here self.old self.new result (Instruction.UnlessMember set both.entry.0.now both.entry.1.now skip negated) }
+    ) -> Option<bool>
+        requires { (skip : ℕ) × Can here self.old (Instruction.UnlessMember set both.0.now both.1.now skip negated) }
+        ensures { (skip : ℕ) → Does here self.old self.new (tested_at here result skip) (Instruction.UnlessMember set both.entry.0.now both.entry.1.now skip negated) }
     {
         let (member, owner) = (self.number(here, both.0), self.number(here, both.1));
         let answer = is_member(&mut self.scene, set as usize, owner, member);
-        self.branch(here, answer, negated, skip)
+        self.tested(answer, negated)
     }
 
     /// Await.
     #[inline]
-    pub fn await_event(&mut self, here: Here, skip: u32) -> Option<Here>
-        requires { Can here self.old (Instruction.Await skip) }
-        ensures { Does here self.old self.new result (Instruction.Await skip) }
+    pub fn await_event(&mut self) -> bool
+        requires { (here : HereSeen) × (skip : ℕ) × Can here self.old (Instruction.Await skip) }
+        ensures { (here : HereSeen) (skip : ℕ) → Does here self.old self.new (on_if_at here result skip) (Instruction.Await skip) }
     {
-        let holds = is_awaited(&mut self.scene);
-        here.on_if(holds, skip)
+        is_awaited(&mut self.scene)
     }
 
     /// NextEvent.
     #[inline]
-    pub fn next_event(&mut self, here: Here, back: u32) -> Option<Here>
-        requires { Can here self.old (Instruction.NextEvent back) }
-        ensures { Does here self.old self.new result (Instruction.NextEvent back) }
+    pub fn next_event(&mut self) -> bool
+        requires { (here : HereSeen) × (back : ℕ) × Can here self.old (Instruction.NextEvent back) }
+        ensures { (here : HereSeen) (back : ℕ) → Does here self.old self.new (back_if_at here result back) (Instruction.NextEvent back) }
     {
-        if is_awaited(&mut self.scene) {
-            return here.back(back);
-        }
-        here.on()
+        is_awaited(&mut self.scene)
     }
 }

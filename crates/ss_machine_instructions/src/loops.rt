@@ -1,9 +1,9 @@
 //! FOR over numbers.
 
-ghost use Rattle.std.specs.Prelude.{◌≡◌, not, pos, int_lt};
+ghost use Rattle.std.specs.Prelude.{◌≡◌, ℕ, not, pos, int_lt};
 ghost use Rattle.ss_code_instructions.specs.Machine.{has_item};
 ghost use Rattle.ss_machine_instructions.specs.Doing.{Can, Does};
-ghost use Rattle.ss_machine_instructions.specs.Ways.{next_in};
+ghost use Rattle.ss_machine_instructions.specs.Ways.{next_in, back_if_at, on_after, on_if_at, tested_at};
 
 use crate::flow::{Ending, Here};
 use crate::state::State;
@@ -51,9 +51,9 @@ fn rises(step: i64) -> bool
 impl State {
     /// Begin.
     #[inline]
-    pub fn begin(&mut self, here: Here, cell: u32, skip: u32) -> Option<Here>
-        requires { Can here self.old (Instruction.Begin cell skip) }
-        ensures { Does here self.old self.new result (Instruction.Begin cell skip) }
+    pub fn begin(&mut self, here: Here, cell: u32) -> Option<bool>
+        requires { (skip : ℕ) × Can here self.old (Instruction.Begin cell skip) }
+        ensures { (skip : ℕ) → Does here self.old self.new (tested_at here result skip) (Instruction.Begin cell skip) }
     {
         let at = self.cell(here, cell);
         let step = self.rows.number_at(at + STEP);
@@ -62,64 +62,64 @@ impl State {
         if !rises(step) {
             return self.fault(FaultKind::LoopStep);
         }
-        here.on_if(is_item(item, limit), skip)
+        Some(is_item(item, limit))
     }
 
     /// BeginClass.
     #[inline]
-    pub fn begin_class(&mut self, here: Here, class: u32, cell: u32, skip: u32) -> Option<Here>
-        requires { Can here self.old (Instruction.BeginClass class cell skip) }
-        ensures { Does here self.old self.new result (Instruction.BeginClass class cell skip) }
+    pub fn begin_class(&mut self, here: Here, class: u32, cell: u32) -> bool
+        requires { (skip : ℕ) × Can here self.old (Instruction.BeginClass class cell skip) }
+        ensures { (skip : ℕ) → Does here self.old self.new (on_if_at here result skip) (Instruction.BeginClass class cell skip) }
     {
         let count = self.scene.population.count(class as usize);
         let at = self.cell(here, cell);
         self.rows.set_number_at(at, 1);
         self.rows.set_number_at(at + LIMIT, count);
         self.rows.set_number_at(at + STEP, 1);
-        here.on_if(is_item(1, count), skip)
+        is_item(1, count)
     }
 
     /// Turn.
     #[inline(always)]
-    pub fn turn(&mut self, here: Here) -> Option<Here>
+    pub fn turn(&mut self, here: Here) -> Option<()>
         requires { Can here self.old Instruction.Turn }
-        ensures { Does here self.old self.new result Instruction.Turn }
+        ensures { Does here self.old self.new (on_after here result) Instruction.Turn }
     {
         if !self.has_taken_tick() {
             return self.stop(Ending::Paused);
         }
-        here.on()
+        Some(())
     }
 
     /// Take.
     #[inline]
-    pub fn take(&mut self, here: Here, cell: u32, to: &Address) -> Option<Here>
+    pub fn take(&mut self, here: Here, cell: u32, to: &Address) -> Option<()>
         requires { Can here self.old (Instruction.Take cell to.now) }
-        ensures { Does here self.old self.new result (Instruction.Take cell to.now) }
+        ensures { Does here self.old self.new (on_after here result) (Instruction.Take cell to.now) }
     {
         if !self.has_taken_tick() {
             return self.stop(Ending::Paused);
         }
         let item = self.rows.number_at(self.cell(here, cell));
         self.set_number(here, to, item);
-        here.on()
+        Some(())
     }
 
     /// Next.
     #[inline]
-    pub fn next(&mut self, here: Here, cell: u32, back: u32) -> Option<Here>
-        requires { Can here self.old (Instruction.Next cell back) }
-        ensures { Does here self.old self.new result (Instruction.Next cell back) }
+    pub fn next(&mut self, here: Here, cell: u32) -> bool
+        requires { (back : ℕ) × Can here self.old (Instruction.Next cell back) }
+        ensures { (back : ℕ) → Does here self.old self.new (back_if_at here result back) (Instruction.Next cell back) }
     {
         let at = self.cell(here, cell);
         let item = self.rows.number_at(at);
         let step = self.rows.number_at(at + STEP);
         let limit = self.rows.number_at(at + LIMIT);
         match next_item(item, step, limit) {
-            None => here.on(),
+            None => false,
             Some(next) => {
                 self.rows.set_number_at(at, next);
-                here.back(back)
+                true
             }
         }
     }

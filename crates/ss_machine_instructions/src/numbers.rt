@@ -4,6 +4,7 @@ ghost use Rattle.std.specs.Prelude.{◌≡◌};
 ghost use Rattle.ss_meaning.specs.Values.{computed, computed_alone, distance};
 ghost use Rattle.ss_code_instructions.specs.Forms.{calculating};
 ghost use Rattle.ss_machine_instructions.specs.Doing.{Can, Does, CanDeliver, IsDelivered, as_value, as_text};
+ghost use Rattle.ss_machine_instructions.specs.Ways.{on_after};
 
 use crate::flow::Here;
 use crate::state::State;
@@ -52,14 +53,14 @@ fn compute_alone(operator: UnaryOperator, number: i64) -> Result<i64, FaultKind>
 impl State {
     /// A number that was found goes to an address, unless there was a fault.
     #[inline(always)]
-    pub fn put(&mut self, here: Here, to: &Address, answer: Result<i64, FaultKind>) -> Option<Here>
+    pub fn put(&mut self, here: Here, to: &Address, answer: Result<i64, FaultKind>) -> Option<()>
         requires { CanDeliver here self.old to.now (as_value answer) }
         ensures { IsDelivered here self.old self.new result to.now (as_value answer) }
     {
         match answer {
             Ok(number) => {
                 self.set_number(here, to, number);
-                here.on()
+                Some(())
             }
             Err(kind) => self.fault(kind),
         }
@@ -72,14 +73,14 @@ impl State {
         here: Here,
         to: &Address,
         answer: Result<Alpha, FaultKind>,
-    ) -> Option<Here>
+    ) -> Option<()>
         requires { CanDeliver here self.old to.now (as_text answer) }
         ensures { IsDelivered here self.old self.new result to.now (as_text answer) }
     {
         match answer {
             Ok(text) => {
                 self.set_text(here, to, text);
-                here.on()
+                Some(())
             }
             Err(kind) => self.fault(kind),
         }
@@ -87,9 +88,9 @@ impl State {
 
     /// Move.
     #[inline]
-    pub fn move_number(&mut self, here: Here, from: &Address, to: &Address) -> Option<Here>
+    pub fn move_number(&mut self, here: Here, from: &Address, to: &Address) -> Option<()>
         requires { Can here self.old (Instruction.Move from.now to.now) }
-        ensures { Does here self.old self.new result (Instruction.Move from.now to.now) }
+        ensures { Does here self.old self.new (on_after here result) (Instruction.Move from.now to.now) }
     {
         let number = self.number(here, from);
         self.put(here, to, Ok(number))
@@ -97,9 +98,9 @@ impl State {
 
     /// MoveText.
     #[inline]
-    pub fn move_text(&mut self, here: Here, from: &Address, to: &Address) -> Option<Here>
+    pub fn move_text(&mut self, here: Here, from: &Address, to: &Address) -> Option<()>
         requires { Can here self.old (Instruction.MoveText from.now to.now) }
-        ensures { Does here self.old self.new result (Instruction.MoveText from.now to.now) }
+        ensures { Does here self.old self.new (on_after here result) (Instruction.MoveText from.now to.now) }
     {
         let text = self.text(here, from);
         self.put_text(here, to, Ok(text))
@@ -114,9 +115,9 @@ impl State {
         left: &Address,
         right: &Address,
         to: &Address,
-    ) -> Option<Here>
+    ) -> Option<()>
         requires { Can here self.old (calculating operator left.now right.now to.now) }
-        ensures { Does here self.old self.new result (calculating operator left.now right.now to.now) }
+        ensures { Does here self.old self.new (on_after here result) (calculating operator left.now right.now to.now) }
     {
         let answer = compute(operator, self.number(here, left), self.number(here, right));
         self.put(here, to, answer)
@@ -130,9 +131,9 @@ impl State {
         operator: UnaryOperator,
         of: &Address,
         to: &Address,
-    ) -> Option<Here>
+    ) -> Option<()>
         requires { Can here self.old (Instruction.Unary operator of.now to.now) }
-        ensures { Does here self.old self.new result (Instruction.Unary operator of.now to.now) }
+        ensures { Does here self.old self.new (on_after here result) (Instruction.Unary operator of.now to.now) }
     {
         let answer = compute_alone(operator, self.number(here, of));
         self.put(here, to, answer)

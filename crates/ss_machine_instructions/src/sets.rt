@@ -8,9 +8,10 @@ ghost use Rattle.ss_base.specs.declared.value.Value.TheVariants.{Whole};
 ghost use Rattle.ss_meaning.specs.Sets.{set_answer, Foremost, Hindmost, ByRule, JustBefore, JustAfter};
 ghost use Rattle.ss_machine_world.specs.Numbers.{count_noted};
 ghost use Rattle.ss_machine_world.specs.Seen.{number_if};
-ghost use Rattle.ss_code_instructions.specs.Forms.{asking_member, asking_set, removing};
+ghost use Rattle.ss_code_instructions.specs.Forms.{asking_member, asking_set};
 ghost use Rattle.ss_machine_instructions.specs.Doing.{Can, Does};
 ghost use Rattle.ss_machine_instructions.specs.Worldly.{ChangesIf, Counted, CountedOut, IsRuled, Files, Removes, Takes, one_of, member_answer};
+ghost use Rattle.ss_machine_instructions.specs.Ways.{on_after};
 
 use crate::flow::Here;
 use crate::state::State;
@@ -19,7 +20,6 @@ use ss_code_instructions::address::Address;
 use ss_code_instructions::instruction::Instruction;
 use ss_machine_world::scene::Scene;
 use ss_program::expression::{MemberQuery, SetQuery};
-use ss_program::statement::End;
 
 // The first member of the set of an owner, 0 for none.
 #[inline(always)]
@@ -305,24 +305,6 @@ fn take_last(scene: &mut Scene, set: usize, owner: i64, noted: bool) -> Result<i
     counted_out(scene, taken, set, owner, noted)
 }
 
-// The member at an end is removed, which is the answer.
-#[inline(always)]
-fn take_end(
-    scene: &mut Scene,
-    end: End,
-    set: usize,
-    owner: i64,
-    noted: bool,
-) -> Result<i64, FaultKind>
-    requires set { set < length scene.old.heap.layout.sets }
-    ensures { Takes end set noted scene.old scene.new result owner }
-{
-    match end {
-        End::First => take_first(scene, set, owner, noted),
-        End::Last => take_last(scene, set, owner, noted),
-    }
-}
-
 impl State {
     /// FirstMember, LastMember and MemberCount.
     #[inline]
@@ -333,9 +315,9 @@ impl State {
         set: u32,
         owner: &Address,
         to: &Address,
-    ) -> Option<Here>
+    ) -> Option<()>
         requires { Can here self.old (asking_set query set owner.now to.now) }
-        ensures { Does here self.old self.new result (asking_set query set owner.now to.now) }
+        ensures { Does here self.old self.new (on_after here result) (asking_set query set owner.now to.now) }
     {
         let owner = self.number(here, owner);
         let answer = ask_set(&mut self.scene, query, set as usize, owner);
@@ -351,9 +333,9 @@ impl State {
         set: u32,
         member: &Address,
         to: &Address,
-    ) -> Option<Here>
+    ) -> Option<()>
         requires { Can here self.old (asking_member query set member.now to.now) }
-        ensures { Does here self.old self.new result (asking_member query set member.now to.now) }
+        ensures { Does here self.old self.new (on_after here result) (asking_member query set member.now to.now) }
     {
         let member = self.number(here, member);
         let answer = ask_member(&mut self.scene, query, set as usize, member);
@@ -369,14 +351,14 @@ impl State {
         member: &Address,
         owner: &Address,
         noted: bool,
-    ) -> Option<Here>
+    ) -> Option<()>
         requires { Can here self.old (Instruction.FileFirst set member.now owner.now noted) }
-        ensures { Does here self.old self.new result (Instruction.FileFirst set member.now owner.now noted) }
+        ensures { Does here self.old self.new (on_after here result) (Instruction.FileFirst set member.now owner.now noted) }
     {
         let member = self.number(here, member);
         let owner = self.number(here, owner);
         let answer = put_first(&mut self.scene, set as usize, owner, member, noted);
-        self.done(here, answer)
+        self.done(answer)
     }
 
     /// FileLast.
@@ -388,14 +370,14 @@ impl State {
         member: &Address,
         owner: &Address,
         noted: bool,
-    ) -> Option<Here>
+    ) -> Option<()>
         requires { Can here self.old (Instruction.FileLast set member.now owner.now noted) }
-        ensures { Does here self.old self.new result (Instruction.FileLast set member.now owner.now noted) }
+        ensures { Does here self.old self.new (on_after here result) (Instruction.FileLast set member.now owner.now noted) }
     {
         let member = self.number(here, member);
         let owner = self.number(here, owner);
         let answer = put_last(&mut self.scene, set as usize, owner, member, noted);
-        self.done(here, answer)
+        self.done(answer)
     }
 
     /// FileRanked.
@@ -407,14 +389,14 @@ impl State {
         member: &Address,
         owner: &Address,
         noted: bool,
-    ) -> Option<Here>
+    ) -> Option<()>
         requires { Can here self.old (Instruction.FileRanked set member.now owner.now noted) }
-        ensures { Does here self.old self.new result (Instruction.FileRanked set member.now owner.now noted) }
+        ensures { Does here self.old self.new (on_after here result) (Instruction.FileRanked set member.now owner.now noted) }
     {
         let member = self.number(here, member);
         let owner = self.number(here, owner);
         let answer = put_ranked(&mut self.scene, set as usize, owner, member, noted);
-        self.done(here, answer)
+        self.done(answer)
     }
 
     /// FileBeside, before a member.
@@ -427,15 +409,15 @@ impl State {
         beside: &Address,
         owner: &Address,
         noted: bool,
-    ) -> Option<Here>
+    ) -> Option<()>
         requires { Can here self.old (Instruction.FileBeside noted false set member.now beside.now owner.now) }
-        ensures { Does here self.old self.new result (Instruction.FileBeside noted false set member.now beside.now owner.now) }
+        ensures { Does here self.old self.new (on_after here result) (Instruction.FileBeside noted false set member.now beside.now owner.now) }
     {
         let member = self.number(here, member);
         let beside = self.number(here, beside);
         let owner = self.number(here, owner);
         let answer = put_before(&mut self.scene, set as usize, owner, member, beside, noted);
-        self.done(here, answer)
+        self.done(answer)
     }
 
     /// FileBeside, after a member.
@@ -448,15 +430,15 @@ impl State {
         beside: &Address,
         owner: &Address,
         noted: bool,
-    ) -> Option<Here>
+    ) -> Option<()>
         requires { Can here self.old (Instruction.FileBeside noted true set member.now beside.now owner.now) }
-        ensures { Does here self.old self.new result (Instruction.FileBeside noted true set member.now beside.now owner.now) }
+        ensures { Does here self.old self.new (on_after here result) (Instruction.FileBeside noted true set member.now beside.now owner.now) }
     {
         let member = self.number(here, member);
         let beside = self.number(here, beside);
         let owner = self.number(here, owner);
         let answer = put_after(&mut self.scene, set as usize, owner, member, beside, noted);
-        self.done(here, answer)
+        self.done(answer)
     }
 
     /// Remove.
@@ -468,32 +450,51 @@ impl State {
         member: &Address,
         owner: &Address,
         noted: bool,
-    ) -> Option<Here>
+    ) -> Option<()>
         requires { Can here self.old (Instruction.Remove set member.now owner.now noted) }
-        ensures { Does here self.old self.new result (Instruction.Remove set member.now owner.now noted) }
+        ensures { Does here self.old self.new (on_after here result) (Instruction.Remove set member.now owner.now noted) }
     {
         let member = self.number(here, member);
         let owner = self.number(here, owner);
         let answer = take_out(&mut self.scene, set as usize, owner, member, noted);
-        self.done(here, answer)
+        self.done(answer)
     }
 
-    /// RemoveFirst and RemoveLast.
+    /// RemoveFirst.
     #[inline]
-    pub fn remove_end(
+    pub fn remove_first(
         &mut self,
         here: Here,
-        end: End,
         set: u32,
         owner: &Address,
         to: &Address,
         noted: bool,
-    ) -> Option<Here>
-        requires { Can here self.old (removing end set owner.now to.now noted) }
-        ensures { Does here self.old self.new result (removing end set owner.now to.now noted) }
+    ) -> Option<()>
+        requires { Can here self.old (Instruction.RemoveFirst set owner.now to.now noted) }
+        ensures { Does here self.old self.new (on_after here result) (Instruction.RemoveFirst set owner.now to.now noted) }
     {
         let owner = self.number(here, owner);
-        match take_end(&mut self.scene, end, set as usize, owner, noted) {
+        match take_first(&mut self.scene, set as usize, owner, noted) {
+            Ok(member) => self.put(here, to, Ok(member)),
+            Err(kind) => self.fault(kind),
+        }
+    }
+
+    /// RemoveLast.
+    #[inline]
+    pub fn remove_last(
+        &mut self,
+        here: Here,
+        set: u32,
+        owner: &Address,
+        to: &Address,
+        noted: bool,
+    ) -> Option<()>
+        requires { Can here self.old (Instruction.RemoveLast set owner.now to.now noted) }
+        ensures { Does here self.old self.new (on_after here result) (Instruction.RemoveLast set owner.now to.now noted) }
+    {
+        let owner = self.number(here, owner);
+        match take_last(&mut self.scene, set as usize, owner, noted) {
             Ok(member) => self.put(here, to, Ok(member)),
             Err(kind) => self.fault(kind),
         }

@@ -2,7 +2,7 @@
 
 ghost use Rattle.std.specs.Prelude.{◌≡◌, ◌+◌, ◌<◌, ◌^◌, ℕ, suc, true, false, length, slice_get, Some, None};
 ghost use Rattle.ss_machine_frames.specs.Rows.{place_at, with_number, with_text};
-ghost use Rattle.ss_machine_instructions.specs.Ways.{stopped, faulted, on_unless, faulted_by, branched, faulted_test, refused_by};
+ghost use Rattle.ss_machine_instructions.specs.Ways.{stopped, faulted, faulted_by, faulted_test, refused_by, test_of, unless_fault};
 
 use crate::flow::{Ending, Here};
 use ss_base::{Alpha, FaultKind, Line, Refused};
@@ -69,14 +69,15 @@ impl State {
     /// The place of a cell of the frame.
     #[inline(always)]
     pub fn cell(&self, here: Here, cell: u32) -> usize
+        requires { here.frame < 2 ^ 63 }
         ensures { result ≡ here.frame + cell }
     {
-        here.frame as usize + cell as usize
+        here.frame + cell as usize
     }
 
     /// It does not go on.
     #[inline(always)]
-    pub fn stop(&mut self, ending: Ending) -> Option<Here>
+    pub fn stop<T>(&mut self, ending: Ending) -> Option<T>
         ensures none { result ≡ None }
         ensures stopped { self.new ≡ stopped ending self.old }
     {
@@ -86,7 +87,7 @@ impl State {
 
     /// A fault.
     #[inline(always)]
-    pub fn fault(&mut self, kind: FaultKind) -> Option<Here>
+    pub fn fault<T>(&mut self, kind: FaultKind) -> Option<T>
         ensures none { result ≡ None }
         ensures faulted { self.new ≡ faulted kind self.old }
     {
@@ -96,20 +97,19 @@ impl State {
 
     /// On to the next instruction, unless there was a fault.
     #[inline(always)]
-    pub fn done(&mut self, here: Here, answer: Result<(), FaultKind>) -> Option<Here>
-        requires { here.place + 1 < 2 ^ 64 }
-        ensures way { result ≡ on_unless here answer }
+    pub fn done(&mut self, answer: Result<(), FaultKind>) -> Option<()>
+        ensures way { result ≡ unless_fault answer }
         ensures state { self.new ≡ faulted_by answer self.old }
     {
         match answer {
-            Ok(()) => here.on(),
+            Ok(()) => Some(()),
             Err(kind) => self.fault(kind),
         }
     }
 
     /// Where memory was refused, or there was a fault.
     #[inline(always)]
-    pub fn refused(&mut self, refused: Refused) -> Option<Here>
+    pub fn refused<T>(&mut self, refused: Refused) -> Option<T>
         ensures none { result ≡ None }
         ensures state { self.new ≡ refused_by refused self.old }
     {
@@ -121,19 +121,12 @@ impl State {
 
     /// On where a test holds, or does not if negated, and else past so many instructions.
     #[inline(always)]
-    pub fn branch(
-        &mut self,
-        here: Here,
-        answer: Result<bool, FaultKind>,
-        negated: bool,
-        skip: u32,
-    ) -> Option<Here>
-        requires { here.place + 1 + skip < 2 ^ 64 }
-        ensures way { result ≡ branched here answer negated skip }
+    pub fn tested(&mut self, answer: Result<bool, FaultKind>, negated: bool) -> Option<bool>
+        ensures way { result ≡ test_of answer negated }
         ensures state { self.new ≡ faulted_test answer self.old }
     {
         match answer {
-            Ok(holds) => here.on_if(holds != negated, skip),
+            Ok(holds) => Some(holds != negated),
             Err(kind) => self.fault(kind),
         }
     }
@@ -154,7 +147,7 @@ impl State {
 
     /// The instruction that took a tick is not carried out: memory was refused.
     #[inline(always)]
-    pub fn give_tick_back(&mut self) -> Option<Here>
+    pub fn give_tick_back<T>(&mut self) -> Option<T>
         requires { self.old.ticks + 1 < 2 ^ 64 }
         ensures none { result ≡ None }
         ensures state { self.new ≡ record self.old { ticks = self.old.ticks + 1; ending = Ending.NoMemory } }

@@ -7,6 +7,7 @@ ghost use Rattle.ss_machine_time.specs.Figures.{variable_of};
 ghost use Rattle.ss_machine_world.specs.Numbers.{attribute_noted};
 ghost use Rattle.ss_machine_instructions.specs.Doing.{Can, Does};
 ghost use Rattle.ss_machine_instructions.specs.Noted.{Notes};
+ghost use Rattle.ss_machine_instructions.specs.Ways.{on_after};
 
 use crate::flow::Here;
 use crate::state::State;
@@ -25,9 +26,9 @@ impl State {
         statistic: u32,
         entity: &Address,
         to: &Address,
-    ) -> Option<Here>
+    ) -> Option<()>
         requires { Can here self.old (Instruction.Figure statistic entity.now to.now fold) }
-        ensures { Does here self.old self.new result (Instruction.Figure statistic entity.now to.now fold) }
+        ensures { Does here self.old self.new (on_after here result) (Instruction.Figure statistic entity.now to.now fold) }
     {
         let entity = self.number(here, entity);
         let answer = self.scene.figure(fold, statistic as usize, entity);
@@ -36,41 +37,39 @@ impl State {
 
     /// Keep.
     #[inline]
-    pub fn keep(&mut self, here: Here, from: &Address, variable: u32) -> Option<Here>
+    pub fn keep(&mut self, here: Here, from: &Address, variable: u32) -> Option<()>
         requires { Can here self.old (Instruction.Keep from.now variable) }
-        ensures { Does here self.old self.new result (Instruction.Keep from.now variable) }
+        ensures { Does here self.old self.new (on_after here result) (Instruction.Keep from.now variable) }
     {
         let value = self.number(here, from);
         let number = variable as usize;
         self.rows.set_number_at(number, value);
         let answer = self.scene.note_variable(number, value);
-        self.done(here, answer)
+        self.done(answer)
     }
 
     /// On to the next instruction where an attribute was assigned a value, which is noted where it is watched, and there was no fault.
     #[inline(always)]
     pub(crate) fn assigned(
         &mut self,
-        here: Here,
         answer: Result<(), FaultKind>,
         class: usize,
         field: usize,
         entity: i64,
         noted: bool,
-    ) -> Option<Here>
-        requires place { here.place + 1 < 2 ^ 64 }
+    ) -> Option<()>
         requires class { class < length self.old.scene.heap.layout.classes }
         requires mode { slice_get (modes_of self.old.scene.heap.layout class) field ≡ Some Integer }
-        ensures { Notes noted (attribute_noted class field entity) here answer self.old self.new result }
+        ensures { Notes noted (attribute_noted class field entity) answer self.old self.new result }
     {
         match answer {
             Err(kind) => self.fault(kind),
             Ok(()) => {
                 if noted {
                     let answer = self.scene.note_attribute(class, field, entity);
-                    self.done(here, answer)
+                    self.done(answer)
                 } else {
-                    here.on()
+                    Some(())
                 }
             }
         }
@@ -89,14 +88,14 @@ impl State {
 
     /// Reset.
     #[inline]
-    pub fn reset(&mut self, here: Here, statistic: u32, entity: &Address) -> Option<Here>
+    pub fn reset(&mut self, here: Here, statistic: u32, entity: &Address) -> Option<()>
         requires { Can here self.old (Instruction.Reset statistic entity.now) }
-        ensures { Does here self.old self.new result (Instruction.Reset statistic entity.now) }
+        ensures { Does here self.old self.new (on_after here result) (Instruction.Reset statistic entity.now) }
     {
         let statistic = statistic as usize;
         let entity = self.number(here, entity);
         let held = self.held(statistic);
         let answer = self.scene.reset(statistic, entity, held);
-        self.done(here, answer)
+        self.done(answer)
     }
 }

@@ -34,7 +34,7 @@ use Rattle.ss_machine_instructions.specs.declared.state.State.{State}
 use Rattle.ss_machine_instructions.specs.Doing.{Compiled}
 use Rattle.ss_machine_notices.specs.Beginning.{ComesNext}
 use Rattle.ss_machine_instructions.proofs.Calling.{HasEntry, has_entry}
-use Rattle.ss_machine_instructions.proofs.Placing.{site, located}
+use Rattle.ss_machine_instructions.proofs.Placing.{site, located, frame_small}
 
 -- an event has its entry
 pub event_entered : (p : Program) (at first : ℕ) (es : List Event) (r : ℕ) (e : Event) → slice_get es r ≡ Some e → (place : ℕ) × (slice_get (event_entries p at first es) r ≡ Some (event_entry place e))
@@ -140,9 +140,9 @@ module _ (w : Compiled) (c : Core) (here : Here) (s : State) (cell : ℕ) (x : �
       let d = class_said w.program class Notice kind in
       ap (λ l. kind_in (slice_get l.classes class)) fits_now.sound.scene.layout ∙ ap kind_in d.1 ∙ d.2
 
-  -- the rows are those of the state before, and reach beyond the frame's beginning
-  pub held_small : length s.rows.numbers < 2 ^ 32
-  held_small = subst (λ (t : State). length t.rows.numbers < 2 ^ 32) (sym n.is) n.ready.holds.held.small
+  -- the frame begins where a row can reach; and the rows are those of the state before, and reach beyond its beginning
+  pub begun_frame : here.frame < 2 ^ 63
+  begun_frame = frame_small w c here n.before (TakeEvent cell) n.ready
 
   pub frame_within : here.frame ≤ length s.rows.numbers
   frame_within = subst (λ (t : State). here.frame ≤ length t.rows.numbers) (sym n.is) (omega (arith, n.ready.holds.held.room))

@@ -38,8 +38,8 @@ use Rattle.ss_machine_instructions.specs.declared.flow.Ending.TheVariants.{NoMem
 use Rattle.ss_machine_instructions.specs.declared.flow.Here.{Here}
 use Rattle.ss_machine_instructions.specs.declared.state.State.{State}
 use Rattle.ss_machine_instructions.specs.Doing.{Compiled, Ready, NoTick, Comes, Delivers, as_value}
-use Rattle.ss_machine_instructions.specs.Ways.{stopped, refused_by}
-use Rattle.ss_machine_instructions.specs.Worldly.{Settles, on_where, refused_where}
+use Rattle.ss_machine_instructions.specs.Ways.{on_after, stopped, refused_by}
+use Rattle.ss_machine_instructions.specs.Worldly.{Settles, unless_refused, refused_where}
 use Rattle.ss_machine_notices.specs.Giving.{SettledInWithMemory, MadeIn, Gives}
 use Rattle.ss_machine_instructions.proofs.Placing.{site, located, suits, small, deep_at, deep_here, calm}
 use Rattle.ss_machine_instructions.proofs.Calling.{blocked}
@@ -313,7 +313,7 @@ module _ (w : Compiled) (c : Core) (here : Here) (s : State) (run : Running) (r 
       let y = subst SuitsHere z.2.2 (suits w c here s run r) in
       gives_of z.2.0 cell given class notes y.1 y.5.0 (again_spread class notice cell given z) y.4 reported
 
-  pub reschedules : (class : ℕ) (notice : Address) (cell given : ℕ) (notes : Bool) (reported : IsQuietGiven notes class given) (z : Reschedules class notice cell given) (n t : ℤ) (e : Seen) (answer : OkOr (Unit {0}) Refused) (new : State) (result : Option Here) → slice_get s.rows.numbers (place_at here.frame notice) ≡ Some n → slice_get s.rows.numbers (here.frame + cell + given) ≡ Some t → SettledInWithMemory c.store (rescheduled class (Whole n) (again_gives class notice cell given notes z reported).values t) s.scene e answer → new ≡ refused_where answer (record s { scene = e }) → result ≡ on_where here answer → Comes (is_due r.placed.instruction) w r.placed.line (act w.code r.placed.line r.placed.instruction c) s new result
+  pub reschedules : (class : ℕ) (notice : Address) (cell given : ℕ) (notes : Bool) (reported : IsQuietGiven notes class given) (z : Reschedules class notice cell given) (n t : ℤ) (e : Seen) (answer : OkOr (Unit {0}) Refused) (new : State) (result : Option Here) → slice_get s.rows.numbers (place_at here.frame notice) ≡ Some n → slice_get s.rows.numbers (here.frame + cell + given) ≡ Some t → SettledInWithMemory c.store (rescheduled class (Whole n) (again_gives class notice cell given notes z reported).values t) s.scene e answer → new ≡ refused_where answer (record s { scene = e }) → result ≡ on_after here (unless_refused answer) → Comes (is_due r.placed.instruction) w r.placed.line (act w.code r.placed.line r.placed.instruction c) s new result
   reschedules class notice cell given notes reported z n t e answer new result at_notice at_time d same way =
       let l = r.placed.line in
       let is = z.2.2 in

@@ -32,8 +32,8 @@ use Rattle.ss_machine_instructions.specs.declared.flow.Ending.TheVariants.{NoMem
 use Rattle.ss_machine_instructions.specs.declared.flow.Here.{Here}
 use Rattle.ss_machine_instructions.specs.declared.state.State.{State}
 use Rattle.ss_machine_instructions.specs.Doing.{Compiled, Ready, NoTick, Comes, Delivers, as_value}
-use Rattle.ss_machine_instructions.specs.Ways.{stopped, faulted_by, on_unless}
-use Rattle.ss_machine_instructions.specs.Worldly.{Settles, on_where, refused_where}
+use Rattle.ss_machine_instructions.specs.Ways.{stopped, faulted_by, on_after, unless_fault}
+use Rattle.ss_machine_instructions.specs.Worldly.{Settles, unless_refused, refused_where}
 use Rattle.ss_machine_notices.specs.Giving.{SettledInWithMemory}
 use Rattle.ss_machine_instructions.proofs.Placing.{site, located, suits, deep_at, deep_here, calm}
 use Rattle.ss_machine_instructions.proofs.Delivering.{delivers, deliver_is, number_right}
@@ -97,7 +97,7 @@ module _ (w : Compiled) (c : Core) (here : Here) (s : State) (run : Running) (r 
   -- ## Where memory may be refused
 
   -- by the answer
-  pub refuses : (f : Store → OkOr Store Trouble) (e : Seen) (answer : OkOr (Unit {0}) Refused) (new : State) (result : Option Here) → is_due r.placed.instruction ≡ false → Settles c r.placed.line (act w.code r.placed.line r.placed.instruction c) here s f → SettledInWithMemory c.store f s.scene e answer → new ≡ refused_where answer (record s { scene = e }) → result ≡ on_where here answer → Comes (is_due r.placed.instruction) w r.placed.line (act w.code r.placed.line r.placed.instruction c) s new result
+  pub refuses : (f : Store → OkOr Store Trouble) (e : Seen) (answer : OkOr (Unit {0}) Refused) (new : State) (result : Option Here) → is_due r.placed.instruction ≡ false → Settles c r.placed.line (act w.code r.placed.line r.placed.instruction c) here s f → SettledInWithMemory c.store f s.scene e answer → new ≡ refused_where answer (record s { scene = e }) → result ≡ on_after here (unless_refused answer) → Comes (is_due r.placed.instruction) w r.placed.line (act w.code r.placed.line r.placed.instruction c) s new result
   refuses f e (Ok u) new result calmly z d same way = went_on w c here s run r f e new result calmly z d same way
   refuses f e (Err (Fault kind)) new result calmly z d same way =
       fails_on w c here s run r kind e new result calmly
@@ -132,7 +132,7 @@ module _ (w : Compiled) (c : Core) (here : Here) (s : State) (run : Running) (r 
         noticed class y.0,
       )
 
-  pub file_notices : (class : ℕ) (notice time : Address) (n t : ℤ) (e : Seen) (answer : OkOr (Unit {0}) Refused) (new : State) (result : Option Here) → FilesNotice class notice time → slice_get s.rows.numbers (place_at here.frame notice) ≡ Some n → slice_get s.rows.numbers (place_at here.frame time) ≡ Some t → ChangesWithMemory (filed_notice class (Whole n) t) s.scene e answer → new ≡ refused_where answer (record s { scene = e }) → result ≡ on_where here answer → Comes (is_due r.placed.instruction) w r.placed.line (act w.code r.placed.line r.placed.instruction c) s new result
+  pub file_notices : (class : ℕ) (notice time : Address) (n t : ℤ) (e : Seen) (answer : OkOr (Unit {0}) Refused) (new : State) (result : Option Here) → FilesNotice class notice time → slice_get s.rows.numbers (place_at here.frame notice) ≡ Some n → slice_get s.rows.numbers (place_at here.frame time) ≡ Some t → ChangesWithMemory (filed_notice class (Whole n) t) s.scene e answer → new ≡ refused_where answer (record s { scene = e }) → result ≡ on_after here (unless_refused answer) → Comes (is_due r.placed.instruction) w r.placed.line (act w.code r.placed.line r.placed.instruction c) s new result
   file_notices class notice time n t e answer new result z at_notice at_time d same way =
       let l = r.placed.line in
       let is = z.2.2 in
@@ -158,7 +158,7 @@ module _ (w : Compiled) (c : Core) (here : Here) (s : State) (run : Running) (r 
         class_within class y.0,
       )
 
-  pub cancels : (class : ℕ) (notice : Address) (n : ℤ) (e : Seen) (answer : OkOr (Unit {0}) FaultKind) (new : State) (result : Option Here) → From w.code w.run.constants r.placed notice (λ y. Is w.code w.run.constants r.placed (i.Cancel class y)) → slice_get s.rows.numbers (place_at here.frame notice) ≡ Some n → Changes (unscheduled class (Whole n)) s.scene e answer → new ≡ faulted_by answer (record s { scene = e }) → result ≡ on_unless here answer → Comes (is_due r.placed.instruction) w r.placed.line (act w.code r.placed.line r.placed.instruction c) s new result
+  pub cancels : (class : ℕ) (notice : Address) (n : ℤ) (e : Seen) (answer : OkOr (Unit {0}) FaultKind) (new : State) (result : Option Here) → From w.code w.run.constants r.placed notice (λ y. Is w.code w.run.constants r.placed (i.Cancel class y)) → slice_get s.rows.numbers (place_at here.frame notice) ≡ Some n → Changes (unscheduled class (Whole n)) s.scene e answer → new ≡ faulted_by answer (record s { scene = e }) → result ≡ on_after here (unless_fault answer) → Comes (is_due r.placed.instruction) w r.placed.line (act w.code r.placed.line r.placed.instruction c) s new result
   cancels class notice n e answer new result z at d same way =
       let l = r.placed.line in
       let is = z.2 in

@@ -15,8 +15,8 @@ ghost use Rattle.ss_machine_world.specs.Seen.{Rearranges};
 ghost use Rattle.ss_code_instructions.specs.States.{Core};
 ghost use Rattle.ss_code_instructions.specs.Machine.{act};
 ghost use Rattle.ss_machine_instructions.specs.Doing.{Compiled, OneTick, Can, Does, CanWhere, DoesWhere};
-ghost use Rattle.ss_machine_instructions.specs.Ways.{faulted};
-ghost use Rattle.ss_machine_instructions.specs.Worldly.{ChangesIf, on_where, refused_where};
+ghost use Rattle.ss_machine_instructions.specs.Ways.{faulted, begun_at, led, on_after};
+ghost use Rattle.ss_machine_instructions.specs.Worldly.{ChangesIf, unless_refused, refused_where};
 ghost use Rattle.ss_machine_notices.specs.Giving.{SettledIn, SettledInWithMemory, MadeIn, IsSet, IsRead, Suiting, GivesOne, Gives, number_or, unpended, refiled};
 ghost use Rattle.ss_machine_notices.specs.Beginning.{IsReadTo, ReceivedIf, LetsGo, IsUnbegun, Receives, ComesNext};
 
@@ -27,7 +27,7 @@ use ss_code_instructions::instruction::Instruction;
 use ss_machine_events::coming::next_event;
 use ss_machine_events::scheduling;
 use ss_machine_frames::rows::Rows;
-use ss_machine_instructions::flow::{Ending, Here};
+use ss_machine_instructions::flow::{Ending, Here, Next};
 use ss_machine_instructions::state::State;
 use ss_machine_world::scene::Scene;
 use std::alloc::Global;
@@ -420,22 +420,21 @@ fn read_given(scene: &Scene, rows: &mut Rows, what: Giving, modes: &[Mode]) -> R
 
 // On to the next instruction, unless there was a fault or memory was refused.
 #[inline(always)]
-fn settled(state: &mut State, here: Here, answer: Result<(), Refused>) -> Option<Here>
-    requires { here.place + 1 < 2 ^ 64 }
-    ensures way { result ≡ on_where here answer }
+fn settled(state: &mut State, answer: Result<(), Refused>) -> Option<()>
+    ensures way { result ≡ unless_refused answer }
     ensures state { state.new ≡ refused_where answer state.old }
 {
     match answer {
-        Ok(()) => here.on(),
+        Ok(()) => Some(()),
         Err(refused) => state.refused(refused),
     }
 }
 
 /// At.
 #[inline]
-pub fn time_at(state: &mut State, here: Here, time: &Address, to: &Address) -> Option<Here>
+pub fn time_at(state: &mut State, here: Here, time: &Address, to: &Address) -> Option<()>
     requires { Can here state.old (Instruction.At time.now to.now) }
-    ensures { Does here state.old state.new result (Instruction.At time.now to.now) }
+    ensures { Does here state.old state.new (on_after here result) (Instruction.At time.now to.now) }
 {
     let time = state.number(here, time);
     let answer = scheduling::time_at(&state.scene, time);
@@ -444,9 +443,9 @@ pub fn time_at(state: &mut State, here: Here, time: &Address, to: &Address) -> O
 
 /// In.
 #[inline]
-pub fn time_in(state: &mut State, here: Here, units: &Address, to: &Address) -> Option<Here>
+pub fn time_in(state: &mut State, here: Here, units: &Address, to: &Address) -> Option<()>
     requires { Can here state.old (Instruction.In units.now to.now) }
-    ensures { Does here state.old state.new result (Instruction.In units.now to.now) }
+    ensures { Does here state.old state.new (on_after here result) (Instruction.In units.now to.now) }
 {
     let units = state.number(here, units);
     let answer = scheduling::time_in(&state.scene, units);
@@ -455,9 +454,9 @@ pub fn time_in(state: &mut State, here: Here, units: &Address, to: &Address) -> 
 
 /// MakeNotice.
 #[inline]
-pub fn make_notice(state: &mut State, here: Here, values: Values, to: &Address) -> Option<Here>
+pub fn make_notice(state: &mut State, here: Here, values: Values, to: &Address) -> Option<()>
     requires { Can here state.old (Instruction.MakeNotice values.class values.cell values.count to.now values.noted) }
-    ensures { Does here state.old state.new result (Instruction.MakeNotice values.class values.cell values.count to.now values.noted) }
+    ensures { Does here state.old state.new (on_after here result) (Instruction.MakeNotice values.class values.cell values.count to.now values.noted) }
 {
     let from = state.cell(here, values.cell);
     let time = state.rows.number_at(from + values.count as usize);
@@ -490,21 +489,21 @@ pub fn file_notice(
     class: u32,
     notice: &Address,
     time: &Address,
-) -> Option<Here>
+) -> Option<()>
     requires { Can here state.old (Instruction.FileNotice class notice.now time.now) }
-    ensures { Does here state.old state.new result (Instruction.FileNotice class notice.now time.now) }
+    ensures { Does here state.old state.new (on_after here result) (Instruction.FileNotice class notice.now time.now) }
 {
     let notice = state.number(here, notice);
     let time = state.number(here, time);
     let answer = scheduling::schedule(&mut state.scene, state.alloc, class as usize, notice, time);
-    settled(state, here, answer)
+    settled(state, answer)
 }
 
 /// Reschedule.
 #[inline]
-pub fn reschedule(state: &mut State, here: Here, values: Values, notice: &Address) -> Option<Here>
+pub fn reschedule(state: &mut State, here: Here, values: Values, notice: &Address) -> Option<()>
     requires { Can here state.old (Instruction.Reschedule values.class notice.now values.cell values.count values.noted) }
-    ensures { Does here state.old state.new result (Instruction.Reschedule values.class notice.now values.cell values.count values.noted) }
+    ensures { Does here state.old state.new (on_after here result) (Instruction.Reschedule values.class notice.now values.cell values.count values.noted) }
 {
     let notice = state.number(here, notice);
     let from = state.cell(here, values.cell);
@@ -523,23 +522,23 @@ pub fn reschedule(state: &mut State, here: Here, values: Values, notice: &Addres
         values.count as usize,
         time,
     );
-    settled(state, here, answer)
+    settled(state, answer)
 }
 
 /// Cancel.
 #[inline]
-pub fn cancel(state: &mut State, here: Here, class: u32, notice: &Address) -> Option<Here>
+pub fn cancel(state: &mut State, here: Here, class: u32, notice: &Address) -> Option<()>
     requires { Can here state.old (Instruction.Cancel class notice.now) }
-    ensures { Does here state.old state.new result (Instruction.Cancel class notice.now) }
+    ensures { Does here state.old state.new (on_after here result) (Instruction.Cancel class notice.now) }
 {
     let notice = state.number(here, notice);
     let answer = state.scene.cancel(class as usize, notice);
-    state.done(here, answer)
+    state.done(answer)
 }
 
 // A fault as an event of this rank begins has the line of its routine.
 #[inline(always)]
-fn fault_of_event(state: &mut State, kind: FaultKind, rank: usize) -> Option<Here>
+fn fault_of_event<T>(state: &mut State, kind: FaultKind, rank: usize) -> Option<T>
     requires { rank < length state.old.scene.notices }
     ensures none { result ≡ None }
     ensures state { (said : Notices) → slice_get state.old.scene.notices rank ≡ Some said → state.new ≡ faulted kind (record state.old { fault_line = Some said.line }) }
@@ -569,7 +568,7 @@ fn let_go(state: &mut State, rank: usize, class: usize, notice: i64) -> Result<(
 // There is no memory for the frame of an event: the fault that is due as it begins, or out of memory where none is.
 #[cold]
 #[inline(never)]
-fn unbegun(state: &mut State, rank: usize, class: usize, notice: i64) -> Option<Here>
+fn unbegun(state: &mut State, rank: usize, class: usize, notice: i64) -> Option<usize>
     requires rank { rank < length state.old.scene.notices }
     requires class { class < length state.old.scene.heap.layout.classes }
     requires single { is_single (slice_get state.old.scene.heap.layout.classes class) ≡ true }
@@ -603,7 +602,7 @@ fn receive(state: &mut State, what: Giving, rank: usize, modes: &[Mode]) -> Resu
 }
 
 // The event of a notice begins.
-#[inline(always)]
+#[inline]
 fn begin_event(
     state: &mut State,
     here: Here,
@@ -611,9 +610,9 @@ fn begin_event(
     class: usize,
     events: &[Entry],
     cell: u32,
-) -> Option<Here>
+) -> Option<usize>
     requires { (w : Compiled) × (c : Core) × (events.now ≡ w.run.events) × ComesNext w c here state.old cell notice class }
-    ensures { (w : Compiled) (c : Core) → events.now ≡ w.run.events → (n : ComesNext w c here state.old cell notice class) → OneTick state.old.ticks w n.ready.placed.line (act w.code n.ready.placed.line n.ready.placed.instruction c) n.before state.new result }
+    ensures { (w : Compiled) (c : Core) → events.now ≡ w.run.events → (n : ComesNext w c here state.old cell notice class) → OneTick state.old.ticks w n.ready.placed.line (act w.code n.ready.placed.line n.ready.placed.instruction c) n.before state.new (begun_at here cell result) }
 {
     let rank = state.scene.rank(class);
     let entry = &events[rank];
@@ -623,29 +622,33 @@ fn begin_event(
     let what = Giving {
         class,
         notice,
-        from: frame as usize,
+        from: frame,
         noted: false,
     };
     match receive(state, what, rank, &entry.given) {
-        Ok(()) => here.to(entry.place, frame),
+        Ok(()) => Some(entry.place),
         Err(kind) => fault_of_event(state, kind, rank),
     }
 }
 
 /// TakeEvent.
-#[inline]
-pub fn take_event(state: &mut State, here: Here, events: &[Entry], cell: u32) -> Option<Here>
+#[inline(always)]
+pub fn take_event(state: &mut State, here: Here, events: &[Entry], cell: u32) -> Next
     requires { CanWhere (λ w. events.now ≡ w.run.events) here state.old (Instruction.TakeEvent cell) }
-    ensures { DoesWhere (λ w. events.now ≡ w.run.events) here state.old state.new result (Instruction.TakeEvent cell) }
+    ensures { DoesWhere (λ w. events.now ≡ w.run.events) here state.old state.new (led result) (Instruction.TakeEvent cell) }
 {
+    let on = here.on();
     if !state.has_taken_tick() {
-        return state.stop(Ending::Paused);
+        return on.after(state.stop(Ending::Paused));
     }
     let Some(notice) = next_event(&mut state.scene) else {
-        return here.on();
+        return on;
     };
     match class_of(&state.scene, notice) {
-        None => here.on(),
-        Some(class) => begin_event(state, here, notice, class, events, cell),
+        None => on,
+        Some(class) => {
+            let place = begin_event(state, here, notice, class, events, cell);
+            on.begun(place, state.cell(here, cell))
+        }
     }
 }

@@ -1,6 +1,6 @@
 //! TIME.V, the notices that are pending, and the histories.
 
-ghost use Rattle.std.specs.Prelude.{◌≡◌, ◌≤ℤ◌, [], map, pos, true, false, Ok, Err, is_some, MatchResult, IfOk, IfSome, OnOk};
+ghost use Rattle.std.specs.Prelude.{◌≡◌, ◌≤ℤ◌, map, pos, false, Ok, Err, is_some, MatchResult, IfOk, IfSome, OnOk};
 ghost use Rattle.std.specs.Ordering.{int_eq};
 ghost use Rattle.ss_base.specs.declared.layout.Owner.TheVariants.{System, Class};
 ghost use Rattle.ss_world.specs.PendingList.{none_pending, is_pending, cancelled, next};
@@ -77,7 +77,7 @@ impl Timeline {
         ensures value { result ≡ is_some (next self.old.pending) }
         ensures same { self.new ≡ self.old }
     {
-        self.pending.is_awaited()
+        self.pending.least().is_some()
     }
 
     /// The time and the number of the notice that comes next, if one is pending. Nothing changes but the counts of work.
@@ -122,6 +122,7 @@ impl Timeline {
 
     /// A notice is pending under a key. Faults: 13 where its time is before TIME.V, then 11, then 14 after the last
     /// scheduling.
+    #[inline(always)]
     pub fn schedule(&mut self, key: Key, notice: i64) -> Result<(), Refused>
         ensures { Schedules key notice self.old self.new result }
     {
@@ -129,16 +130,6 @@ impl Timeline {
             return Err(Refused::Fault(FaultKind::PastTime));
         }
         self.pending.schedule(key, notice)
-    }
-
-    /// A notice without ties is pending for a time and by the rank of its class; and says whether it is: not where `may_schedule`
-    /// refuses it, nor where no memory is left. If not, nothing has changed.
-    #[inline(always)]
-    pub fn schedule_untied(&mut self, alloc: Global, time: i64, rank: usize, notice: i64) -> bool
-        ensures done { result ≡ true → Schedules (record { time = time; rank = rank; ties = [] }) notice self.old self.new (Ok tt) }
-        ensures kept { result ≡ false → self.new ≡ self.old }
-    {
-        time >= self.time && self.pending.schedule_untied(alloc, time, rank, notice)
     }
 
     /// A notice is pending no longer. Faults: 12.

@@ -12,13 +12,13 @@ use Rattle.ss_base.specs.declared.value.Value.TheVariants.{Whole, Text}
 use Rattle.ss_base.specs.Layout.{mode_of}
 use Rattle.ss_input.specs.Words.{is_ended}
 use Rattle.ss_picture.specs.declared.field.Field.{Field}
-use Rattle.ss_picture.specs.declared.items.FieldValue.{FieldValue as Shown}
-use Rattle.ss_picture.specs.declared.items.FieldValue.TheVariants.{Is, Mean}
+use Rattle.ss_picture.specs.declared.items.Item.{Item}
+use Rattle.ss_picture.specs.declared.items.Item.TheVariants.{Is, Mean}
 use Rattle.ss_base.specs.declared.words.Sign.{Sign}
 use Rattle.ss_base.specs.declared.words.Operator.{Operator}
 use Rattle.ss_base.specs.declared.words.UnaryOperator.{UnaryOperator}
 use Rattle.ss_base.specs.declared.words.Relation.{Relation}
-use Rattle.ss_program.specs.Program.{Expression, Constant, Fetch, Attribute, OfSystemSet, OfSet, OfMember, Clock, TimeOf, Figure, FigureOf, Signed, Unary, Calculate, SetOwner, TheSystem, Entity, Test, Compare, DataEnded, Empty, Member, Condition, Guard, Place, ToVariable, ToAttribute, ToCount, Position, ByDiscipline, AsFirst, AsLast, BeforeMember, AfterMember, When, At, In, Now, Item, AValue, AMean, AMeanOf, Program}
+use Rattle.ss_program.specs.Program.{Expression, Constant, Fetch, Attribute, OfSystemSet, OfSet, OfMember, Clock, TimeOf, Figure, FigureOf, Signed, Unary, Calculate, SetOwner, TheSystem, Entity, Test, Compare, DataEnded, Empty, Member, Condition, Guard, Place, ToVariable, ToAttribute, ToCount, Position, ByDiscipline, AsFirst, AsLast, BeforeMember, AfterMember, When, At, In, Now, PrintItem, AValue, AMean, AMeanOf, Program}
 use Rattle.ss_program.specs.WellTyped.{Scope, WellTyped, HasMode, HaveModes, IsSet, OwnerFits, GoodTest, GoodCondition, TakesMode, GoodPosition, GoodWhen, HasSubject, IsAlone, IsOfEntities, TakesItem}
 use Rattle.ss_meaning.specs.Values.{Trouble, if_ok, turned, due, sure, computed, calculated, operator_of, signed, computed_alone, applied, related, takes, take_all}
 use Rattle.ss_meaning.specs.Store.{Store, fetched}
@@ -59,10 +59,10 @@ as_integer : (m : Mode) (r : Result Value Trouble) → m ≡ Integer → Fine (H
 as_integer m r q h = subst (λ n. Fine (HasMode_is n) r) (sym q) h
 
 -- what fields take
-abbrev pub TakenBy : Field → Shown → Type 0
+abbrev pub TakenBy : Field → Item → Type 0
 TakenBy field x = takes field x ≡ true
 
-abbrev pub AllTaken : List Field → List Shown → Type 0
+abbrev pub AllTaken : List Field → List Item → Type 0
 AllTaken fields xs = take_all fields xs ≡ true
 
 both_true : (a b : Bool) → a ≡ true → b ≡ true → (a && b) ≡ true
@@ -125,13 +125,13 @@ module _ (p : Program) (typed : WellTyped p) (ms : List Mode) (b : Bool) where
   mean_shown_fine field k o h s a f =
       fine_turned (TakenBy field) (λ m. Mean m.0 m.1) (mean k o s) (mean_fine p typed ms k o s a f) (λ m u. le-leb field.decimals 9 h)
 
-  item_fine : (field : Field) (x : Item) → TakesItem here field x → (s : Store) → Fits p ms s → Fine (TakenBy field) (item x s)
+  item_fine : (field : Field) (x : PrintItem) → TakesItem here field x → (s : Store) → Fits p ms s → Fine (TakenBy field) (item x s)
   item_fine field (AValue e) h s f = fine_turned (TakenBy field) Is (value e s) (value_fine e h.0.0 h.0.1 s f) (λ v g. eq-eqb field.decimals 0 h.1)
   item_fine field (AMean k) h s f = mean_shown_fine field k None h.1 s (asked_alone k h.0) f
   item_fine field (AMeanOf k e) h s f =
       fine_then (TakenBy field) (value e s) (λ x. mean_shown (mean k (Some x) s)) (value_fine e Integer h.1 s f) (λ x g. mean_shown_fine field k (Some x) h.2 s (asked_of k x h.0 g) f)
 
-  pub items_fine : (fields : List Field) (xs : List Item) → AllZip (TakesItem here) fields xs → (s : Store) → Fits p ms s → Fine (AllTaken fields) (shown_items xs s)
+  pub items_fine : (fields : List Field) (xs : List PrintItem) → AllZip (TakesItem here) fields xs → (s : Store) → Fits p ms s → Fine (AllTaken fields) (shown_items xs s)
   items_fine [] [] h s f = refl
   items_fine [] (x ∷ xs) h s f = absurd h
   items_fine (field ∷ fields) [] h s f = absurd h

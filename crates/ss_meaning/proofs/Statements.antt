@@ -11,7 +11,7 @@ use Rattle.ss_base.specs.declared.layout.Mode.TheVariants.{Integer, Alpha}
 use Rattle.ss_base.specs.declared.value.Value.{Value}
 use Rattle.ss_base.specs.declared.value.Value.TheVariants.{Whole, Text}
 use Rattle.ss_base.specs.Layout.{mode_of}
-use Rattle.ss_picture.specs.declared.items.FieldValue.{FieldValue as Shown}
+use Rattle.ss_picture.specs.declared.items.Item.{Item}
 use Rattle.ss_picture.specs.Pictures.{picture_fields}
 use Rattle.ss_input.specs.Words.{Given, value_given, next_word, read_word, word_value, if_read, as_whole, as_text, number_read}
 use Rattle.ss_base.specs.Values.{text_of}
@@ -21,7 +21,7 @@ use Rattle.ss_base.specs.declared.words.PhraseKind.{PhraseKind}
 use Rattle.ss_base.specs.declared.words.PhraseKind.TheVariants as kinds
 use Rattle.ss_base.specs.declared.words.End.{End}
 use Rattle.ss_program.specs.declared.statement.CountedClass.{CountedClass}
-use Rattle.ss_program.specs.Program.{Expression, SetOwner, Head, Numbers, Members, Each, Start, AtEnd, From, After, Phrase, Guard, Place, ToVariable, Target, Position, When, Restart, Item, Statement, Let, Change, Call, Return, Stop, Read, Simulate, If, Loop, For, Find, Create, CreateEvery, Destroy, File, RemoveEnd, Remove, ScheduleNew, Schedule, Cancel, Reset, Print, Skip, Block, Done, Then, Routine, Program}
+use Rattle.ss_program.specs.Program.{Expression, SetOwner, Head, Numbers, Members, Each, Start, AtEnd, From, After, Phrase, Guard, Place, ToVariable, Target, Position, When, Restart, PrintItem, Statement, Let, Change, Call, Return, Stop, Read, Simulate, If, Loop, For, Find, Create, CreateEvery, Destroy, File, RemoveEnd, Remove, ScheduleNew, Schedule, Cancel, Reset, Print, Skip, Block, Done, Then, Routine, Program}
 use Rattle.ss_program.specs.WellTyped.{Scope, WellTyped, HasMode, OwnerFits, GoodCondition, TakesMode, GoodStart, GoodHead, GoodPhrase, GoodPosition, GoodWhen, GoodGiven, GoodRestart, GoodPrint, Good, GoodBlock, kind_of_class as kind_said}
 use Rattle.ss_meaning.specs.Values.{if_ok, turned, due, sure, unless_fault, number_of, calculated, operator_of, take_all, lines_with, printed, empty_lines}
 use Rattle.ss_meaning.specs.Store.{Store}
@@ -57,7 +57,7 @@ range_of_fine x y z Q p q r =
     fine_then Any (step_number z) (λ c. unless_fault (int_lt c (pos 1)) LoopStep (Ok (record { first = a; limit = b; step = c }))) r (λ c t.
     unless_fine Any (int_lt c (pos 1)) LoopStep (Ok (record { first = a; limit = b; step = c })) (λ e. tt))))
 
-printed_there : (pictures : List (List ℕ)) (xs : List Shown) → AllTaken (flat_map picture_fields pictures) xs → There Any (printed pictures xs)
+printed_there : (pictures : List (List ℕ)) (xs : List Item) → AllTaken (flat_map picture_fields pictures) xs → There Any (printed pictures xs)
 printed_there pictures xs q = by (take_all (flat_map picture_fields pictures) xs) q
   where
     by : (b : Bool) → b ≡ true → There Any (if b then Some (lines_with pictures xs) else None)
@@ -223,7 +223,7 @@ module _ (p : Program) (typed : WellTyped p) (ms : List Mode) (b : Bool) where
       fine_turned (λ r. HasMode_is t.mode r.0 × Fits p ms r.1) (with_input s) (due (value_given t.mode s.scene.input)) (word_fine t.mode s) (λ r q. (q, input_fits s r.rest f))))) (λ u v.
       reads_safe l ts g.1)
 
-  print_safe : (l : Line) (xs : List Item) (pictures : List (List ℕ)) → GoodPrint here xs pictures → Safe p ms Any (print l xs pictures)
+  print_safe : (l : Line) (xs : List PrintItem) (pictures : List (List ℕ)) → GoodPrint here xs pictures → Safe p ms Any (print l xs pictures)
   print_safe l xs pictures g =
       safe_then {P = Any} (safe_look l (λ s. if_ok (items_meant xs s) (λ ys. sure (printed pictures ys))) (λ s f.
       fine_then Any (items_meant xs s) (λ ys. sure (printed pictures ys)) (items_fine p typed ms b (flat_map picture_fields pictures) xs g s f) (λ ys q. sure_fine Any (printed pictures ys) (printed_there pictures ys q)))) (λ bytes u.

@@ -11,7 +11,7 @@ use Rattle.ss_world.specs.Order.{comes_before}
 use Rattle.ss_world.specs.PendingList.{scheduling_limit}
 use Rattle.ss_stats.specs.History.{tally_limit}
 use Rattle.ss_base.specs.declared.value.Value.TheVariants.{Whole}
-use Rattle.ss_picture.specs.declared.items.FieldValue.TheVariants.{Is}
+use Rattle.ss_picture.specs.declared.items.Item.TheVariants.{Is}
 use Rattle.ss_picture.specs.Numerals.{numeral}
 use Rattle.ss_picture.specs.Pictures.{picture_fields, filled}
 use Rattle.ss_program.specs.declared.expression.Fold.TheVariants.{Number, Sum, Maximum, Minimum}

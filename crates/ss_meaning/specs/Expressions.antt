@@ -4,9 +4,9 @@ use Rattle.ss_base.specs.declared.value.Value.{Value}
 use Rattle.ss_input.specs.Words.{is_ended}
 use Rattle.ss_base.specs.declared.words.GuardKind.{GuardKind}
 use Rattle.ss_base.specs.declared.words.GuardKind.TheVariants.{While, Until}
-use Rattle.ss_program.specs.Program.{Expression, Constant, Fetch, Attribute, OfSystemSet, OfSet, OfMember, Clock, TimeOf, Figure, FigureOf, Signed, Unary, Calculate, SetOwner, TheSystem, Entity, Test, Compare, DataEnded, Empty, Member, Condition, Guard, Place, ToVariable, ToAttribute, ToCount, Position, ByDiscipline, AsFirst, AsLast, BeforeMember, AfterMember, When, At, In, Now, Item, AValue, AMean, AMeanOf}
-use Rattle.ss_picture.specs.declared.items.FieldValue.{FieldValue as Shown}
-use Rattle.ss_picture.specs.declared.items.FieldValue.TheVariants.{Is, Mean}
+use Rattle.ss_program.specs.Program.{Expression, Constant, Fetch, Attribute, OfSystemSet, OfSet, OfMember, Clock, TimeOf, Figure, FigureOf, Signed, Unary, Calculate, SetOwner, TheSystem, Entity, Test, Compare, DataEnded, Empty, Member, Condition, Guard, Place, ToVariable, ToAttribute, ToCount, Position, ByDiscipline, AsFirst, AsLast, BeforeMember, AfterMember, When, At, In, Now, PrintItem, AValue, AMean, AMeanOf}
+use Rattle.ss_picture.specs.declared.items.Item.{Item}
+use Rattle.ss_picture.specs.declared.items.Item.TheVariants.{Is, Mean}
 use Rattle.ss_meaning.specs.Values.{Trouble, if_ok, turned, due, sure, calculated, signed, applied, related}
 use Rattle.ss_meaning.specs.Store.{Store, fetched}
 use Rattle.ss_meaning.specs.Entities.{entity, attribute, time_of}
@@ -41,17 +41,17 @@ values (e ∷ es) s = if_ok (value e s) (λ v. turned (λ vs. v ∷ vs) (values 
 -- ## Items of PRINT
 
 -- a sum and a number as an item
-abbrev pub mean_shown : Result (ℤ × ℤ) Trouble → Result Shown Trouble
+abbrev pub mean_shown : Result (ℤ × ℤ) Trouble → Result Item Trouble
 mean_shown r = turned (λ m. Mean m.0 m.1) r
 
 -- what an item shows
-abbrev pub item : Item → Store → Result Shown Trouble
+abbrev pub item : PrintItem → Store → Result Item Trouble
 item (AValue e) s = turned Is (value e s)
 item (AMean j) s = mean_shown (mean j None s)
 item (AMeanOf j e) s = if_ok (value e s) (λ x. mean_shown (mean j (Some x) s))
 
 -- several items, from left to right
-abbrev pub shown_items : List Item → Store → Result (List Shown) Trouble
+abbrev pub shown_items : List PrintItem → Store → Result (List Item) Trouble
 shown_items [] s = Ok []
 shown_items (i ∷ is) s = if_ok (item i s) (λ x. turned (λ xs. x ∷ xs) (shown_items is s))
 

@@ -7,7 +7,7 @@ use Rattle.ss_input.specs.Words.{Given, value_given}
 use Rattle.ss_base.specs.declared.words.Sign.{Sign}
 use Rattle.ss_base.specs.declared.words.End.{End}
 use Rattle.ss_program.specs.declared.statement.CountedClass.{CountedClass}
-use Rattle.ss_program.specs.Program.{Expression, Item, SetOwner, Place, Target, Position, When, Restart, Statement, Let, Change, Call, Return, Stop, Read, Simulate, If, Loop, For, Find, Create, CreateEvery, Destroy, File, RemoveEnd, Remove, ScheduleNew, Schedule, Cancel, Reset, Print, Skip, Block, Done, Then}
+use Rattle.ss_program.specs.Program.{Expression, PrintItem, SetOwner, Place, Target, Position, When, Restart, Statement, Let, Change, Call, Return, Stop, Read, Simulate, If, Loop, For, Find, Create, CreateEvery, Destroy, File, RemoveEnd, Remove, ScheduleNew, Schedule, Cancel, Reset, Print, Skip, Block, Done, Then}
 use Rattle.ss_meaning.specs.Values.{Trouble, if_ok, turned, due, sure, calculated, operator_of, printed, empty_lines}
 use Rattle.ss_meaning.specs.Store.{Store}
 use Rattle.ss_meaning.specs.Entities.{made_one, made_all, without}
@@ -52,7 +52,7 @@ read_each l [] w = WentOn tt w
 read_each l (t ∷ ts) w = outcome_then (give_to l t.place (get l (read_value t.mode)) w) (λ _. read_each l ts)
 
 -- the items, and then the lines with them
-abbrev pub print : Line → List Item → List (List ℕ) → Part (Unit {0})
+abbrev pub print : Line → List PrintItem → List (List ℕ) → Part (Unit {0})
 print l shown pictures w =
     outcome_then (look l (λ s. if_ok (shown_items shown s) (λ xs. sure (printed pictures xs))) w) send
 

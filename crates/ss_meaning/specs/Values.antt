@@ -13,8 +13,8 @@ use Rattle.ss_base.specs.declared.layout.Mode.TheVariants.{Integer, Alpha}
 use Rattle.ss_base.specs.Arithmetic.{plus_of, minus_of, times_of, quotient_of, remainder_of}
 use Rattle.ss_base.specs.Order.{value_cmp}
 use Rattle.ss_picture.specs.declared.field.Field.{Field}
-use Rattle.ss_picture.specs.declared.items.FieldValue.{FieldValue}
-use Rattle.ss_picture.specs.declared.items.FieldValue.TheVariants.{Is, Mean}
+use Rattle.ss_picture.specs.declared.items.Item.{Item}
+use Rattle.ss_picture.specs.declared.items.Item.TheVariants.{Is, Mean}
 use Rattle.ss_picture.specs.Pictures.{filled, field_count, picture_fields}
 use Rattle.ss_base.specs.declared.words.Sign.{Sign}
 use Rattle.ss_base.specs.declared.words.Sign.TheVariants.{Plus, Minus}
@@ -155,24 +155,24 @@ abbrev pub line_end : ℕ
 line_end = 10
 
 -- a field takes an item: a value where it has no decimals, a mean where it has at most 9
-abbrev pub takes : Field → FieldValue → Bool
+abbrev pub takes : Field → Item → Bool
 takes field (Is v) = field.decimals == 0
 takes field (Mean sum number) = nat_le field.decimals 9
 
 -- as many fields as items, each of which takes its own
-abbrev pub take_all : List Field → List FieldValue → Bool
+abbrev pub take_all : List Field → List Item → Bool
 take_all [] [] = true
 take_all (field ∷ fields) (item ∷ items) = takes field item && take_all fields items
 take_all _ _ = false
 
 -- the lines of pictures with items in their fields from the left, each with its line end
-abbrev pub lines_with : List (List ℕ) → List FieldValue → List ℕ
+abbrev pub lines_with : List (List ℕ) → List Item → List ℕ
 lines_with [] items = []
 lines_with (picture ∷ pictures) items =
     filled picture (take (field_count picture) items) ++ line_end ∷ lines_with pictures (drop (field_count picture) items)
 
 -- the lines of pictures with their items, where the fields take the items
-abbrev pub printed : List (List ℕ) → List FieldValue → Option (List ℕ)
+abbrev pub printed : List (List ℕ) → List Item → Option (List ℕ)
 printed pictures items = if take_all (flat_map picture_fields pictures) items then Some (lines_with pictures items) else None
 
 -- so many empty lines; below 0 or above 1,000 is the fault BAD COUNT

@@ -5,19 +5,13 @@ use Rattle.std.proofs.lemmas.List.Sums.{fold-append}
 use Rattle.ss_base.specs.declared.line.Line.{Line}
 use Rattle.ss_base.specs.Lines.{line_if}
 use Rattle.ss_tree.specs.Names.{NameBytes}
-use Rattle.ss_names_declarations.specs.Firsts.{firsts, value_for, with_first}
-use Rattle.ss_names_declarations.specs.declared.declaration.Declared.{Declared}
-use Rattle.ss_names_declarations.specs.declared.declaration.Declared.TheVariants as declared
+use Rattle.ss_names_declarations.specs.Firsts.{first_entries, value_for, with_first}
 use Rattle.ss_names_declarations.specs.declared.declaration.Declaration.{Declaration}
 use Rattle.ss_names_declarations.proofs.Entries.{value_in_firsts}
 use Rattle.ss_names.specs.declared.meaning.Meaning.{Meaning}
 use Rattle.ss_names.specs.Entries.{given_by}
-use Rattle.ss_names.specs.Table.{Entered, Table, clashes, clashes_after, declares, entered_at, entered_by, first_line, is_another, meanings, numbered, same_of_set, sooner}
-use Rattle.ss_names.specs.Filling.{clash_after, enter, meanings_pass}
-
--- a table with these meanings and this clash
-abbrev pub meant : Table → List (NameBytes × Meaning) → Option Line → Table
-meant t ms line = record t { meanings = ms; clash = line }
+use Rattle.ss_names.specs.Table.{Entered, Table, clashes, clashes_after, declares, entered_at, entered_by, is_another, meanings, numbered, same_of_set}
+use Rattle.ss_names.specs.Filling.{all_entered, clash_after, enter, entered, first_line, meanings_pass, sooner}
 
 abbrev pub pair_of : Entered → NameBytes × Meaning
 pair_of e = (e.name, e.meaning)
@@ -27,22 +21,11 @@ abbrev pub clash_of : List (NameBytes × Meaning) → Option Line → List Enter
 clash_of ms line [] = line
 clash_of ms line (e ∷ es) = clash_of (with_first ms (pair_of e)) (clash_after line (value_for ms e.name) e.meaning e.line) es
 
--- what a declaration declares doesn't depend on what names mean
-declares_same : (t : Table) (ms : List (NameBytes × Meaning)) (line : Option Line) (w : Declared) → declares (meant t ms line) w ≡ declares t w
-declares_same t ms line (declared.Class name kind) = refl
-declares_same t ms line (declared.Attribute name class) = refl
-declares_same t ms line (declared.Owner name class) = refl
-declares_same t ms line (declared.Member name class) = refl
-declares_same t ms line (declared.Variable name mode) = refl
-declares_same t ms line (declared.Statistic name kind subject) = refl
-declares_same t ms line (declared.Routine name section given yielding) = refl
-declares_same t ms line _ = refl
-
 -- ---- the passes
 
-entered_one : (t : Table) (ms : List (NameBytes × Meaning)) (line : Option Line) (at : Line) (es : List (NameBytes × Meaning)) → fold (enter at) (meant t ms line) es ≡ meant t (fold with_first ms es) (clash_of ms line (map (entered_at at) es))
-entered_one t ms line at [] = refl
-entered_one t ms line at (e ∷ es) = entered_one t (with_first ms e) (clash_after line (value_for ms e.0) e.1 at) at es
+entered_one : (ms : List (NameBytes × Meaning)) (line : Option Line) (at : Line) (es : List (NameBytes × Meaning)) → fold (enter at) (entered ms line) es ≡ entered (fold with_first ms es) (clash_of ms line (map (entered_at at) es))
+entered_one ms line at [] = refl
+entered_one ms line at (e ∷ es) = entered_one (with_first ms e) (clash_after line (value_for ms e.0) e.1 at) at es
 
 pairs_back : (at : Line) (es : List (NameBytes × Meaning)) → map pair_of (map (entered_at at) es) ≡ es
 pairs_back at [] = refl
@@ -52,15 +35,14 @@ clash_append : (ms : List (NameBytes × Meaning)) (line : Option Line) (xs ys : 
 clash_append ms line [] ys = refl
 clash_append ms line (x ∷ xs) ys = clash_append (with_first ms (pair_of x)) (clash_after line (value_for ms x.name) x.meaning x.line) xs ys
 
-entered_all : (t : Table) (ms : List (NameBytes × Meaning)) (line : Option Line) (ds : List Declaration) → fold meanings_pass (meant t ms line) ds ≡ meant t (fold with_first ms (given_by (declares t) ds)) (clash_of ms line (flat_map (entered_by t) ds))
+entered_all : (t : Table) (ms : List (NameBytes × Meaning)) (line : Option Line) (ds : List Declaration) → fold (meanings_pass t) (entered ms line) ds ≡ entered (fold with_first ms (given_by (declares t) ds)) (clash_of ms line (flat_map (entered_by t) ds))
 entered_all t ms line [] = refl
 entered_all t ms line (x ∷ ds) =
     let es = declares t x.what in
     let here = map (entered_at x.line) es in
-    ap (λ some. fold meanings_pass (fold (enter x.line) (meant t ms line) some) ds) (declares_same t ms line x.what)
-    ∙ ap (λ s. fold meanings_pass s ds) (entered_one t ms line x.line es)
+    ap (λ s. fold (meanings_pass t) s ds) (entered_one ms line x.line es)
     ∙ entered_all t (fold with_first ms es) (clash_of ms line here) ds
-    ∙ (λ i. meant t
+    ∙ (λ i. entered
     (sym (fold-append with_first ms es (given_by (declares t) ds)) i)
     ((ap (λ l. clash_of (fold with_first ms l) (clash_of ms line here) (flat_map (entered_by t) ds)) (sym (pairs_back x.line es)) ∙ sym (clash_append ms line here (flat_map (entered_by t) ds))) i))
 
@@ -74,20 +56,20 @@ one_clash line (Some known) new at = by (same_of_set known new)
     by true = refl
     by false = refl
 
-clash_is : (before : List (NameBytes × Meaning)) (line : Option Line) (es : List Entered) → clash_of (firsts before) line es ≡ fold sooner line (clashes_after before es)
+clash_is : (before : List (NameBytes × Meaning)) (line : Option Line) (es : List Entered) → clash_of (first_entries before) line es ≡ fold sooner line (clashes_after before es)
 clash_is before line [] = refl
 clash_is before line (e ∷ es) =
     let after = before ++ pair_of e ∷ [] in
     let here = line_if (is_another (value_for before e.name) e.meaning) e.line in
-    ap (λ o. clash_of (with_first (firsts before) (pair_of e)) (clash_after line o e.meaning e.line) es) (value_in_firsts before e.name)
-    ∙ ap (λ l. clash_of (with_first (firsts before) (pair_of e)) l es) (one_clash line (value_for before e.name) e.meaning e.line)
+    ap (λ o. clash_of (with_first (first_entries before) (pair_of e)) (clash_after line o e.meaning e.line) es) (value_in_firsts before e.name)
+    ∙ ap (λ l. clash_of (with_first (first_entries before) (pair_of e)) l es) (one_clash line (value_for before e.name) e.meaning e.line)
     ∙ ap (λ ms. clash_of ms (fold sooner line here) es) (sym (fold-append with_first [] before (pair_of e ∷ [])))
     ∙ clash_is after (fold sooner line here) es
     ∙ sym (fold-append sooner line here (clashes_after after es))
 
 -- the names that the last pass enters, and the first clash
-pub meanings_filled : (ds : List Declaration) → fold meanings_pass (numbered ds) ds ≡ record (numbered ds) { meanings = meanings ds; clash = first_line (clashes ds) }
+pub meanings_filled : (ds : List Declaration) → all_entered (numbered ds) ds ≡ entered (meanings ds) (first_line (clashes ds))
 meanings_filled ds =
     let t = numbered ds in
     entered_all t [] None ds
-    ∙ ap (meant t (meanings ds)) (clash_is [] None (flat_map (entered_by t) ds))
+    ∙ ap (entered (meanings ds)) (clash_is [] None (flat_map (entered_by t) ds))

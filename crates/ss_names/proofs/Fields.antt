@@ -12,7 +12,7 @@ use Rattle.std.proofs.lemmas.Option.{none-some, same_Some}
 use Rattle.ss_base.specs.declared.layout.Mode.{Mode}
 use Rattle.ss_base.specs.declared.layout.ClassKind.{ClassKind}
 use Rattle.ss_tree.specs.Names.{NameBytes}
-use Rattle.ss_names_declarations.specs.Firsts.{entry_beside, entry_if, firsts, place_among, place_in, same_name, value_for, with_first}
+use Rattle.ss_names_declarations.specs.Firsts.{entry_beside, entry_if, first_entries, place_among, place_in, same_name, value_for, with_first}
 use Rattle.ss_names_declarations.specs.declared.declaration.Declared.{Declared}
 use Rattle.ss_names_declarations.specs.declared.declaration.Declared.TheVariants as declared
 use Rattle.ss_names_declarations.specs.declared.declaration.Declaration.{Declaration}
@@ -160,7 +160,7 @@ fields_folded mode n owned (e ∷ es) h =
     ap (λ fs. fold (with_field mode) fs es) (field_more mode n owned e h.0) ∙ fields_folded mode n (with_first owned e) es h.1
 
 -- the attributes that the second pass enters
-pub attributes_filled : (mode : NameBytes → Mode) (n : ℕ) (es : List (NameBytes × ℕ)) → AllBelow n es → fold (with_field mode) (fields_at mode n []) es ≡ fields_at mode n (firsts es)
+pub attributes_filled : (mode : NameBytes → Mode) (n : ℕ) (es : List (NameBytes × ℕ)) → AllBelow n es → fold (with_field mode) (fields_at mode n []) es ≡ fields_at mode n (first_entries es)
 attributes_filled mode n es h = fields_folded mode n [] es h
 
 -- ---- how many rows there are

@@ -1,5 +1,6 @@
 -- What all passes together make of a list of declarations.
 use Rattle.std.proofs.Common.{◌≡◌, List, [], ◌∷◌, ◌++◌, length, Option, Some, None, refl, sym, ap, ◌∙◌, append_assoc, append-nil}
+use Rattle.std.specs.Prelude.{slice_get}
 use Rattle.std.specs.List.{fold}
 use Rattle.std.specs.Option.{option_or}
 use Rattle.std.proofs.lemmas.List.{length-map}
@@ -9,9 +10,9 @@ use Rattle.ss_base.specs.declared.layout.Mode.{Mode}
 use Rattle.ss_tree.specs.Names.{NameBytes}
 use Rattle.ss_names_declarations.specs.Firsts.{with_first, with_name}
 use Rattle.ss_names_declarations.specs.declared.declaration.Declaration.{Declaration}
-use Rattle.ss_names.specs.Entries.{attribute_by, attributes_of_class, class_by, classes, event_by, events, first_mode, given_by, histories, history_by, mode_by, mode_of_name, modes, notice_by, priority_by, rank_key_by, routine_by, routines, set_by, set_names, sets, tie_key_by, usual_by, usual_mode, variable_by, with_number}
-use Rattle.ss_names.specs.Table.{Table, declared, numbered}
-use Rattle.ss_names.specs.Filling.{Fields, HasRows, entities_filled, entities_pass, fields_of, filled, kept_mode, meanings_pass, mode_named, names_pass, no_names, no_set, pushed, set_part, variables_pass, with_field, with_rows, with_set, with_subjects}
+use Rattle.ss_names.specs.Entries.{attribute_by, attributes_of_class, class_by, classes, event_by, events, given_by, histories, history_by, mode_by, mode_of_name, modes, notice_by, priority_by, rank_key_by, routine_by, routines, set_by, set_names, sets, tie_key_by, usual_by, usual_mode, variable_by, with_number}
+use Rattle.ss_names.specs.Table.{Table, clashes, declared, numbered}
+use Rattle.ss_names.specs.Filling.{Entering, Fields, HasRows, all_entered, entities_filled, entities_pass, fields_of, filled, first_line, kept_mode, mode_named, names_pass, no_names, no_set, pushed, set_part, variables_pass, with_all_meanings, with_field, with_meanings, with_rows, with_set, with_subjects}
 use Rattle.ss_names.proofs.Fields.{attributes_below, attributes_filled, rows_kept}
 use Rattle.ss_names.proofs.Sets.{sets_filled, sets_kept}
 use Rattle.ss_names.proofs.Clashes.{meanings_filled}
@@ -44,7 +45,7 @@ names_passed t (x ∷ ds) =
       tie_keys = sym (fold-append pushed t.tie_keys (tie_key_by x.what) (given_by tie_key_by ds)) i;
     })
 
-kept_first : (known : Option Mode) (found : List Mode) → fold kept_mode known found ≡ option_or known (first_mode found)
+kept_first : (known : Option Mode) (found : List Mode) → fold kept_mode known found ≡ option_or known (slice_get found 0)
 kept_first None [] = refl
 kept_first (Some mode) [] = refl
 kept_first None (m ∷ ms) = kept_first (Some m) ms
@@ -142,9 +143,21 @@ variables_are ds =
 
 pub filled_is_declared : (ds : List Declaration) → filled ds ≡ declared ds
 filled_is_declared ds =
-    ap (λ t. with_subjects (fold meanings_pass (fold variables_pass t ds) ds)) (entities_are ds)
-    ∙ ap (λ t. with_subjects (fold meanings_pass t ds)) (variables_are ds)
-    ∙ ap with_subjects (meanings_filled ds)
+    ap (λ (t : Table). with_subjects (with_all_meanings ds (fold variables_pass t ds))) (entities_are ds)
+    ∙ ap (λ (t : Table). with_subjects (with_all_meanings ds t)) (variables_are ds)
+    ∙ ap (λ (s : Entering). with_subjects (with_meanings (numbered ds) s.meanings)) (meanings_filled ds)
+
+pub clash_filled : (ds : List Declaration) → (all_entered (fold variables_pass (entities_filled ds) ds) ds).clash ≡ first_line (clashes ds)
+clash_filled ds =
+    ap (λ (t : Table). (all_entered (fold variables_pass t ds) ds).clash) (entities_are ds)
+    ∙ ap (λ (t : Table). (all_entered t ds).clash) (variables_are ds)
+    ∙ ap (λ (s : Entering). s.clash) (meanings_filled ds)
+
+-- three passes, one after the other
+pub three_passed : {start named rowed made after : Table} (ds : List Declaration) → start ≡ no_names → named ≡ fold names_pass start ds → rowed ≡ with_rows named →
+    made ≡ fold entities_pass rowed ds → after ≡ fold variables_pass made ds → after ≡ fold variables_pass (entities_filled ds) ds
+three_passed ds s n r m a =
+    a ∙ ap (λ (t : Table). fold variables_pass t ds) (m ∙ ap (λ (t : Table). fold entities_pass t ds) (r ∙ ap with_rows (n ∙ ap (λ (t : Table). fold names_pass t ds) s)))
 
 -- ---- rows
 

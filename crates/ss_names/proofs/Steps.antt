@@ -12,7 +12,7 @@ use Rattle.ss_names.specs.Table.{Table}
 use Rattle.ss_names.specs.Filling.{field_pushed, fields_of, mode_named, row_pushed, with_fields}
 
 -- a step of a pass on the table that is seen, by what was matched
-pub stepped : (step : Table → Declared → Table) {old seen new : Table} {what like : Declared} → seen ≡ old → what ≡ like → new ≡ step seen like → new ≡ step old what
+pub stepped : {T : Type 0} (step : T → Declared → T) {old seen new : T} {what like : Declared} → seen ≡ old → what ≡ like → new ≡ step seen like → new ≡ step old what
 stepped step s w e = e ∙ (λ i. step (s i) (sym w i))
 
 -- one entry more, after some

@@ -1,5 +1,5 @@
 -- The lists in which a program's things are numbered.
-use Rattle.std.specs.Prelude.{ℕ, ◌++◌, Bool, true, false, List, [], ◌∷◌, map, filter, length, Option, Some, None, is_some, if◌then◌else◌, nat_eq}
+use Rattle.std.specs.Prelude.{ℕ, ◌++◌, Bool, true, false, List, [], ◌∷◌, map, filter, length, Option, Some, None, is_some, option_to_list, if◌then◌else◌, nat_eq, slice_get, unwrap_or}
 use Rattle.std.specs.Global.{Vec}
 use Rattle.std.specs.List.{flat_map, fold, list_any, range_with_len}
 use Rattle.std.specs.Map.{keys_of}
@@ -14,7 +14,7 @@ use Rattle.ss_tree.specs.Names.{NameBytes}
 use Rattle.ss_tree.specs.declared.preamble.Mode.{Mode as ModeWord}
 use Rattle.ss_tree.specs.declared.preamble.Mode.TheVariants as words
 use Rattle.ss_base.specs.declared.words.Weighting.{Weighting}
-use Rattle.ss_names_declarations.specs.Firsts.{each_once, entry_if, firsts, place_in, value_for}
+use Rattle.ss_names_declarations.specs.Firsts.{each_once, entry_if, first_entries, place_in, value_for}
 use Rattle.ss_names_declarations.specs.declared.declaration.Declared.{Declared}
 use Rattle.ss_names_declarations.specs.declared.declaration.Declared.TheVariants as d
 use Rattle.ss_names_declarations.specs.declared.declaration.Declaration.{Declaration}
@@ -31,9 +31,9 @@ use Rattle.ss_names.specs.Modes.{value_mode}
 abbrev pub given_by : {A : Type 0} → (Declared → List A) → List Declaration → List A
 given_by f ds = flat_map (λ (x : Declaration). f x.what) ds
 
--- the same by names, of which the first counts
+-- what each of some declarations gives to names; of two entries for a name the first counts
 abbrev pub named_by : {A : Type 0} → (Declared → List (NameBytes × A)) → List Declaration → List (NameBytes × A)
-named_by f ds = firsts (given_by f ds)
+named_by f ds = first_entries (given_by f ds)
 
 abbrev pub row_of : Vec NameBytes → List NameBytes
 row_of row = row.items
@@ -50,13 +50,9 @@ abbrev pub usual_by : Declared → List Mode
 usual_by (d.Normally mode) = usual_of mode
 usual_by _ = []
 
-abbrev pub first_mode : List Mode → Option Mode
-first_mode [] = None
-first_mode (mode ∷ modes) = Some mode
-
 -- the mode that NORMALLY gives to every name that has none, wherever the NORMALLY is
 abbrev pub usual_mode : List Declaration → Option Mode
-usual_mode ds = first_mode (given_by usual_by ds)
+usual_mode ds = slice_get (given_by usual_by ds) 0
 
 abbrev pub mode_by : Declared → List (NameBytes × Mode)
 mode_by (d.Variable name mode) = (name, value_mode mode) ∷ []
@@ -66,13 +62,9 @@ mode_by _ = []
 abbrev pub modes : List Declaration → List (NameBytes × Mode)
 modes ds = named_by mode_by ds
 
-abbrev pub mode_or_integer : Option Mode → Mode
-mode_or_integer None = Integer
-mode_or_integer (Some mode) = mode
-
 -- the mode of a name: that of its DEFINE, or else that of NORMALLY; a name without any is refused, and counts as INTEGER
 abbrev pub mode_of_name : List Declaration → NameBytes → Mode
-mode_of_name ds name = mode_or_integer (option_or (value_for (modes ds) name) (usual_mode ds))
+mode_of_name ds name = unwrap_or (option_or (value_for (modes ds) name) (usual_mode ds)) Integer
 
 -- ---- classes and their attributes
 
@@ -207,13 +199,9 @@ abbrev pub is_notice : Option ClassKind → Bool
 is_notice (Some kinds.Notice) = true
 is_notice _ = false
 
-abbrev pub number_if : Option ℕ → List ℕ
-number_if None = []
-number_if (Some number) = number ∷ []
-
 -- the number of a class of notices
 abbrev pub notice_number : List (NameBytes × ClassKind) → NameBytes → List ℕ
-notice_number cs name = if is_notice (value_for cs name) then number_if (place_in cs name) else []
+notice_number cs name = if is_notice (value_for cs name) then option_to_list (place_in cs name) else []
 
 abbrev pub priority_by : List (NameBytes × ClassKind) → Declared → List ℕ
 priority_by cs (d.Priority class) = notice_number cs class

@@ -1,10 +1,11 @@
 -- What each pass over the declarations adds to the table, declaration by declaration. What the table is in the end says `declared`.
-use Rattle.std.specs.Prelude.{◌≡◌, ℕ, ◌++◌, List, [], ◌∷◌, map, length, get_or, Option, Some, None, is_some, if◌then◌else◌, slice_get, slice_set}
+use Rattle.std.specs.Prelude.{◌≡◌, ℕ, ◌++◌, List, [], ◌∷◌, map, length, get_or, Option, Some, None, is_some, if◌then◌else◌, nat_lt, slice_get, slice_set, unwrap_or}
 use Rattle.std.specs.List.{fold}
 use Rattle.std.specs.Map.{keys_of}
 use Rattle.std.specs.Option.{option_or}
 use Rattle.ss_base.specs.declared.line.Line.{Line}
 use Rattle.ss_base.specs.declared.layout.Mode.{Mode}
+use Rattle.ss_base.specs.declared.layout.Mode.TheVariants.{Integer}
 use Rattle.ss_base.specs.declared.layout.ClassKind.{ClassKind}
 use Rattle.ss_program.specs.declared.expression.SetQuery.{SetQuery}
 use Rattle.ss_program.specs.declared.expression.SetQuery.TheVariants.{FirstMember, LastMember, MemberCount}
@@ -18,14 +19,13 @@ use Rattle.ss_names_declarations.specs.declared.declaration.Declaration.{Declara
 use Rattle.ss_names.specs.declared.entry.Attribute.{Attribute}
 use Rattle.ss_names.specs.declared.entry.Set.{Set}
 use Rattle.ss_names.specs.declared.meaning.Meaning.{Meaning}
-use Rattle.ss_names.specs.Entries.{attribute_by, class_by, event_by, fields_by_class, history_by, mode_by, mode_or_integer, notice_by, owner_named, priority_by, rank_key_by, routine_by, set_by, tie_key_by, usual_by, variable_by, with_number}
-use Rattle.ss_names.specs.Table.{Table, declares, same_of_set, sooner, subjects_by}
+use Rattle.ss_names.specs.Entries.{attribute_by, class_by, event_by, fields_by_class, history_by, mode_by, notice_by, owner_named, priority_by, rank_key_by, routine_by, set_by, tie_key_by, usual_by, variable_by, with_number}
+use Rattle.ss_names.specs.Table.{Table, declares, same_of_set, subjects_by}
 
 -- the table of no declarations
 abbrev pub no_names : Table
 no_names = record {
   meanings = [];
-  clash = None;
   usual = None;
   modes = [];
   classes = [];
@@ -93,7 +93,7 @@ abbrev pub with_fields : Table → Fields → Table
 with_fields t fs = record t { attributes = fs.entries; fields = fs.rows }
 
 abbrev pub mode_named : Table → NameBytes → Mode
-mode_named t name = mode_or_integer (option_or (value_for t.modes name) t.usual)
+mode_named t name = unwrap_or (option_or (value_for t.modes name) t.usual) Integer
 
 abbrev pub row_pushed : List (List NameBytes) → ℕ → NameBytes → List (List NameBytes)
 row_pushed rows class name = slice_set rows class (get_or rows class [] ++ name ∷ [])
@@ -106,7 +106,7 @@ field_pushed mode fs e =
       rows = row_pushed fs.rows e.1 e.0;
     }
 
--- the same, unless its name has an entry
+-- one more attribute of its class, unless its name has an entry
 abbrev pub with_field : (NameBytes → Mode) → Fields → NameBytes × ℕ → Fields
 with_field mode fs e = if is_some (value_for fs.entries e.0) then fs else field_pushed mode fs e
 
@@ -178,6 +178,14 @@ variables_pass t x = add_variables t x.what
 
 -- ---- the last pass: what names mean
 
+-- the first in the text of what was found so far and a line
+abbrev pub sooner : Option Line → Line → Option Line
+sooner None line = Some line
+sooner (Some found) line = if nat_lt line.0 found.0 then Some line else Some found
+
+abbrev pub first_line : List Line → Option Line
+first_line lines = fold sooner None lines
+
 -- the first line where a name is declared as two things, after a declaration of a name that is known as this or not yet
 abbrev pub clash_after : Option Line → Option Meaning → Meaning → Line → Option Line
 clash_after clash None new line = clash
@@ -194,17 +202,28 @@ letter_of_member Predecessor = 80
 letter_of_member Successor = 83
 letter_of_member Membership = 77
 
-abbrev pub enter : Line → Table → NameBytes × Meaning → Table
-enter line t e = record t {
-  meanings = with_first t.meanings e;
-  clash = clash_after t.clash (value_for t.meanings e.0) e.1 line;
-}
+-- what is entered: what names mean, and the first line where one is declared as two things
+pub record Entering : Type 0 where
+  pub meanings : List (NameBytes × Meaning)
+  pub clash : Option Line
 
-abbrev pub add_meanings : Table → Line → Declared → Table
-add_meanings t line w = fold (enter line) t (declares t w)
+abbrev pub entered : List (NameBytes × Meaning) → Option Line → Entering
+entered ms clash = record { meanings = ms; clash = clash }
 
-abbrev pub meanings_pass : Table → Declaration → Table
-meanings_pass t x = add_meanings t x.line x.what
+abbrev pub enter : Line → Entering → NameBytes × Meaning → Entering
+enter line s e = entered (with_first s.meanings e) (clash_after s.clash (value_for s.meanings e.0) e.1 line)
+
+abbrev pub meanings_pass : Table → Entering → Declaration → Entering
+meanings_pass t s x = fold (enter x.line) s (declares t x.what)
+
+abbrev pub all_entered : Table → List Declaration → Entering
+all_entered t ds = fold (meanings_pass t) (entered [] None) ds
+
+abbrev pub with_meanings : Table → List (NameBytes × Meaning) → Table
+with_meanings t ms = record t { meanings = ms }
+
+abbrev pub with_all_meanings : List Declaration → Table → Table
+with_all_meanings ds t = with_meanings t (all_entered t ds).meanings
 
 abbrev pub with_subjects : Table → Table
 with_subjects t = record t { subjects = subjects_by t.meanings (keys_of t.histories) }
@@ -215,4 +234,4 @@ abbrev pub entities_filled : List Declaration → Table
 entities_filled ds = fold entities_pass (with_rows (fold names_pass no_names ds)) ds
 
 abbrev pub filled : List Declaration → Table
-filled ds = with_subjects (fold meanings_pass (fold variables_pass (entities_filled ds) ds) ds)
+filled ds = with_subjects (with_all_meanings ds (fold variables_pass (entities_filled ds) ds))

@@ -6,6 +6,5 @@ use Rattle.ss_tree.specs.declared.preamble.Mode.TheVariants as words
 
 -- the mode of a value: REAL, which is refused, counts as INTEGER
 abbrev pub value_mode : ModeWord → Mode
-value_mode words.Integer = Integer
 value_mode words.Alpha = Alpha
-value_mode words.Real = Integer
+value_mode _ = Integer

@@ -1,8 +1,8 @@
 -- One table of what a program declares. Each thing is numbered by its place in a list.
-use Rattle.std.specs.Prelude.{ℕ, ◌++◌, Bool, true, false, not, List, [], ◌∷◌, map, Option, Some, None, is_some, if◌then◌else◌, slice_get, nat_lt}
-use Rattle.std.specs.List.{flat_map, fold}
+use Rattle.std.specs.Prelude.{ℕ, ◌++◌, Bool, true, false, not, List, [], ◌∷◌, map, Option, Some, None, is_some, if◌then◌else◌, slice_get, unwrap_or}
+use Rattle.std.specs.List.{flat_map}
 use Rattle.std.specs.Map.{keys_of}
-use Rattle.std.specs.Option.{option_map}
+use Rattle.std.specs.Option.{option_map, option_map_or}
 use Rattle.ss_base.specs.declared.line.Line.{Line}
 use Rattle.ss_base.specs.Lines.{line_if}
 use Rattle.ss_base.specs.declared.layout.Mode.{Mode}
@@ -23,7 +23,7 @@ use Rattle.ss_tree.specs.declared.preamble.StatisticKind.{StatisticKind}
 use Rattle.ss_tree.specs.declared.preamble.StatisticKind.TheVariants as kinds
 use Rattle.ss_base.specs.declared.words.Weighting.{Weighting}
 use Rattle.ss_names_declarations.specs.Declarations.{declarations}
-use Rattle.ss_names_declarations.specs.Firsts.{entry_if, firsts, place_among, place_in, value_for}
+use Rattle.ss_names_declarations.specs.Firsts.{entry_if, first_entries, place_among, place_in, value_for}
 use Rattle.ss_names_declarations.specs.declared.declaration.Declared.{Declared}
 use Rattle.ss_names_declarations.specs.declared.declaration.Declared.TheVariants as d
 use Rattle.ss_names_declarations.specs.declared.declaration.Declaration.{Declaration}
@@ -41,8 +41,6 @@ use Rattle.ss_names.specs.Modes.{value_mode}
 pub record Table : Type 0 where
   -- each global and derived name, with what it means
   pub meanings : List (NameBytes × Meaning)
-  -- the first line where a name is declared as two things
-  pub clash : Option Line
   -- the mode that NORMALLY gives
   pub usual : Option Mode
   -- the modes that DEFINEs give
@@ -70,7 +68,6 @@ pub record Table : Type 0 where
 abbrev pub numbered : List Declaration → Table
 numbered ds = record {
   meanings = [];
-  clash = None;
   usual = usual_mode ds;
   modes = modes ds;
   classes = classes ds;
@@ -118,11 +115,11 @@ count_meaning (Some class) (Some Permanent) (Some variable) = Some (m.Count (rec
 count_meaning _ _ _ = None
 
 -- what the name of a class means, and N. of it
-abbrev pub class_named : Table → NameBytes → Option Meaning
-class_named t name = class_meaning (place_in t.classes name) (value_for t.classes name) (place_in t.variables name)
+abbrev pub class_entry : Table → NameBytes → Option Meaning
+class_entry t name = class_meaning (place_in t.classes name) (value_for t.classes name) (place_in t.variables name)
 
-abbrev pub count_named : Table → NameBytes → Option Meaning
-count_named t name = count_meaning (place_in t.classes name) (value_for t.classes name) (place_in t.variables (count_name name))
+abbrev pub count_entry : Table → NameBytes → Option Meaning
+count_entry t name = count_meaning (place_in t.classes name) (value_for t.classes name) (place_in t.variables (count_name name))
 
 abbrev pub attribute_meaning : Attribute → Meaning
 attribute_meaning a = m.Attribute a.class a.field a.mode
@@ -143,7 +140,7 @@ fold_of kinds.Mean = None
 
 -- the names that a declaration declares, and what they mean; a set is declared by its owner and by its members
 abbrev pub declares : Table → Declared → List (NameBytes × Meaning)
-declares t (d.Class name kind) = entry_if name (class_named t name) ++ entry_if (count_name name) (count_named t name)
+declares t (d.Class name kind) = entry_if name (class_entry t name) ++ entry_if (count_name name) (count_entry t name)
 declares t (d.Attribute name class) = entry_if name (option_map attribute_meaning (value_for t.attributes name))
 declares t (d.Owner name class) = set_meanings name (place_among t.set_names name)
 declares t (d.Member name class) = set_meanings name (place_among t.set_names name)
@@ -155,7 +152,7 @@ declares t _ = []
 
 -- each global and derived name, with what it means by its first declaration
 abbrev pub meanings : List Declaration → List (NameBytes × Meaning)
-meanings ds = firsts (given_by (declares (numbered ds)) ds)
+meanings ds = first_entries (given_by (declares (numbered ds)) ds)
 
 -- ---- names that are declared twice
 
@@ -180,8 +177,7 @@ same_of_set _ _ = false
 
 -- whether a name that means the one is declared as another
 abbrev pub is_another : Option Meaning → Meaning → Bool
-is_another None new = false
-is_another (Some known) new = not (same_of_set known new)
+is_another known new = option_map_or (λ old. not (same_of_set old new)) known false
 
 -- the lines where a name is declared that means something by the declarations before it
 abbrev pub clashes_after : List (NameBytes × Meaning) → List Entered → List Line
@@ -192,14 +188,6 @@ clashes_after before (e ∷ es) =
 
 abbrev pub clashes : List Declaration → List Line
 clashes ds = clashes_after [] (flat_map (entered_by (numbered ds)) ds)
-
--- the first in the text of what was found so far and a line
-abbrev pub sooner : Option Line → Line → Option Line
-sooner None line = Some line
-sooner (Some found) line = if nat_lt line.0 found.0 then Some line else Some found
-
-abbrev pub first_line : List Line → Option Line
-first_line lines = fold sooner None lines
 
 -- ---- subjects of statistics
 
@@ -219,7 +207,6 @@ subjects_by ms names = map (λ name. subject_of (value_for ms name)) names
 abbrev pub declared : List Declaration → Table
 declared ds = record (numbered ds) {
   meanings = meanings ds;
-  clash = first_line (clashes ds);
   subjects = subjects_by (meanings ds) (keys_of (histories ds));
 }
 
@@ -227,19 +214,19 @@ declared ds = record (numbered ds) {
 abbrev pub table : ProgramTree → Table
 table p = declared (declarations p)
 
+-- ---- what the table says of names
+
+-- the mode of an attribute by its name
+abbrev pub field_mode : Table → NameBytes → Option Mode
+field_mode t name = option_map (λ (a : Attribute). a.mode) (value_for t.attributes name)
+
 -- ---- who has what a name means
 
-abbrev pub owner_or_system : Option Owner → Owner
-owner_or_system None = owners.System
-owner_or_system (Some owner) = owner
-
 abbrev pub owner_of_set : Option Set → Owner
-owner_of_set None = owners.System
-owner_of_set (Some set) = owner_or_system set.owner
+owner_of_set set = option_map_or (λ (s : Set). unwrap_or s.owner owners.System) set owners.System
 
 abbrev pub owner_of_member : Option Set → Owner
-owner_of_member None = owners.System
-owner_of_member (Some set) = owner_or_system (option_map owners.Class set.member)
+owner_of_member set = option_map_or (λ (s : Set). unwrap_or (option_map owners.Class s.member) owners.System) set owners.System
 
 abbrev pub owner_of_subject : Table → Option Subject → Owner
 owner_of_subject t (Some (subjects.OfAttribute class field)) = owners.Class class
@@ -247,8 +234,7 @@ owner_of_subject t (Some (subjects.OfCount set)) = owner_of_set (slice_get t.set
 owner_of_subject t _ = owners.System
 
 abbrev pub owner_of_statistic : Table → Option (Option Subject) → Owner
-owner_of_statistic t None = owners.System
-owner_of_statistic t (Some subject) = owner_of_subject t subject
+owner_of_statistic t known = option_map_or (owner_of_subject t) known owners.System
 
 -- who has what a name means: each entity of a class, or else THE SYSTEM. A statistic is its subject's.
 abbrev pub owner_of : Table → Meaning → Owner

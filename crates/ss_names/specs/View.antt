@@ -4,10 +4,9 @@ use Rattle.ss_names.specs.declared.names.Names.TheInside.{Inside}
 use Rattle.ss_names.specs.Entries.{row_of}
 use Rattle.ss_names.specs.Table.{Table}
 
-abbrev pub table_seen : Inside → Table
-table_seen n = record {
+abbrev pub view_table : Inside → Table
+view_table n = record {
   meanings = n.meanings;
-  clash = n.clash;
   usual = n.usual;
   modes = n.modes;
   classes = n.classes;

@@ -1,27 +1,23 @@
-//! The filling of the table, in passes over the declarations.
+//! The filling of the table, in passes over the declarations. The last pass is in `entering`.
 
-ghost use Rattle.std.specs.Prelude.{◌≡◌, ◌<◌, ◌++◌, ◌∷◌, [], Some, None, is_some, if◌then◌else◌, length, map, option_map, slice_get, OnOk, IfOk};
+ghost use Rattle.std.specs.Prelude.{IfOk, None, OnOk, [], if◌then◌else◌, is_some, length, map, option_to_list, option_map, slice_get, ◌<◌, ◌∷◌, ◌≡◌};
 ghost use Rattle.std.specs.List.{fold};
 ghost use Rattle.ss_base.specs.declared.layout.Owner.TheVariants as owners;
 ghost use Rattle.ss_tree.specs.Names.{NameBytes};
 ghost use Rattle.ss_names_declarations.specs.Firsts.{entry_if, place_among, place_in, value_for, with_first};
-ghost use Rattle.ss_names.specs.declared.meaning.Meaning.TheVariants as m;
-ghost use Rattle.ss_names.specs.Entries.{class_variables, count_name, fields_by_class, notice_number, number_if, owner_named, row_of, usual_of, with_number};
-ghost use Rattle.ss_names.specs.Table.{attribute_meaning, class_meaning, class_named, count_meaning, count_named, declared, derived_name, fold_of, same_of_set, set_meanings, sooner, subject_of, subjects_by, variable_meaning};
-ghost use Rattle.ss_names.specs.Filling.{HasRows, add_entities, add_meanings, add_names, add_variables, clash_after, enter, entities_pass, field_pushed, fields_added, fields_of, kept_mode, letter_of_member, letter_of_set, meanings_pass, merged_at, merged_with, mode_named, names_pass, no_names, no_set, pushed, row_pushed, variables_pass, with_field, with_fields, with_ranks, with_rows, with_set, with_sets, with_subjects, with_variables};
+ghost use Rattle.ss_names.specs.Entries.{class_variables, fields_by_class, notice_number, owner_named, row_of, usual_of, with_number};
+ghost use Rattle.ss_names.specs.Table.{clashes, declared};
+ghost use Rattle.ss_names.specs.Filling.{HasRows, add_entities, add_names, add_variables, entities_pass, field_pushed, fields_added, fields_of, first_line, kept_mode, merged_at, merged_with, mode_named, names_pass, no_names, no_set, pushed, row_pushed, variables_pass, with_field, with_fields, with_ranks, with_rows, with_set, with_sets, with_variables};
 
+use crate::entering::{fill_meanings, fill_subjects};
 use crate::entry::{Attribute, EventSection, Order, RankedBy, RoutineSection, Set, TiedBy};
-use crate::meaning::Meaning;
 use crate::meanings::Meanings;
 use crate::names::{Names, value_mode};
 use ss_base::{ClassKind, Line, Mode, Name, Owner, Spelling};
 use ss_names_declarations::{
     Declaration, Declared, Keys, Seed, Table, has_entry, insert_first, insert_spelled,
 };
-use ss_program::expression::{Fold, MemberQuery, SetQuery, Variable};
-use ss_program::sections::Subject;
-use ss_program::statement::CountedClass;
-use ss_tree::preamble::{Mode as ModeWord, StatisticKind};
+use ss_tree::preamble::Mode as ModeWord;
 use std::alloc::{AllocError, Global};
 
 /// The table of no declarations.
@@ -30,7 +26,6 @@ pub fn empty(alloc: Global, seed: Seed) -> Names
 {
     Names {
         meanings: Meanings::new(alloc, seed),
-        clash: None,
         usual: None,
         modes: Table::new(alloc, seed),
         classes: Table::new(alloc, seed),
@@ -239,21 +234,21 @@ fn push_attribute(names: &mut Names, attribute: Name, class: usize) -> Result<()
 }
 
 // Whether a name is that of an attribute.
-fn has_attribute(names: &Names, name: &Name) -> bool
+pub(crate) fn has_attribute(names: &Names, name: &Name) -> bool
     ensures { result ≡ is_some (value_for names.now.attributes name.now) }
 {
     has_entry(&names.attributes, name)
 }
 
 // The number of a class.
-fn class_number(names: &Names, class: &Name) -> Option<usize>
+pub(crate) fn class_number(names: &Names, class: &Name) -> Option<usize>
     ensures { result ≡ place_in names.now.classes class.now }
 {
     names.classes.place(class)
 }
 
 // The number of a set.
-fn set_number(names: &Names, set: &Name) -> Option<usize>
+pub(crate) fn set_number(names: &Names, set: &Name) -> Option<usize>
     ensures { result ≡ place_among names.now.set_names set.now }
 {
     names.set_names.place(set)
@@ -344,7 +339,7 @@ fn merge_set(names: &mut Names, set: &Name, more: Set)
 
 // The number of a class of notices.
 fn notice_number(names: &Names, class: &Name) -> Option<usize>
-    ensures { number_if result ≡ notice_number names.now.classes class.now }
+    ensures { option_to_list result ≡ notice_number names.now.classes class.now }
 {
     if names.is_notice(class) {
         class_number(names, class)
@@ -484,414 +479,25 @@ fn fill_variables(names: &mut Names, declarations: &[Declaration]) -> Result<(),
     Ok(())
 }
 
-// ---- the last pass: what names mean
-
-// Whether both are what the owner of a set and the class of its members declare.
-fn same_of_set(known: Meaning, new: Meaning) -> bool
-    ensures { result ≡ same_of_set known new }
-{
-    match known {
-        Meaning::Set { .. } => matches!(new, Meaning::Set { .. }),
-        Meaning::OfSet { .. } => matches!(new, Meaning::OfSet { .. }),
-        Meaning::OfMember { .. } => matches!(new, Meaning::OfMember { .. }),
-        _ => false,
-    }
-}
-
-// The first in the text of what was found so far and a line.
-fn sooner(found: Option<Line>, line: Line) -> Option<Line>
-    ensures { result ≡ sooner found line }
-{
-    match found {
-        None => Some(line),
-        Some(first) => {
-            if line.0 < first.0 {
-                Some(line)
-            } else {
-                Some(first)
-            }
-        }
-    }
-}
-
-// The first line where a name is declared as two things, after a declaration of a name that is known as this or not yet.
-fn clash_after(
-    clash: Option<Line>,
-    known: Option<Meaning>,
-    new: Meaning,
-    line: Line,
-) -> Option<Line>
-    ensures { result ≡ clash_after clash known new line }
-{
-    match known {
-        None => clash,
-        Some(known) => {
-            if same_of_set(known, new) {
-                clash
-            } else {
-                sooner(clash, line)
-            }
-        }
-    }
-}
-
-// Enters what a name means, or notes that it is declared as another thing.
-fn enter(
-    names: &mut Names,
-    line: Line,
-    spelling: Spelling,
-    meaning: Meaning,
-) -> Result<(), AllocError>
-    ensures { OnOk result (names.new ≡ enter line names.old (spelling, meaning)) }
-{
-    let known = names.meanings.meaning(&spelling);
-    names.clash = clash_after(names.clash, known, meaning, line);
-    names.meanings.insert(spelling, meaning)
-}
-
-// Enters what a name means, if it means anything.
-fn enter_if(
-    names: &mut Names,
-    line: Line,
-    spelling: Spelling,
-    meaning: Option<Meaning>,
-) -> Result<(), AllocError>
-    ensures { OnOk result (names.new ≡ fold (enter line) names.old (entry_if spelling meaning)) }
-{
-    match meaning {
-        Some(meaning) => enter(names, line, spelling, meaning),
-        None => Ok(()),
-    }
-}
-
-// What a class means, by its number, its kind and its variable.
-fn class_meaning(
-    class: Option<usize>,
-    kind: Option<ClassKind>,
-    variable: Option<usize>,
-) -> Option<Meaning>
-    ensures { result ≡ class_meaning class kind variable }
-{
-    let class = class?;
-    let kind = kind?;
-    let variable = variable?;
-    Some(Meaning::Class {
-        class,
-        kind,
-        variable,
-    })
-}
-
-// What N. of a class means, by the number of the class, its kind and the variable of N.
-fn count_meaning(
-    class: Option<usize>,
-    kind: Option<ClassKind>,
-    variable: Option<usize>,
-) -> Option<Meaning>
-    ensures { result ≡ count_meaning class kind variable }
-{
-    let class = class?;
-    let kind = kind?;
-    let variable = variable?;
-    match kind {
-        ClassKind::Permanent => Some(Meaning::Count {
-            count: CountedClass { class, variable },
-        }),
-        ClassKind::Temporary => None,
-        ClassKind::Notice => None,
-    }
-}
-
-// The kind of a class.
-fn class_kind(names: &Names, class: &Name) -> Option<ClassKind>
-    ensures { result ≡ value_for names.now.classes class.now }
-{
-    names.classes.get(class).copied()
-}
-
-// The number of a global variable.
-fn variable_number(names: &Names, variable: &Spelling) -> Option<usize>
-    ensures { result ≡ place_in names.now.variables variable.now }
-{
-    names.variables.place(variable)
-}
-
-// What the name of a class means.
-fn class_named(names: &Names, name: &Name) -> Option<Meaning>
-    ensures { result ≡ class_named names.now name.now }
-{
-    let class = class_number(names, name);
-    let kind = class_kind(names, name);
-    let variable = variable_number(names, &Spelling::of_name(name));
-    class_meaning(class, kind, variable)
-}
-
-// What N. of the name of a class means.
-fn count_named(names: &Names, name: &Name) -> Option<Meaning>
-    ensures { result ≡ count_named names.now name.now }
-{
-    let class = class_number(names, name);
-    let kind = class_kind(names, name);
-    let variable = variable_number(names, &Spelling::derived(b'N', name));
-    count_meaning(class, kind, variable)
-}
-
-// Enters a class, and N. of it if it is permanent.
-fn enter_class(names: &mut Names, line: Line, name: &Name) -> Result<(), AllocError>
-    ensures { OnOk result (names.new ≡ fold (enter line) names.old (entry_if name.now (class_named names.old name.now) ++ entry_if (count_name name.now) (count_named names.old name.now))) }
-{
-    let meaning = class_named(names, name);
-    let count = count_named(names, name);
-    enter_if(names, line, Spelling::of_name(name), meaning)?;
-    enter_if(names, line, Spelling::derived(b'N', name), count)
-}
-
-// Enters F., L. or N. of a set.
-fn enter_of_set(
-    names: &mut Names,
-    line: Line,
-    name: &Name,
-    query: SetQuery,
-    set: usize,
-) -> Result<(), AllocError>
-    ensures { OnOk result (names.new ≡ enter line names.old (derived_name (letter_of_set query) name.now, m.OfSet query set)) }
-{
-    let spelling = Spelling::derived(letter_of_set(query), name);
-    enter(names, line, spelling, Meaning::OfSet { query, set })
-}
-
-// The letter of F., L. or N.
-fn letter_of_set(query: SetQuery) -> u8
-    ensures { result ≡ letter_of_set query }
-{
-    match query {
-        SetQuery::FirstMember => b'F',
-        SetQuery::LastMember => b'L',
-        SetQuery::MemberCount => b'N',
-    }
-}
-
-// Enters P., S. or M. of a set.
-fn enter_of_member(
-    names: &mut Names,
-    line: Line,
-    name: &Name,
-    query: MemberQuery,
-    set: usize,
-) -> Result<(), AllocError>
-    ensures { OnOk result (names.new ≡ enter line names.old (derived_name (letter_of_member query) name.now, m.OfMember query set)) }
-{
-    let spelling = Spelling::derived(letter_of_member(query), name);
-    enter(names, line, spelling, Meaning::OfMember { query, set })
-}
-
-// The letter of P., S. or M.
-fn letter_of_member(query: MemberQuery) -> u8
-    ensures { result ≡ letter_of_member query }
-{
-    match query {
-        MemberQuery::Predecessor => b'P',
-        MemberQuery::Successor => b'S',
-        MemberQuery::Membership => b'M',
-    }
-}
-
-// Enters the set of this number and its derived names.
-fn enter_numbered(names: &mut Names, line: Line, name: &Name, set: usize) -> Result<(), AllocError>
-    ensures { OnOk result (names.new ≡ fold (enter line) names.old (set_meanings name.now (Some set))) }
-{
-    enter(names, line, Spelling::of_name(name), Meaning::Set { set })?;
-    enter_of_set(names, line, name, SetQuery::FirstMember, set)?;
-    enter_of_set(names, line, name, SetQuery::LastMember, set)?;
-    enter_of_set(names, line, name, SetQuery::MemberCount, set)?;
-    enter_of_member(names, line, name, MemberQuery::Predecessor, set)?;
-    enter_of_member(names, line, name, MemberQuery::Successor, set)?;
-    enter_of_member(names, line, name, MemberQuery::Membership, set)
-}
-
-// Enters a set and its derived names.
-fn enter_set(names: &mut Names, line: Line, name: &Name) -> Result<(), AllocError>
-    ensures { OnOk result (names.new ≡ fold (enter line) names.old (set_meanings name.now (place_among names.old.set_names name.now))) }
-{
-    match set_number(names, name) {
-        Some(set) => enter_numbered(names, line, name, set),
-        None => Ok(()),
-    }
-}
-
-// What an attribute means.
-fn attribute_meaning(names: &Names, attribute: &Name) -> Option<Meaning>
-    ensures { result ≡ option_map attribute_meaning (value_for names.now.attributes attribute.now) }
-{
-    match names.attributes.get(attribute).copied() {
-        Some(entry) => Some(Meaning::Attribute {
-            class: entry.class,
-            field: entry.field,
-            mode: entry.mode,
-        }),
-        None => None,
-    }
-}
-
-// What a DEFINE of a variable means: none if it gives an attribute its mode.
-fn variable_meaning(names: &Names, variable: &Name, mode: Mode) -> Option<Meaning>
-    ensures { result ≡ variable_meaning names.now variable.now mode }
-{
-    if has_attribute(names, variable) {
-        return None;
-    }
-    match names.variables.place(&Spelling::of_name(variable)) {
-        Some(number) => Some(Meaning::Variable {
-            variable: Variable::Global { number },
-            mode,
-        }),
-        None => None,
-    }
-}
-
-// The fold of a statistic; a MEAN has none.
-fn fold_of(kind: StatisticKind) -> Option<Fold>
-    ensures { result ≡ fold_of kind }
-{
-    match kind {
-        StatisticKind::Number => Some(Fold::Number),
-        StatisticKind::Sum => Some(Fold::Sum),
-        StatisticKind::Maximum => Some(Fold::Maximum),
-        StatisticKind::Minimum => Some(Fold::Minimum),
-        StatisticKind::Mean => None,
-    }
-}
-
-// What a statistic of a subject means.
-fn statistic_meaning(names: &Names, kind: StatisticKind, subject: &Name) -> Option<Meaning>
-    ensures { result ≡ option_map (m.Statistic (fold_of kind)) (place_in names.now.histories subject.now) }
-{
-    let fold = fold_of(kind);
-    match names.histories.place(subject) {
-        Some(statistic) => Some(Meaning::Statistic { fold, statistic }),
-        None => None,
-    }
-}
-
-// What a routine means.
-fn routine_meaning(names: &Names, routine: &Name) -> Option<Meaning>
-    ensures { result ≡ option_map m.Routine (place_in names.now.routines routine.now) }
-{
-    match names.routines.place(routine) {
-        Some(routine) => Some(Meaning::Routine { routine }),
-        None => None,
-    }
-}
-
-// Enters what names mean, by a declaration in this line.
-fn add_meanings(names: &mut Names, line: Line, what: &Declared) -> Result<(), AllocError>
-    ensures { OnOk result (names.new ≡ add_meanings names.old line what.now) }
-{
-    match what {
-        Declared::Class { class, .. } => enter_class(names, line, class),
-        Declared::Attribute { attribute, .. } => {
-            let meaning = attribute_meaning(names, attribute);
-            enter_if(names, line, Spelling::of_name(attribute), meaning)
-        }
-        Declared::Owner { set, .. } => enter_set(names, line, set),
-        Declared::Member { set, .. } => enter_set(names, line, set),
-        Declared::Variable { variable, mode } => {
-            let meaning = variable_meaning(names, variable, value_mode(*mode));
-            enter_if(names, line, Spelling::of_name(variable), meaning)
-        }
-        Declared::Statistic {
-            statistic,
-            kind,
-            subject,
-        } => {
-            let meaning = statistic_meaning(names, *kind, subject);
-            enter_if(names, line, Spelling::of_name(statistic), meaning)
-        }
-        Declared::Routine { routine, .. } => {
-            let meaning = routine_meaning(names, routine);
-            enter_if(names, line, Spelling::of_name(routine), meaning)
-        }
-        _ => Ok(()),
-    }
-}
-
-// The last pass.
-fn fill_meanings(names: &mut Names, declarations: &[Declaration]) -> Result<(), AllocError>
-    ensures { OnOk result (names.new ≡ fold meanings_pass names.old declarations.now) }
-{
-    for declaration in declarations {
-        add_meanings(names, declaration.line, &declaration.what)?;
-    }
-    Ok(())
-}
-
-// ---- subjects of statistics
-
-// The subject that a name means: a variable of a DEFINE, an attribute, or N. of a set.
-fn subject_of(meaning: Option<Meaning>) -> Option<Subject>
-    ensures { result ≡ subject_of meaning }
-{
-    match meaning {
-        Some(
-            Meaning::Variable {
-                variable: Variable::Global { number },
-                ..
-            },
-        ) => Some(Subject::OfVariable { number }),
-        Some(Meaning::Attribute { class, field, .. }) => {
-            Some(Subject::OfAttribute { class, field })
-        }
-        Some(
-            Meaning::OfSet {
-                query: SetQuery::MemberCount,
-                set,
-            },
-        ) => Some(Subject::OfCount { set }),
-        _ => None,
-    }
-}
-
-// What these names are subjects of.
-fn subjects_of(
-    alloc: Global,
-    meanings: &Meanings,
-    names: &[Name],
-) -> Result<Vec<Option<Subject>>, AllocError>
-    ensures { IfOk result (λ subjects. subjects.items ≡ subjects_by meanings.now names.now) }
-{
-    let mut subjects = Vec::new(alloc);
-    for name in names {
-        let subject = subject_of(meanings.meaning(&Spelling::of_name(name)));
-        subjects.push(subject)?;
-    }
-    Ok(subjects)
-}
-
-// Enters the subjects of statistics.
-fn fill_subjects(alloc: Global, names: &mut Names) -> Result<(), AllocError>
-    ensures { OnOk result (names.new ≡ with_subjects names.old) }
-{
-    let subjects = subjects_of(alloc, &names.meanings, names.histories.keys())?;
-    names.subjects = subjects;
-    Ok(())
-}
-
-/// Fills the table of no declarations by these.
+/// Fills the table of no declarations by these. The answer is the first line where a name is declared as two things.
 ///
 /// # Errors
 /// `AllocError` where memory is refused.
 pub fn fill(
     alloc: Global,
+    seed: Seed,
     names: &mut Names,
     declarations: &[Declaration],
-) -> Result<(), AllocError>
+) -> Result<Option<Line>, AllocError>
     requires { names.old ≡ no_names }
-    ensures { OnOk result (names.new ≡ declared declarations.now) }
+    ensures names { OnOk result (names.new ≡ declared declarations.now) }
+    ensures clash { IfOk result (λ clash. clash ≡ first_line (clashes declarations.now)) }
 {
     fill_names(names, declarations)?;
     add_rows(alloc, names)?;
     fill_entities(names, declarations)?;
     fill_variables(names, declarations)?;
-    fill_meanings(names, declarations)?;
-    fill_subjects(alloc, names)
+    let clash = fill_meanings(alloc, seed, names, declarations)?;
+    fill_subjects(alloc, names)?;
+    Ok(clash)
 }

@@ -1,6 +1,7 @@
 //! One table of what a program declares, with what each global and derived name means.
 #![tactic(auto)]
 
+mod entering;
 mod entry;
 mod filling;
 mod meaning;

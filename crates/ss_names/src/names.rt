@@ -1,11 +1,13 @@
 //! The table of a program.
 
-ghost use Rattle.std.specs.Prelude.{◌≡◌, ◌<◌, length, map, slice_get, get_or, option_map, Some, [], IfOk};
+ghost use Rattle.std.specs.Prelude.{◌≡◌, ◌<◌, length, map, slice_get, get_or, option_map, unwrap_or, Some, [], IfOk};
 ghost use Rattle.std.specs.Map.{keys_of};
+ghost use Rattle.ss_base.specs.declared.layout.Owner.TheVariants as owners;
 ghost use Rattle.ss_names_declarations.specs.Firsts.{place_in, value_for};
 ghost use Rattle.ss_names.specs.Modes.{value_mode};
 ghost use Rattle.ss_names.specs.Entries.{is_notice, row_of};
-ghost use Rattle.ss_names.specs.Table.{declared, owner_of, owner_of_member, owner_of_set, owner_of_statistic, owner_of_subject, owner_or_system};
+ghost use Rattle.ss_names.specs.Filling.{first_line};
+ghost use Rattle.ss_names.specs.Table.{clashes, declared, owner_of, owner_of_member, owner_of_set, owner_of_statistic, owner_of_subject};
 
 use crate::entry::{Attribute, EventSection, RankedBy, RoutineSection, Set, TiedBy};
 use crate::filling::{empty, fill};
@@ -41,8 +43,6 @@ pub fn value_mode(mode: ModeWord) -> Mode
 pub struct Names {
     /// Each global and derived name, with what it means.
     pub meanings: Meanings,
-    /// The first line where a name is declared as two things.
-    pub clash: Option<Line>,
     /// The mode that NORMALLY gives to every name that has none.
     pub usual: Option<Mode>,
     /// The modes that DEFINEs give.
@@ -72,14 +72,14 @@ impl Model for Names {
 
     ghost Value = { Table };
 
-    ghost use Rattle.ss_names.specs.View.{table_seen};
+    ghost use Rattle.ss_names.specs.View.{view_table};
 
-    ghost view = { table_seen };
+    ghost view = { view_table };
 }
 
 // THE SYSTEM, where no owner is known.
 fn owner_or_system(owner: Option<Owner>) -> Owner
-    ensures { result ≡ owner_or_system owner }
+    ensures { result ≡ unwrap_or owner owners.System }
 {
     match owner {
         None => Owner::System,
@@ -103,16 +103,22 @@ impl Names {
         let _released = self;
     }
 
-    /// The table of these declarations. The seed is made from all names in them.
+    /// The table of these declarations, and the first line where one of them declares a name as another thing than before. The seed
+    /// is made from all names in them.
     ///
     /// # Errors
     /// `AllocError` where memory is refused.
-    pub fn of(alloc: Global, seed: Seed, declarations: &[Declaration]) -> Result<Names, AllocError>
-        ensures { IfOk result (λ n. n ≡ declared declarations.now) }
+    pub fn of(
+        alloc: Global,
+        seed: Seed,
+        declarations: &[Declaration],
+    ) -> Result<(Names, Option<Line>), AllocError>
+        ensures names { IfOk result (λ made. made.0 ≡ declared declarations.now) }
+        ensures clash { IfOk result (λ made. made.1 ≡ first_line (clashes declarations.now)) }
     {
         let mut names = empty(alloc, seed);
-        fill(alloc, &mut names, declarations)?;
-        Ok(names)
+        let clash = fill(alloc, seed, &mut names, declarations)?;
+        Ok((names, clash))
     }
 
     /// The global or derived name of this spelling, in capitals. None where there is none.

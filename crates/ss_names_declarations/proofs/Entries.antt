@@ -9,7 +9,7 @@ use Rattle.std.proofs.lemmas.Bool.Decides.{nat_tests}
 use Rattle.std.proofs.lemmas.Cmp.{nat_list_eq_equiv}
 use Rattle.std.proofs.lemmas.Map.Entries.{lookup_from_place}
 use Rattle.std.proofs.lemmas.Option.{slice_get-map}
-use Rattle.ss_names_declarations.specs.Firsts.{entry_beside, firsts, place_in, same_name, value_for, with_first}
+use Rattle.ss_names_declarations.specs.Firsts.{entry_beside, first_entries, place_in, same_name, value_for, with_first}
 
 -- ---- by places
 
@@ -133,7 +133,7 @@ module _ {V : Type 0} where
   folded_once start [] d = d
   folded_once start (e ∷ es) d = folded_once (with_first start e) es (beside_once start e (value_for start e.0) refl d)
 
-  pub firsts_once : (all : List (List ℕ × V)) → IsDistinct same_name (keys_of (firsts all))
+  pub firsts_once : (all : List (List ℕ × V)) → IsDistinct same_name (keys_of (first_entries all))
   firsts_once all = folded_once [] all none_once
 
   -- the value at a place is the value for its name, where each name has one entry
@@ -198,7 +198,7 @@ module _ {V : Type 0} where
       value_folded (with_first start e) es name ∙ with_one start e (value_for start e.0) (value_for es name) name refl
 
   -- of each name the first entry counts
-  pub value_in_firsts : (all : List (List ℕ × V)) (name : List ℕ) → value_for (firsts all) name ≡ value_for all name
+  pub value_in_firsts : (all : List (List ℕ × V)) (name : List ℕ) → value_for (first_entries all) name ≡ value_for all name
   value_in_firsts all name = value_folded [] all name
 
 -- one more entry, where its name has none yet

@@ -1,5 +1,5 @@
 -- What a program declares: a list, in the order of the text.
-use Rattle.std.specs.Prelude.{ℕ, ◌+◌, List, [], ◌∷◌, ◌++◌, map, length, Option, Some, None}
+use Rattle.std.specs.Prelude.{ℕ, ◌+◌, List, [], ◌∷◌, ◌++◌, map, length, Some, None}
 use Rattle.std.specs.List.{flat_map}
 use Rattle.ss_base.specs.declared.line.Line.{Line}
 use Rattle.ss_base.specs.declared.layout.ClassKind.TheVariants.{Notice}
@@ -7,7 +7,7 @@ use Rattle.ss_tree.specs.Names.{NameBytes}
 use Rattle.ss_tree.specs.declared.preamble.Key.{Key}
 use Rattle.ss_tree.specs.declared.preamble.Mode.{Mode}
 use Rattle.ss_tree.specs.declared.preamble.Statistic.{Statistic as StatisticTree}
-use Rattle.ss_tree.specs.Tree.{ClauseTree, has, owns, belongs_to, OrderTree, fifo, lifo, ranked, PreambleTree, permanent_entities, temporary_entities, event_notices, every, normally, system_owns, define_variables, define_sets, priority_order, break_ties, statistics, DefinitionTree, SectionKindTree, main, routine, event, SectionTree, ProgramTree}
+use Rattle.ss_tree.specs.Tree.{ClauseTree, has, owns, belongs_to, OrderTree, fifo, lifo, ranked, PreambleTree, event_notices, every, normally, system_owns, define_variables, define_sets, priority_order, break_ties, statistics, DefinitionTree, SectionKindTree, main, routine, event, SectionTree, ProgramTree}
 use Rattle.ss_names_declarations.specs.declared.declaration.SetRule.{SetRule}
 use Rattle.ss_names_declarations.specs.declared.declaration.SetRule.TheVariants.{Fifo, Lifo, Ranked}
 use Rattle.ss_names_declarations.specs.declared.declaration.Declared.{Declared}
@@ -18,44 +18,6 @@ use Rattle.ss_names_declarations.specs.declared.declaration.Declaration.{Declara
 
 abbrev pub at_line : Line → Declared → Declaration
 at_line line what = record { line = line; what = what }
-
--- an attribute of a class
-abbrev pub attribute : Line → NameBytes → NameBytes → Declaration
-attribute line class name = at_line line (Attribute name class)
-
--- a set of a class, or of THE SYSTEM
-abbrev pub owned_set : Line → Option NameBytes → NameBytes → Declaration
-owned_set line class name = at_line line (Owner name class)
-
--- a set that the entities of a class may belong to
-abbrev pub member_set : Line → NameBytes → NameBytes → Declaration
-member_set line class name = at_line line (Member name class)
-
--- a class of notices after INCLUDE
-abbrev pub notice : Line → NameBytes → Declaration
-notice line name = at_line line (Class name Notice)
-
-abbrev pub variable : Line → Mode → NameBytes → Declaration
-variable line mode name = at_line line (Variable name mode)
-
--- a set that the DEFINE of this number orders
-abbrev pub ordered_set : Line → SetRule → ℕ → NameBytes → Declaration
-ordered_set line rule number name = at_line line (Order name rule number)
-
--- a key of the DEFINE of this number
-abbrev pub rank_key : Line → ℕ → Key → Declaration
-rank_key line number key = at_line line (RankKey key.name key.high number)
-
--- a class in the priority order
-abbrev pub priority : Line → NameBytes → Declaration
-priority line name = at_line line (Priority name)
-
--- a key for the ties of a class
-abbrev pub tie_key : Line → NameBytes → Key → Declaration
-tie_key line class key = at_line line (TieKey class key.name key.high)
-
-abbrev pub statistic : Line → NameBytes → StatisticTree → Declaration
-statistic line subject s = at_line line (Statistic s.name s.kind subject)
 
 -- what the section of this number is given or yields
 abbrev pub parameter : Line → ℕ → NameBytes → Declaration
@@ -69,9 +31,9 @@ local line number mode name = at_line line (Local name number mode)
 
 -- what a clause of an EVERY declares, of its class
 abbrev pub in_clause : Line → NameBytes → ClauseTree → List Declaration
-in_clause line class (has names) = map (attribute line class) names
-in_clause line class (owns names) = map (owned_set line (Some class)) names
-in_clause line class (belongs_to names) = map (member_set line class) names
+in_clause line class (has names) = map (λ name. at_line line (Attribute name class)) names
+in_clause line class (owns names) = map (λ set. at_line line (Owner set (Some class))) names
+in_clause line class (belongs_to names) = map (λ set. at_line line (Member set class)) names
 
 -- how a DEFINE orders its sets
 abbrev pub rule_of : OrderTree → SetRule
@@ -81,26 +43,24 @@ rule_of (ranked keys) = Ranked
 
 -- the keys by which the DEFINE of this number ranks its sets
 abbrev pub in_order : Line → ℕ → OrderTree → List Declaration
-in_order line number fifo = []
-in_order line number lifo = []
-in_order line number (ranked keys) = map (rank_key line number) keys
+in_order line number (ranked keys) = map (λ (key : Key). at_line line (RankKey key.name key.high number)) keys
+in_order line number _ = []
 
 -- what the statement of this number in the preamble declares
 abbrev pub in_statement : ℕ → PreambleTree → List Declaration
-in_statement number (permanent_entities line) = []
-in_statement number (temporary_entities line) = []
-in_statement number (event_notices line names) = map (notice line) names
+in_statement number (event_notices line names) = map (λ name. at_line line (Class name Notice)) names
 in_statement number (every line kind class clauses) =
     at_line line (Class class kind) ∷ flat_map (in_clause line class) clauses
 in_statement number (normally line mode) = at_line line (Normally mode) ∷ []
-in_statement number (system_owns line sets) = map (owned_set line None) sets
-in_statement number (define_variables line names mode) = map (variable line mode) names
+in_statement number (system_owns line sets) = map (λ set. at_line line (Owner set None)) sets
+in_statement number (define_variables line names mode) = map (λ name. at_line line (Variable name mode)) names
 in_statement number (define_sets line names order) =
-    map (ordered_set line (rule_of order) number) names ++ in_order line number order
-in_statement number (priority_order line classes) = at_line line PriorityOrder ∷ map (priority line) classes
-in_statement number (break_ties line class keys) = at_line line (Ties class) ∷ map (tie_key line class) keys
+    map (λ set. at_line line (Order set (rule_of order) number)) names ++ in_order line number order
+in_statement number (priority_order line classes) = at_line line PriorityOrder ∷ map (λ class. at_line line (Priority class)) classes
+in_statement number (break_ties line class keys) = at_line line (Ties class) ∷ map (λ (key : Key). at_line line (TieKey class key.name key.high)) keys
 in_statement number (statistics line weighting found subject) =
-    map (statistic line subject) found ++ at_line line (Subject subject weighting) ∷ []
+    map (λ (s : StatisticTree). at_line line (Statistic s.name s.kind subject)) found ++ at_line line (Subject subject weighting) ∷ []
+in_statement number _ = []
 
 -- ---- sections
 

@@ -49,12 +49,12 @@ ranked_sets = refl
 
 -- EVENT NOTICES INCLUDE RED AND GREEN (in line 1)
 -- PRIORITY ORDER IS GREEN
--- BREAK RED TIES BY HIGH A THEN BY LOW B
-pub notices : declarations (record { preamble = event_notices (line 1) (codes "RED" ∷ codes "GREEN" ∷ []) ∷ priority_order (line 2) (codes "GREEN" ∷ []) ∷ break_ties (line 3) (codes "RED") (key true (codes "A") ∷ key false (codes "B") ∷ []) ∷ []; sections = [] }) ≡
+-- BREAK RED TIES BY HIGH P THEN BY LOW Q
+pub notices : declarations (record { preamble = event_notices (line 1) (codes "RED" ∷ codes "GREEN" ∷ []) ∷ priority_order (line 2) (codes "GREEN" ∷ []) ∷ break_ties (line 3) (codes "RED") (key true (codes "P") ∷ key false (codes "Q") ∷ []) ∷ []; sections = [] }) ≡
     declares 1 (d.Class (codes "RED") class_kinds.Notice) ∷ declares 1 (d.Class (codes "GREEN") class_kinds.Notice) ∷
     declares 2 d.PriorityOrder ∷ declares 2 (d.Priority (codes "GREEN")) ∷
-    declares 3 (d.Ties (codes "RED")) ∷ declares 3 (d.TieKey (codes "RED") (codes "A") true) ∷
-    declares 3 (d.TieKey (codes "RED") (codes "B") false) ∷ []
+    declares 3 (d.Ties (codes "RED")) ∷ declares 3 (d.TieKey (codes "RED") (codes "P") true) ∷
+    declares 3 (d.TieKey (codes "RED") (codes "Q") false) ∷ []
 notices = refl
 
 -- ACCUMULATE TOTAL AS THE SUM, PEAK AS THE MAXIMUM OF N.LINEUP

@@ -24,8 +24,8 @@ abbrev pub with_first : {V : Type 0} → List (List ℕ × V) → List ℕ × V 
 with_first entries e = entry_beside entries e (value_for entries e.0)
 
 -- each name once, with the first of its entries
-abbrev pub firsts : {V : Type 0} → List (List ℕ × V) → List (List ℕ × V)
-firsts all = fold with_first [] all
+abbrev pub first_entries : {V : Type 0} → List (List ℕ × V) → List (List ℕ × V)
+first_entries all = fold with_first [] all
 
 -- the names and one more, unless it is among them
 abbrev pub with_name : List (List ℕ) → List ℕ → List (List ℕ)

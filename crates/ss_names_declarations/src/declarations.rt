@@ -3,7 +3,12 @@
 ghost use Rattle.std.specs.Prelude.{◌≡◌, [], ◌∷◌, ◌++◌, map, OnOk, IfOk};
 ghost use Rattle.std.specs.List.{flat_map};
 ghost use Rattle.ss_tree.specs.View.{view_clause, view_order, view_preamble, view_definition, view_kind, view_section, view_program};
-ghost use Rattle.ss_names_declarations.specs.Declarations.{at_line, attribute, owned_set, member_set, notice, variable, ordered_set, rank_key, priority, tie_key, statistic, parameter, local, in_clause, rule_of, in_order, in_statement, in_head, in_definition, in_section, flat_map_from, declarations};
+ghost use Rattle.ss_base.specs.declared.layout.ClassKind.TheVariants as kinds;
+ghost use Rattle.ss_tree.specs.Names.{NameBytes};
+ghost use Rattle.ss_tree.specs.declared.preamble.Key.{Key as KeySeen};
+ghost use Rattle.ss_tree.specs.declared.preamble.Statistic.{Statistic as StatisticSeen};
+ghost use Rattle.ss_names_declarations.specs.declared.declaration.Declared.TheVariants as d;
+ghost use Rattle.ss_names_declarations.specs.Declarations.{at_line, parameter, local, in_clause, rule_of, in_order, in_statement, in_head, in_definition, in_section, flat_map_from, declarations};
 
 use crate::declaration::{Declaration, Declared, SetRule};
 use ss_base::{Line, Name};
@@ -28,7 +33,7 @@ fn add_attributes(
     class: Name,
     names: &[Name],
 ) -> Result<(), AllocError>
-    ensures { OnOk result (out.new.items ≡ out.old.items ++ map (attribute line class) names.now) }
+    ensures { OnOk result (out.new.items ≡ out.old.items ++ map (λ (name : NameBytes). at_line line (d.Attribute name class)) names.now) }
 {
     for name in names {
         let attribute = Declared::Attribute {
@@ -47,7 +52,7 @@ fn add_owned_sets(
     class: &Option<Name>,
     names: &[Name],
 ) -> Result<(), AllocError>
-    ensures { OnOk result (out.new.items ≡ out.old.items ++ map (owned_set line class.now) names.now) }
+    ensures { OnOk result (out.new.items ≡ out.old.items ++ map (λ (set : NameBytes). at_line line (d.Owner set class.now)) names.now) }
 {
     for name in names {
         let owner = Declared::Owner {
@@ -66,7 +71,7 @@ fn add_member_sets(
     class: Name,
     names: &[Name],
 ) -> Result<(), AllocError>
-    ensures { OnOk result (out.new.items ≡ out.old.items ++ map (member_set line class) names.now) }
+    ensures { OnOk result (out.new.items ≡ out.old.items ++ map (λ (set : NameBytes). at_line line (d.Member set class)) names.now) }
 {
     for name in names {
         add(out, line, Declared::Member { set: *name, class })?;
@@ -107,7 +112,7 @@ fn add_clauses(
 
 // Adds the classes of notices after INCLUDE.
 fn add_notices(out: &mut Vec<Declaration>, line: Line, names: &[Name]) -> Result<(), AllocError>
-    ensures { OnOk result (out.new.items ≡ out.old.items ++ map (notice line) names.now) }
+    ensures { OnOk result (out.new.items ≡ out.old.items ++ map (λ (name : NameBytes). at_line line (d.Class name kinds.Notice)) names.now) }
 {
     for name in names {
         let notice = Declared::Class {
@@ -126,7 +131,7 @@ fn add_variables(
     mode: Mode,
     names: &[Name],
 ) -> Result<(), AllocError>
-    ensures { OnOk result (out.new.items ≡ out.old.items ++ map (variable line mode) names.now) }
+    ensures { OnOk result (out.new.items ≡ out.old.items ++ map (λ (name : NameBytes). at_line line (d.Variable name mode)) names.now) }
 {
     for name in names {
         let variable = Declared::Variable {
@@ -157,7 +162,7 @@ fn add_ordered_sets(
     statement: usize,
     names: &[Name],
 ) -> Result<(), AllocError>
-    ensures { OnOk result (out.new.items ≡ out.old.items ++ map (ordered_set line rule statement) names.now) }
+    ensures { OnOk result (out.new.items ≡ out.old.items ++ map (λ (set : NameBytes). at_line line (d.Order set rule statement)) names.now) }
 {
     for name in names {
         let order = Declared::Order {
@@ -177,7 +182,7 @@ fn add_rank_keys(
     statement: usize,
     keys: &[Key],
 ) -> Result<(), AllocError>
-    ensures { OnOk result (out.new.items ≡ out.old.items ++ map (rank_key line statement) keys.now) }
+    ensures { OnOk result (out.new.items ≡ out.old.items ++ map (λ (key : KeySeen). at_line line (d.RankKey key.name key.high statement)) keys.now) }
 {
     for key in keys {
         let rank_key = Declared::RankKey {
@@ -214,7 +219,7 @@ fn add_sets(
     names: &[Name],
     order: &SetOrder,
 ) -> Result<(), AllocError>
-    ensures { OnOk result (out.new.items ≡ out.old.items ++ (map (ordered_set line (rule_of (view_order order.now)) statement) names.now ++ in_order line statement (view_order order.now))) }
+    ensures { OnOk result (out.new.items ≡ out.old.items ++ (map (λ (set : NameBytes). at_line line (d.Order set (rule_of (view_order order.now)) statement)) names.now ++ in_order line statement (view_order order.now))) }
 {
     let rule = rule_of(order);
     add_ordered_sets(out, line, rule, statement, names)?;
@@ -223,7 +228,7 @@ fn add_sets(
 
 // Adds the classes of the priority order.
 fn add_priorities(out: &mut Vec<Declaration>, line: Line, names: &[Name]) -> Result<(), AllocError>
-    ensures { OnOk result (out.new.items ≡ out.old.items ++ map (priority line) names.now) }
+    ensures { OnOk result (out.new.items ≡ out.old.items ++ map (λ (class : NameBytes). at_line line (d.Priority class)) names.now) }
 {
     for name in names {
         add(out, line, Declared::Priority { class: *name })?;
@@ -238,7 +243,7 @@ fn add_tie_keys(
     class: Name,
     keys: &[Key],
 ) -> Result<(), AllocError>
-    ensures { OnOk result (out.new.items ≡ out.old.items ++ map (tie_key line class) keys.now) }
+    ensures { OnOk result (out.new.items ≡ out.old.items ++ map (λ (key : KeySeen). at_line line (d.TieKey class key.name key.high)) keys.now) }
 {
     for key in keys {
         let tie_key = Declared::TieKey {
@@ -258,7 +263,7 @@ fn add_statistics(
     subject: Name,
     statistics: &[Statistic],
 ) -> Result<(), AllocError>
-    ensures { OnOk result (out.new.items ≡ out.old.items ++ map (statistic line subject) statistics.now) }
+    ensures { OnOk result (out.new.items ≡ out.old.items ++ map (λ (s : StatisticSeen). at_line line (d.Statistic s.name s.kind subject)) statistics.now) }
 {
     for statistic in statistics {
         let what = Declared::Statistic {

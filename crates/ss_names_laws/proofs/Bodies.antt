@@ -14,7 +14,7 @@ use Rattle.ss_names_uses.specs.declared.used.ClassNeed.TheVariants.{Single, Noti
 use Rattle.ss_names_uses.specs.declared.used.Used.{Used}
 use Rattle.ss_names_uses.specs.declared.used.Used.TheVariants.{Parameter, Local, Unfit}
 use Rattle.ss_names_uses.specs.declared.used.Use.{Use}
-use Rattle.ss_names_uses.specs.Uses.{as_mean, fields_of, for_attribute, for_given, for_yielded, in_body, in_call, in_condition, in_expression, in_field, in_given, in_guard, in_head, in_inner, in_item, in_item_at, in_itself, in_loop_head, in_named, in_new, in_numbers, in_old, in_option, in_phrase, in_places, in_position, in_print, in_row, in_start, in_statement, in_target, in_terms, in_test, in_value, in_when, loop_variable, mode_of, of_fit, of_text, with_decimals}
+use Rattle.ss_names_uses.specs.Uses.{as_mean, fields_of, in_body, in_call, in_condition, in_expression, in_field, in_given, in_guard, in_head, in_inner, in_item, in_item_at, in_items, in_itself, in_loop_head, in_named, in_new, in_numbers, in_old, in_option, in_phrase, in_places, in_position, in_row, in_start, in_statement, in_target, in_terms, in_test, in_value, in_when, loop_variable, expression_mode, of_fit, of_text, with_decimals}
 use Rattle.ss_names_laws.proofs.Each.{joined}
 
 -- whether what is used declares a local variable
@@ -149,11 +149,11 @@ module _ (line : Line) where
   target wanted n = record { each = (refl, (place_named roles.Target false n).each) }
 
   given_to : (class : NameBytes) (given : List ExpressionTree) → Silent (in_given line class given)
-  given_to class given = record { each = (refl, (places (for_attribute line class) 0 given (λ i e. value (modes.Attribute class i) e)).each) }
+  given_to class given = record { each = (refl, (places (λ (i : ℕ). in_value line (modes.Attribute class i)) 0 given (λ i e. value (modes.Attribute class i) e)).each) }
 
   called_with : (name : NameBytes) (given : List ExpressionTree) (yielding : List NamedTree) → Silent (in_call line name given yielding)
   called_with name given yielding =
-      let values = both (places (for_given line name) 0 given (λ i e. value (modes.Given name i) e)) (places (for_yielded line name) 0 yielding (λ i n. target (modes.Yielded name i) n)) in
+      let values = both (places (λ (i : ℕ). in_value line (modes.Given name i)) 0 given (λ i e. value (modes.Given name i) e)) (places (λ (i : ℕ). in_target line (modes.Yielded name i)) 0 yielding (λ i n. target (modes.Yielded name i) n)) in
       record { each = (refl, (refl, (refl, values.each))) }
 
   -- ---- PRINT
@@ -174,7 +174,7 @@ module _ (line : Line) where
   fit true = nothing
   fit false = record { each = (refl, tt) }
 
-  printed : (items : List ExpressionTree) (pictures : List (List ℕ)) → Silent (in_print line items pictures)
+  printed : (items : List ExpressionTree) (pictures : List (List ℕ)) → Silent (in_items line items (fields_of pictures))
   printed items pictures =
       both (fit (length items == length (fields_of pictures))) (places (in_item_at line (fields_of pictures)) 0 items (item_at pictures))
 
@@ -185,7 +185,7 @@ every_class line [] = nothing
 every_class line (class ∷ classes) = record { each = (refl, (every_class line classes).each) }
 
 itself : (s : StatementTree) → Silent (in_itself s)
-itself (let_statement line n e) = both (target line (mode_of e) n) (expression line false e)
+itself (let_statement line n e) = both (target line (expression_mode e) n) (expression line false e)
 itself (add_statement line e n) = both (expression line true e) (place_named line roles.Target true n)
 itself (subtract_statement line e n) = both (expression line true e) (place_named line roles.Target true n)
 itself (call_statement line name given yielding) = called_with line name given yielding

@@ -15,7 +15,7 @@ use Rattle.ss_names_declarations.specs.declared.declaration.Declaration.{Declara
 use Rattle.ss_names_declarations.proofs.Entries.{place_of_value}
 use Rattle.ss_names.specs.declared.meaning.Meaning.TheVariants as m
 use Rattle.ss_names.specs.Entries.{attributes, class_by, class_variables, classes, count_name, variable_by, variables}
-use Rattle.ss_names.specs.Table.{class_meaning, class_named, count_meaning, count_named, declares, numbered, table}
+use Rattle.ss_names.specs.Table.{class_meaning, class_entry, count_meaning, count_entry, declares, numbered, table}
 use Rattle.ss_tables_rules.specs.Broken.{refusal_of_declarations}
 use Rattle.ss_names_laws.proofs.Firsts.{declared_value, entry_here, value_declared}
 use Rattle.ss_names_laws.proofs.Items.{Among, in_left, in_right}
@@ -62,8 +62,8 @@ module _ (ds : List Declaration) where
 
   class_entered : (name : NameBytes) (kind : ClassKind) (c : ClassThere name) → Among (declares (numbered ds) (d.Class name kind)) (name, m.Class c.0 c.1 c.2)
   class_entered name kind c =
-      in_left (entry_if name (class_named (numbered ds) name)) (entry_if (count_name name) (count_named (numbered ds) name)) (name, m.Class c.0 c.1 c.2)
-      (entry_here name (class_named (numbered ds) name) (m.Class c.0 c.1 c.2) (λ i. class_meaning (c.3 i) (c.4 i) (c.5 i)))
+      in_left (entry_if name (class_entry (numbered ds) name)) (entry_if (count_name name) (count_entry (numbered ds) name)) (name, m.Class c.0 c.1 c.2)
+      (entry_here name (class_entry (numbered ds) name) (m.Class c.0 c.1 c.2) (λ i. class_meaning (c.3 i) (c.4 i) (c.5 i)))
 
 module _ (p : ProgramTree) (kept : refusal_of_declarations p ≡ None) where
   -- the name of a class that is declared means the class
@@ -87,9 +87,9 @@ module _ (p : ProgramTree) (kept : refusal_of_declarations p ≡ None) where
       let variable = variable_there ds line name (count_name name) Permanent a (inr (inl refl)) in
       let kind : value_for (classes ds) name ≡ Some Permanent = c.4 ∙ ap Some (sym (kind_once line name Permanent a c)) in
       let count : CountedClass = record { class = c.0; variable = variable.0 } in
-      let named : count_named (numbered ds) name ≡ Some (m.Count count) = λ i. count_meaning (c.3 i) (kind i) (variable.1 i) in (
+      let named : count_entry (numbered ds) name ≡ Some (m.Count count) = λ i. count_meaning (c.3 i) (kind i) (variable.1 i) in (
         count,
         meant p kept (at_line line (d.Class name Permanent)) (count_name name) (m.Count count) refl a
-            (in_right (entry_if name (class_named (numbered ds) name)) (entry_if (count_name name) (count_named (numbered ds) name)) (count_name name, m.Count count)
-            (entry_here (count_name name) (count_named (numbered ds) name) (m.Count count) named)),
+            (in_right (entry_if name (class_entry (numbered ds) name)) (entry_if (count_name name) (count_entry (numbered ds) name)) (count_name name, m.Count count)
+            (entry_here (count_name name) (count_entry (numbered ds) name) (m.Count count) named)),
       )

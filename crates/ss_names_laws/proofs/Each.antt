@@ -1,12 +1,11 @@
 -- Lists, item by item, and lists that come of items with their numbers.
 use Rattle.std.proofs.Common.{◌≡◌, ℕ, zero, suc, ◌+◌, Bool, true, false, cond, List, [], ◌∷◌, ◌++◌, map, Option, Some, None, inl, inr, refl, sym, subst, ◌∙◌, arith}
-use Rattle.std.specs.Prelude.{slice_get}
+use Rattle.std.specs.Prelude.{option_to_list, slice_get}
 use Rattle.std.specs.List.{AllByRecursion as Every, filter, flat_map}
 use Rattle.ss_tree.specs.Names.{NameBytes}
 use Rattle.ss_names_declarations.specs.Declarations.{flat_map_from}
-use Rattle.ss_names_declarations.specs.Firsts.{entry_if, firsts}
+use Rattle.ss_names_declarations.specs.Firsts.{entry_if, first_entries}
 use Rattle.ss_names_declarations.proofs.Entries.{value_in_firsts}
-use Rattle.ss_names_scopes.specs.Locals.{as_list}
 use Rattle.ss_names_laws.proofs.Firsts.{value_among, value_of_entry}
 use Rattle.ss_names_laws.proofs.Items.{Among, at_item, each_item}
 use Rattle.ss_names_laws.proofs.Kept.{both_empty}
@@ -31,7 +30,7 @@ module _ {A : Type 0} (P : A → Type 0) where
   from_places [] h = tt
   from_places (x ∷ xs) h = (h 0 x refl, from_places xs (λ i y e. h (suc i) y e))
 
-  pub every_listed : (o : Option A) → ((x : A) → o ≡ Some x → P x) → Every P (as_list o)
+  pub every_listed : (o : Option A) → ((x : A) → o ≡ Some x → P x) → Every P (option_to_list o)
   every_listed None h = tt
   every_listed (Some x) h = (h x refl, tt)
 
@@ -58,8 +57,8 @@ each_empty f (x ∷ xs) h = let parts = both_empty (f x) (flat_map f xs) h in (p
 -- ---- entries of names
 
 -- of each name the first entry is one of all
-pub every_first : {V : Type 0} (P : NameBytes × V → Type 0) (all : List (NameBytes × V)) → Every P all → Every P (firsts all)
-every_first P all h = each_item P (firsts all) (λ e a. at_item P all e h (value_among all e.0 e.1 (sym (value_in_firsts all e.0) ∙ value_of_entry all e.0 e.1 a)))
+pub every_first : {V : Type 0} (P : NameBytes × V → Type 0) (all : List (NameBytes × V)) → Every P all → Every P (first_entries all)
+every_first P all h = each_item P (first_entries all) (λ e a. at_item P all e h (value_among all e.0 e.1 (sym (value_in_firsts all e.0) ∙ value_of_entry all e.0 e.1 a)))
 
 pub every_if : {V : Type 0} (P : NameBytes × V → Type 0) (name : NameBytes) (o : Option V) → ((v : V) → o ≡ Some v → P (name, v)) → Every P (entry_if name o)
 every_if P name None h = tt

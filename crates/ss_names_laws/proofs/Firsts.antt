@@ -5,7 +5,7 @@ use Rattle.std.specs.Cmp.Lexicographic.{bytes_decides}
 use Rattle.std.proofs.lemmas.Bool.{ltb-true}
 use Rattle.std.proofs.lemmas.Option.{cond_some, same_Some, slice_get_within}
 use Rattle.ss_tree.specs.Names.{NameBytes}
-use Rattle.ss_names_declarations.specs.Firsts.{entry_if, firsts, place_among, place_in, same_name, value_for}
+use Rattle.ss_names_declarations.specs.Firsts.{entry_if, first_entries, place_among, place_in, same_name, value_for}
 use Rattle.ss_names_declarations.specs.declared.declaration.Declared.{Declared}
 use Rattle.ss_names_declarations.specs.declared.declaration.Declaration.{Declaration}
 use Rattle.ss_names_declarations.proofs.Entries.{firsts_once, value_by_place, value_from_place, value_in_firsts}
@@ -59,8 +59,8 @@ module _ {V : Type 0} where
   has_value (e ∷ es) name v (inr later) = either (same_name name e.0) e.1 (value_for es name) (has_value es name v later)
 
   -- the value for a name is that of each of its entries, where the first counts
-  pub value_of_entry : (all : List (NameBytes × V)) (name : NameBytes) (v : V) → Among (firsts all) (name, v) → value_for (firsts all) name ≡ Some v
-  value_of_entry all name v a = let found = among_at (firsts all) (name, v) a in value_from_place (firsts all) found.0 name v (firsts_once all) found.1
+  pub value_of_entry : (all : List (NameBytes × V)) (name : NameBytes) (v : V) → Among (first_entries all) (name, v) → value_for (first_entries all) name ≡ Some v
+  value_of_entry all name v a = let found = among_at (first_entries all) (name, v) a in value_from_place (first_entries all) found.0 name v (firsts_once all) found.1
 
   pub place_in_below : (es : List (NameBytes × V)) (name : NameBytes) (k : ℕ) → place_in es name ≡ Some k → k < length es
   place_in_below es name k h = let found = value_by_place es name k h in slice_get_within es k (name, found.0) found.2

@@ -20,15 +20,15 @@ use Rattle.ss_names.specs.declared.meaning.Meaning.{Meaning}
 use Rattle.ss_names.specs.declared.meaning.Meaning.TheVariants as m
 use Rattle.ss_names.specs.Entries.{given_by}
 use Rattle.ss_names.specs.Table.{Entered, Table, clashes, clashes_after, declares, entered_at, entered_by, is_another, numbered, same_of_set, table}
-use Rattle.ss_names_scopes.specs.Locals.{as_list}
 use Rattle.ss_tables_rules.specs.declared.error.TableError.TheVariants as errors
 use Rattle.ss_tables_rules.specs.declared.once.Once.{Once}
 use Rattle.ss_tables_rules.specs.Broken.{breaches, breaks, refusal_of_declarations, unmoded}
 use Rattle.ss_tables_rules.specs.Keys.{misranked}
-use Rattle.ss_tables_rules.specs.Once.{is_among, once_of, repeats, repeats_after, said_again, same_once, again, with_said}
+use Rattle.ss_tables_rules.specs.Once.{is_among, once_of, repeats, repeats_after, repeated_breach, same_once, again, once_added}
 use Rattle.ss_tables_rules.specs.Order.{order_of}
 use Rattle.ss_tables_rules.specs.Rules.{broken_by}
 use Rattle.ss_names_laws.proofs.Firsts.{has_value}
+use Rattle.std.specs.Prelude.{option_to_list}
 use Rattle.ss_names_laws.proofs.Items.{Among, in_image, in_pieces, in_right}
 
 -- ---- nothing is found
@@ -63,7 +63,7 @@ no_images : {A B : Type 0} (f : A → B) (xs : List A) → map f xs ≡ [] → x
 no_images f [] h = refl
 no_images f (x ∷ xs) h = absurd cc
 
-none_listed : {A : Type 0} (o : Option A) → as_list o ≡ [] → o ≡ None
+none_listed : {A : Type 0} (o : Option A) → option_to_list o ≡ [] → o ≡ None
 none_listed None h = refl
 none_listed (Some x) h = absurd cc
 
@@ -178,7 +178,7 @@ module _ (t : Table) where
 
 -- what declarations say that may be said once, in the order of the text
 abbrev pub onces : Table → List Declaration → List Once
-onces t ds = flat_map (λ (x : Declaration). as_list (once_of t x.what)) ds
+onces t ds = flat_map (λ (x : Declaration). option_to_list (once_of t x.what)) ds
 
 -- none of the second list is the same as one of the first, or as one before it
 abbrev NeverAgain : List Once → List Once → Type 0
@@ -205,7 +205,7 @@ all_fewer once said (a ∷ more) h =
 
 said_anew : (t : Table) (said : List Once) (x : Declaration) (ds : List Declaration) (once : Once) (b : Bool) → is_among said once ≡ b →
     ((more : List Once) → repeats_after t more ds ≡ [] → NeverAgain more (onces t ds)) →
-    as_list (cond b (Some (said_again x.line x.what)) None) ++ repeats_after t (cond b said (said ++ once ∷ [])) ds ≡ [] → NeverAgain said (once ∷ onces t ds)
+    option_to_list (cond b (Some (repeated_breach x.line x.what)) None) ++ repeats_after t (cond b said (said ++ once ∷ [])) ds ≡ [] → NeverAgain said (once ∷ onces t ds)
 unfolding IsDistinct
 said_anew t said x ds once true is next h = absurd cc
 said_anew t said x ds once false is next h =
@@ -215,7 +215,7 @@ said_anew t said x ds once false is next h =
 
 said_next : (t : Table) (said : List Once) (x : Declaration) (ds : List Declaration) (o : Option Once) →
     ((more : List Once) → repeats_after t more ds ≡ [] → NeverAgain more (onces t ds)) →
-    as_list (again said x.line x.what o) ++ repeats_after t (with_said said o) ds ≡ [] → NeverAgain said (as_list o ++ onces t ds)
+    option_to_list (again said x.line x.what o) ++ repeats_after t (once_added said o) ds ≡ [] → NeverAgain said (option_to_list o ++ onces t ds)
 said_next t said x ds None next h = next said h
 said_next t said x ds (Some once) next h = said_anew t said x ds once (is_among said once) refl next h
 

@@ -14,7 +14,7 @@ use Rattle.ss_names.specs.declared.meaning.Meaning.{Meaning}
 use Rattle.ss_names.specs.declared.meaning.Meaning.TheVariants as m
 use Rattle.ss_names.specs.Entries.{count_name}
 use Rattle.ss_names.specs.Modes.{value_mode}
-use Rattle.ss_names.specs.Table.{Table, attribute_meaning, class_meaning, class_named, count_meaning, count_named, declares, fold_of, meanings, numbered, set_meanings, variable_meaning}
+use Rattle.ss_names.specs.Table.{Table, attribute_meaning, class_meaning, class_entry, count_meaning, count_entry, declares, fold_of, meanings, numbered, set_meanings, variable_meaning}
 use Rattle.ss_names_laws.proofs.Firsts.{entry_from, mapped, place_below, value_declared}
 use Rattle.ss_names_laws.proofs.Items.{Among, at_item, in_one_of}
 
@@ -59,14 +59,14 @@ module _ (t : Table) (n name : NameBytes) (meaning : Meaning) where
 
 entry_known : (t : Table) (w : Declared) (name : NameBytes) (meaning : Meaning) → Among (declares t w) (name, meaning) → IsKnown t name meaning
 entry_known t (d.Class n kind) name meaning a =
-    let first = entry_if n (class_named t n) in
-    let second = entry_if (count_name n) (count_named t n) in
+    let first = entry_if n (class_entry t n) in
+    let second = entry_if (count_name n) (count_entry t n) in
     ⊎_elim
     (λ (b : Among first (name, meaning)).
-    let e = entry_from n name (class_named t n) meaning b in
+    let e = entry_from n name (class_entry t n) meaning b in
     class_known t n name meaning (place_in t.classes n) (value_for t.classes n) (place_in t.variables n) refl refl refl e.0 e.1)
     (λ (b : Among second (name, meaning)).
-    let e = entry_from (count_name n) name (count_named t n) meaning b in
+    let e = entry_from (count_name n) name (count_entry t n) meaning b in
     count_known t n name meaning (place_in t.classes n) (value_for t.classes n) (place_in t.variables (count_name n)) refl refl refl e.0 e.1)
     (in_one_of first second (name, meaning) a)
 entry_known t (d.Attribute n class) name meaning a =

@@ -19,10 +19,10 @@ use Rattle.ss_names_declarations.proofs.Entries.{there, value_at}
 use Rattle.ss_names.specs.declared.entry.Attribute.{Attribute}
 use Rattle.ss_names.specs.declared.entry.Set.{Set}
 use Rattle.ss_names.specs.Entries.{attribute_after, attribute_classes, attributes, attributes_after, attributes_of_class, classes, fields, mode_of_name, set_names, set_of}
-use Rattle.ss_names.specs.Table.{Table, table}
+use Rattle.ss_names.specs.Table.{Table, field_mode, table}
 use Rattle.ss_tables_rules.specs.Broken.{refusal_of_declarations}
 use Rattle.ss_names_meaning.specs.Answers.{◌>>=◌, each, upto}
-use Rattle.ss_names_meaning.specs.Layouts.{class_laid, field_mode, layout, set_laid}
+use Rattle.ss_names_meaning.specs.Layouts.{class_layout, layout, set_layout}
 use Rattle.ss_names_laws.specs.Laws.{LayoutsAreThere}
 use Rattle.ss_names_laws.proofs.Each.{every_image, every_passed}
 use Rattle.ss_names_laws.proofs.Firsts.{has_value}
@@ -65,7 +65,7 @@ row_few p kept class lt =
 
 -- ---- what is laid out
 
-class_there : (t : Table) (n : ℕ) (kind : ClassKind) → slice_get (values_of t.classes) n ≡ Some kind → Every (IsKnown t) (get_or t.fields n []) → length (get_or t.fields n []) ≤ 64 → (c : PlainClass) × (class_laid t n ≡ Some c) × (is_narrow c ≡ true)
+class_there : (t : Table) (n : ℕ) (kind : ClassKind) → slice_get (values_of t.classes) n ≡ Some kind → Every (IsKnown t) (get_or t.fields n []) → length (get_or t.fields n []) ≤ 64 → (c : PlainClass) × (class_layout t n ≡ Some c) × (is_narrow c ≡ true)
 class_there t n kind class known few =
     let modes = each_made (field_mode t) (λ (mode : Mode). Unit {0}) (get_or t.fields n []) (each_item (λ (name : NameBytes). (mode : Mode) × (field_mode t name ≡ Some mode) × Unit {0}) (get_or t.fields n []) (λ name a.
     let k = at_item (IsKnown t) (get_or t.fields n []) name known a in
@@ -73,7 +73,7 @@ class_there t n kind class known few =
     let laid : PlainClass = record { kind = kind; fields = modes.0 } in
     (laid, rw (class, modes.1) refl, le-leb (length modes.0) 1048576 (omega (arith, modes.2, few)))
 
-set_there : (s : Set) (owner : Owner) (member classes : ℕ) → s.owner ≡ Some owner → s.member ≡ Some member → owns_among classes owner ≡ true → nat_lt member classes ≡ true → (y : SetLayout) × (set_laid s ≡ Some y) × (names_classes classes y ≡ true)
+set_there : (s : Set) (owner : Owner) (member classes : ℕ) → s.owner ≡ Some owner → s.member ≡ Some member → owns_among classes owner ≡ true → nat_lt member classes ≡ true → (y : SetLayout) × (set_layout s ≡ Some y) × (names_classes classes y ≡ true)
 set_there s owner member classes e f g h =
     let laid : SetLayout = record { owner = owner; member = member } in
     (laid, rw (e, f) refl, and_from (owns_among classes owner) (nat_lt member classes) g h)
@@ -82,7 +82,7 @@ all_of : {A : Type 0} (test : A → Bool) (xs : List A) → Every (λ x. test x 
 all_of test [] h = refl
 all_of test (x ∷ xs) h = rw (h.0, all_of test xs h.1) refl
 
-layout_there : (t : Table) (cs : List PlainClass) (ss : List SetLayout) → each (class_laid t) (upto (length t.classes)) ≡ Some cs → each set_laid t.sets ≡ Some ss → length cs ≤ 64 → length ss ≤ 64 →
+layout_there : (t : Table) (cs : List PlainClass) (ss : List SetLayout) → each (class_layout t) (upto (length t.classes)) ≡ Some cs → each set_layout t.sets ≡ Some ss → length cs ≤ 64 → length ss ≤ 64 →
     Every (λ (c : PlainClass). is_narrow c ≡ true) cs → Every (λ (y : SetLayout). names_classes (length cs) y ≡ true) ss → (laid : PlainLayout) × (layout t ≡ Some laid)
 layout_there t cs ss e f few_cs few_ss narrow sound =
     let laid : PlainLayout = record { classes = cs; sets = ss } in
@@ -98,14 +98,14 @@ pub layouts_are_there : LayoutsAreThere
 layouts_are_there p kept =
     let t = table p in
     let ds = declarations p in
-    let laid = each_made (class_laid t) (λ (c : PlainClass). is_narrow c ≡ true) (upto (length t.classes))
-    (upto_every (λ (n : ℕ). (c : PlainClass) × (class_laid t n ≡ Some c) × (is_narrow c ≡ true)) (length t.classes)
+    let laid = each_made (class_layout t) (λ (c : PlainClass). is_narrow c ≡ true) (upto (length t.classes))
+    (upto_every (λ (n : ℕ). (c : PlainClass) × (class_layout t n ≡ Some c) × (is_narrow c ≡ true)) (length t.classes)
     (λ n lt. let e = there t.classes n lt in class_there t n e.0.1 (value_at t.classes n e.0.0 e.0.1 e.1) (row_known p n lt) (row_few p kept n lt))) in
     let count : length laid.0 ≡ length t.classes = laid.2 ∙ upto_length (length t.classes) in
-    let each_set = every_image (λ (s : Set). (y : SetLayout) × (set_laid s ≡ Some y) × (names_classes (length t.classes) y ≡ true)) (set_of (classes ds) ds) (set_names ds) (λ name a.
+    let each_set = every_image (λ (s : Set). (y : SetLayout) × (set_layout s ≡ Some y) × (names_classes (length t.classes) y ≡ true)) (set_of (classes ds) ds) (set_names ds) (λ name a.
     let set = at_item (IsOwned p) (set_names ds) name (all_owned p kept) a in
     set_there (set_of (classes ds) ds name) set.owner set.member (length t.classes) set.owned set.filled set.owner_below set.member_below) in
-    let laid_sets = each_made set_laid (λ (y : SetLayout). names_classes (length t.classes) y ≡ true) t.sets each_set in
+    let laid_sets = each_made set_layout (λ (y : SetLayout). names_classes (length t.classes) y ≡ true) t.sets each_set in
     let few_cs : length laid.0 ≤ 64 = omega (arith, count, few_classes p kept) in
     let few_ss : length laid_sets.0 ≤ 64 = omega (arith, laid_sets.2, few_sets p kept) in
     layout_there t laid.0 laid_sets.0 laid.1 laid_sets.1 few_cs few_ss laid.3

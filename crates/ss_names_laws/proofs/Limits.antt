@@ -11,7 +11,7 @@ use Rattle.ss_base.specs.declared.layout.Mode.{Mode}
 use Rattle.ss_tree.specs.Names.{NameBytes}
 use Rattle.ss_tree.specs.Tree.{ProgramTree}
 use Rattle.ss_names_declarations.specs.Declarations.{declarations}
-use Rattle.ss_names_declarations.specs.Firsts.{firsts, place_among, place_in, same_name, value_for}
+use Rattle.ss_names_declarations.specs.Firsts.{first_entries, place_among, place_in, same_name, value_for}
 use Rattle.ss_names_declarations.specs.declared.declaration.Declared.{Declared}
 use Rattle.ss_names_declarations.specs.declared.declaration.Declared.TheVariants as d
 use Rattle.ss_names_declarations.proofs.Entries.{firsts_once, keys_append, place_from, there, value_from_place}
@@ -20,7 +20,7 @@ use Rattle.ss_names.specs.Entries.{attribute_by, attribute_classes, attributes, 
 use Rattle.ss_names.specs.Table.{Table, table}
 use Rattle.ss_tables_rules.specs.declared.error.TableError.TheVariants as errors
 use Rattle.ss_tables_rules.specs.Broken.{refusal_of_declarations}
-use Rattle.ss_tables_rules.specs.Rules.{broken_in, field_of, has_member, has_owner, is_too_many, set_named}
+use Rattle.ss_tables_rules.specs.Rules.{broken_in, field_of, has_member, has_owner, is_too_many, set_by_name}
 use Rattle.ss_names_laws.proofs.Each.{at_place, every_first, every_if, from_places}
 use Rattle.ss_names_laws.proofs.Names.{entry_of, every_entry, once_as_entries}
 use Rattle.ss_names_laws.proofs.Unbroken.{every_given, fits, two_fit}
@@ -51,8 +51,8 @@ module _ (t : Table) (line : Line) where
   class_few _ h = tt
 
   set_few : (w : Declared) → broken_in t line w ≡ None → Every (λ (name : NameBytes). IsFew (place_among t.set_names name)) (set_by w)
-  set_few (d.Owner set class) h = ((two_fit (has_member (set_named t set)) (not (is_too_many (place_among t.set_names set))) (errors.NoMember line) (errors.TooMany line) h).1, tt)
-  set_few (d.Member set class) h = ((two_fit (has_owner (set_named t set)) (not (is_too_many (place_among t.set_names set))) (errors.NoOwner line) (errors.TooMany line) h).1, tt)
+  set_few (d.Owner set class) h = ((two_fit (has_member (set_by_name t set)) (not (is_too_many (place_among t.set_names set))) (errors.NoMember line) (errors.TooMany line) h).1, tt)
+  set_few (d.Member set class) h = ((two_fit (has_owner (set_by_name t set)) (not (is_too_many (place_among t.set_names set))) (errors.NoOwner line) (errors.TooMany line) h).1, tt)
   set_few _ h = tt
 
   attribute_few : (w : Declared) → broken_in t line w ≡ None → Every (λ (e : NameBytes × ℕ). IsFew (field_of (value_for t.attributes e.0))) (attribute_by t.classes w)
@@ -97,13 +97,13 @@ module _ (p : ProgramTree) (kept : refusal_of_declarations p ≡ None) where
   few_classes =
       let all = given_by class_by (declarations p) in
       let IsOfFew = λ (e : NameBytes × ClassKind). IsFew (place_in (table p).classes e.0) in
-      few_entries (firsts all) (firsts_once all) (every_first IsOfFew all (every_given p kept IsOfFew class_by (class_few (table p))))
+      few_entries (first_entries all) (firsts_once all) (every_first IsOfFew all (every_given p kept IsOfFew class_by (class_few (table p))))
 
   pub few_sets : length (table p).sets ≤ 64
   few_sets =
       let ds = declarations p in
       let all = given_by set_by ds in
-      let es = firsts (map entry_of all) in
+      let es = first_entries (map entry_of all) in
       let IsOfFew = λ (names : List NameBytes) (e : NameBytes × NameBytes). IsFew (place_among names e.0) in
       let each = every_entry (λ (name : NameBytes). IsFew (place_among (table p).set_names name)) all (every_given p kept (λ (name : NameBytes). IsFew (place_among (table p).set_names name)) set_by (set_few (table p))) in
       let entries : length es ≤ 64 = few_entries es (firsts_once (map entry_of all)) (subst (λ (names : List NameBytes). Every (IsOfFew names) es) (once_as_entries all) each) in
@@ -117,8 +117,8 @@ module _ (p : ProgramTree) (kept : refusal_of_declarations p ≡ None) where
       let mode = mode_of_name ds in
       let IsOfFew = λ (name : NameBytes). IsFew (field_of (value_for (attributes ds) name)) in
       let P = λ (e : NameBytes × ℕ). IsOfFew e.0 in
-      let named = every_after IsOfFew mode [] (firsts all) (every_first P all (every_given p kept P (attribute_by (classes ds)) (attribute_few (table p)))) in
-      let once = subst (IsDistinct same_name) (sym (keys_after mode [] (firsts all))) (firsts_once all) in
+      let named = every_after IsOfFew mode [] (first_entries all) (every_first P all (every_given p kept P (attribute_by (classes ds)) (attribute_few (table p)))) in
+      let once = subst (IsDistinct same_name) (sym (keys_after mode [] (first_entries all))) (firsts_once all) in
       let numbers = from_places (λ (e : NameBytes × Attribute). e.1.field < 64) (attributes ds) (λ i e at.
       few e.1.field (subst (λ (o : Option Attribute). IsFew (field_of o)) (value_from_place (attributes ds) i e.0 e.1 once at) (at_place (λ (f : NameBytes × Attribute). IsOfFew f.0) (attributes ds) i e named at))) in
       rows_few mode class [] (attribute_classes ds) numbers (omega arith)

@@ -13,7 +13,7 @@ use Rattle.ss_tree.specs.Tree.{DefinitionTree, SectionKindTree, main, routine, e
 use Rattle.ss_tree.specs.declared.expression.Designator.{Designator}
 use Rattle.ss_tree.specs.declared.expression.Designator.TheVariants as designators
 use Rattle.ss_names_declarations.specs.Declarations.{flat_map_from, in_definition, in_head, in_section, in_statement, local, parameter}
-use Rattle.ss_names_declarations.specs.Firsts.{firsts, place_in, same_name, value_for}
+use Rattle.ss_names_declarations.specs.Firsts.{first_entries, place_in, same_name, value_for}
 use Rattle.ss_names_declarations.specs.declared.declaration.Declaration.{Declaration}
 use Rattle.ss_names_declarations.proofs.Entries.{firsts_once, there, value_at, value_by_place, value_from_place}
 use Rattle.ss_names_uses.specs.declared.used.Role.{Role}
@@ -24,12 +24,13 @@ use Rattle.ss_names_uses.specs.Uses as used
 use Rattle.ss_names_uses.specs.Uses.{as_attribute, in_body, in_kind, in_places, uses}
 use Rattle.ss_names.specs.declared.meaning.Meaning.{Meaning}
 use Rattle.ss_names.specs.Table.{Table, table}
-use Rattle.ss_names_scopes.specs.Locals.{Moded, defined, is_local_place, is_variable, local_of, local_place, local_used, locals, locals_of, moded_in}
+use Rattle.ss_names_scopes.specs.Locals.{Moded, defined, is_local_place, may_be_variable, local_of, local_place, local_used, locals, locals_of, moded_in}
 use Rattle.ss_tables_rules.specs.declared.error.TableError.TheVariants as errors
 use Rattle.ss_tables_rules.specs.Broken.{refusal_of_declarations}
 use Rattle.ss_tables_rules.specs.Rules.{broken_by, has_no_mode, is_real, lacks_mode, may_be_hidden, unmoded_in, unmoded_use}
 use Rattle.ss_names_meaning.specs.Answers.{upto}
-use Rattle.ss_names_meaning.specs.Resolved.{local_mode, local_modes}
+use Rattle.ss_names_scopes.specs.Scopes.{local_mode}
+use Rattle.ss_names_meaning.specs.Resolved.{local_modes}
 use Rattle.ss_names_laws.proofs.Bodies.{IsSilent, body_silent, declares_local, places}
 use Rattle.ss_names_laws.proofs.Each.{at_number, at_place, each_empty, every_first, every_image, every_listed, every_piece, in_parts, joined}
 use Rattle.ss_names_laws.proofs.Items.{at_item, each_item, in_image, in_pieces}
@@ -78,7 +79,7 @@ module _ (p : ProgramTree) where
   of_place role (designators.Name n) subscripts name h =
       let meant : Option Meaning = value_for (table p).meanings n in
       let found = cond_some (is_local_place (table p) role n subscripts) n name h in
-      subst IsHidable found.1 (nothing_hidden meant (and_parts (is_variable role && (subscripts == 0)) (is_none meant) found.0).1)
+      subst IsHidable found.1 (nothing_hidden meant (and_parts (may_be_variable role && (subscripts == 0)) (is_none meant) found.0).1)
   of_place role designators.TimeV subscripts name h = absurd cc
   of_place role designators.TimeA subscripts name h = absurd cc
 
@@ -149,7 +150,7 @@ module _ (p : ProgramTree) (kept : refusal_of_declarations p ≡ None) where
       let names = flat_map (local_used (table p)) us in
       let moded = λ (u : Option Mode). map (moded_in u (defined us)) names in
       let all = every_first HasMode (moded (Some usual)) (every_image HasMode (moded_in (Some usual) (defined us)) names (λ n a. some_mode (value_for (defined us) n) usual)) in
-      at_place HasMode (locals (table p) us) i (name, o) (subst (λ (u : Option Mode). Every HasMode (firsts (moded u))) (sym is) all) at
+      at_place HasMode (locals (table p) us) i (name, o) (subst (λ (u : Option Mode). Every HasMode (first_entries (moded u))) (sym is) all) at
 
   by_definitions : (k : ℕ) (s : SectionTree) → slice_get p.sections k ≡ Some s → (table p).usual ≡ None → HaveModes (locals_of (table p) s)
   by_definitions k s at is i name o here =

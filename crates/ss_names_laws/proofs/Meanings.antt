@@ -22,11 +22,11 @@ use Rattle.ss_names.specs.declared.entry.Attribute.{Attribute}
 use Rattle.ss_names.specs.declared.meaning.Meaning.{Meaning}
 use Rattle.ss_names.specs.declared.meaning.Meaning.TheVariants as m
 use Rattle.ss_names.specs.Entries.{class_by, classes, given_by, routines, set_names, set_of, sets, variables}
-use Rattle.ss_names.specs.Table.{numbered, subject_of, table}
+use Rattle.ss_names.specs.Table.{field_mode, numbered, subject_of, table}
 use Rattle.ss_names_scopes.specs.Scopes.{mode_of}
 use Rattle.ss_tables_rules.specs.Broken.{refusal_of_declarations}
 use Rattle.ss_names_meaning.specs.Answers.{◌>>=◌, each, upto}
-use Rattle.ss_names_meaning.specs.Layouts.{ResolvedLayout, class_laid, count_by, counts, field_mode, laid_out, set_laid, statistic_kept, statistics}
+use Rattle.ss_names_meaning.specs.Layouts.{ResolvedLayout, class_layout, count_by, counts, resolved_layout, set_layout, resolved_statistic, statistics}
 use Rattle.ss_names_laws.specs.Laws.{TablesAreValid}
 use Rattle.ss_names_laws.specs.ValidTables.{IsClassAt, IsMeant, IsNamedClass, IsPlainAt, IsSetAt, IsValidTable, IsWatched}
 use Rattle.ss_names_laws.proofs.Attributes.{attribute_there}
@@ -39,7 +39,7 @@ use Rattle.ss_names_laws.proofs.Steps.{each_at, numbers_at}
 use Rattle.ss_names_laws.proofs.Variables.{mode_at, no_count}
 
 module _ (p : ProgramTree) (kept : refusal_of_declarations p ≡ None) (cs : List PlainClass) (ss : List SetLayout) (orders : List Discipline) (stats : List Statistic)
-    (are_classes : each (class_laid (table p)) (upto (length (table p).classes)) ≡ Some cs) (are_sets : each set_laid (table p).sets ≡ Some ss) (are_statistics : statistics (table p) ≡ Some stats) where
+    (are_classes : each (class_layout (table p)) (upto (length (table p).classes)) ≡ Some cs) (are_sets : each set_layout (table p).sets ≡ Some ss) (are_statistics : statistics (table p) ≡ Some stats) where
   abbrev x : ResolvedLayout
   x = laid_of (table p) cs ss orders stats
 
@@ -47,7 +47,7 @@ module _ (p : ProgramTree) (kept : refusal_of_declarations p ≡ None) (cs : Lis
 
   class_at : (class : ℕ) → class < length (classes (declarations p)) → (c : PlainClass) × (slice_get cs class ≡ Some c) × (slice_get (values_of (classes (declarations p))) class ≡ Some c.kind) × (each (field_mode (table p)) (get_or (table p).fields class []) ≡ Some c.fields)
   class_at class lt =
-      let laid = numbers_at (class_laid (table p)) (length (classes (declarations p))) cs class are_classes lt in
+      let laid = numbers_at (class_layout (table p)) (length (classes (declarations p))) cs class are_classes lt in
       let parts = class_parts (table p) class laid.0 laid.2 in
       (laid.0, laid.1, parts.0, parts.1)
 
@@ -69,12 +69,12 @@ module _ (p : ProgramTree) (kept : refusal_of_declarations p ≡ None) (cs : Lis
   set_at set lt =
       let ds = declarations p in
       let known = there (sets ds) set (subst (λ (n : ℕ). set < n) (sym (length-map (set_names ds) (set_of (classes ds) ds))) lt) in
-      let laid = each_at set_laid (sets ds) ss set known.0 are_sets known.1 in
+      let laid = each_at set_layout (sets ds) ss set known.0 are_sets known.1 in
       record { known = known.0; laid = laid.0; there = known.1; is_laid = laid.2; laid_there = laid.1 }
 
   statistic_at : (k : ℕ) → k < length (table p).histories → (s : Statistic) × (slice_get x.statistics k ≡ Some s) × (slice_get (table p).subjects k ≡ Some (Some s.subject))
   statistic_at k lt =
-      let s = numbers_at (statistic_kept (table p)) (length (table p).histories) stats k are_statistics lt in
+      let s = numbers_at (resolved_statistic (table p)) (length (table p).histories) stats k are_statistics lt in
       (s.0, s.1, subject_kept (table p) k s.0 s.2)
 
   plain_at : (name : NameBytes) (meaning : Meaning) (k : ℕ) (mode : Mode) → value_for (table p).meanings name ≡ Some meaning → place_in (variables (declarations p)) name ≡ Some k → mode_of meaning ≡ Some mode → count_by meaning ≡ [] → IsPlainAt x k mode
@@ -108,7 +108,7 @@ module _ (p : ProgramTree) (kept : refusal_of_declarations p ≡ None) (cs : Lis
   class_named_so : (class : ℕ) (c : PlainClass) → slice_get cs class ≡ Some c → IsNamedClass (table p) class c
   class_named_so class c at =
       let ds = declarations p in
-      let count : length cs ≡ length (classes ds) = numbers_length (class_laid (table p)) (length (classes ds)) cs are_classes in
+      let count : length cs ≡ length (classes ds) = numbers_length (class_layout (table p)) (length (classes ds)) cs are_classes in
       let lt : class < length (classes ds) = subst (λ (n : ℕ). class < n) count (slice_get_within cs class c at) in
       let e = there (classes ds) class lt in
       let once = firsts_once (given_by class_by ds) in
@@ -137,7 +137,7 @@ module _ (p : ProgramTree) (kept : refusal_of_declarations p ≡ None) (cs : Lis
       let here : slice_get t.subjects number ≡ Some (of_name name) = slice_get-map of_name (keys_of t.histories) number ∙ ap (option_map of_name) (key_at t.histories number name e.0 e.2) in
       record { number = number; statistic = s.0; there = h; laid = s.1; known = s.2; meant = same_Some (of_name name) (Some s.0.subject) (sym here ∙ s.2) }
 
-  valid : laid_out (table p) ≡ Some x → IsValidTable (table p) x
+  valid : resolved_layout (table p) ≡ Some x → IsValidTable (table p) x
   valid is = record {
     laid = is;
     meanings = λ name meaning h. fits name meaning h (name_known (declarations p) name meaning h);

@@ -4,7 +4,7 @@ use Rattle.std.specs.Prelude.{if◌then◌else◌}
 use Rattle.std.specs.List.{AllByRecursion as Every, fold}
 use Rattle.std.specs.Map.{keys_of}
 use Rattle.ss_tree.specs.Names.{NameBytes}
-use Rattle.ss_names_declarations.specs.Firsts.{each_once, entry_beside, firsts, is_one_of, same_name, value_for, with_first, with_name}
+use Rattle.ss_names_declarations.specs.Firsts.{each_once, entry_beside, first_entries, is_one_of, same_name, value_for, with_first, with_name}
 use Rattle.ss_names_declarations.proofs.Entries.{keys_append}
 use Rattle.ss_names_laws.proofs.Each.{every_first, every_image}
 use Rattle.ss_names_laws.proofs.Items.{at_item}
@@ -32,16 +32,16 @@ as_entries es [] = refl
 as_entries es (name ∷ names) =
     ap (λ (keys : List NameBytes). fold with_name keys names) (one_more es name (value_for es name) (one_of_keys es name)) ∙ as_entries (with_first es (entry_of name)) names
 
-pub once_as_entries : (names : List NameBytes) → each_once names ≡ keys_of (firsts (map entry_of names))
+pub once_as_entries : (names : List NameBytes) → each_once names ≡ keys_of (first_entries (map entry_of names))
 once_as_entries names = as_entries [] names
 
 -- what holds of each entry's name
-pub every_entry : (P : NameBytes → Type 0) (names : List NameBytes) → Every P names → Every (λ (e : NameBytes × NameBytes). P e.0) (firsts (map entry_of names))
+pub every_entry : (P : NameBytes → Type 0) (names : List NameBytes) → Every P names → Every (λ (e : NameBytes × NameBytes). P e.0) (first_entries (map entry_of names))
 every_entry P names h =
     let Q = λ (e : NameBytes × NameBytes). P e.0 in
     every_first Q (map entry_of names) (every_image Q entry_of names (λ name a. at_item P names name h a))
 
 pub every_once : (P : NameBytes → Type 0) (names : List NameBytes) → Every P names → Every P (each_once names)
 every_once P names h =
-    let es = firsts (map entry_of names) in
+    let es = first_entries (map entry_of names) in
     subst (Every P) (sym (once_as_entries names)) (every_image P (λ (e : NameBytes × NameBytes). e.0) es (λ e a. at_item (λ (f : NameBytes × NameBytes). P f.0) es e (every_entry P names h) a))

@@ -23,7 +23,7 @@ use Rattle.ss_names.specs.Entries.{classes, given_by, member_by, owner_by, owner
 use Rattle.ss_names.specs.Table.{Table, table}
 use Rattle.ss_tables_rules.specs.declared.error.TableError.TheVariants as errors
 use Rattle.ss_tables_rules.specs.Broken.{refusal_of_declarations}
-use Rattle.ss_tables_rules.specs.Rules.{broken_in, has_member, has_owner, is_too_many, set_at, set_named}
+use Rattle.ss_tables_rules.specs.Rules.{broken_in, has_member, has_owner, is_too_many, set_at, set_by_name}
 use Rattle.ss_names_laws.proofs.Each.{every_if, every_piece}
 use Rattle.ss_names_laws.proofs.Firsts.{mapped, place_in_below, value_among}
 use Rattle.ss_names_laws.proofs.Items.{at_item}
@@ -53,16 +53,16 @@ module _ (cs : List (NameBytes × ClassKind)) where
 -- ---- what owners and members say of each other
 
 module _ (t : Table) (cs : List (NameBytes × ClassKind)) (line : Line) where
-  owner_says : (w : Declared) → broken_in t line w ≡ None → Every (λ (e : NameBytes × Owner). has_member (set_named t e.0) ≡ true) (owner_by cs w)
+  owner_says : (w : Declared) → broken_in t line w ≡ None → Every (λ (e : NameBytes × Owner). has_member (set_by_name t e.0) ≡ true) (owner_by cs w)
   owner_says (d.Owner set class) h =
-      every_if (λ (e : NameBytes × Owner). has_member (set_named t e.0) ≡ true) set (owner_named cs class)
-      (λ owner is. (two_fit (has_member (set_named t set)) (not (is_too_many (place_among t.set_names set))) (errors.NoMember line) (errors.TooMany line) h).0)
+      every_if (λ (e : NameBytes × Owner). has_member (set_by_name t e.0) ≡ true) set (owner_named cs class)
+      (λ owner is. (two_fit (has_member (set_by_name t set)) (not (is_too_many (place_among t.set_names set))) (errors.NoMember line) (errors.TooMany line) h).0)
   owner_says _ h = tt
 
-  member_says : (w : Declared) → broken_in t line w ≡ None → Every (λ (e : NameBytes × ℕ). has_owner (set_named t e.0) ≡ true) (member_by cs w)
+  member_says : (w : Declared) → broken_in t line w ≡ None → Every (λ (e : NameBytes × ℕ). has_owner (set_by_name t e.0) ≡ true) (member_by cs w)
   member_says (d.Member set class) h =
-      every_if (λ (e : NameBytes × ℕ). has_owner (set_named t e.0) ≡ true) set (place_in cs class)
-      (λ n is. (two_fit (has_owner (set_named t set)) (not (is_too_many (place_among t.set_names set))) (errors.NoOwner line) (errors.TooMany line) h).0)
+      every_if (λ (e : NameBytes × ℕ). has_owner (set_by_name t e.0) ≡ true) set (place_in cs class)
+      (λ n is. (two_fit (has_owner (set_by_name t set)) (not (is_too_many (place_among t.set_names set))) (errors.NoOwner line) (errors.TooMany line) h).0)
   member_says _ h = tt
 
 named_at : (names : List NameBytes) (name : NameBytes) (k : ℕ) → place_among names name ≡ Some k → slice_get names k ≡ Some name
@@ -74,7 +74,7 @@ named_at names name k is =
 pub record IsOwned (p : ProgramTree) (name : NameBytes) : Type 0 where
   pub owner : Owner
   pub member : ℕ
-  pub known : set_named (table p) name ≡ Some (set_of (classes (declarations p)) (declarations p) name)
+  pub known : set_by_name (table p) name ≡ Some (set_of (classes (declarations p)) (declarations p) name)
   pub owned : (set_of (classes (declarations p)) (declarations p) name).owner ≡ Some owner
   pub filled : (set_of (classes (declarations p)) (declarations p) name).member ≡ Some member
   pub owner_below : owns_among (length (classes (declarations p))) owner ≡ true
@@ -84,20 +84,20 @@ module _ (p : ProgramTree) (kept : refusal_of_declarations p ≡ None) where
   abbrev said : NameBytes → Set
   said name = set_of (classes (declarations p)) (declarations p) name
 
-  known_set : (test : Option Set → Bool) (name : NameBytes) → test None ≡ false → test (set_named (table p) name) ≡ true → set_named (table p) name ≡ Some (said name)
+  known_set : (test : Option Set → Bool) (name : NameBytes) → test None ≡ false → test (set_by_name (table p) name) ≡ true → set_by_name (table p) name ≡ Some (said name)
   known_set test name none h = by (place_among (set_names (declarations p)) name) refl h
     where
       by : (o : Option ℕ) → place_among (set_names (declarations p)) name ≡ o → test (set_at (table p) o) ≡ true → set_at (table p) o ≡ Some (said name)
       by None is g = absurd (both_ways (test None) none g)
       by (Some k) is g = slice_get-map said (set_names (declarations p)) k ∙ ap (option_map said) (named_at (set_names (declarations p)) name k is)
 
-  owner_there : (name : NameBytes) → has_owner (set_named (table p) name) ≡ true → (owner : Owner) × (value_for (given_by (owner_by (classes (declarations p))) (declarations p)) name ≡ Some owner)
+  owner_there : (name : NameBytes) → has_owner (set_by_name (table p) name) ≡ true → (owner : Owner) × (value_for (given_by (owner_by (classes (declarations p))) (declarations p)) name ≡ Some owner)
   owner_there name h = some_there (said name).owner (sym (ap has_owner (known_set has_owner name refl h)) ∙ h)
 
-  member_there : (name : NameBytes) → has_member (set_named (table p) name) ≡ true → (member : ℕ) × (value_for (given_by (member_by (classes (declarations p))) (declarations p)) name ≡ Some member)
+  member_there : (name : NameBytes) → has_member (set_by_name (table p) name) ≡ true → (member : ℕ) × (value_for (given_by (member_by (classes (declarations p))) (declarations p)) name ≡ Some member)
   member_there name h = some_there (said name).member (sym (ap has_member (known_set has_member name refl h)) ∙ h)
 
-  is_owned : (name : NameBytes) → has_owner (set_named (table p) name) ≡ true → has_member (set_named (table p) name) ≡ true → IsOwned p name
+  is_owned : (name : NameBytes) → has_owner (set_by_name (table p) name) ≡ true → has_member (set_by_name (table p) name) ≡ true → IsOwned p name
   is_owned name h g =
       let ds = declarations p in
       let cs = classes ds in
@@ -115,28 +115,28 @@ module _ (p : ProgramTree) (kept : refusal_of_declarations p ≡ None) where
         member_below = at_item (λ (e : NameBytes × ℕ). nat_lt e.1 (length cs) ≡ true) (given_by (member_by cs) ds) (name, member.0) members_fit (value_among (given_by (member_by cs) ds) name member.0 member.1);
       }
 
-  owner_of_filled : (name : NameBytes) → has_member (set_named (table p) name) ≡ true → has_owner (set_named (table p) name) ≡ true
+  owner_of_filled : (name : NameBytes) → has_member (set_by_name (table p) name) ≡ true → has_owner (set_by_name (table p) name) ≡ true
   owner_of_filled name h =
       let ds = declarations p in
       let cs = classes ds in
       let member = member_there name h in
-      let P = λ (e : NameBytes × ℕ). has_owner (set_named (table p) e.0) ≡ true in
+      let P = λ (e : NameBytes × ℕ). has_owner (set_by_name (table p) e.0) ≡ true in
       at_item P (given_by (member_by cs) ds) (name, member.0) (every_given p kept P (member_by cs) (member_says (table p) cs)) (value_among (given_by (member_by cs) ds) name member.0 member.1)
 
-  member_of_owned : (name : NameBytes) → has_owner (set_named (table p) name) ≡ true → has_member (set_named (table p) name) ≡ true
+  member_of_owned : (name : NameBytes) → has_owner (set_by_name (table p) name) ≡ true → has_member (set_by_name (table p) name) ≡ true
   member_of_owned name h =
       let ds = declarations p in
       let cs = classes ds in
       let owner = owner_there name h in
-      let P = λ (e : NameBytes × Owner). has_member (set_named (table p) e.0) ≡ true in
+      let P = λ (e : NameBytes × Owner). has_member (set_by_name (table p) e.0) ≡ true in
       at_item P (given_by (owner_by cs) ds) (name, owner.0) (every_given p kept P (owner_by cs) (owner_says (table p) cs)) (value_among (given_by (owner_by cs) ds) name owner.0 owner.1)
 
   owned_so : (line : Line) (w : Declared) → broken_in (table p) line w ≡ None → Every (IsOwned p) (set_by w)
   owned_so line (d.Owner set class) h =
-      let filled = (two_fit (has_member (set_named (table p) set)) (not (is_too_many (place_among (table p).set_names set))) (errors.NoMember line) (errors.TooMany line) h).0 in
+      let filled = (two_fit (has_member (set_by_name (table p) set)) (not (is_too_many (place_among (table p).set_names set))) (errors.NoMember line) (errors.TooMany line) h).0 in
       (is_owned set (owner_of_filled set filled) filled, tt)
   owned_so line (d.Member set class) h =
-      let owned = (two_fit (has_owner (set_named (table p) set)) (not (is_too_many (place_among (table p).set_names set))) (errors.NoOwner line) (errors.TooMany line) h).0 in
+      let owned = (two_fit (has_owner (set_by_name (table p) set)) (not (is_too_many (place_among (table p).set_names set))) (errors.NoOwner line) (errors.TooMany line) h).0 in
       (is_owned set owned (member_of_owned set owned), tt)
   owned_so line _ h = tt
 

@@ -1,6 +1,6 @@
 -- The parameters of a section differ, and are its first local variables.
 use Rattle.std.proofs.Common.{◌≡◌, ℕ, ◌+◌, List, [], ◌∷◌, ◌++◌, length, map, take, Bool, cond, false, Option, Some, None, refl, sym, ap, subst, ◌∙◌, append_assoc, append-nil}
-use Rattle.std.specs.Prelude.{◌&&◌, slice_get}
+use Rattle.std.specs.Prelude.{option_to_list, slice_get, ◌&&◌}
 use Rattle.std.specs.List.{AllByRecursion as Every, IsDistinct, flat_map, fold}
 use Rattle.std.specs.Map.{keys_of}
 use Rattle.std.specs.Option.{option_or}
@@ -14,14 +14,14 @@ use Rattle.ss_base.specs.declared.layout.Mode.{Mode}
 use Rattle.ss_tree.specs.Names.{NameBytes}
 use Rattle.ss_tree.specs.Tree.{SectionKindTree, main, routine, event, SectionTree, ProgramTree}
 use Rattle.ss_names_declarations.specs.Declarations.{at_line, flat_map_from, in_definition, in_head, in_section, in_statement, parameter}
-use Rattle.ss_names_declarations.specs.Firsts.{entry_beside, firsts, same_name, value_for, with_first}
+use Rattle.ss_names_declarations.specs.Firsts.{entry_beside, first_entries, same_name, value_for, with_first}
 use Rattle.ss_names_declarations.specs.declared.declaration.Declared.TheVariants as d
 use Rattle.ss_names_declarations.specs.declared.declaration.Declaration.{Declaration}
 use Rattle.ss_names_declarations.proofs.Entries.{keys_append, value_append}
 use Rattle.ss_names_uses.specs.Uses as used
 use Rattle.ss_names_uses.specs.Uses.{as_attribute, in_body, in_kind, in_places, uses}
 use Rattle.ss_names.specs.Table.{Table, table}
-use Rattle.ss_names_scopes.specs.Locals.{as_list, defined, local_used, locals_of, moded_in}
+use Rattle.ss_names_scopes.specs.Locals.{defined, local_used, locals_of, moded_in}
 use Rattle.ss_tables_rules.specs.declared.once.Once.{Once}
 use Rattle.ss_tables_rules.specs.declared.once.Once.TheVariants as once
 use Rattle.ss_tables_rules.specs.Broken.{refusal_of_declarations}
@@ -74,7 +74,7 @@ AllOnce t ds = IsDistinct (λ (b a : Once). same_once a b) (onces t ds)
 once_parts : (t : Table) (xs ys : List Declaration) → AllOnce t (xs ++ ys) → AllOnce t xs × AllOnce t ys
 once_parts t xs ys h =
     let e = λ (b a : Once). same_once a b in
-    distinct_parts e (onces t xs) (onces t ys) (subst (IsDistinct e) (flat_map-append (λ (x : Declaration). as_list (once_of t x.what)) xs ys) h)
+    distinct_parts e (onces t xs) (onces t ys) (subst (IsDistinct e) (flat_map-append (λ (x : Declaration). option_to_list (once_of t x.what)) xs ys) h)
 
 onces_of_parameters : (t : Table) (line : Line) (k : ℕ) (names : List NameBytes) → onces t (map (parameter line k) names) ≡ map (λ n. once.Parameter n k) names
 onces_of_parameters t line k [] = refl
@@ -132,7 +132,7 @@ module _ {V : Type 0} where
       let rest = stays (with_first start e) xs in
       (one.0 ++ rest.0, rest.1 ∙ ap (λ l. l ++ rest.0) one.1 ∙ append_assoc start one.0 rest.0)
 
-  front : (xs ys : List (NameBytes × V)) → IsDistinct same_name (keys_of xs) → (more : List (NameBytes × V)) × (firsts (xs ++ ys) ≡ xs ++ more)
+  front : (xs ys : List (NameBytes × V)) → IsDistinct same_name (keys_of xs) → (more : List (NameBytes × V)) × (first_entries (xs ++ ys) ≡ xs ++ more)
   front xs ys d =
       let rest = stays xs ys in
       (rest.0, fold-append with_first [] xs ys ∙ ap (λ l. fold with_first l ys) (entered [] xs (each_item (λ (e : NameBytes × V). value_for {V = V} [] e.0 ≡ None) xs (λ e a. refl)) d) ∙ rest.1)
@@ -155,6 +155,6 @@ parameters_there p kept k s at =
     let keys = keys_moded (table p).usual (defined (uses s)) names in
     let found = front first (map moded named.0) (subst (IsDistinct same_name) (sym keys) (parameters_differ p kept k s at)) in
     let all : keys_of (locals_of (table p) s) ≡ names ++ keys_of found.0 =
-    ap (λ l. keys_of (firsts (map moded l))) named.1 ∙ ap (λ l. keys_of (firsts l)) (map-append moded names named.0) ∙ ap keys_of found.1
+    ap (λ l. keys_of (first_entries (map moded l))) named.1 ∙ ap (λ l. keys_of (first_entries l)) (map-append moded names named.0) ∙ ap keys_of found.1
     ∙ keys_append first found.0 ∙ ap (λ l. l ++ keys_of found.0) keys in
     ap (take (length names)) all ∙ take_front names (keys_of found.0)

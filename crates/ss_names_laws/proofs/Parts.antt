@@ -7,9 +7,9 @@ use Rattle.ss_base.specs.declared.layout.SetLayout.{SetLayout}
 use Rattle.ss_base.specs.Layout.{is_layout, layout_of}
 use Rattle.ss_base.specs.Plain.{PlainClass, PlainLayout}
 use Rattle.ss_program.specs.declared.sections.Statistic.{Statistic}
-use Rattle.ss_names.specs.Table.{Table}
+use Rattle.ss_names.specs.Table.{Table, field_mode}
 use Rattle.ss_names_meaning.specs.Answers.{◌>>=◌, each, upto}
-use Rattle.ss_names_meaning.specs.Layouts.{ResolvedLayout, class_laid, counts, disciplines, field_mode, laid_out, layout, set_laid, statistic_kept, statistics}
+use Rattle.ss_names_meaning.specs.Layouts.{ResolvedLayout, class_layout, counts, disciplines, resolved_layout, layout, set_layout, resolved_statistic, statistics}
 use Rattle.ss_names_laws.proofs.Steps.{got, upto_length}
 
 each_length : {A B : Type 0} (step : A → Option B) (xs : List A) (ys : List B) → each step xs ≡ Some ys → length ys ≡ length xs
@@ -31,16 +31,16 @@ module _ (t : Table) where
 
   abbrev pub IsMadeOf : ResolvedLayout → Type 0
   IsMadeOf x =
-      (cs : List PlainClass) × (ss : List SetLayout) × (orders : List Discipline) × (kept : List Statistic) × (each (class_laid t) (upto (length t.classes)) ≡ Some cs) × (each set_laid t.sets ≡ Some ss)
+      (cs : List PlainClass) × (ss : List SetLayout) × (orders : List Discipline) × (kept : List Statistic) × (each (class_layout t) (upto (length t.classes)) ≡ Some cs) × (each set_layout t.sets ≡ Some ss)
       × (disciplines t ≡ Some orders) × (statistics t ≡ Some kept) × (laid_of cs ss orders kept ≡ x)
 
-  pub parts_of : (x : ResolvedLayout) → laid_out t ≡ Some x → IsMadeOf x
+  pub parts_of : (x : ResolvedLayout) → resolved_layout t ≡ Some x → IsMadeOf x
   parts_of x h =
       let laid = got (layout t) (λ l. disciplines t >>= λ orders. statistics t >>= λ kept. Some (record { layout = l; disciplines = orders; globals = values_of t.variables; counts = counts t; statistics = kept })) x h in
       let orders = got (disciplines t) (λ orders. statistics t >>= λ kept. Some (record { layout = laid.0; disciplines = orders; globals = values_of t.variables; counts = counts t; statistics = kept })) x laid.2 in
       let kept = got (statistics t) (λ kept. Some (record { layout = laid.0; disciplines = orders.0; globals = values_of t.variables; counts = counts t; statistics = kept })) x orders.2 in
-      let classes = got (each (class_laid t) (upto (length t.classes))) (λ cs. each set_laid t.sets >>= λ ss. layout_of cs ss) laid.0 laid.1 in
-      let sets = got (each set_laid t.sets) (λ ss. layout_of classes.0 ss) laid.0 classes.2 in
+      let classes = got (each (class_layout t) (upto (length t.classes))) (λ cs. each set_layout t.sets >>= λ ss. layout_of cs ss) laid.0 laid.1 in
+      let sets = got (each set_layout t.sets) (λ ss. layout_of classes.0 ss) laid.0 classes.2 in
       let made : PlainLayout = record { classes = classes.0; sets = sets.0 } in
       let same = (cond_some (is_layout made) made laid.0 sets.2).1 in
       let whole : ResolvedLayout = record { layout = laid.0; disciplines = orders.0; globals = values_of t.variables; counts = counts t; statistics = kept.0 } in (
@@ -56,7 +56,7 @@ module _ (t : Table) where
       )
 
   -- a class of the layout
-  pub class_parts : (n : ℕ) (c : PlainClass) → class_laid t n ≡ Some c → (slice_get (values_of t.classes) n ≡ Some c.kind) × (each (field_mode t) (get_or t.fields n []) ≡ Some c.fields)
+  pub class_parts : (n : ℕ) (c : PlainClass) → class_layout t n ≡ Some c → (slice_get (values_of t.classes) n ≡ Some c.kind) × (each (field_mode t) (get_or t.fields n []) ≡ Some c.fields)
   class_parts n c h =
       let kind = got (slice_get (values_of t.classes) n) (λ kind. each (field_mode t) (get_or t.fields n []) >>= λ modes. Some (record { kind = kind; fields = modes })) c h in
       let modes = got (each (field_mode t) (get_or t.fields n [])) (λ modes. Some (record { kind = kind.0; fields = modes })) c kind.2 in
@@ -65,7 +65,7 @@ module _ (t : Table) where
       (kind.1 ∙ ap (λ (x : PlainClass). Some x.kind) same, modes.1 ∙ ap (λ (x : PlainClass). Some x.fields) same)
 
   -- the subject of a statistic
-  pub subject_kept : (n : ℕ) (s : Statistic) → statistic_kept t n ≡ Some s → slice_get t.subjects n ≡ Some (Some s.subject)
+  pub subject_kept : (n : ℕ) (s : Statistic) → resolved_statistic t n ≡ Some s → slice_get t.subjects n ≡ Some (Some s.subject)
   subject_kept n s h =
       let weighting = got (slice_get (values_of t.histories) n) (λ weighting. slice_get t.subjects n >>= λ known. known >>= λ subject. Some (record { subject = subject; weighting = weighting })) s h in
       let known = got (slice_get t.subjects n) (λ known. known >>= λ subject. Some (record { subject = subject; weighting = weighting.0 })) s weighting.2 in

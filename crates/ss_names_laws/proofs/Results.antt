@@ -1,8 +1,9 @@
 -- Steps that have results, and what holds of all of them.
-use Rattle.std.proofs.Common.{◌≡◌, ℕ, zero, suc, ◌<◌, Bool, true, false, List, [], ◌∷◌, length, Option, Some, None, refl, sym, ap, subst, arith}
+use Rattle.std.proofs.Common.{◌≡◌, ℕ, zero, suc, ◌<◌, Bool, true, false, List, [], ◌∷◌, length, Option, Some, refl, sym, ap, subst, arith}
 use Rattle.std.specs.List.{AllByRecursion as Every, AllZip}
 use Rattle.ss_names_meaning.specs.Answers.{◌>>=◌, each, upto, where_holds}
 use Rattle.ss_names_laws.proofs.Each.{joined}
+use Rattle.ss_names_laws.proofs.Steps.{cons_of, parts}
 
 pub goes : {A B : Type 0} (o : Option A) (f : A → Option B) (x : A) (y : B) → o ≡ Some x → f x ≡ Some y → (o >>= f) ≡ Some y
 goes o f x y e h = rw e h
@@ -12,14 +13,6 @@ held true x y e = (refl, cc)
 held false x y e = absurd cc
 
 -- ---- steps for each item
-
-abbrev cons_of : {B : Type 0} → Option B → Option (List B) → Option (List B)
-cons_of r q = r >>= λ y. q >>= λ ys. Some (y ∷ ys)
-
-parts : {B : Type 0} (r : Option B) (q : Option (List B)) (bs : List B) → cons_of r q ≡ Some bs → (y : B) × (ys : List B) × (r ≡ Some y) × (q ≡ Some ys) × (bs ≡ y ∷ ys)
-parts None q bs e = absurd cc
-parts (Some y) None bs e = absurd cc
-parts (Some y) (Some ys) bs e = (y, ys, refl, refl, cc)
 
 together : {B : Type 0} (r : Option B) (q : Option (List B)) (y : B) (ys : List B) → r ≡ Some y → q ≡ Some ys → cons_of r q ≡ Some (y ∷ ys)
 together r q y ys e h = rw (e, h) refl

@@ -3,12 +3,13 @@ use Rattle.std.proofs.Common.{◌≡◌, ℕ, ◌+◌, List, [], ◌∷◌, leng
 use Rattle.std.specs.Prelude.{slice_get}
 use Rattle.std.specs.List.{AllByRecursion as Every, flat_map}
 use Rattle.std.proofs.lemmas.List.{length-append}
+use Rattle.ss_base.specs.declared.layout.ClassKind.TheVariants as kinds
 use Rattle.ss_base.specs.declared.line.Line.{Line}
 use Rattle.ss_tree.specs.Names.{NameBytes}
 use Rattle.ss_tree.specs.declared.preamble.Key.{Key}
 use Rattle.ss_tree.specs.declared.preamble.Statistic.{Statistic}
 use Rattle.ss_tree.specs.Tree.{ClauseTree, has, owns, belongs_to, OrderTree, fifo, lifo, ranked, PreambleTree, permanent_entities, temporary_entities, event_notices, every, normally, system_owns, define_variables, define_sets, priority_order, break_ties, statistics, DefinitionTree, SectionKindTree, main, routine, event, SectionTree, ProgramTree}
-use Rattle.ss_names_declarations.specs.Declarations.{at_line, attribute, declarations, flat_map_from, in_clause, in_definition, in_head, in_order, in_section, in_statement, local, member_set, notice, ordered_set, owned_set, parameter, priority, rank_key, rule_of, statistic, tie_key, variable}
+use Rattle.ss_names_declarations.specs.Declarations.{at_line, declarations, flat_map_from, in_clause, in_definition, in_head, in_order, in_section, in_statement, local, parameter, rule_of}
 use Rattle.ss_names_declarations.specs.declared.declaration.Declared.{Declared}
 use Rattle.ss_names_declarations.specs.declared.declaration.Declared.TheVariants as d
 use Rattle.ss_names_declarations.specs.declared.declaration.Declaration.{Declaration}
@@ -31,31 +32,31 @@ module _ (p : ProgramTree) where
   -- ---- statements of the preamble
 
   of_clause : (line : Line) (class : NameBytes) (c : ClauseTree) → Every Made (in_clause line class c)
-  of_clause line class (has names) = every_image Made (attribute line class) names (λ name a. tt)
-  of_clause line class (owns names) = every_image Made (owned_set line (Some class)) names (λ name a. tt)
-  of_clause line class (belongs_to names) = every_image Made (member_set line class) names (λ name a. tt)
+  of_clause line class (has names) = every_image Made (λ (name : NameBytes). at_line line (d.Attribute name class)) names (λ name a. tt)
+  of_clause line class (owns names) = every_image Made (λ (set : NameBytes). at_line line (d.Owner set (Some class))) names (λ name a. tt)
+  of_clause line class (belongs_to names) = every_image Made (λ (set : NameBytes). at_line line (d.Member set class)) names (λ name a. tt)
 
   of_order : (k : ℕ) (line : Line) (sets : List NameBytes) (order : OrderTree) → slice_get p.preamble k ≡ Some (define_sets line sets order) → Every Made (in_order line k order)
   of_order k line sets fifo at = tt
   of_order k line sets lifo at = tt
-  of_order k line sets (ranked keys) at = every_image Made (rank_key line k) keys (λ key a. (line, sets, keys, key, at, a, refl))
+  of_order k line sets (ranked keys) at = every_image Made (λ (key : Key). at_line line (d.RankKey key.name key.high k)) keys (λ key a. (line, sets, keys, key, at, a, refl))
 
   of_statement : (k : ℕ) (s : PreambleTree) → slice_get p.preamble k ≡ Some s → Every Made (in_statement k s)
   of_statement k (permanent_entities line) at = tt
   of_statement k (temporary_entities line) at = tt
-  of_statement k (event_notices line names) at = every_image Made (notice line) names (λ name a. tt)
+  of_statement k (event_notices line names) at = every_image Made (λ (name : NameBytes). at_line line (d.Class name kinds.Notice)) names (λ name a. tt)
   of_statement k (every line kind class clauses) at = (tt, every_piece Made (in_clause line class) clauses (λ c a. of_clause line class c))
   of_statement k (normally line mode) at = (tt, tt)
-  of_statement k (system_owns line sets) at = every_image Made (owned_set line None) sets (λ set a. tt)
-  of_statement k (define_variables line names mode) at = every_image Made (variable line mode) names (λ name a. tt)
+  of_statement k (system_owns line sets) at = every_image Made (λ (set : NameBytes). at_line line (d.Owner set None)) sets (λ set a. tt)
+  of_statement k (define_variables line names mode) at = every_image Made (λ (name : NameBytes). at_line line (d.Variable name mode)) names (λ name a. tt)
   of_statement k (define_sets line sets order) at =
-      joined Made (map (ordered_set line (rule_of order) k) sets) (in_order line k order)
-      (every_image Made (ordered_set line (rule_of order) k) sets (λ set a. (line, sets, order, at, a))) (of_order k line sets order at)
-  of_statement k (priority_order line classes) at = (tt, every_image Made (priority line) classes (λ class a. tt))
-  of_statement k (break_ties line class keys) at = (tt, every_image Made (tie_key line class) keys (λ key a. tt))
+      joined Made (map (λ (set : NameBytes). at_line line (d.Order set (rule_of order) k)) sets) (in_order line k order)
+      (every_image Made (λ (set : NameBytes). at_line line (d.Order set (rule_of order) k)) sets (λ set a. (line, sets, order, at, a))) (of_order k line sets order at)
+  of_statement k (priority_order line classes) at = (tt, every_image Made (λ (class : NameBytes). at_line line (d.Priority class)) classes (λ class a. tt))
+  of_statement k (break_ties line class keys) at = (tt, every_image Made (λ (key : Key). at_line line (d.TieKey class key.name key.high)) keys (λ key a. tt))
   of_statement k (statistics line weighting found subject) at =
-      joined Made (map (statistic line subject) found) (at_line line (d.Subject subject weighting) ∷ [])
-      (every_image Made (statistic line subject) found (λ s a. tt)) ((k, line, found, at), tt)
+      joined Made (map (λ (s : Statistic). at_line line (d.Statistic s.name s.kind subject)) found) (at_line line (d.Subject subject weighting) ∷ [])
+      (every_image Made (λ (s : Statistic). at_line line (d.Statistic s.name s.kind subject)) found (λ s a. tt)) ((k, line, found, at), tt)
 
   -- ---- sections
 

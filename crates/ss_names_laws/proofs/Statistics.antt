@@ -1,6 +1,6 @@
 -- The subjects of TALLY and ACCUMULATE: each is there and a whole number, so each history has a statistic.
 use Rattle.std.proofs.Common.{◌≡◌, ℕ, not, Bool, true, false, [], ◌++◌, List, length, Option, Some, None, option_map, refl, ap, ◌∙◌}
-use Rattle.std.specs.Prelude.{slice_get, if◌then◌else◌}
+use Rattle.std.specs.Prelude.{option_to_list, if◌then◌else◌, slice_get}
 use Rattle.std.specs.List.{AllByRecursion as Every, flat_map}
 use Rattle.std.specs.Map.{keys_of, values_of}
 use Rattle.std.proofs.lemmas.Option.{slice_get-map}
@@ -23,15 +23,15 @@ use Rattle.ss_names.specs.declared.meaning.Meaning.{Meaning}
 use Rattle.ss_names.specs.declared.meaning.Meaning.TheVariants as m
 use Rattle.ss_names.specs.Entries.{given_by, history_by}
 use Rattle.ss_names.specs.Table.{Table, numbered, subject_of, table}
-use Rattle.ss_names_scopes.specs.Locals.{as_list}
 use Rattle.ss_check_rules.specs.declared.error.CheckError.{CheckError}
 use Rattle.ss_check_rules.specs.declared.error.CheckError.TheVariants as errors
 use Rattle.ss_check_rules.specs.Kinds.{may_be_watched}
 use Rattle.ss_check_rules.specs.Modes.{is_text}
 use Rattle.ss_check_rules.specs.Order.{order_of}
-use Rattle.ss_check_rules.specs.Refusal.{breaches, in_preamble, in_program, in_section, refusal_of_uses, subject_breaks, unless}
+use Rattle.ss_names_declarations.specs.Earliest.{unless}
+use Rattle.ss_check_rules.specs.Refusal.{breaches, in_preamble, in_program, in_section, refusal_of_uses, subject_breaks}
 use Rattle.ss_names_meaning.specs.Answers.{upto}
-use Rattle.ss_names_meaning.specs.Layouts.{statistic_kept, statistics as statistics_of}
+use Rattle.ss_names_meaning.specs.Layouts.{resolved_statistic, statistics as statistics_of}
 use Rattle.ss_names_laws.proofs.Each.{at_place, each_empty, every_first, every_piece}
 use Rattle.ss_names_laws.proofs.Items.{at_item}
 use Rattle.ss_names_laws.proofs.Kept.{both_empty, nothing_found}
@@ -55,7 +55,7 @@ whole_so line (Some meaning) h = by (may_be_watched meaning) refl h
     by true is g = (meaning, refl, is, no_text line (is_text (Some meaning)) g)
     by false is g = absurd cc
 
-none_listed : (o : Option CheckError) → as_list o ≡ [] → o ≡ None
+none_listed : (o : Option CheckError) → option_to_list o ≡ [] → o ≡ None
 none_listed None h = refl
 none_listed (Some breach) h = absurd cc
 
@@ -67,7 +67,7 @@ subject_there t name (m.Attribute class field mode) known h = (OfAttribute class
 subject_there t name (m.OfSet MemberCount set) known h = (OfCount set, refl)
 subject_there t name _ known h = absurd cc
 
-statistic_there : (t : Table) (n : ℕ) (weighting : Weighting) (subject : Subject) → slice_get (values_of t.histories) n ≡ Some weighting → slice_get t.subjects n ≡ Some (Some subject) → (s : Statistic) × (statistic_kept t n ≡ Some s) × Unit {0}
+statistic_there : (t : Table) (n : ℕ) (weighting : Weighting) (subject : Subject) → slice_get (values_of t.histories) n ≡ Some weighting → slice_get t.subjects n ≡ Some (Some subject) → (s : Statistic) × (resolved_statistic t n ≡ Some s) × Unit {0}
 statistic_there t n weighting subject e f =
     let made : Statistic = record { subject = subject; weighting = weighting } in
     (made, rw (e, f) refl, tt)
@@ -95,11 +95,11 @@ module _ (p : ProgramTree) (kept : refusal_of_uses p ≡ None) where
   statistics_there =
       let t = table p in
       let of_name : NameBytes → Option Subject = λ n. subject_of (value_for t.meanings n) in
-      let all = upto_every (λ (n : ℕ). (s : Statistic) × (statistic_kept t n ≡ Some s) × Unit {0}) (length t.histories) (λ n lt.
+      let all = upto_every (λ (n : ℕ). (s : Statistic) × (resolved_statistic t n ≡ Some s) × Unit {0}) (length t.histories) (λ n lt.
       let e = there t.histories n lt in
       let whole = at_place IsWatched t.histories n e.0 all_watched e.1 in
       let subject = subject_there (numbered (declarations p)) e.0.0 whole.0 (name_known (declarations p) e.0.0 whole.0 whole.1) whole.2 in
       let named : slice_get t.subjects n ≡ Some (of_name e.0.0) = slice_get-map of_name (keys_of t.histories) n ∙ ap (option_map of_name) (key_at t.histories n e.0.0 e.0.1 e.1) in
       statistic_there t n e.0.1 subject.0 (value_at t.histories n e.0.0 e.0.1 e.1) (named ∙ ap Some (ap subject_of whole.1 ∙ subject.1))) in
-      let found = each_made (statistic_kept t) (λ (s : Statistic). Unit {0}) (upto (length t.histories)) all in
+      let found = each_made (resolved_statistic t) (λ (s : Statistic). Unit {0}) (upto (length t.histories)) all in
       (found.0, found.1)

@@ -12,10 +12,10 @@ got (Some x) f y e = (x, refl, e)
 
 -- ---- steps for each item
 
-abbrev cons_of : {B : Type 0} → Option B → Option (List B) → Option (List B)
+abbrev pub cons_of : {B : Type 0} → Option B → Option (List B) → Option (List B)
 cons_of r q = r >>= λ y. q >>= λ ys. Some (y ∷ ys)
 
-parts : {B : Type 0} (r : Option B) (q : Option (List B)) (bs : List B) → cons_of r q ≡ Some bs → (y : B) × (ys : List B) × (r ≡ Some y) × (q ≡ Some ys) × (bs ≡ y ∷ ys)
+pub parts : {B : Type 0} (r : Option B) (q : Option (List B)) (bs : List B) → cons_of r q ≡ Some bs → (y : B) × (ys : List B) × (r ≡ Some y) × (q ≡ Some ys) × (bs ≡ y ∷ ys)
 parts None q bs e = absurd cc
 parts (Some y) None bs e = absurd cc
 parts (Some y) (Some ys) bs e = (y, ys, refl, refl, cc)

@@ -36,11 +36,11 @@ use Rattle.ss_names.specs.declared.entry.TiedBy.{TiedBy}
 use Rattle.ss_names.specs.declared.meaning.Meaning.{Meaning}
 use Rattle.ss_names.specs.declared.meaning.Meaning.TheVariants as m
 use Rattle.ss_names.specs.Entries.{classes, given_by}
-use Rattle.ss_names.specs.Table.{Table, declares, numbered, subject_of, table}
+use Rattle.ss_names.specs.Table.{Table, declares, field_mode, numbered, subject_of, table}
 use Rattle.ss_check_rules.specs.Modes.{is_text}
 use Rattle.ss_check_rules.specs.Refusal.{refusal_of_uses}
 use Rattle.ss_names_meaning.specs.Answers.{◌>>=◌, each, upto, where_holds}
-use Rattle.ss_names_meaning.specs.Layouts.{ResolvedLayout, class_laid, count_by, counts, discipline, disciplines, field_mode, key_of, laid_out, layout, ordered, rank_keys, ranked_by, ruled, set_laid, statistic_kept, statistics, tie_keys, tied_by}
+use Rattle.ss_names_meaning.specs.Layouts.{ResolvedLayout, class_layout, count_by, counts, discipline, disciplines, key_of, resolved_layout, layout, ordered, rank_keys, ranked_by, ruled, set_layout, resolved_statistic, statistics, tie_keys, tied_by}
 use Rattle.ss_names_laws.specs.Laws.{HasLayout, IsWellLaid, LayoutsAreWellTyped, TablesAreThere}
 use Rattle.ss_names_laws.specs.ValidTables.{IsMeant, IsValidTable}
 use Rattle.ss_names_laws.proofs.Attributes.{attribute_there}
@@ -58,7 +58,7 @@ use Rattle.ss_names_laws.proofs.Steps.{each_at, got, numbers_at}
 
 -- ---- it is there
 
-all_there : (t : Table) (l : PlainLayout) (orders : List Discipline) (kept : List Statistic) → layout t ≡ Some l → disciplines t ≡ Some orders → statistics t ≡ Some kept → (x : ResolvedLayout) × (laid_out t ≡ Some x)
+all_there : (t : Table) (l : PlainLayout) (orders : List Discipline) (kept : List Statistic) → layout t ≡ Some l → disciplines t ≡ Some orders → statistics t ≡ Some kept → (x : ResolvedLayout) × (resolved_layout t ≡ Some x)
 all_there t l orders kept e f g =
     let made : ResolvedLayout = record { layout = l; disciplines = orders; globals = values_of t.variables; counts = counts t; statistics = kept } in
     (made, rw (e, f, g) refl)
@@ -73,20 +73,20 @@ tables_are_there p kept used =
 -- ---- it is well typed
 
 -- the class of the members of a set that is laid out
-member_laid : (s : Set) (y : SetLayout) → set_laid s ≡ Some y → s.member ≡ Some y.member
+member_laid : (s : Set) (y : SetLayout) → set_layout s ≡ Some y → s.member ≡ Some y.member
 member_laid s y h =
     let owner = got s.owner (λ owner. s.member >>= λ member. Some (record { owner = owner; member = member })) y h in
     let member = got s.member (λ member. Some (record { owner = owner.0; member = member })) y owner.2 in
     let made : SetLayout = record { owner = owner.0; member = member.0 } in
     member.1 ∙ ap (λ (l : SetLayout). Some l.member) (same_Some made y member.2)
 
-module _ (p : ProgramTree) (cs : List PlainClass) (ss : List SetLayout) (orders : List Discipline) (stats : List Statistic) (are_classes : each (class_laid (table p)) (upto (length (table p).classes)) ≡ Some cs)
+module _ (p : ProgramTree) (cs : List PlainClass) (ss : List SetLayout) (orders : List Discipline) (stats : List Statistic) (are_classes : each (class_layout (table p)) (upto (length (table p).classes)) ≡ Some cs)
     (r : Program) (h : HasLayout (laid_of (table p) cs ss orders stats) r) where
   -- ---- classes and attributes
 
   class_at : (class : ℕ) → class < length (table p).classes → (c : PlainClass) × (slice_get r.layout.classes class ≡ Some c) × (slice_get (values_of (table p).classes) class ≡ Some c.kind) × (each (field_mode (table p)) (get_or (table p).fields class []) ≡ Some c.fields)
   class_at class lt =
-      let laid = numbers_at (class_laid (table p)) (length (table p).classes) cs class are_classes lt in
+      let laid = numbers_at (class_layout (table p)) (length (table p).classes) cs class are_classes lt in
       let parts = class_parts (table p) class laid.0 laid.2 in
       (laid.0, ap (λ (l : PlainLayout). slice_get l.classes class) h.layout ∙ laid.1, parts.0, parts.1)
 
@@ -132,9 +132,9 @@ module _ (p : ProgramTree) (cs : List PlainClass) (ss : List SetLayout) (orders 
   ordered_good y None x e = subst (typed.GoodDiscipline r y) (same_Some orders_of.Fifo x e) tt
   ordered_good y (Some o) x e = ruled_good y o.statement o.rule x e
 
-  disciplines_good : each set_laid (table p).sets ≡ Some ss → disciplines (table p) ≡ Some orders → AllZip (typed.GoodDiscipline r) r.layout.sets r.disciplines
+  disciplines_good : each set_layout (table p).sets ≡ Some ss → disciplines (table p) ≡ Some orders → AllZip (typed.GoodDiscipline r) r.layout.sets r.disciplines
   disciplines_good e f =
-      let good = each_zip set_laid (discipline (table p)) (typed.GoodDiscipline r) (table p).sets ss orders e f
+      let good = each_zip set_layout (discipline (table p)) (typed.GoodDiscipline r) (table p).sets ss orders e f
       (λ (s : Set) y x is ordered_so. ordered_good y s.order x (subst (λ (o : Option ℕ). ordered (table p) o s.order ≡ Some x) (member_laid s y is) ordered_so)) in
       subst (λ (l : List SetLayout). AllZip (typed.GoodDiscipline r) l r.disciplines) (sym (ap (λ (l : PlainLayout). l.sets) h.layout))
       (subst (AllZip (typed.GoodDiscipline r) ss) (sym h.disciplines) good)
@@ -177,7 +177,7 @@ module _ (p : ProgramTree) (cs : List PlainClass) (ss : List SetLayout) (orders 
   statistics_good used valid e =
       let t = table p in
       let of_name : NameBytes → Option Subject = λ n. subject_of (value_for t.meanings n) in
-      let good = each_every (statistic_kept t) (λ (s : Statistic). typed.GoodSubject r s.subject) (upto (length t.histories)) stats e (λ n s kept.
+      let good = each_every (resolved_statistic t) (λ (s : Statistic). typed.GoodSubject r s.subject) (upto (length t.histories)) stats e (λ n s kept.
       let named = mapped of_name (slice_get (keys_of t.histories) n) (Some s.subject) (sym (slice_get-map of_name (keys_of t.histories) n) ∙ subject_kept t n s kept) in
       let entry = entry_of_key t.histories n named.0 named.1 in
       let whole = at_place (IsWatched p used) t.histories n (named.0, entry.0) (all_watched p used) entry.1 in

@@ -12,7 +12,8 @@ use Rattle.ss_names.specs.Entries.{given_by}
 use Rattle.ss_names.specs.Table.{table}
 use Rattle.ss_tables_rules.specs.declared.error.TableError.{TableError}
 use Rattle.ss_tables_rules.specs.Broken.{refusal_of_declarations}
-use Rattle.ss_tables_rules.specs.Rules.{broken_by, broken_in, unless}
+use Rattle.ss_names_declarations.specs.Earliest.{unless}
+use Rattle.ss_tables_rules.specs.Rules.{broken_by, broken_in}
 use Rattle.ss_names_laws.proofs.Each.{every_piece}
 use Rattle.ss_names_laws.proofs.Items.{at_item}
 use Rattle.ss_names_laws.proofs.Kept.{none_broken}

@@ -12,7 +12,7 @@ use Rattle.ss_names.specs.Table.{table}
 use Rattle.ss_names_scopes.specs.Locals.{locals_of}
 use Rattle.ss_tables_rules.specs.Broken.{refusal_of_declarations}
 use Rattle.ss_check_rules.specs.Refusal.{refusal_of_uses}
-use Rattle.ss_names_meaning.specs.Layouts.{ResolvedLayout, laid_out, layout, tie_keys}
+use Rattle.ss_names_meaning.specs.Layouts.{ResolvedLayout, resolved_layout, layout, tie_keys}
 use Rattle.ss_names_laws.specs.ValidTables.{IsValidTable, IsValidSection, HasRoutines}
 
 -- a program that breaks no rule on declarations has classes and sets
@@ -22,12 +22,12 @@ LayoutsAreThere = (p : ProgramTree) → refusal_of_declarations p ≡ None → (
 -- a program that breaks no rule has a layout with disciplines, counts and statistics
 abbrev pub TablesAreThere : Type 0
 TablesAreThere =
-    (p : ProgramTree) → refusal_of_declarations p ≡ None → refusal_of_uses p ≡ None → (x : ResolvedLayout) × (laid_out (table p) ≡ Some x)
+    (p : ProgramTree) → refusal_of_declarations p ≡ None → refusal_of_uses p ≡ None → (x : ResolvedLayout) × (resolved_layout (table p) ≡ Some x)
 
 -- each name means something that is there
 abbrev pub TablesAreValid : Type 0
 TablesAreValid =
-    (p : ProgramTree) (x : ResolvedLayout) → refusal_of_declarations p ≡ None → laid_out (table p) ≡ Some x → IsValidTable (table p) x
+    (p : ProgramTree) (x : ResolvedLayout) → refusal_of_declarations p ≡ None → resolved_layout (table p) ≡ Some x → IsValidTable (table p) x
 
 -- a program with this layout
 pub record HasLayout (x : ResolvedLayout) (r : Program) : Type 0 where
@@ -47,7 +47,7 @@ pub record IsWellLaid (p : ProgramTree) (r : Program) : Type 0 where
 abbrev pub LayoutsAreWellTyped : Type 0
 LayoutsAreWellTyped =
     (p : ProgramTree) (x : ResolvedLayout) (r : Program) → refusal_of_declarations p ≡ None → refusal_of_uses p ≡ None →
-    laid_out (table p) ≡ Some x → HasLayout x r → IsWellLaid p r
+    resolved_layout (table p) ≡ Some x → HasLayout x r → IsWellLaid p r
 
 -- the local variables of the sections of a program that breaks no rule on declarations
 abbrev pub SectionsAreValid : Type 0

@@ -19,11 +19,11 @@ use Rattle.ss_names.specs.declared.entry.Set.{Set}
 use Rattle.ss_names.specs.declared.meaning.Meaning.{Meaning}
 use Rattle.ss_names.specs.declared.meaning.Meaning.TheVariants as m
 use Rattle.ss_names.specs.Entries.{count_name}
-use Rattle.ss_names.specs.Table.{Table, subject_of}
+use Rattle.ss_names.specs.Table.{Table, field_mode, subject_of}
 use Rattle.ss_names_scopes.specs.Locals.{Moded}
 use Rattle.ss_tables_rules.specs.Rules.{may_be_hidden}
 use Rattle.ss_names_meaning.specs.Answers.{each}
-use Rattle.ss_names_meaning.specs.Layouts.{ResolvedLayout, field_mode, laid_out, set_laid}
+use Rattle.ss_names_meaning.specs.Layouts.{ResolvedLayout, resolved_layout, set_layout}
 use Rattle.ss_names_meaning.specs.Resolved.{local_modes}
 
 -- ---- what a name means
@@ -33,7 +33,7 @@ pub record IsSetAt (t : Table) (x : ResolvedLayout) (set : ℕ) : Type 0 where
   pub known : Set
   pub laid : SetLayout
   pub there : slice_get t.sets set ≡ Some known
-  pub is_laid : set_laid known ≡ Some laid
+  pub is_laid : set_layout known ≡ Some laid
   pub laid_there : slice_get x.layout.sets set ≡ Some laid
 
 -- a class of this kind
@@ -84,7 +84,7 @@ pub record IsWatched (t : Table) (x : ResolvedLayout) (name : NameBytes) : Type 
 
 -- the table has this layout, and each name means something in it
 pub record IsValidTable (t : Table) (x : ResolvedLayout) : Type 0 where
-  pub laid : laid_out t ≡ Some x
+  pub laid : resolved_layout t ≡ Some x
   pub meanings : (name : NameBytes) (meaning : Meaning) → value_for t.meanings name ≡ Some meaning → IsMeant t x meaning
   pub classes : (class : ℕ) (c : PlainClass) → slice_get x.layout.classes class ≡ Some c → IsNamedClass t class c
   pub numbered : (name : NameBytes) (class : ℕ) (kind : ClassKind) (variable : ℕ) → value_for t.meanings name ≡ Some (m.Class class kind variable) → place_in t.classes name ≡ Some class

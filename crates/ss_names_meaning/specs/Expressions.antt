@@ -1,15 +1,15 @@
 -- Resolved expressions, targets and sets: each name is replaced by what it means.
 use Rattle.std.specs.Prelude.{ℕ, option_map, Option, Some, None}
+use Rattle.std.specs.Option.{option_map_or}
 use Rattle.ss_base.specs.declared.value.Value.TheVariants.{Whole, Text}
 use Rattle.ss_tree.specs.declared.expression.Function.TheVariants.{One, Two}
 use Rattle.ss_tree.specs.Tree.{ExpressionTree, number, text, named, call, parenthesised, product, signed, sum, ExpressionRow, no_expression, and_expression, TermRow, no_term, and_term, NamedTree}
-use Rattle.ss_program.specs.declared.expression.Variable.{Variable}
 use Rattle.ss_program.specs.declared.expression.Variable.TheVariants.{Global}
 use Rattle.ss_base.specs.declared.words.Sign.{Sign}
 use Rattle.ss_base.specs.declared.words.Sign.TheVariants.{Plus, Minus}
 use Rattle.ss_base.specs.declared.words.Operator.{Operator}
 use Rattle.ss_base.specs.declared.words.Operator.TheVariants.{Add, Subtract, Multiply}
-use Rattle.ss_program.specs.Program.{Expression, Constant, Fetch, Attribute, OfSystemSet, OfSet, OfMember, Clock, TimeOf, Figure, FigureOf, Signed, Unary, Calculate, Item, AValue, AMean, AMeanOf, SetOwner, TheSystem, Entity, Place, ToVariable, ToAttribute, ToCount}
+use Rattle.ss_program.specs.Program.{Expression, Constant, Fetch, Attribute, OfSystemSet, OfSet, OfMember, Clock, TimeOf, Figure, FigureOf, Signed, Unary, Calculate, PrintItem, AValue, AMean, AMeanOf, SetOwner, TheSystem, Entity, Place, ToVariable, ToAttribute, ToCount}
 use Rattle.ss_base.specs.declared.layout.Owner.{Owner}
 use Rattle.ss_base.specs.declared.layout.Owner.TheVariants as owners
 use Rattle.ss_tree.specs.declared.expression.Designator.{Designator}
@@ -19,7 +19,7 @@ use Rattle.ss_names.specs.declared.meaning.Meaning.{Meaning}
 use Rattle.ss_names.specs.declared.meaning.Meaning.TheVariants as meanings
 use Rattle.ss_names.specs.Table.{owner_of}
 use Rattle.ss_names_scopes.specs.Scopes.{Scope, meaning, meaning_of_class, variable_of}
-use Rattle.ss_names_meaning.specs.Answers.{◌>>=◌}
+use Rattle.ss_names_meaning.specs.Answers.{◌>>=◌, of_one, of_two}
 
 -- ---- words
 
@@ -30,23 +30,14 @@ resolved_operator Minus = Subtract
 
 -- ---- names by what they mean
 
--- the entity in a variable
-abbrev pub fetched : Option Variable → Option Expression
-fetched None = None
-fetched (Some x) = Some (Fetch x)
-
 -- the entity in the variable of a class
 abbrev pub entity_implied : Scope → ℕ → Option Expression
-entity_implied s class = do
-  m ← meaning_of_class s class
-  fetched (variable_of m)
+entity_implied s class = meaning_of_class s class >>= λ m. of_one (variable_of m) Fetch
 
 -- of each entity of a class: the one in the subscript, or else the one in the variable of the class
 abbrev pub of_class : Scope → ℕ → Option Expression → Option (Option Expression)
 of_class s class (Some e) = Some (Some e)
-of_class s class None = do
-  e ← entity_implied s class
-  Some (Some e)
+of_class s class None = of_one (entity_implied s class) Some
 
 -- of THE SYSTEM: none, and no subscript
 abbrev pub of_system : Option Expression → Option (Option Expression)
@@ -88,7 +79,7 @@ resolved_value meaning (Some e) = value_of_entity meaning e
 resolved_value meaning None = value_alone meaning
 
 -- what PRINT shows of it
-abbrev pub resolved_item : Meaning → Option Expression → Option Item
+abbrev pub resolved_item : Meaning → Option Expression → Option PrintItem
 resolved_item (meanings.Statistic None statistic) None = Some (AMean statistic)
 resolved_item (meanings.Statistic None statistic) (Some e) = Some (AMeanOf statistic e)
 resolved_item meaning e = option_map AValue (resolved_value meaning e)
@@ -102,9 +93,8 @@ place_of (meanings.Attribute class field mode) (Some e) = Some (ToAttribute clas
 place_of _ _ = None
 
 -- the owner of a set
-abbrev pub owner_named : Option Expression → SetOwner
-owner_named None = TheSystem
-owner_named (Some e) = Entity e
+abbrev pub set_owner : Option Expression → SetOwner
+set_owner e = option_map_or Entity e TheSystem
 
 -- the number of a set, which nothing hides
 abbrev pub set_number : Option Meaning → Option ℕ
@@ -119,8 +109,7 @@ set_of_name s _ = None
 abbrev pub with_entity : Scope → Designator → Option Expression → Option (Meaning × Option Expression)
 with_entity s place e = do
   m ← meaning s place
-  of ← entity_of s m e
-  Some (m, of)
+  of_one {B = Meaning × Option Expression} (entity_of s m e) (λ of. (m, of))
 
 -- ---- expressions
 
@@ -134,29 +123,17 @@ module _ (s : Scope) where
       e ← subscript subscripts
       p ← with_entity s designator e
       resolved_value p.0 p.1
-    expression (call (One op) arguments) = do
-      e ← one arguments
-      Some (Unary op e)
-    expression (call (Two op) arguments) = do
-      p ← two arguments
-      Some (Calculate op p.0 p.1)
+    expression (call (One op) arguments) = of_one (one arguments) (Unary op)
+    expression (call (Two op) arguments) = of_one (two arguments) (λ p. Calculate op p.0 p.1)
     expression (parenthesised e) = expression e
-    expression (product first further) = do
-      left ← expression first
-      factors left further
-    expression (signed sign term) = do
-      e ← expression term
-      Some (Signed sign e)
-    expression (sum first further) = do
-      left ← expression first
-      terms left further
+    expression (product first further) = expression first >>= λ left. factors left further
+    expression (signed sign term) = of_one (expression term) (Signed sign)
+    expression (sum first further) = expression first >>= λ left. terms left further
 
     -- the subscript, if there is one; None if there are more
     pub subscript : ExpressionRow → Option (Option Expression)
     subscript no_expression = Some None
-    subscript (and_expression e no_expression) = do
-      x ← expression e
-      Some (Some x)
+    subscript (and_expression e no_expression) = of_one (expression e) Some
     subscript _ = None
 
     -- one argument
@@ -166,50 +143,37 @@ module _ (s : Scope) where
 
     -- two arguments
     pub two : ExpressionRow → Option (Expression × Expression)
-    two (and_expression e (and_expression f no_expression)) = do
-      x ← expression e
-      y ← expression f
-      Some (x, y)
+    two (and_expression e (and_expression f no_expression)) =
+        of_two {C = Expression × Expression} (expression e) (expression f) (λ x y. (x, y))
     two _ = None
 
     -- what is on the left, times further factors
     pub factors : Expression → ExpressionRow → Option Expression
     factors left no_expression = Some left
-    factors left (and_expression e es) = do
-      x ← expression e
-      factors (Calculate Multiply left x) es
+    factors left (and_expression e es) = expression e >>= λ x. factors (Calculate Multiply left x) es
 
     -- what is on the left, and further terms
     pub terms : Expression → TermRow → Option Expression
     terms left no_term = Some left
-    terms left (and_term sign e es) = do
-      x ← expression e
-      terms (Calculate (resolved_operator sign) left x) es
+    terms left (and_term sign e es) = expression e >>= λ x. terms (Calculate (resolved_operator sign) left x) es
 
   -- what is named, with its subscripts, and the entity that has it
   abbrev pub place_named : Designator → ExpressionRow → Option (Meaning × Option Expression)
-  place_named place subscripts = do
-    e ← subscript subscripts
-    with_entity s place e
+  place_named place subscripts = subscript subscripts >>= with_entity s place
 
   -- an item of PRINT: a mean if one is named alone, in any parentheses, and else a value
-  abbrev pub item : ExpressionTree → Option Item
+  abbrev pub item : ExpressionTree → Option PrintItem
   item (parenthesised e) = item e
-  item (named designator subscripts) = do
-    p ← place_named designator subscripts
-    resolved_item p.0 p.1
+  item (named designator subscripts) = place_named designator subscripts >>= λ p. resolved_item p.0 p.1
   item e = option_map AValue (expression e)
 
   -- a target
   abbrev pub target : NamedTree → Option Place
-  target n = do
-    p ← place_named n.designator n.subscripts
-    place_of p.0 p.1
+  target n = place_named n.designator n.subscripts >>= λ p. place_of p.0 p.1
 
   -- a set and its owner
   abbrev pub set_named : NamedTree → Option (ℕ × SetOwner)
   set_named n = do
     set ← set_of_name s n.designator
     e ← subscript n.subscripts
-    of ← entity_of s (meanings.Set set) e
-    Some (set, owner_named of)
+    of_one {B = ℕ × SetOwner} (entity_of s (meanings.Set set) e) (λ of. (set, set_owner of))

@@ -7,21 +7,17 @@ use Rattle.ss_program.specs.Program.{Start, AtEnd, From, After, Head, Numbers, M
 use Rattle.ss_names_uses.specs.declared.used.ClassNeed.TheVariants as needs
 use Rattle.ss_names_scopes.specs.Scopes.{Scope}
 use Rattle.ss_names_meaning.specs.Classes.{class_named, variable_named}
-use Rattle.ss_names_meaning.specs.Answers.{◌>>=◌, if_there}
+use Rattle.ss_names_meaning.specs.Answers.{◌>>=◌, if_there, of_one, of_three}
 use Rattle.ss_names_meaning.specs.Expressions.{expression, set_named}
 use Rattle.ss_names_meaning.specs.Conditions.{condition}
 
 -- ---- conditions of loops
 
 abbrev pub resolved_phrase : Scope → PhraseTree → Option Phrase
-resolved_phrase c p = do
-  tests ← condition c p.condition
-  Some (record { kind = p.kind; condition = tests })
+resolved_phrase c p = of_one {B = Phrase} (condition c p.condition) (λ tests. record { kind = p.kind; condition = tests })
 
 abbrev pub guard : Scope → GuardTree → Option Guard
-guard c g = do
-  tests ← condition c g.condition
-  Some (record { kind = g.kind; condition = tests })
+guard c g = of_one {B = Guard} (condition c g.condition) (λ tests. record { kind = g.kind; condition = tests })
 
 -- the phrases of a FOR
 abbrev pub phrases_of : HeadTree → List PhraseTree
@@ -33,12 +29,8 @@ phrases_of (over_class class called phrases) = phrases
 
 abbrev pub resolved_start : Scope → StartTree → Option Start
 resolved_start c from_end = Some AtEnd
-resolved_start c (from_member e) = do
-  x ← expression c e
-  Some (From x)
-resolved_start c (after_member e) = do
-  x ← expression c e
-  Some (After x)
+resolved_start c (from_member e) = of_one (expression c e) From
+resolved_start c (after_member e) = of_one (expression c e) After
 
 -- the variable after CALLED, or else that of the class
 abbrev pub called_variable : Scope → Variable → Option NameBytes → Option Variable
@@ -49,16 +41,9 @@ called_variable c implied (Some name) = variable_named c name
 unfoldable pub head : Scope → HeadTree → Option Head
 head c (over_range variable from to step phrases) = do
   v ← variable_named c variable
-  x ← expression c from
-  y ← expression c to
-  z ← if_there (expression c) step
-  Some (Numbers v x y z)
-head c (over_members variable set from reverse phrases) = do
-  v ← variable_named c variable
-  s ← set_named c set
-  x ← resolved_start c from
-  Some (Members v s.0 s.1 x reverse)
+  of_three (expression c from) (expression c to) (if_there (expression c) step) (Numbers v)
+head c (over_members variable set from reverse phrases) =
+    of_three (variable_named c variable) (set_named c set) (resolved_start c from) (λ v s x. Members v s.0 s.1 x reverse)
 head c (over_class name called phrases) = do
   class ← class_named c needs.Permanent name
-  v ← called_variable c class.variable called
-  Some (Each v class.class)
+  of_one (called_variable c class.variable called) (λ v. Each v class.class)

@@ -19,37 +19,27 @@ use Rattle.ss_names.specs.declared.entry.RankedBy.{RankedBy}
 use Rattle.ss_names.specs.declared.entry.TiedBy.{TiedBy}
 use Rattle.ss_names.specs.declared.meaning.Meaning.{Meaning}
 use Rattle.ss_names.specs.declared.meaning.Meaning.TheVariants as meanings
-use Rattle.ss_names.specs.Table.{Table}
+use Rattle.ss_names.specs.Table.{Table, field_mode}
 use Rattle.ss_program.specs.declared.sections.Statistic.{Statistic}
 use Rattle.ss_program.specs.declared.statement.CountedClass.{CountedClass}
-use Rattle.ss_names_meaning.specs.Answers.{◌>>=◌, each, upto, where_holds}
+use Rattle.ss_names_meaning.specs.Answers.{◌>>=◌, each, of_one, of_three, of_two, upto, where_holds}
 
 -- ---- classes and sets
 
--- the mode of an attribute by its name
-abbrev pub field_mode : Table → NameBytes → Option Mode
-field_mode t name = do
-  attribute ← value_for t.attributes name
-  Some attribute.mode
-
 -- the class of this number, with the modes of its attributes
-abbrev pub class_laid : Table → ℕ → Option PlainClass
-class_laid t n = do
-  kind ← slice_get (values_of t.classes) n
-  modes ← each (field_mode t) (get_or t.fields n [])
-  Some (record { kind = kind; fields = modes })
+abbrev pub class_layout : Table → ℕ → Option PlainClass
+class_layout t n =
+    of_two {C = PlainClass} (slice_get (values_of t.classes) n) (each (field_mode t) (get_or t.fields n []))
+    (λ kind modes. record { kind = kind; fields = modes })
 
 -- a set, which needs an owner and a class of members
-abbrev pub set_laid : Set → Option SetLayout
-set_laid set = do
-  owner ← set.owner
-  member ← set.member
-  Some (record { owner = owner; member = member })
+abbrev pub set_layout : Set → Option SetLayout
+set_layout set = of_two {C = SetLayout} set.owner set.member (λ owner member. record { owner = owner; member = member })
 
 abbrev pub layout : Table → Option PlainLayout
 layout t = do
-  classes ← each (class_laid t) (upto (length t.classes))
-  sets ← each set_laid t.sets
+  classes ← each (class_layout t) (upto (length t.classes))
+  sets ← each set_layout t.sets
   layout_of classes sets
 
 -- ---- disciplines and ties
@@ -79,8 +69,7 @@ ruled t member statement rules.Fifo = Some orders.Fifo
 ruled t member statement rules.Lifo = Some orders.Lifo
 ruled t member statement rules.Ranked = do
   class ← member
-  keys ← rank_keys t class statement
-  Some (orders.Ranked keys)
+  of_one (rank_keys t class statement) orders.Ranked
 
 -- a set without a DEFINE is FIFO
 abbrev pub ordered : Table → Option ℕ → Option Order → Option Discipline
@@ -105,16 +94,15 @@ abbrev pub counts : Table → List CountedClass
 counts t = flat_map count_by (values_of t.meanings)
 
 -- the statistic of the history of this number
-abbrev pub statistic_kept : Table → ℕ → Option Statistic
-statistic_kept t n = do
+abbrev pub resolved_statistic : Table → ℕ → Option Statistic
+resolved_statistic t n = do
   weighting ← slice_get (values_of t.histories) n
   known ← slice_get t.subjects n
-  subject ← known
-  Some (record { subject = subject; weighting = weighting })
+  of_one {B = Statistic} known (λ subject. record { subject = subject; weighting = weighting })
 
 -- a statistic for each history
 abbrev pub statistics : Table → Option (List Statistic)
-statistics t = each (statistic_kept t) (upto (length t.histories))
+statistics t = each (resolved_statistic t) (upto (length t.histories))
 
 -- ---- all of it
 
@@ -126,9 +114,7 @@ pub record ResolvedLayout : Type 0 where
   pub counts : List CountedClass
   pub statistics : List Statistic
 
-abbrev pub laid_out : Table → Option ResolvedLayout
-laid_out t = do
-  laid ← layout t
-  ordered ← disciplines t
-  kept ← statistics t
-  Some (record { layout = laid; disciplines = ordered; globals = values_of t.variables; counts = counts t; statistics = kept })
+abbrev pub resolved_layout : Table → Option ResolvedLayout
+resolved_layout t =
+    of_three {D = ResolvedLayout} (layout t) (disciplines t) (statistics t)
+    (λ laid ordered kept. record { layout = laid; disciplines = ordered; globals = values_of t.variables; counts = counts t; statistics = kept })

@@ -1,31 +1,27 @@
 -- A resolved program: each name is replaced by what it means.
-use Rattle.std.specs.Prelude.{ℕ, map, nat_eq, nat_le, Bool, true, false, List, [], length, take, drop, slice_get, get_or, Option, Some, None}
-use Rattle.std.specs.List.{list_all, list_any, position}
+use Rattle.std.specs.Prelude.{ℕ, map, nat_le, Bool, true, false, List, [], length, take, drop, slice_get, get_or, Option, Some, None}
+use Rattle.std.specs.List.{list_all, position}
 use Rattle.std.specs.Map.{keys_of, values_of}
 use Rattle.ss_base.specs.declared.layout.Mode.{Mode}
 use Rattle.ss_base.specs.declared.layout.RankKey.{RankKey}
 use Rattle.ss_base.specs.declared.line.Line.{Line}
-use Rattle.ss_tree.specs.Tree.{SectionKindTree, main, routine, event, SectionTree, statement_row}
+use Rattle.ss_tree.specs.Tree.{SectionKindTree, event, SectionTree, statement_row}
 use Rattle.ss_tree.specs.Names.{NameBytes}
 use Rattle.ss_names.specs.declared.entry.EventSection.{EventSection}
-use Rattle.ss_names_declarations.specs.Firsts.{place_in, value_for}
+use Rattle.ss_names_declarations.specs.Firsts.{value_for}
 use Rattle.ss_names.specs.declared.entry.RoutineSection.{RoutineSection}
 use Rattle.ss_names.specs.declared.meaning.Meaning.{Meaning}
 use Rattle.ss_names.specs.declared.meaning.Meaning.TheVariants as meanings
+use Rattle.ss_names.specs.Entries.{is_notice}
 use Rattle.ss_names.specs.Table.{Table}
 use Rattle.ss_names_scopes.specs.Locals.{Moded, locals_of}
+use Rattle.ss_names_scopes.specs.Scopes.{is_main_section, local_mode}
 use Rattle.ss_program.specs.Program.{Block, Routine, Event, Program}
-use Rattle.ss_names_meaning.specs.Answers.{◌>>=◌, each, upto, where_holds}
-use Rattle.ss_names_meaning.specs.Layouts.{ResolvedLayout, laid_out, tie_keys}
+use Rattle.ss_names_meaning.specs.Answers.{◌>>=◌, each, of_one, of_three, of_two, upto, where_holds}
+use Rattle.ss_names_meaning.specs.Layouts.{resolved_layout, tie_keys}
 use Rattle.ss_names_meaning.specs.Statements.{statements}
 
 -- ---- sections
-
--- the mode of the local variable of this number
-abbrev pub local_mode : Moded → ℕ → Option Mode
-local_mode locals n = do
-  known ← slice_get (values_of locals) n
-  known
 
 -- the modes of the local variables, in the order of their numbers
 abbrev pub local_modes : Moded → Option (List Mode)
@@ -43,10 +39,8 @@ body_with t all locals s = statements (record { table = t; locals = locals; sect
 
 -- the section
 abbrev pub parts_with : Table → List Moded → Moded → SectionTree → Option Parts
-parts_with t all locals s = do
-  modes ← local_modes locals
-  done ← body_with t all locals s
-  Some (record { line = s.line; modes = modes; body = done })
+parts_with t all locals s =
+    of_two {C = Parts} (local_modes locals) (body_with t all locals s) (λ modes done. record { line = s.line; modes = modes; body = done })
 
 -- the section of this number, where sections have these local variables
 abbrev pub parts_with_locals : Table → List Moded → List SectionTree → ℕ → Option Parts
@@ -68,9 +62,7 @@ routine_of given yielding parts = record {
 
 -- the routine of this number, by a function that resolves each section
 abbrev pub routine_from : (ℕ → Option Parts) → RoutineSection → Option Routine
-routine_from section known = do
-  parts ← section known.section
-  Some (routine_of known.given known.yielding parts)
+routine_from section known = of_one (section known.section) (routine_of known.given known.yielding)
 
 -- ---- event routines
 
@@ -81,9 +73,7 @@ class_variable _ = None
 -- the global variable that gets the number of the notice, also if the routine has a local one of its name
 abbrev pub saved : Table → NameBytes → Bool → Option (Option ℕ)
 saved t name false = Some None
-saved t name true = do
-  meaning ← value_for t.meanings name
-  class_variable meaning
+saved t name true = value_for t.meanings name >>= class_variable
 
 -- the event routine of a class that is given so many values
 abbrev pub event_of_class : ℕ → List RankKey → ℕ → Option ℕ → Parts → Event
@@ -102,10 +92,8 @@ event_of_class class keys given variable parts = record {
 abbrev pub class_event_from : Table → (ℕ → Option Parts) → ℕ → NameBytes → EventSection → Option Event
 class_event_from t section class name known = do
   given ← where_holds (nat_le known.given (length (get_or t.fields class []))) known.given
-  keys ← tie_keys t class name
-  variable ← saved t name known.saving
-  parts ← section known.section
-  Some (event_of_class class keys given variable parts)
+  of_three (tie_keys t class name) (saved t name known.saving) (section known.section)
+      (λ keys variable parts. event_of_class class keys given variable parts)
 
 -- the notice class of this number, by a function that resolves each section
 abbrev pub event_from : Table → (ℕ → Option Parts) → ℕ → Option Event
@@ -114,41 +102,28 @@ event_from t section class = do
   known ← value_for t.events name
   class_event_from t section class name known
 
-abbrev pub is_ranked : Table → Option ℕ → Bool
-is_ranked t None = false
-is_ranked t (Some class) = list_any (nat_eq class) t.ranks
-
 -- whether the class of an EVENT section is a notice class
 abbrev pub is_known_kind : Table → SectionKindTree → Bool
-is_known_kind t main = true
-is_known_kind t (routine name given yielding) = true
-is_known_kind t (event name given saving) = is_ranked t (place_in t.classes name)
+is_known_kind t (event name given saving) = is_notice (value_for t.classes name)
+is_known_kind t _ = true
 
 abbrev pub is_known : Table → SectionTree → Bool
 is_known t s = is_known_kind t s.kind
 
 -- ---- the program
 
-abbrev pub is_main_kind : SectionKindTree → Bool
-is_main_kind main = true
-is_main_kind (routine name given yielding) = false
-is_main_kind (event name given saving) = false
-
-abbrev pub has_main_kind : SectionTree → Bool
-has_main_kind s = is_main_kind s.kind
-
 -- MAIN, the first if there are several, by a function that resolves each section
 abbrev pub main_from : (ℕ → Option Parts) → List SectionTree → Option Parts
-main_from section sections = do
-  n ← position has_main_kind sections
-  section n
+main_from section sections = position is_main_section sections >>= section
 
--- the program with this layout, by a function that resolves each section, and MAIN
-abbrev pub put_together : Table → ResolvedLayout → (ℕ → Option Parts) → Option Parts → Option Program
-put_together t laid section of_main = do
-  routines ← each (routine_from section) (values_of t.routines)
-  events ← each (event_from t section) t.ranks
-  parts ← of_main
+-- the program with these sections, where they have these local variables
+unfoldable pub resolved_with_locals : Table → List Moded → List SectionTree → Option Program
+resolved_with_locals t all sections = do
+  laid ← resolved_layout t
+  known ← where_holds (list_all (is_known t) sections) sections
+  routines ← each (routine_from (parts_with_locals t all known)) (values_of t.routines)
+  events ← each (event_from t (parts_with_locals t all known)) t.ranks
+  parts ← main_from (parts_with_locals t all known) known
   Some (record {
     layout = laid.layout;
     disciplines = laid.disciplines;
@@ -160,13 +135,6 @@ put_together t laid section of_main = do
     locals = parts.modes;
     main = parts.body;
   })
-
--- the program with these sections, where they have these local variables
-unfoldable pub resolved_with_locals : Table → List Moded → List SectionTree → Option Program
-resolved_with_locals t all sections = do
-  laid ← laid_out t
-  known ← where_holds (list_all (is_known t) sections) sections
-  put_together t laid (parts_with_locals t all known) (main_from (parts_with_locals t all known) known)
 
 -- The program with these sections, by its table, with each name replaced by what it means. None if a name isn't of the kind
 -- that its place needs. None if a subscript is missing or too many, or a count of arguments doesn't fit.

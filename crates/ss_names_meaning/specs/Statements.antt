@@ -1,5 +1,5 @@
 -- Resolved statements: each name is replaced by what it means.
-use Rattle.std.specs.Prelude.{ℕ, slice_get, nat_le, ◌&&◌, ◌==◌, List, length, Option, Some, None}
+use Rattle.std.specs.Prelude.{ℕ, slice_get, nat_le, ◌&&◌, ◌==◌, length, Option, Some, None}
 use Rattle.ss_base.specs.declared.line.Line.{Line}
 use Rattle.ss_tree.specs.declared.statement.FindOutcome.{FindOutcome}
 use Rattle.ss_tree.specs.declared.statement.FindOutcome.TheVariants as outcomes
@@ -9,17 +9,14 @@ use Rattle.ss_program.specs.declared.expression.Variable.{Variable}
 use Rattle.ss_base.specs.declared.words.Sign.TheVariants.{Plus, Minus}
 use Rattle.ss_program.specs.Program.{Expression, Fetch, Place, ToVariable, Target, Position, ByDiscipline, AsFirst, AsLast, BeforeMember, AfterMember, When, At, In, Now, Restart, Statement, Let, Change, Call, Return, Stop, Read, Simulate, If, Loop, For, Find, Create, CreateEvery, Destroy, File, RemoveEnd, Remove, ScheduleNew, Schedule, Cancel, Reset, Print, Skip, Block, Done, Then}
 use Rattle.std.specs.Map.{values_of}
-use Rattle.ss_tree.specs.declared.expression.Designator.{Designator}
-use Rattle.ss_tree.specs.declared.expression.Designator.TheVariants as designators
-use Rattle.ss_names_declarations.specs.Firsts.{place_in, value_for}
+use Rattle.ss_names_declarations.specs.Firsts.{value_for}
 use Rattle.ss_names_uses.specs.declared.used.ClassNeed.TheVariants as needs
 use Rattle.ss_names.specs.declared.entry.RoutineSection.{RoutineSection}
 use Rattle.ss_names.specs.declared.meaning.Meaning.{Meaning}
 use Rattle.ss_names.specs.declared.meaning.Meaning.TheVariants as meanings
-use Rattle.ss_names_scopes.specs.Scopes.{Scope, mode_of}
-use Rattle.ss_names_meaning.specs.declared.classes.NamedClass.{NamedClass}
+use Rattle.ss_names_scopes.specs.Scopes.{Scope, history_of, mode_of}
 use Rattle.ss_names_meaning.specs.Classes.{class_named, counted}
-use Rattle.ss_names_meaning.specs.Answers.{◌>>=◌, each, where_holds}
+use Rattle.ss_names_meaning.specs.Answers.{◌>>=◌, each, of_one, of_three, of_two, where_holds}
 use Rattle.ss_names_meaning.specs.Expressions.{expression, item, place_named, place_of, set_named, target}
 use Rattle.ss_names_meaning.specs.Conditions.{condition}
 use Rattle.ss_names_meaning.specs.Heads.{resolved_phrase, guard, phrases_of, head}
@@ -30,9 +27,7 @@ use Rattle.ss_names_meaning.specs.Heads.{resolved_phrase, guard, phrases_of, hea
 abbrev pub reader : Scope → NamedTree → Option Target
 reader c n = do
   p ← place_named c n.designator n.subscripts
-  place ← place_of p.0 p.1
-  mode ← mode_of p.0
-  Some (record { place = place; mode = mode })
+  of_two {C = Target} (place_of p.0 p.1) (mode_of p.0) (λ place mode. record { place = place; mode = mode })
 
 -- the target of the number of a new entity: the one after CALLED, or else the variable of the class
 abbrev pub new_place : Scope → Variable → Option NamedTree → Option Place
@@ -46,22 +41,10 @@ entity_called c variable (Some e) = expression c e
 
 -- ---- statistics
 
--- a name that a local variable hides has no history
-abbrev pub unless_hidden : Option ℕ → Option ℕ → Option ℕ
-unless_hidden (Some local) found = None
-unless_hidden None found = found
-
--- the number of the history of what is named
-abbrev pub history_of : Scope → Designator → Option ℕ
-history_of c (designators.Name name) = unless_hidden (place_in c.locals name) (place_in c.table.histories name)
-history_of c _ = None
-
 -- the statistic that RESET starts afresh, and of which entity, if of one
 abbrev pub restart : Scope → NamedTree → Option Restart
-restart c n = do
-  statistic ← history_of c n.designator
-  p ← place_named c n.designator n.subscripts
-  Some (record { statistic = statistic; of = p.1 })
+restart c n =
+    of_two {C = Restart} (history_of c n.designator) (place_named c n.designator n.subscripts) (λ k p. record { statistic = k; of = p.1 })
 
 -- ---- parts of statements
 
@@ -69,30 +52,20 @@ abbrev pub position : Scope → PositionTree → Option Position
 position c by_discipline = Some ByDiscipline
 position c at_first = Some AsFirst
 position c at_last = Some AsLast
-position c (before e) = do
-  x ← expression c e
-  Some (BeforeMember x)
-position c (after e) = do
-  x ← expression c e
-  Some (AfterMember x)
+position c (before e) = of_one (expression c e) BeforeMember
+position c (after e) = of_one (expression c e) AfterMember
 
 abbrev pub when : Scope → WhenTree → Option When
-when c (at_time e) = do
-  x ← expression c e
-  Some (At x)
-when c (in_units e) = do
-  x ← expression c e
-  Some (In x)
+when c (at_time e) = of_one (expression c e) At
+when c (in_units e) = of_one (expression c e) In
 when c now = Some Now
 
 -- ---- statements
 
 -- a FIND, with the statements for a case that was found, and those for none
 abbrev pub find : Line → Scope → HeadTree → Block → Block → Option Statement
-find line c over found none = do
-  h ← head c over
-  phrases ← each (resolved_phrase c) (phrases_of over)
-  Some (Find line h phrases found none)
+find line c over found none =
+    of_two (head c over) (each (resolved_phrase c) (phrases_of over)) (λ h phrases. Find line h phrases found none)
 
 -- a FIND, by which of its two lists of statements comes first: that for a case that was found, or that for none
 abbrev pub find_by : FindOutcome → Line → Scope → HeadTree → Block → Block → Option Statement
@@ -101,29 +74,16 @@ find_by outcomes.None line c over first second = find line c over second first
 
 -- a FOR with its body
 abbrev pub for_over : Line → Scope → HeadTree → Block → Option Statement
-for_over line c over body = do
-  h ← head c over
-  phrases ← each (resolved_phrase c) (phrases_of over)
-  Some (For line h phrases body)
+for_over line c over body = of_two (head c over) (each (resolved_phrase c) (phrases_of over)) (λ h phrases. For line h phrases body)
 
 -- a loop with its body
 abbrev pub resolved_loop : Line → Scope → LoopHeadTree → Block → Option Statement
 resolved_loop line c (for_head over) body = for_over line c over body
-resolved_loop line c (guarded guards) body = do
-  gs ← each (guard c) guards
-  Some (Loop line gs body)
+resolved_loop line c (guarded guards) body = of_one (each (guard c) guards) (λ gs. Loop line gs body)
 
 -- an IF with its sides
 abbrev pub if_over : Line → Scope → ConditionTree → Block → Block → Option Statement
-if_over line c test first second = do
-  tests ← condition c test
-  Some (If line tests first second)
-
--- a CALL, if the routine is given and yields as many values
-abbrev pub call_of : Line → ℕ → RoutineSection → List Expression → List Place → Option Statement
-call_of line routine section given yielding =
-    where_holds ((length given == section.given) && (length yielding == section.yielding))
-    (Call line routine given yielding)
+if_over line c test first second = of_one (condition c test) (λ tests. If line tests first second)
 
 abbrev pub routine_number : Option Meaning → Option ℕ
 routine_number (Some (meanings.Routine routine)) = Some routine
@@ -133,93 +93,53 @@ routine_number _ = None
 abbrev pub routine_named : Scope → NameBytes → Option (ℕ × RoutineSection)
 routine_named c name = do
   routine ← routine_number (value_for c.table.meanings name)
-  section ← slice_get (values_of c.table.routines) routine
-  Some (routine, section)
+  of_one {B = ℕ × RoutineSection} (slice_get (values_of c.table.routines) routine) (λ section. (routine, section))
 
--- SCHEDULE A and SCHEDULE THE, if the class has at least as many attributes as values are given
-abbrev pub new_notice : Line → NamedClass → Place → List Expression → When → Option Statement
-new_notice line class place given due =
-    where_holds (nat_le (length given) class.attributes) (ScheduleNew line class.class place given due)
-
-abbrev pub old_notice : Line → NamedClass → Expression → List Expression → When → Option Statement
-old_notice line class notice given due =
-    where_holds (nat_le (length given) class.attributes) (Schedule line class.class notice given due)
-
--- a statement without statements in it; None for another
+-- a statement without statements in it; None for another. A CALL has as many values and targets as its routine is given and yields,
+-- a SCHEDULE at most as many values as its class has attributes.
 unfoldable pub simple_statement : Scope → StatementTree → Option Statement
-simple_statement c (let_statement line n e) = do
-  place ← target c n
-  value ← expression c e
-  Some (Let line place value)
-simple_statement c (add_statement line e n) = do
-  value ← expression c e
-  place ← target c n
-  Some (Change line Plus place value)
-simple_statement c (subtract_statement line e n) = do
-  value ← expression c e
-  place ← target c n
-  Some (Change line Minus place value)
+simple_statement c (let_statement line n e) = of_two (target c n) (expression c e) (Let line)
+simple_statement c (add_statement line e n) = of_two (expression c e) (target c n) (λ value place. Change line Plus place value)
+simple_statement c (subtract_statement line e n) = of_two (expression c e) (target c n) (λ value place. Change line Minus place value)
 simple_statement c (call_statement line name given yielding) = do
   routine ← routine_named c name
   values ← each (expression c) given
   places ← each (target c) yielding
-  call_of line routine.0 routine.1 values places
+  where_holds ((length values == routine.1.given) && (length places == routine.1.yielding)) (Call line routine.0 values places)
 simple_statement c (return_statement line) = Some Return
 simple_statement c (stop_statement line) = Some Stop
-simple_statement c (read_statement line targets) = do
-  readers ← each (reader c) targets
-  Some (Read line readers)
+simple_statement c (read_statement line targets) = of_one (each (reader c) targets) (Read line)
 simple_statement c (start_simulation line) = Some Simulate
 simple_statement c (find_statement line over) = find line c over Done Done
 simple_statement c (create_statement line name called) = do
   class ← class_named c needs.Single name
-  place ← new_place c class.variable called
-  Some (Create line class.class place)
-simple_statement c (create_every line names) = do
-  classes ← each (counted c) names
-  Some (CreateEvery line classes)
+  of_one (new_place c class.variable called) (Create line class.class)
+simple_statement c (create_every line names) = of_one (each (counted c) names) (CreateEvery line)
 simple_statement c (destroy_statement line name called) = do
   class ← class_named c needs.Single name
-  entity ← entity_called c class.variable called
-  Some (Destroy line class.class entity)
-simple_statement c (file_statement line e position_tree n) = do
-  x ← expression c e
-  at ← position c position_tree
-  set ← set_named c n
-  Some (File line set.0 x at set.1)
-simple_statement c (remove_end line end n m) = do
-  place ← target c n
-  set ← set_named c m
-  Some (RemoveEnd line end set.0 place set.1)
-simple_statement c (remove_statement line e n) = do
-  x ← expression c e
-  set ← set_named c n
-  Some (Remove line set.0 x set.1)
+  of_one (entity_called c class.variable called) (Destroy line class.class)
+simple_statement c (file_statement line e place n) =
+    of_three (expression c e) (position c place) (set_named c n) (λ x p set. File line set.0 x p set.1)
+simple_statement c (remove_end line end n m) = of_two (target c n) (set_named c m) (λ place set. RemoveEnd line end set.0 place set.1)
+simple_statement c (remove_statement line e n) = of_two (expression c e) (set_named c n) (λ x set. Remove line set.0 x set.1)
 simple_statement c (schedule_new line name called given time) = do
   class ← class_named c needs.Notice name
   place ← new_place c class.variable called
   values ← each (expression c) given
   due ← when c time
-  new_notice line class place values due
+  where_holds (nat_le (length values) class.attributes) (ScheduleNew line class.class place values due)
 simple_statement c (schedule_statement line name called given time) = do
   class ← class_named c needs.Notice name
   notice ← entity_called c class.variable called
   values ← each (expression c) given
   due ← when c time
-  old_notice line class notice values due
+  where_holds (nat_le (length values) class.attributes) (Schedule line class.class notice values due)
 simple_statement c (cancel_statement line name called) = do
   class ← class_named c needs.Notice name
-  notice ← entity_called c class.variable called
-  Some (Cancel line class.class notice)
-simple_statement c (reset_statement line targets) = do
-  restarts ← each (restart c) targets
-  Some (Reset line restarts)
-simple_statement c (print_statement line items pictures) = do
-  shown ← each (item c) items
-  Some (Print line shown pictures)
-simple_statement c (skip_statement line e) = do
-  count ← expression c e
-  Some (Skip line count)
+  of_one (entity_called c class.variable called) (Cancel line class.class)
+simple_statement c (reset_statement line targets) = of_one (each (restart c) targets) (Reset line)
+simple_statement c (print_statement line items pictures) = of_one (each (item c) items) (λ shown. Print line shown pictures)
+simple_statement c (skip_statement line e) = of_one (expression c e) (Skip line)
 simple_statement c _ = None
 
 module _ (c : Scope) where
@@ -240,7 +160,4 @@ module _ (c : Scope) where
 
     pub statements : StatementRow → Option Block
     statements no_statement = Some Done
-    statements (and_statement s ss) = do
-      first ← statement s
-      rest ← statements ss
-      Some (Then first rest)
+    statements (and_statement s ss) = of_two (statement s) (statements ss) Then

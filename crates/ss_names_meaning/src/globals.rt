@@ -4,7 +4,7 @@ ghost use Rattle.std.specs.Prelude.{◌≡◌, ◌++◌, slice_get, IfOk, OnOk};
 ghost use Rattle.std.specs.List.{flat_map};
 ghost use Rattle.std.specs.Map.{values_of};
 ghost use Rattle.ss_names_meaning.specs.Answers.{Gives, each, upto};
-ghost use Rattle.ss_names_meaning.specs.Layouts.{count_by, counts, statistic_kept, statistics};
+ghost use Rattle.ss_names_meaning.specs.Layouts.{count_by, counts, resolved_statistic, statistics};
 
 use crate::error::ResolveError;
 use ss_base::Weighting;
@@ -59,8 +59,8 @@ fn subject_at(names: &Names, number: usize) -> Option<Option<Subject>>
 }
 
 // The statistic of the history of this number.
-fn statistic_kept(names: &Names, number: usize) -> Result<Statistic, ResolveError>
-    ensures { Gives (λ x. x) result (statistic_kept names.now number) }
+fn resolved_statistic(names: &Names, number: usize) -> Result<Statistic, ResolveError>
+    ensures { Gives (λ x. x) result (resolved_statistic names.now number) }
 {
     let Some(weighting) = weighting_at(names, number) else {
         return Err(ResolveError::Unresolved);
@@ -80,11 +80,11 @@ fn statistics_upto(
     names: &Names,
     count: usize,
 ) -> Result<Vec<Statistic>, ResolveError>
-    ensures { Gives (λ v. v.items) result (each (statistic_kept names.now) (upto count)) }
+    ensures { Gives (λ v. v.items) result (each (resolved_statistic names.now) (upto count)) }
 {
     let mut resolved = Vec::new(alloc);
     for number in 0..count {
-        let one = statistic_kept(names, number)?;
+        let one = resolved_statistic(names, number)?;
         resolved.push(one)?;
     }
     Ok(resolved)

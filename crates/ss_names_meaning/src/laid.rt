@@ -1,7 +1,7 @@
 //! What the table lays out, in one struct.
 
 ghost use Rattle.ss_names_meaning.specs.Answers.{Gives};
-ghost use Rattle.ss_names_meaning.specs.Layouts.{laid_out};
+ghost use Rattle.ss_names_meaning.specs.Layouts.{resolved_layout};
 ghost use Rattle.ss_names_meaning.specs.View.{view_laid};
 
 use crate::error::ResolveError;
@@ -26,7 +26,7 @@ pub struct Laid {
 
 /// What the table of names lays out.
 pub fn lay_out(alloc: Global, names: &Names) -> Result<Laid, ResolveError>
-    ensures { Gives view_laid result (laid_out names.now) }
+    ensures { Gives view_laid result (resolved_layout names.now) }
 {
     let layout = resolve_layout(alloc, names)?;
     let disciplines = resolve_disciplines(alloc, names)?;

@@ -3,7 +3,8 @@
 ghost use Rattle.std.specs.Prelude.{◌≡◌, IfOk};
 ghost use Rattle.ss_names_declarations.specs.Firsts.{value_for};
 ghost use Rattle.ss_names_meaning.specs.Answers.{Gives, each, upto};
-ghost use Rattle.ss_names_meaning.specs.Layouts.{class_laid, field_mode, layout, set_laid};
+ghost use Rattle.ss_names.specs.Table.{field_mode};
+ghost use Rattle.ss_names_meaning.specs.Layouts.{class_layout, layout, set_layout};
 
 use crate::error::ResolveError;
 use ss_base::{ClassLayout, Layout, Mode, Name, SetLayout};
@@ -41,8 +42,8 @@ fn field_modes(alloc: Global, names: &Names, trees: &[Name]) -> Result<Vec<Mode>
 }
 
 // The class of this number.
-fn class_laid(alloc: Global, names: &Names, number: usize) -> Result<ClassLayout, ResolveError>
-    ensures { Gives (λ x. x) result (class_laid names.now number) }
+fn class_layout(alloc: Global, names: &Names, number: usize) -> Result<ClassLayout, ResolveError>
+    ensures { Gives (λ x. x) result (class_layout names.now number) }
 {
     let Some(kind) = value_at(&names.classes, number) else {
         return Err(ResolveError::Unresolved);
@@ -57,19 +58,19 @@ fn classes_laid(
     names: &Names,
     count: usize,
 ) -> Result<Vec<ClassLayout>, ResolveError>
-    ensures { Gives (λ v. v.items) result (each (class_laid names.now) (upto count)) }
+    ensures { Gives (λ v. v.items) result (each (class_layout names.now) (upto count)) }
 {
     let mut resolved = Vec::new(alloc);
     for number in 0..count {
-        let one = class_laid(alloc, names, number)?;
+        let one = class_layout(alloc, names, number)?;
         resolved.push(one)?;
     }
     Ok(resolved)
 }
 
 // A set.
-fn set_laid(set: &Set) -> Result<SetLayout, ResolveError>
-    ensures { Gives (λ x. x) result (set_laid set.now) }
+fn set_layout(set: &Set) -> Result<SetLayout, ResolveError>
+    ensures { Gives (λ x. x) result (set_layout set.now) }
 {
     let Some(owner) = set.owner else {
         return Err(ResolveError::Unresolved);
@@ -82,11 +83,11 @@ fn set_laid(set: &Set) -> Result<SetLayout, ResolveError>
 
 // Sets.
 fn sets_laid(alloc: Global, trees: &[Set]) -> Result<Vec<SetLayout>, ResolveError>
-    ensures { Gives (λ v. v.items) result (each set_laid trees.now) }
+    ensures { Gives (λ v. v.items) result (each set_layout trees.now) }
 {
     let mut resolved = Vec::new(alloc);
     for tree in trees {
-        let one = set_laid(tree)?;
+        let one = set_layout(tree)?;
         resolved.push(one)?;
     }
     Ok(resolved)

@@ -5,8 +5,8 @@ use Rattle.std.proofs.lemmas.Grind.{flat_map-append}
 use Rattle.std.proofs.lemmas.List.{map_push, take_more}
 use Rattle.std.proofs.lemmas.List.Folds.{flat_map-map}
 use Rattle.std.proofs.lemmas.List.Sums.{fold-append}
+use Rattle.std.specs.Prelude.{option_to_list}
 use Rattle.ss_names_declarations.specs.Earliest.{earlier, earlier_of}
-use Rattle.ss_names_scopes.specs.Locals.{as_list}
 
 -- ---- loops
 
@@ -37,6 +37,6 @@ mapped_after view f xs i x y before after lt is b e a =
 
 -- ---- one breach
 
-pub earlier_of_list : {E : Type 0} (order : E → ℕ × ℕ) (found breach : Option E) → earlier_of order found breach ≡ fold (earlier order) found (as_list breach)
+pub earlier_of_list : {E : Type 0} (order : E → ℕ × ℕ) (found breach : Option E) → earlier_of order found breach ≡ fold (earlier order) found (option_to_list breach)
 earlier_of_list order found None = refl
 earlier_of_list order found (Some b) = refl

@@ -40,7 +40,7 @@ preamble =
 -- a routine that is given JOB, a text, which hides the variable of the class
 abbrev hiding : SectionTree
 hiding =
-    record { line = line 12; kind = routine (codes "R") (codes "A" ∷ codes "JOB" ∷ []) []; definitions = record { line = line 13; names = codes "JOB" ∷ []; mode = Alpha } ∷ []; body = [] }
+    record { line = line 12; kind = routine (codes "R") (codes "U" ∷ codes "JOB" ∷ []) []; definitions = record { line = line 13; names = codes "JOB" ∷ []; mode = Alpha } ∷ []; body = [] }
 
 abbrev in_main : SectionTree
 in_main = record { line = line 10; kind = main; definitions = []; body = [] }
@@ -67,7 +67,7 @@ a_class = refl
 pub a_hidden_class : means hiding (codes "JOB") ≡ Some (m.Variable (variables.Local 1) modes.Alpha)
 a_hidden_class = refl
 
-pub a_parameter : means hiding (codes "A") ≡ Some (m.Variable (variables.Local 0) modes.Integer)
+pub a_parameter : means hiding (codes "U") ≡ Some (m.Variable (variables.Local 0) modes.Integer)
 a_parameter = refl
 
 pub a_count : means in_main (codes "N.MACHINE") ≡ Some (m.Count (record { class = 0; variable = 1 }))

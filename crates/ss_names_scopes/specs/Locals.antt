@@ -1,5 +1,5 @@
 -- The local variables of a section.
-use Rattle.std.specs.Prelude.{ℕ, Bool, true, false, ◌&&◌, ◌==◌, List, [], ◌∷◌, map, Option, Some, None, is_none, if◌then◌else◌}
+use Rattle.std.specs.Prelude.{ℕ, Bool, true, false, ◌&&◌, ◌==◌, List, [], ◌∷◌, map, Option, Some, None, is_none, option_to_list, if◌then◌else◌}
 use Rattle.std.specs.Global.{Vec}
 use Rattle.std.specs.List.{flat_map}
 use Rattle.std.specs.Option.{option_or}
@@ -8,7 +8,7 @@ use Rattle.ss_tree.specs.Names.{NameBytes}
 use Rattle.ss_tree.specs.Tree.{SectionTree}
 use Rattle.ss_tree.specs.declared.expression.Designator.TheVariants as designators
 use Rattle.ss_tree.specs.declared.expression.Designator.{Designator}
-use Rattle.ss_names_declarations.specs.Firsts.{firsts, value_for}
+use Rattle.ss_names_declarations.specs.Firsts.{first_entries, value_for}
 use Rattle.ss_names_uses.specs.declared.used.Role.{Role}
 use Rattle.ss_names_uses.specs.declared.used.Role.TheVariants as roles
 use Rattle.ss_names_uses.specs.declared.used.Used.{Used}
@@ -23,14 +23,14 @@ abbrev pub Moded : Type 0
 Moded = List (NameBytes × Option Mode)
 
 -- whether a name without subscript is a variable in this role
-abbrev pub is_variable : Role → Bool
-is_variable roles.Set = false
-is_variable _ = true
+abbrev pub may_be_variable : Role → Bool
+may_be_variable roles.Set = false
+may_be_variable _ = true
 
 -- whether a name with so many subscripts is a local variable in this role: one without subscript that is used as a variable and
 -- isn't global
 abbrev pub is_local_place : Table → Role → NameBytes → ℕ → Bool
-is_local_place t role name subscripts = is_variable role && (subscripts == 0) && is_none (value_for t.meanings name)
+is_local_place t role name subscripts = may_be_variable role && (subscripts == 0) && is_none (value_for t.meanings name)
 
 abbrev pub local_place : Table → Role → Designator → ℕ → Option NameBytes
 local_place t role (designators.Name name) subscripts = if is_local_place t role name subscripts then Some name else None
@@ -43,12 +43,8 @@ local_of t (Local name mode) = Some name
 local_of t (Place role place subscripts is_number) = local_place t role place subscripts
 local_of t _ = None
 
-abbrev pub as_list : {A : Type 0} → Option A → List A
-as_list None = []
-as_list (Some x) = x ∷ []
-
 abbrev pub local_used : Table → Use → List NameBytes
-local_used t u = as_list (local_of t u.what)
+local_used t u = option_to_list (local_of t u.what)
 
 abbrev pub defined_by : Used → List (NameBytes × Mode)
 defined_by (Local name mode) = (name, value_mode mode) ∷ []
@@ -65,7 +61,7 @@ moded_in usual modes name = (name, option_or (value_for modes name) usual)
 -- the local variables of a section with these uses, in the order of their numbers: each once, by its first use. So parameters
 -- come first, given ones before yielded ones, then those of DEFINEs, then those that are only used.
 abbrev pub locals : Table → List Use → Moded
-locals t us = firsts (map (moded_in t.usual (defined us)) (flat_map (local_used t) us))
+locals t us = first_entries (map (moded_in t.usual (defined us)) (flat_map (local_used t) us))
 
 abbrev pub uses_seen : Vec Use → List Use
 uses_seen us = us.items

@@ -2,5 +2,5 @@
 use Rattle.ss_names_scopes.specs.declared.scope.Scope.{Scope as ScopeValue}
 use Rattle.ss_names_scopes.specs.Scopes.{Scope}
 
-abbrev pub scope_seen : ScopeValue → Scope
-scope_seen s = record { table = s.names.now; locals = s.locals.now; sections = s.sections.now }
+abbrev pub view_scope : ScopeValue → Scope
+view_scope s = record { table = s.names.now; locals = s.locals.now; sections = s.sections.now }

@@ -5,4 +5,4 @@ mod locals;
 mod scope;
 
 pub use locals::{Locals, all_locals, local_of};
-pub use scope::{Scope, mode_of, variable_of};
+pub use scope::{Scope, is_kind, is_main, mode_of, variable_of};

@@ -4,8 +4,8 @@ ghost use Rattle.std.specs.Prelude.{◌≡◌, ◌==◌, map, length, slice_get,
 ghost use Rattle.std.specs.List.{flat_map, fold, position};
 ghost use Rattle.std.specs.Map.{keys_of, values_of, lookup};
 ghost use Rattle.std.specs.Option.{option_or};
-ghost use Rattle.ss_names_declarations.specs.Firsts.{firsts, same_name, value_for, with_first};
-ghost use Rattle.ss_names_scopes.specs.Locals.{defined, defined_by, is_local_place, is_variable, local_of, local_place, local_used, locals, moded_in, uses_seen};
+ghost use Rattle.ss_names_declarations.specs.Firsts.{first_entries, same_name, value_for, with_first};
+ghost use Rattle.ss_names_scopes.specs.Locals.{defined, defined_by, is_local_place, may_be_variable, local_of, local_place, local_used, locals, moded_in, uses_seen};
 
 use ss_base::{Mode, Name};
 use ss_names::{Names, value_mode};
@@ -35,8 +35,8 @@ impl Model for Locals {
 }
 
 // Whether a name without subscript is a variable in this role.
-fn is_variable(role: Role) -> bool
-    ensures { result ≡ is_variable role }
+fn may_be_variable(role: Role) -> bool
+    ensures { result ≡ may_be_variable role }
 {
     match role {
         Role::Set => false,
@@ -48,7 +48,7 @@ fn is_variable(role: Role) -> bool
 fn is_local_place(names: &Names, role: Role, name: &Name, subscripts: usize) -> bool
     ensures { result ≡ is_local_place names.now role name.now subscripts }
 {
-    is_variable(role) && subscripts == 0 && names.meaning(name).is_none()
+    may_be_variable(role) && subscripts == 0 && names.meaning(name).is_none()
 }
 
 // The local variable that a place names.
@@ -114,7 +114,7 @@ fn add_mode(modes: &mut Table<Name, Mode>, used: &Used) -> Result<(), AllocError
 
 // The modes that local DEFINEs give.
 fn modes_of(alloc: Global, seed: Seed, uses: &[Use]) -> Result<Table<Name, Mode>, AllocError>
-    ensures { IfOk result (λ modes. modes ≡ firsts (defined uses.now)) }
+    ensures { IfOk result (λ modes. modes ≡ first_entries (defined uses.now)) }
 {
     let mut modes = Table::new(alloc, seed);
     for one in uses {
@@ -156,7 +156,7 @@ fn collect(
     modes: &Table<Name, Mode>,
     uses: &[Use],
 ) -> Result<Table<Name, Option<Mode>>, AllocError>
-    ensures { IfOk result (λ found. found ≡ firsts (map (moded_in names.now.usual modes.now) (flat_map (local_used names.now) uses.now))) }
+    ensures { IfOk result (λ found. found ≡ first_entries (map (moded_in names.now.usual modes.now) (flat_map (local_used names.now) uses.now))) }
 {
     let mut entries = Table::new(alloc, seed);
     for one in uses {

@@ -1,16 +1,19 @@
 //! What a name means in a section.
 
-ghost use Rattle.ss_names_scopes.specs.Seen.{scope_seen};
+ghost use Rattle.ss_names_scopes.specs.Seen.{view_scope};
 ghost use Rattle.std.specs.Prelude.{◌≡◌, ◌+◌, slice_get};
 ghost use Rattle.std.specs.Map.{values_of};
-ghost use Rattle.ss_names_scopes.specs.Scopes.{implied, known_mode, meaning, meaning_of_class, meaning_of_name, mode_at, mode_given, mode_of, parameter_mode, variable_of};
+ghost use Rattle.ss_tree.specs.View.{view_section};
+ghost use Rattle.ss_names_scopes.specs.Scopes.{history_of, implied, is_kind, is_main_section, known_mode, meaning, meaning_of_class, meaning_of_name, mode_at, mode_given, mode_of, parameter_mode, variable_of};
 
 use crate::locals::Locals;
-use ss_base::{Mode, Name, Owner};
+use ss_base::{ClassKind, Mode, Name, Owner};
 use ss_names::{Meaning, Names};
 use ss_names_declarations::key_at;
+use ss_names_uses::ClassNeed;
 use ss_program::expression::Variable;
 use ss_tree::expression::Designator;
+use ss_tree::program::{Section, SectionKind};
 
 /// A section of a program: the table, the local variables of the section, and those of all sections.
 #[derive(Clone, Copy)]
@@ -80,6 +83,27 @@ fn yielded_in_section(
     }
 }
 
+/// Whether a section is MAIN.
+pub fn is_main(section: &Section) -> bool
+    ensures { result ≡ is_main_section (view_section section.now) }
+{
+    match &section.kind {
+        SectionKind::Main => true,
+        _ => false,
+    }
+}
+
+/// Whether a class is of the kind that a place needs.
+pub fn is_kind(need: ClassNeed, kind: ClassKind) -> bool
+    ensures { result ≡ is_kind need kind }
+{
+    match need {
+        ClassNeed::Permanent => matches!(kind, ClassKind::Permanent),
+        ClassNeed::Notice => matches!(kind, ClassKind::Notice),
+        ClassNeed::Single => !matches!(kind, ClassKind::Permanent),
+    }
+}
+
 /// The mode of what a name means; a set and a routine have none.
 pub fn mode_of(meaning: Meaning) -> Option<Mode>
     ensures { result ≡ mode_of meaning }
@@ -107,7 +131,7 @@ pub fn variable_of(meaning: Meaning) -> Option<Variable>
 impl<'a> Scope<'a> {
     /// What a name means in the section: a local variable hides what it means in the whole program.
     pub fn meaning_of_name(&self, name: &Name) -> Option<Meaning>
-        ensures { result ≡ meaning_of_name (scope_seen self.now) name.now }
+        ensures { result ≡ meaning_of_name (view_scope self.now) name.now }
     {
         match self.locals.number(name) {
             Some(number) => {
@@ -123,7 +147,7 @@ impl<'a> Scope<'a> {
 
     /// What is named.
     pub fn meaning(&self, place: Designator) -> Option<Meaning>
-        ensures { result ≡ meaning (scope_seen self.now) place }
+        ensures { result ≡ meaning (view_scope self.now) place }
     {
         match place {
             Designator::Name(name) => self.meaning_of_name(&name),
@@ -134,7 +158,7 @@ impl<'a> Scope<'a> {
 
     /// What the name of a class means in the section: the variable that has an entity of the class where none is named.
     pub fn meaning_of_class(&self, class: usize) -> Option<Meaning>
-        ensures { result ≡ meaning_of_class (scope_seen self.now) class }
+        ensures { result ≡ meaning_of_class (view_scope self.now) class }
     {
         let names = self.names;
         match key_at(&names.classes, class) {
@@ -145,7 +169,7 @@ impl<'a> Scope<'a> {
 
     /// The variable that has the entity of what a name means, where no subscript is written. None where it is of no entity.
     pub fn implied(&self, meaning: Meaning) -> Option<Meaning>
-        ensures { result ≡ implied (scope_seen self.now) meaning }
+        ensures { result ≡ implied (view_scope self.now) meaning }
     {
         match self.names.owner_of(meaning) {
             Owner::Class(class) => self.meaning_of_class(class),
@@ -153,16 +177,31 @@ impl<'a> Scope<'a> {
         }
     }
 
+    /// The number of the history of what is named. A name that a local variable hides has none.
+    pub fn history_of(&self, place: &Designator) -> Option<usize>
+        ensures { result ≡ history_of (view_scope self.now) place.now }
+    {
+        let names = self.names;
+        match place {
+            Designator::Name(name) => match self.locals.number(name) {
+                Some(_) => None,
+                None => names.histories.place(name),
+            },
+            Designator::TimeV => None,
+            Designator::TimeA => None,
+        }
+    }
+
     /// The mode of the parameter of a routine of this number, the given ones before those that it yields.
     pub fn parameter_mode(&self, section: usize, number: usize) -> Option<Mode>
-        ensures { result ≡ parameter_mode (scope_seen self.now) section number }
+        ensures { result ≡ parameter_mode (view_scope self.now) section number }
     {
         mode_in_section(self.sections, section, number)
     }
 
     /// The mode of what a routine yields in this place, after so many that it is given.
     pub fn yielded_mode(&self, section: usize, given: usize, place: usize) -> Option<Mode>
-        ensures { result ≡ parameter_mode (scope_seen self.now) section (given + place) }
+        ensures { result ≡ parameter_mode (view_scope self.now) section (given + place) }
     {
         yielded_in_section(self.sections, section, given, place)
     }

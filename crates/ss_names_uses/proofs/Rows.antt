@@ -23,15 +23,22 @@ use Rattle.ss_names_uses.specs.declared.used.Role.{Role}
 use Rattle.ss_names_uses.specs.declared.used.Role.TheVariants as roles
 use Rattle.ss_names_uses.specs.declared.used.CountNeed.TheVariants as counts
 use Rattle.ss_names_uses.specs.declared.used.Use.{Use}
-use Rattle.ss_names_uses.specs.Uses.{row_length, place, count, in_expression, in_numbers, in_terms, in_term, in_all_numbers, in_named, in_item, in_places, in_itself, in_inner, in_row, in_statement, in_body}
+use Rattle.ss_names_uses.specs.Uses.{row_length, place, count, in_expression, in_numbers, in_terms, in_named, in_item, in_places, in_itself, in_inner, in_row, in_statement, in_body}
 
 -- ---- rows
+
+abbrev pub in_all_numbers : Line → List ExpressionTree → List Use
+in_all_numbers line es = flat_map (in_expression line true) es
 
 in_number_row : (line : Line) (es : List ExpressionTree) → in_numbers line (expression_row es) ≡ in_all_numbers line es
 in_number_row line [] = refl
 in_number_row line (e ∷ es) = ap (λ us. in_expression line true e ++ us) (in_number_row line es)
 
-in_term_row : (line : Line) (ts : List (Sign × ExpressionTree)) → in_terms line (term_row ts) ≡ flat_map (in_term line) ts
+-- the terms after their signs
+abbrev pub in_each_term : Line → List (Sign × ExpressionTree) → List Use
+in_each_term line ts = flat_map (λ (t : Sign × ExpressionTree). in_expression line true t.1) ts
+
+in_term_row : (line : Line) (ts : List (Sign × ExpressionTree)) → in_terms line (term_row ts) ≡ in_each_term line ts
 in_term_row line [] = refl
 in_term_row line (t ∷ ts) = ap (λ us. in_expression line true t.1 ++ us) (in_term_row line ts)
 
@@ -59,7 +66,7 @@ in_product_made line b e v =
     ap (in_expression line b) (view_product_made e v) ∙
     ap (λ us. in_expression line true (view_expression e.value) ++ us) (in_number_row line (map view_expression v.items))
 
-pub in_sum_made : (line : Line) (b : Bool) (e : Box Expression) (v : Vec Term) → in_expression line b (view_expression (variants.Sum e v)) ≡ in_expression line true (view_expression e.value) ++ flat_map (in_term line) (map view_term v.items)
+pub in_sum_made : (line : Line) (b : Bool) (e : Box Expression) (v : Vec Term) → in_expression line b (view_expression (variants.Sum e v)) ≡ in_expression line true (view_expression e.value) ++ in_each_term line (map view_term v.items)
 in_sum_made line b e v =
     ap (in_expression line b) (view_sum_made e v) ∙
     ap (λ us. in_expression line true (view_expression e.value) ++ us) (in_term_row line (map view_term v.items))

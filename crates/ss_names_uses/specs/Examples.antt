@@ -166,10 +166,10 @@ pub two_fields : in_statement (print_statement (line 2) (one ∷ one ∷ []) (co
 unfolding picture_fields
 two_fields = refl
 
--- PRINT 1 LINE WITH TIME.A(BELL), A(1, B) THUS .., where the picture has no field
-pub two_items : in_statement (print_statement (line 2) (named designators.TimeA (and_expression (name (codes "BELL")) no_expression) ∷ named (designators.Name (codes "A")) (and_expression one (and_expression (name (codes "B")) no_expression)) ∷ []) []) ≡
+-- PRINT 1 LINE WITH TIME.A(BELL), C(1, B) THUS .., where the picture has no field
+pub two_items : in_statement (print_statement (line 2) (named designators.TimeA (and_expression (name (codes "BELL")) no_expression) ∷ named (designators.Name (codes "C")) (and_expression one (and_expression (name (codes "B")) no_expression)) ∷ []) []) ≡
     used 2 Unfit ∷ used 2 (Place Item designators.TimeA 1 false) ∷ named_in 2 Value (codes "BELL") 0 true ∷
-    named_in 2 Item (codes "A") 2 false ∷ named_in 2 Value (codes "B") 0 true ∷ []
+    named_in 2 Item (codes "C") 2 false ∷ named_in 2 Value (codes "B") 0 true ∷ []
 two_items = refl
 
 -- PRINT 2 LINES WITH X, ((M(J))) THUS ** and *.**: a name in parentheses is an item, which in a field with decimals has to

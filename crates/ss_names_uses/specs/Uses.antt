@@ -1,15 +1,15 @@
 -- The uses of a section, in the order of the text.
-use Rattle.std.specs.Prelude.{ℕ, zero, suc, ◌+◌, ◌==◌, nat_le, Bool, true, false, is_some, List, [], ◌∷◌, ◌++◌, map, length, slice_get, Option, Some, None, if◌then◌else◌}
+use Rattle.std.specs.Prelude.{ℕ, zero, suc, ◌+◌, ◌==◌, nat_le, Bool, true, false, is_some, List, [], ◌∷◌, ◌++◌, map, length, slice_get, Option, if◌then◌else◌}
 use Rattle.std.specs.List.{flat_map}
+use Rattle.std.specs.Option.{option_map_or}
 use Rattle.ss_base.specs.declared.line.Line.{Line}
-use Rattle.ss_base.specs.declared.words.Sign.{Sign}
 use Rattle.ss_picture.specs.declared.field.Field.{Field}
 use Rattle.ss_picture.specs.Pictures.{picture_fields}
 use Rattle.ss_tree.specs.Names.{NameBytes}
 use Rattle.ss_tree.specs.declared.expression.Designator.{Designator}
 use Rattle.ss_tree.specs.declared.expression.Designator.TheVariants as designators
 use Rattle.ss_tree.specs.declared.preamble.Mode.{Mode}
-use Rattle.ss_tree.specs.Tree.{ExpressionTree, number, text, named, call, parenthesised, product, signed, sum, ExpressionRow, no_expression, and_expression, TermRow, no_term, and_term, NamedTree, TestTree, compare, empty, member, data_ended, ConditionTree, PhraseTree, GuardTree, StartTree, from_end, from_member, after_member, HeadTree, over_range, over_members, over_class, LoopHeadTree, for_head, guarded, PositionTree, by_discipline, at_first, at_last, before, after, WhenTree, at_time, in_units, now, StatementTree, let_statement, add_statement, subtract_statement, call_statement, return_statement, stop_statement, read_statement, start_simulation, if_statement, loop_statement, find_statement, find_if_statement, create_statement, create_every, destroy_statement, file_statement, remove_end, remove_statement, schedule_new, schedule_statement, cancel_statement, reset_statement, print_statement, skip_statement, StatementRow, no_statement, and_statement, DefinitionTree, SectionKindTree, main, routine, event, SectionTree}
+use Rattle.ss_tree.specs.Tree.{ExpressionTree, number, text, named, call, parenthesised, product, signed, sum, ExpressionRow, no_expression, and_expression, TermRow, no_term, and_term, NamedTree, TestTree, compare, empty, member, data_ended, ConditionTree, PhraseTree, GuardTree, StartTree, from_end, from_member, after_member, HeadTree, over_range, over_members, over_class, LoopHeadTree, for_head, guarded, PositionTree, before, after, WhenTree, at_time, in_units, now, StatementTree, let_statement, add_statement, subtract_statement, call_statement, read_statement, start_simulation, if_statement, loop_statement, find_statement, find_if_statement, create_statement, create_every, destroy_statement, file_statement, remove_end, remove_statement, schedule_new, schedule_statement, cancel_statement, reset_statement, print_statement, skip_statement, StatementRow, no_statement, and_statement, DefinitionTree, SectionKindTree, main, routine, event, SectionTree}
 use Rattle.ss_names_uses.specs.declared.used.Role.{Role}
 use Rattle.ss_names_uses.specs.declared.used.Role.TheVariants as roles
 use Rattle.ss_names_uses.specs.declared.used.ClassNeed.{ClassNeed}
@@ -53,19 +53,14 @@ row_length (and_expression e es) = suc (row_length es)
 -- the mode of a named place: a time is a number
 abbrev pub designated : Designator → ModeOf
 designated (designators.Name name) = modes.Named name
-designated designators.TimeV = modes.Integer
-designated designators.TimeA = modes.Integer
+designated _ = modes.Integer
 
 -- the mode of an expression; a text in parentheses is still a text
-abbrev pub mode_of : ExpressionTree → ModeOf
-mode_of (number z) = modes.Integer
-mode_of (text t) = modes.Alpha
-mode_of (named designator subscripts) = designated designator
-mode_of (call function arguments) = modes.Integer
-mode_of (parenthesised e) = mode_of e
-mode_of (product e further) = modes.Integer
-mode_of (signed sign e) = modes.Integer
-mode_of (sum e further) = modes.Integer
+abbrev pub expression_mode : ExpressionTree → ModeOf
+expression_mode (text t) = modes.Alpha
+expression_mode (named designator subscripts) = designated designator
+expression_mode (parenthesised e) = expression_mode e
+expression_mode _ = modes.Integer
 
 -- a text where a number may have to be
 abbrev pub of_text : Line → Bool → List Use
@@ -95,14 +90,6 @@ abbrev mutual
   in_terms line no_term = []
   in_terms line (and_term sign e es) = in_expression line true e ++ in_terms line es
 
--- a term after its sign
-abbrev pub in_term : Line → Sign × ExpressionTree → List Use
-in_term line t = in_expression line true t.1
-
--- several expressions that have to be numbers
-abbrev pub in_all_numbers : Line → List ExpressionTree → List Use
-in_all_numbers line es = flat_map (in_expression line true) es
-
 -- a named place in a role, and its subscripts
 abbrev pub in_named : Line → Role → Bool → NamedTree → List Use
 in_named line role is_number n =
@@ -114,8 +101,7 @@ in_all_named line role ns = flat_map (in_named line role false) ns
 
 -- the uses of a part that may be left out
 abbrev pub in_option : {A : Type 0} → (A → List Use) → Option A → List Use
-in_option of None = []
-in_option of (Some x) = of x
+in_option of part = option_map_or of part []
 
 -- the uses of a list, each item by its place, the first of which is this
 abbrev pub in_places : {A : Type 0} → (ℕ → A → List Use) → ℕ → List A → List Use
@@ -126,7 +112,7 @@ in_places of i (x ∷ xs) = of i x ++ in_places of (i + 1) xs
 
 abbrev pub in_test : Line → TestTree → List Use
 in_test line (compare left relation right) =
-    same line (mode_of left) (mode_of right) ∷ in_expression line false left ++ in_expression line false right
+    same line (expression_mode left) (expression_mode right) ∷ in_expression line false left ++ in_expression line false right
 in_test line (empty set negated) = in_named line roles.Set false set
 in_test line (member x set negated) = in_expression line true x ++ in_named line roles.Set false set
 in_test line (data_ended negated) = []
@@ -166,11 +152,9 @@ in_loop_head line (guarded guards) = flat_map (in_guard line) guards
 -- ---- parts of statements
 
 abbrev pub in_position : Line → PositionTree → List Use
-in_position line by_discipline = []
-in_position line at_first = []
-in_position line at_last = []
 in_position line (before e) = in_expression line true e
 in_position line (after e) = in_expression line true e
+in_position line _ = []
 
 abbrev pub in_when : Line → WhenTree → List Use
 in_when line (at_time e) = in_expression line true e
@@ -187,44 +171,26 @@ abbrev pub in_old : Line → ClassNeed → NameBytes → Option ExpressionTree �
 in_old line need class called =
     class_used line need class (is_some called) ∷ in_option (in_expression line true) called
 
--- a class of CREATE EVERY
-abbrev pub create_all : Line → NameBytes → Use
-create_all line class = class_used line Permanent class true
-
 -- a value that has this mode
 abbrev pub in_value : Line → ModeOf → ExpressionTree → List Use
-in_value line wanted e = same line (mode_of e) wanted ∷ in_expression line false e
+in_value line wanted e = same line (expression_mode e) wanted ∷ in_expression line false e
 
 -- a target that takes a value of this mode
 abbrev pub in_target : Line → ModeOf → NamedTree → List Use
 in_target line wanted n = same line (designated n.designator) wanted ∷ in_named line roles.Target false n
 
--- a value for the attribute of a class in this place
-abbrev pub for_attribute : Line → NameBytes → ℕ → ExpressionTree → List Use
-for_attribute line class i e = in_value line (modes.Attribute class i) e
-
--- a value that a routine is given in this place
-abbrev pub for_given : Line → NameBytes → ℕ → ExpressionTree → List Use
-for_given line name i e = in_value line (modes.Given name i) e
-
--- a target of what a routine yields in this place
-abbrev pub for_yielded : Line → NameBytes → ℕ → NamedTree → List Use
-for_yielded line name i n = in_target line (modes.Yielded name i) n
-
 -- the values that SCHEDULE gives to the attributes of a class
 abbrev pub in_given : Line → NameBytes → List ExpressionTree → List Use
-in_given line class given = count line (length given) (counts.Attributes class) ∷ in_places (for_attribute line class) 0 given
+in_given line class given =
+    count line (length given) (counts.Attributes class) ∷ in_places (λ i. in_value line (modes.Attribute class i)) 0 given
 
 abbrev pub in_call : Line → NameBytes → List ExpressionTree → List NamedTree → List Use
 in_call line name given yielding =
     at_line line (Routine name)
     ∷ count line (length given) (counts.Given name)
     ∷ count line (length yielding) (counts.Yielded name)
-    ∷ in_places (for_given line name) 0 given ++ in_places (for_yielded line name) 0 yielding
-
--- a target and the value that it takes
-abbrev pub in_let : Line → NamedTree → ExpressionTree → List Use
-in_let line n e = in_target line (mode_of e) n ++ in_expression line false e
+    ∷ in_places (λ i. in_value line (modes.Given name i)) 0 given
+    ++ in_places (λ i. in_target line (modes.Yielded name i)) 0 yielding
 
 -- ---- PRINT
 
@@ -274,15 +240,12 @@ abbrev pub in_items : Line → List ExpressionTree → List Field → List Use
 in_items line items fields =
     of_fit line (length items == length fields) ++ in_places (in_item_at line fields) 0 items
 
-abbrev pub in_print : Line → List ExpressionTree → List (List ℕ) → List Use
-in_print line items pictures = in_items line items (fields_of pictures)
-
 -- ---- statements
 
 -- the uses of a statement on entities, sets or notices
 abbrev pub in_entity_statement : StatementTree → List Use
 in_entity_statement (create_statement line class called) = in_new line Single class called
-in_entity_statement (create_every line classes) = map (create_all line) classes
+in_entity_statement (create_every line classes) = map (λ class. class_used line Permanent class true) classes
 in_entity_statement (destroy_statement line class called) = in_old line Single class called
 in_entity_statement (file_statement line x position set) =
     in_expression line true x ++ in_position line position ++ in_named line roles.Set false set
@@ -297,12 +260,10 @@ in_entity_statement _ = []
 
 -- the uses of a statement, without those of the statements in it: of an IF its condition, of a loop its head
 abbrev pub in_itself : StatementTree → List Use
-in_itself (let_statement line n e) = in_let line n e
+in_itself (let_statement line n e) = in_target line (expression_mode e) n ++ in_expression line false e
 in_itself (add_statement line e n) = in_expression line true e ++ in_named line roles.Target true n
 in_itself (subtract_statement line e n) = in_expression line true e ++ in_named line roles.Target true n
 in_itself (call_statement line name given yielding) = in_call line name given yielding
-in_itself (return_statement line) = []
-in_itself (stop_statement line) = []
 in_itself (read_statement line targets) = in_all_named line roles.Target targets
 in_itself (start_simulation line) = at_line line Start ∷ []
 in_itself (if_statement line condition first second) = in_condition line condition
@@ -310,7 +271,7 @@ in_itself (loop_statement line head body) = in_loop_head line head
 in_itself (find_statement line head) = in_head line head
 in_itself (find_if_statement line head outcome first second) = in_head line head
 in_itself (reset_statement line targets) = in_all_named line roles.Reset targets
-in_itself (print_statement line items pictures) = in_print line items pictures
+in_itself (print_statement line items pictures) = in_items line items (fields_of pictures)
 in_itself (skip_statement line lines) = in_expression line true lines
 in_itself s = in_entity_statement s
 

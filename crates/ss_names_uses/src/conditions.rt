@@ -5,7 +5,7 @@ ghost use Rattle.std.specs.List.{flat_map};
 ghost use Rattle.ss_tree.specs.View.{view_condition, view_test};
 ghost use Rattle.ss_names_uses.specs.Uses.{in_condition, in_test};
 
-use crate::expressions::{add_expression, add_named, add_same, mode_of};
+use crate::expressions::{add_expression, add_named, add_same, expression_mode};
 use crate::used::{Role, Use};
 use ss_base::Line;
 use ss_tree::condition::{Condition, Test};
@@ -17,7 +17,7 @@ fn add_test(into: &mut Vec<Use>, line: Line, test: &Test) -> Result<(), AllocErr
 {
     match test {
         Test::Compare { left, right, .. } => {
-            add_same(into, line, mode_of(left), mode_of(right))?;
+            add_same(into, line, expression_mode(left), expression_mode(right))?;
             add_expression(into, line, false, left)?;
             add_expression(into, line, false, right)
         }

@@ -2,8 +2,10 @@
 
 ghost use Rattle.std.specs.Prelude.{◌≡◌, ◌++◌, ◌∷◌, [], map, true, IfOk};
 ghost use Rattle.std.specs.List.{flat_map};
+ghost use Rattle.ss_base.specs.declared.words.Sign.{Sign};
+ghost use Rattle.ss_tree.specs.Tree.{ExpressionTree};
 ghost use Rattle.ss_tree.specs.View.{view_expression, view_named, view_option, view_term};
-ghost use Rattle.ss_names_uses.specs.Uses.{at_line, class_used, count, designated, in_all_named, in_all_numbers, in_expression, in_named, in_option, in_term, mode_of, of_text, place, same};
+ghost use Rattle.ss_names_uses.specs.Uses.{at_line, class_used, count, designated, in_all_named, in_expression, in_named, in_option, expression_mode, of_text, place, same};
 
 use crate::used::{ClassNeed, CountNeed, ModeOf, Role, Use, Used};
 use ss_base::{Line, Name};
@@ -29,13 +31,13 @@ pub(crate) fn mode_of_target(target: &Named) -> ModeOf
 
 // The mode of an expression; a text in parentheses is still a text.
 #[tactic(auto, unfolding(ss_tree::specs::View::view_expression))]
-pub(crate) fn mode_of(expression: &Expression) -> ModeOf
-    ensures { result ≡ mode_of (view_expression expression.now) }
+pub(crate) fn expression_mode(expression: &Expression) -> ModeOf
+    ensures { result ≡ expression_mode (view_expression expression.now) }
 {
     match expression {
         Expression::Text(_) => ModeOf::Alpha,
         Expression::Named(named) => designated(named.designator),
-        Expression::Parenthesised(inner) => mode_of(inner),
+        Expression::Parenthesised(inner) => expression_mode(inner),
         Expression::Number(_)
         | Expression::Call { .. }
         | Expression::Product { .. }
@@ -184,7 +186,7 @@ fn add_numbers(
     line: Line,
     expressions: &[Expression],
 ) -> Result<(), AllocError>
-    ensures { IfOk result (λ _. into.new.items ≡ into.old.items ++ in_all_numbers line (map view_expression expressions.now)) }
+    ensures { IfOk result (λ _. into.new.items ≡ into.old.items ++ flat_map (in_expression line true) (map view_expression expressions.now)) }
 {
     for expression in expressions {
         add_expression(into, line, true, expression)?;
@@ -195,7 +197,7 @@ fn add_numbers(
 // Adds the uses of the further terms of a sum.
 #[cycle(adding)]
 fn add_terms(into: &mut Vec<Use>, line: Line, terms: &[Term]) -> Result<(), AllocError>
-    ensures { IfOk result (λ _. into.new.items ≡ into.old.items ++ flat_map (in_term line) (map view_term terms.now)) }
+    ensures { IfOk result (λ _. into.new.items ≡ into.old.items ++ flat_map (λ (t : Sign × ExpressionTree). in_expression line true t.1) (map view_term terms.now)) }
 {
     for term in terms {
         add_expression(into, line, true, &term.value)?;

@@ -1,10 +1,11 @@
 //! The uses of values that are passed, each with the mode that is wanted in its place.
 
-ghost use Rattle.std.specs.Prelude.{◌≡◌, ◌++◌, map, IfOk};
+ghost use Rattle.std.specs.Prelude.{◌≡◌, ℕ, ◌++◌, map, IfOk};
 ghost use Rattle.ss_tree.specs.View.{view_expression, view_named};
-ghost use Rattle.ss_names_uses.specs.Uses.{as_attribute, for_attribute, for_given, for_yielded, in_places, in_target, in_value};
+ghost use Rattle.ss_names_uses.specs.Uses.{as_attribute, in_places, in_target, in_value};
+ghost use Rattle.ss_names_uses.specs.declared.used.ModeOf.TheVariants as modes;
 
-use crate::expressions::{add_expression, add_named, add_same, mode_of, mode_of_target};
+use crate::expressions::{add_expression, add_named, add_same, expression_mode, mode_of_target};
 use crate::used::{ModeOf, Role, Use};
 use ss_base::{Line, Name};
 use ss_tree::expression::{Expression, Named};
@@ -19,7 +20,7 @@ fn add_value(
 ) -> Result<(), AllocError>
     ensures { IfOk result (λ _. into.new.items ≡ into.old.items ++ in_value line wanted (view_expression value.now)) }
 {
-    add_same(into, line, mode_of(value), wanted)?;
+    add_same(into, line, expression_mode(value), wanted)?;
     add_expression(into, line, false, value)
 }
 
@@ -43,7 +44,7 @@ pub(crate) fn add_for_attributes(
     class: &Name,
     values: &[Expression],
 ) -> Result<(), AllocError>
-    ensures { IfOk result (λ _. into.new.items ≡ into.old.items ++ in_places (for_attribute line class.now) 0 (map view_expression values.now)) }
+    ensures { IfOk result (λ _. into.new.items ≡ into.old.items ++ in_places (λ (i : ℕ). in_value line (modes.Attribute class.now i)) 0 (map view_expression values.now)) }
 {
     for (place, value) in values.iter().enumerate() {
         let wanted = ModeOf::Attribute {
@@ -62,7 +63,7 @@ pub(crate) fn add_for_given(
     routine: &Name,
     values: &[Expression],
 ) -> Result<(), AllocError>
-    ensures { IfOk result (λ _. into.new.items ≡ into.old.items ++ in_places (for_given line routine.now) 0 (map view_expression values.now)) }
+    ensures { IfOk result (λ _. into.new.items ≡ into.old.items ++ in_places (λ (i : ℕ). in_value line (modes.Given routine.now i)) 0 (map view_expression values.now)) }
 {
     for (place, value) in values.iter().enumerate() {
         let wanted = ModeOf::Given {
@@ -81,7 +82,7 @@ pub(crate) fn add_for_yielded(
     routine: &Name,
     targets: &[Named],
 ) -> Result<(), AllocError>
-    ensures { IfOk result (λ _. into.new.items ≡ into.old.items ++ in_places (for_yielded line routine.now) 0 (map view_named targets.now)) }
+    ensures { IfOk result (λ _. into.new.items ≡ into.old.items ++ in_places (λ (i : ℕ). in_target line (modes.Yielded routine.now i)) 0 (map view_named targets.now)) }
 {
     for (place, target) in targets.iter().enumerate() {
         let wanted = ModeOf::Yielded {

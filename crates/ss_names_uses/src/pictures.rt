@@ -3,7 +3,7 @@
 ghost use Rattle.std.specs.Prelude.{◌≡◌, ◌++◌, map, slice_get, IfOk};
 ghost use Rattle.ss_picture.specs.Pictures.{picture_fields};
 ghost use Rattle.ss_tree.specs.View.{view_expression};
-ghost use Rattle.ss_names_uses.specs.Uses.{as_mean, fields_of, in_field, in_field_at, in_item, in_item_at, in_items, in_places, in_print, of_decimals, of_fit};
+ghost use Rattle.ss_names_uses.specs.Uses.{as_mean, fields_of, in_field, in_field_at, in_item, in_item_at, in_items, in_places, of_decimals, of_fit};
 
 use crate::expressions::{add, add_expression, add_named};
 use crate::used::{Role, Use, Used};
@@ -178,7 +178,7 @@ pub(crate) fn add_print(
     items: &[Expression],
     pictures: &[PictureLine],
 ) -> Result<(), AllocError>
-    ensures { IfOk result (λ _. into.new.items ≡ into.old.items ++ in_print line (map view_expression items.now) pictures.now) }
+    ensures { IfOk result (λ _. into.new.items ≡ into.old.items ++ in_items line (map view_expression items.now) (fields_of pictures.now)) }
 {
     let fields = fields_of(alloc, pictures)?;
     add_items(into, line, items, &fields)

@@ -1,13 +1,15 @@
 //! The uses in statements.
 
-ghost use Rattle.std.specs.Prelude.{◌≡◌, ◌++◌, map, IfOk};
+ghost use Rattle.std.specs.Prelude.{◌≡◌, true, false, ◌++◌, map, IfOk};
+ghost use Rattle.ss_tree.specs.Names.{NameBytes};
 ghost use Rattle.ss_tree.specs.View.{view_expression, view_named, view_option, view_position, view_statement, view_when};
-ghost use Rattle.ss_names_uses.specs.Uses.{create_all, in_body, in_call, in_entity_statement, in_given, in_inner, in_itself, in_let, in_new, in_old, in_position, in_when};
+ghost use Rattle.ss_names_uses.specs.Uses.{class_used, in_body, in_call, in_entity_statement, in_expression, in_given, in_inner, in_itself, in_new, in_old, in_position, in_target, in_when, expression_mode};
+ghost use Rattle.ss_names_uses.specs.declared.used.ClassNeed.TheVariants as needs;
 
 use crate::conditions::add_condition;
 use crate::expressions::{
     add, add_all_named, add_class, add_count, add_expression, add_maybe, add_maybe_target,
-    add_named, mode_of,
+    add_named, expression_mode,
 };
 use crate::handed::{add_for_attributes, add_for_given, add_for_yielded, add_target};
 use crate::heads::{add_head, add_loop_head};
@@ -70,7 +72,7 @@ fn add_old(
 
 // Adds the uses of the classes of CREATE EVERY.
 fn add_created_classes(into: &mut Vec<Use>, line: Line, classes: &[Name]) -> Result<(), AllocError>
-    ensures { IfOk result (λ _. into.new.items ≡ into.old.items ++ map (create_all line) classes.now) }
+    ensures { IfOk result (λ _. into.new.items ≡ into.old.items ++ map (λ (class : NameBytes). class_used line needs.Permanent class true) classes.now) }
 {
     for class in classes {
         add_class(into, line, ClassNeed::Permanent, *class, true)?;
@@ -116,9 +118,9 @@ fn add_let(
     target: &Named,
     value: &Expression,
 ) -> Result<(), AllocError>
-    ensures { IfOk result (λ _. into.new.items ≡ into.old.items ++ in_let line (view_named target.now) (view_expression value.now)) }
+    ensures { IfOk result (λ _. into.new.items ≡ into.old.items ++ (in_target line (expression_mode (view_expression value.now)) (view_named target.now) ++ in_expression line false (view_expression value.now))) }
 {
-    add_target(into, line, mode_of(value), target)?;
+    add_target(into, line, expression_mode(value), target)?;
     add_expression(into, line, false, value)
 }
 

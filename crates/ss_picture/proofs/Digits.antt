@@ -1,6 +1,6 @@
 -- Digits that are written from the last to the first, and what a field holds when they are.
-use Rattle.std.proofs.Common.{◌≡◌, ℕ, zero, suc, ◌+◌, ◌-◌, ◌/◌, ◌%◌, ◌^◌, ◌<◌, ◌≤◌, List, [], ◌∷◌, ◌++◌, length, set, take, drop, ℤ, refl, sym, ap, ◌∙◌, arith, length-append}
-use Rattle.std.proofs.lemmas.List.{append_assoc, append-nil, drop-set, drop_all, take_all}
+use Rattle.std.proofs.Common.{◌≡◌, ℕ, zero, suc, ◌+◌, ◌-◌, ◌/◌, ◌%◌, ◌^◌, ◌<◌, List, [], ◌∷◌, ◌++◌, length, set, take, drop, ℤ, refl, sym, ap, ◌∙◌, arith, length-append}
+use Rattle.std.proofs.lemmas.List.{append-nil, drop_all, take_all}
 use borrow.Rule.Slice.PartMut.{put_mid}
 use Rattle.std.specs.Prelude.{unsigned_abs}
 use Rattle.ss_picture.specs.Numerals.{last_digits, fraction_text, numeral, sign_of, mean_units, mean_text}
@@ -19,19 +19,6 @@ fraction_is (suc more) n some = refl
 pub length-fraction_text : (decimals n : ℕ) → 0 < decimals → length (fraction_text decimals n) ≡ decimals + 1
 length-fraction_text zero n some = absurd (omega arith)
 length-fraction_text (suc more) n some = omega (arith, length-last_digits (suc more) n)
-
--- one digit more, before those that are written
-pub digit_written : (place : List ℕ) (end left : ℕ) (all : List ℕ) → 0 < end → end ≤ length place → last_digits end left ++ drop end place ≡ all
-    → last_digits (end - 1) (left / 10) ++ drop (end - 1) (set place (end - 1) (48 + left % 10)) ≡ all
-digit_written place zero left all some within is = absurd (omega arith)
-digit_written place (suc before) left all some within is =
-    let less : suc before - 1 ≡ before = omega arith in
-    let next : before + 1 ≡ suc before = omega arith in
-    let digit : ℕ = 48 + left % 10 in
-    ap (λ (n : ℕ). last_digits n (left / 10) ++ drop n (set place n digit)) less
-    ∙ ap (λ (rest : List ℕ). last_digits before (left / 10) ++ rest) (drop-set place before digit (omega arith) ∙ ap (λ (n : ℕ). digit ∷ drop n place) next)
-    ∙ sym (append_assoc (last_digits before (left / 10)) (digit ∷ []) (drop (suc before) place))
-    ∙ is
 
 -- a period, and decimals after it
 pub fraction_written : (place new : List ℕ) (decimals n : ℕ) → 0 < decimals → length place ≡ length (fraction_text decimals n)

@@ -6,8 +6,8 @@ use Rattle.std.proofs.lemmas.Bool.{cond_both, leb-true, ne_eqb}
 use borrow.Rule.Slice.PartMut.{put_mid}
 use Rattle.ss_base.specs.declared.value.Value.TheVariants.{Whole, Text}
 use Rattle.ss_picture.specs.declared.field.Field.{Field}
-use Rattle.ss_picture.specs.declared.items.FieldValue.{FieldValue}
-use Rattle.ss_picture.specs.declared.items.FieldValue.TheVariants.{Is, Mean}
+use Rattle.ss_picture.specs.declared.items.Item.{Item}
+use Rattle.ss_picture.specs.declared.items.Item.TheVariants.{Is, Mean}
 use Rattle.ss_picture.specs.Numerals.{whole_text, mean_text}
 use Rattle.ss_picture.specs.Pictures.{Piece, Literal, Slot, stars, leading_field, decimals_at, characters, byte_before, pieces_after, pieces_of, fields_among, picture_fields, at_right, at_left, shown_characters, joined, filled}
 use Rattle.ss_picture.specs.Suited.{Suits, EachSuits}
@@ -42,19 +42,6 @@ pieces_of_field (byte ∷ bytes) some =
     ap (λ test. cond test (Slot field ∷ pieces_after (field.width - 1) bytes) (byte_before byte (pieces_after 0 bytes))) same
     ∙ ap (λ (rest : List Piece). Slot field ∷ rest) (pieces_after-drop (field.width - 1) bytes)
     ∙ ap (λ (rest : List ℕ). Slot field ∷ pieces_of rest) (drop_less field.width byte bytes (field_some (byte ∷ bytes) some))
-
--- another byte in front adds no field
-pub fields-byte_before : (byte : ℕ) (pieces : List Piece) → fields_among (byte_before byte pieces) ≡ fields_among pieces
-fields-byte_before byte [] = refl
-fields-byte_before byte (Literal bytes ∷ rest) = refl
-fields-byte_before byte (Slot field ∷ rest) = refl
-
--- another byte in front moves the fields by one
-pub starts-byte_before : (place byte : ℕ) (pieces : List Piece)
-    → starts_among place (byte_before byte pieces) ≡ starts_among (place + 1) pieces
-starts-byte_before place byte [] = refl
-starts-byte_before place byte (Literal bytes ∷ rest) = ap (λ at. starts_among at rest) (omega arith)
-starts-byte_before place byte (Slot field ∷ rest) = refl
 
 -- each field has one start
 pub length-starts_among : (place : ℕ) (pieces : List Piece) → length (starts_among place pieces) ≡ length (fields_among pieces)
@@ -123,7 +110,7 @@ length-at_left own text =
     (λ fits. let within : length text ≤ length own = leb-true _ _ fits in simp (length-append, length-replicate) (omega arith))
     (λ _. refl)
 
-pub length-shown_characters : (own : List ℕ) (decimals : ℕ) (item : FieldValue) → length (shown_characters own decimals item) ≡ length own
+pub length-shown_characters : (own : List ℕ) (decimals : ℕ) (item : Item) → length (shown_characters own decimals item) ≡ length own
 length-shown_characters own decimals (Is (Whole number)) = length-at_right own (whole_text number)
 length-shown_characters own decimals (Is (Text bytes)) = length-at_left own bytes
 length-shown_characters own decimals (Mean sum number) = length-at_right own (mean_text decimals sum number)
@@ -159,7 +146,7 @@ put_between before part after new place width at wide =
     rw (front, rest, back)
 
 -- with some items given, the next field has its own characters still
-pub next_has_its_own : (before : List ℕ) (place : ℕ) (pieces : List Piece) (items : List FieldValue) (k : ℕ) (d : Field)
+pub next_has_its_own : (before : List ℕ) (place : ℕ) (pieces : List Piece) (items : List Item) (k : ℕ) (d : Field)
     → AreWide pieces → length before ≡ place → k < length (fields_among pieces) → k < length items
     → take (get_or (fields_among pieces) k d).width (drop (get_or (starts_among place pieces) k 0) (before ++ joined pieces (take k items)))
     ≡ characters (get_or (fields_among pieces) k d)
@@ -180,11 +167,11 @@ next_has_its_own before place (Slot field ∷ rest) (first ∷ items) (suc k) d 
     ∙ next_has_its_own (before ++ own) (place + field.width) rest items k d wide.1 further (omega arith) (omega arith)
 
 -- what the next field shows of an item
-abbrev pub shown_in : Field → FieldValue → List ℕ
+abbrev pub shown_in : Field → Item → List ℕ
 shown_in field item = shown_characters (characters field) field.decimals item
 
 -- with one item more, the next field is written over
-pub joined_with_one_more : (before : List ℕ) (place : ℕ) (pieces : List Piece) (items : List FieldValue) (k : ℕ) (item : FieldValue) (d : Field)
+pub joined_with_one_more : (before : List ℕ) (place : ℕ) (pieces : List Piece) (items : List Item) (k : ℕ) (item : Item) (d : Field)
     → AreWide pieces → length before ≡ place → k < length (fields_among pieces) → k < length items → item ≡ get_or items k item
     → put_mid (get_or (starts_among place pieces) k 0) (get_or (fields_among pieces) k d).width
     (before ++ joined pieces (take k items)) (shown_in (get_or (fields_among pieces) k d) item)
@@ -230,14 +217,14 @@ field_within picture k d inside =
     let within = fields_within 0 (pieces_of picture) k d (wide-pieces_after 0 picture) inside in
     omega arith
 
-pub own_in_filled : (picture : List ℕ) (items : List FieldValue) (k : ℕ) (d : Field) → k < length (picture_fields picture) → k < length items
+pub own_in_filled : (picture : List ℕ) (items : List Item) (k : ℕ) (d : Field) → k < length (picture_fields picture) → k < length items
     → take (get_or (picture_fields picture) k d).width (drop (get_or (starts picture) k 0) (filled picture (take k items)))
     ≡ characters (get_or (picture_fields picture) k d)
 unfolding filled starts picture_fields
 own_in_filled picture items k d inside given =
     next_has_its_own [] 0 (pieces_of picture) items k d (wide-pieces_after 0 picture) refl inside given
 
-pub filled_with_one_more : (picture : List ℕ) (items : List FieldValue) (k : ℕ) (item : FieldValue) (d : Field)
+pub filled_with_one_more : (picture : List ℕ) (items : List Item) (k : ℕ) (item : Item) (d : Field)
     → k < length (picture_fields picture) → k < length items → item ≡ get_or items k item
     → put_mid (get_or (starts picture) k 0) (get_or (picture_fields picture) k d).width
     (filled picture (take k items)) (shown_in (get_or (picture_fields picture) k d) item)
@@ -252,7 +239,7 @@ read_known items known k read d is inside reads =
     reads ∙ ap (λ list. get_or list k read) is ∙ get_or_default known k read d inside
 
 -- the next item written over its field
-pub fill_next : (picture line new : List ℕ) (items : List FieldValue) (k start : ℕ) (field : Field) (item : FieldValue)
+pub fill_next : (picture line new : List ℕ) (items : List Item) (k start : ℕ) (field : Field) (item : Item)
     → k < length (picture_fields picture) → k < length items → line ≡ filled picture (take k items)
     → item ≡ get_or items k item → start ≡ get_or (starts picture) k 0 → field ≡ get_or (picture_fields picture) k field
     → new ≡ shown_characters (take (start + field.width - start) (drop start line)) field.decimals item
@@ -273,7 +260,7 @@ fill_next picture line new items k start field item inside given before is start
 -- ---- what a field takes
 
 -- each field that has an item takes it
-pub suits_at : (fields : List Field) (items : List FieldValue) (k : ℕ) (field : Field) (item : FieldValue) → EachSuits fields items → k < length fields → k < length items
+pub suits_at : (fields : List Field) (items : List Item) (k : ℕ) (field : Field) (item : Item) → EachSuits fields items → k < length fields → k < length items
     → Suits (get_or fields k field).decimals (get_or items k item)
 suits_at fields [] k field item each inside given = absurd (omega arith)
 suits_at [] (first ∷ items) k field item each inside given = absurd (omega arith)
@@ -281,10 +268,10 @@ suits_at (shape ∷ fields) (first ∷ items) zero field item each inside given 
 suits_at (shape ∷ fields) (first ∷ items) (suc k) field item each inside given =
     suits_at fields items k field item each.1 (omega arith) (omega arith)
 
-pub suits_next : (picture : List ℕ) (items : List FieldValue) (k : ℕ) (field : Field) (item : FieldValue) → EachSuits (picture_fields picture) items
+pub suits_next : (picture : List ℕ) (items : List Item) (k : ℕ) (field : Field) (item : Item) → EachSuits (picture_fields picture) items
     → k < length (picture_fields picture) → k < length items → field ≡ get_or (picture_fields picture) k field → item ≡ get_or items k item
     → Suits field.decimals item
 suits_next picture items k field item each inside given field_is item_is =
     subst (λ (f : Field). Suits f.decimals item) (sym field_is)
-    (subst (λ (i : FieldValue). Suits (get_or (picture_fields picture) k field).decimals i) (sym item_is)
+    (subst (λ (i : Item). Suits (get_or (picture_fields picture) k field).decimals i) (sym item_is)
     (suits_at (picture_fields picture) items k field item each inside given))

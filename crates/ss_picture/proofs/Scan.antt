@@ -1,11 +1,11 @@
 -- A pass over a picture from the left that finds its fields.
-use Rattle.std.proofs.Common.{◌≡◌, ◌≢◌, ℕ, ◌+◌, ◌-◌, ◌<◌, ◌≤◌, List, [], ◌∷◌, ◌++◌, length, get_or, take, drop, sym, ap, ◌∙◌, subst, refl, arith}
-use Rattle.std.proofs.lemmas.List.{append_assoc, append-nil, drop-drop, drop_more, drop_all, length-drop, take_rest}
+use Rattle.std.proofs.Common.{◌≡◌, ℕ, ◌+◌, ◌-◌, ◌<◌, ◌≤◌, List, [], ◌∷◌, ◌++◌, length, get_or, take, drop, sym, ap, ◌∙◌, subst, refl, arith}
+use Rattle.std.proofs.lemmas.List.{append_assoc, drop-drop, length-drop, take_rest}
 use Rattle.ss_picture.specs.declared.field.Field.{Field}
 use Rattle.ss_picture.specs.Pictures.{Piece, stars, leading_field, pieces_of, fields_among, picture_fields}
 use Rattle.ss_picture.specs.Fields.{starts_among, starts}
-use Rattle.ss_picture.proofs.Stars.{stars_more_at, field_some, field_within}
-use Rattle.ss_picture.proofs.Pieces.{pieces_of_other, pieces_of_field, fields-byte_before, starts-byte_before}
+use Rattle.ss_picture.proofs.Stars.{stars_more_at, field_within}
+use Rattle.ss_picture.proofs.Pieces.{pieces_of_field}
 
 -- these are the starts and fields of a picture before a place, and those bytes are ahead of it
 pub record Scan (found_starts : List ℕ) (found : List Field) (place : ℕ) (ahead picture : List ℕ) : Type 0 where
@@ -16,20 +16,6 @@ pub record Scan (found_starts : List ℕ) (found : List Field) (place : ℕ) (ah
 pub scan_start : (picture : List ℕ) → Scan [] [] 0 picture picture
 unfolding starts picture_fields
 scan_start picture = record { starts_are = refl; fields_are = refl }
-
--- past a byte that is no asterisk
-scan_text : (found_starts : List ℕ) (found : List Field) (place byte : ℕ) (rest picture : List ℕ) → byte ≢ 42
-    → Scan found_starts found place (byte ∷ rest) picture → Scan found_starts found (place + 1) rest picture
-scan_text found_starts found place byte rest picture other scan = record {
-  starts_are =
-      ap (λ more. found_starts ++ more)
-      (sym (ap (starts_among place) (pieces_of_other byte rest other) ∙ starts-byte_before place byte (pieces_of rest)))
-      ∙ scan.starts_are;
-  fields_are =
-      ap (λ more. found ++ more)
-      (sym (ap fields_among (pieces_of_other byte rest other) ∙ fields-byte_before byte (pieces_of rest)))
-      ∙ scan.fields_are;
-}
 
 -- past a field
 scan_field : (found_starts : List ℕ) (found : List Field) (place : ℕ) (ahead picture : List ℕ) → 0 < stars ahead
@@ -49,14 +35,6 @@ scan_field found_starts found place ahead picture some scan =
           ∙ scan.fields_are;
     }
 
--- at a place of the picture: the byte there is no asterisk
-pub step_in_text : (found_starts : List ℕ) (found : List Field) (place : ℕ) (picture : List ℕ)
-    → place < length picture → get_or picture place 0 ≢ 42
-    → Scan found_starts found place (drop place picture) picture → Scan found_starts found (place + 1) (drop (place + 1) picture) picture
-step_in_text found_starts found place picture inside other scan =
-    scan_text found_starts found place (get_or picture place 0) (drop (place + 1) picture) picture other
-    (subst (λ (ahead : List ℕ). Scan found_starts found place ahead picture) (drop_more picture place 0 inside) scan)
-
 -- there is an asterisk
 pub field_begins : (place : ℕ) (picture : List ℕ) → place < length picture → get_or picture place 0 ≡ 42 → 0 < stars (drop place picture)
 field_begins place picture inside is = let more = stars_more_at picture place inside is in omega arith
@@ -71,13 +49,6 @@ field_ends place picture field inside is =
     let within = field_within (drop place picture) in
     omega (arith, length-drop place picture)
 
-pub field_has_width : (place : ℕ) (picture : List ℕ) (field : Field) → place < length picture → get_or picture place 0 ≡ 42
-    → field ≡ leading_field (take (length picture - place) (drop place picture)) → 0 < field.width
-field_has_width place picture field inside star is =
-    let same = ap (λ f. f.width) (field_there place picture field is) in
-    let some = field_some (drop place picture) (field_begins place picture inside star) in
-    omega arith
-
 pub step_past_field : (found_starts : List ℕ) (found : List Field) (place : ℕ) (picture : List ℕ) (field : Field)
     → place < length picture → get_or picture place 0 ≡ 42 → field ≡ leading_field (take (length picture - place) (drop place picture))
     → Scan found_starts found place (drop place picture) picture
@@ -89,10 +60,3 @@ step_past_field found_starts found place picture field inside star is scan =
     subst (λ (f : Field). Scan (found_starts ++ place ∷ []) (found ++ f ∷ []) (place + f.width) (drop f.width (drop place picture)) picture) (sym there) past
     in
     subst (λ (ahead : List ℕ). Scan (found_starts ++ place ∷ []) (found ++ field ∷ []) (place + field.width) ahead picture) (drop-drop field.width place picture) at
-
--- at the end
-pub scan_end : (found_starts : List ℕ) (found : List Field) (place : ℕ) (picture : List ℕ) → length picture ≤ place
-    → Scan found_starts found place (drop place picture) picture → (found_starts ≡ starts picture) × (found ≡ picture_fields picture)
-scan_end found_starts found place picture past scan =
-    let ended : Scan found_starts found place [] picture = subst (λ (ahead : List ℕ). Scan found_starts found place ahead picture) (drop_all place picture past) scan in
-    (sym (append-nil found_starts) ∙ ended.starts_are, sym (append-nil found) ∙ ended.fields_are)

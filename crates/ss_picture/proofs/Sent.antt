@@ -1,8 +1,8 @@
 -- Laws of what a sink sends.
-use Rattle.std.proofs.Common.{◌≡◌, ℕ, ◌+◌, ◌-◌, ◌^◌, ◌<◌, ◌≤◌, min, List, [], ◌++◌, length, take, drop, sym, ap, ◌∙◌, subst, arith, Option, None, Some, length-append}
+use Rattle.std.proofs.Common.{◌≡◌, ℕ, ◌+◌, ◌-◌, ◌^◌, ◌<◌, ◌≤◌, min, List, [], ◌++◌, length, take, drop, sym, ap, ◌∙◌, subst, arith, Option, None, Some}
 use Rattle.std.proofs.lemmas.List.{append_assoc, append-nil, length-take-le, length-drop}
 use Rattle.std.proofs.Math.Seq.{take-add}
-use Rattle.std.specs.Io.KnownBytes.{Appends, Keeps}
+use Rattle.std.specs.Io.KnownBytes.{Appends}
 use Rattle.ss_picture.specs.Sending.{SinkState, Sends}
 
 -- known bytes that stay have nothing appended
@@ -18,14 +18,6 @@ appends_more (Some bytes) None third some more a b = absurd a
 appends_more (Some bytes) (Some bytes') None some more a b = absurd b
 appends_more (Some bytes) (Some bytes') (Some bytes'') some more a b =
     b ∙ ap (λ list. list ++ more) a ∙ append_assoc bytes some more
-
--- what stays after bytes were appended
-pub appends_and_keeps : (first second third : Option (List ℕ)) (some : List ℕ)
-    → Appends first second some → Keeps second third → Appends first third some
-appends_and_keeps None second third some a b = tt
-appends_and_keeps (Some bytes) None third some a b = absurd a
-appends_and_keeps (Some bytes) (Some bytes') None some a b = absurd b
-appends_and_keeps (Some bytes) (Some bytes') (Some bytes'') some a b = b ∙ a
 
 -- nothing is sent where nothing is done
 pub sends_nothing : {W : Type 0} (contents : W → Option (List ℕ)) (state : SinkState W) → state.sent < 2 ^ 128 → Sends contents state state []
@@ -50,15 +42,4 @@ sends_more contents first second third bytes rest at count before inside rest_is
       let in_all : length (take (at + count) bytes) ≡ at + count = length-take-le (at + count) bytes (omega arith) in
       let counted_before : second.sent ≡ min (first.sent + length (take at bytes)) (2 ^ 128 - 1) = before.counted in
       omega (arith, counted, counted_before, so_far, in_all);
-}
-
--- what two calls of a sink send, one after the other, is sent
-pub sends_both : {W : Type 0} (contents : W → Option (List ℕ)) (first second third : SinkState W) (some more : List ℕ)
-    → Sends contents first second some → Sends contents second third more → Sends contents first third (some ++ more)
-sends_both contents first second third some more a b = record {
-  took = appends_more (contents first.writer) (contents second.writer) (contents third.writer) some more a.took b.took;
-  counted =
-      let before : second.sent ≡ min (first.sent + length some) (2 ^ 128 - 1) = a.counted in
-      let after : third.sent ≡ min (second.sent + length more) (2 ^ 128 - 1) = b.counted in
-      omega (arith, before, after, length-append some more);
 }

@@ -1,6 +1,6 @@
 -- Laws of the asterisks and the decimals that bytes begin with, and of the field that they make.
 use Rattle.std.proofs.Common.{◌≡◌, ◌≢◌, ℕ, zero, suc, ◌+◌, ◌-◌, ◌<◌, ◌≤◌, Bool, true, false, eqb, cond, List, [], ◌∷◌, ◌++◌, length, get_or, drop, replicate, refl, sym, ap, ◌∙◌, subst, arith, length-append}
-use Rattle.std.proofs.lemmas.List.{append_assoc, drop_at, drop-drop, drop_more, drop_all, length-replicate, length-drop}
+use Rattle.std.proofs.lemmas.List.{append_assoc, drop_at, drop-drop, drop_more, length-replicate, length-drop}
 use Rattle.std.proofs.lemmas.Bool.{cond_both, eqb-true, ne_eqb}
 use Rattle.ss_picture.specs.Pictures.{stars, decimals_at, field_of, leading_field, characters}
 
@@ -29,13 +29,6 @@ stars_none byte bytes other = ap (λ test. cond test (suc (stars bytes)) 0) (ne_
 pub stars_more_at : (bytes : List ℕ) (place : ℕ) → place < length bytes → get_or bytes place 0 ≡ 42 → stars (drop place bytes) ≡ suc (stars (drop (place + 1) bytes))
 stars_more_at bytes place inside is =
     ap stars (drop_more bytes place 0 inside) ∙ stars_more (get_or bytes place 0) (drop (place + 1) bytes) is
-
-pub stars_none_at : (bytes : List ℕ) (place : ℕ) → place < length bytes → get_or bytes place 0 ≢ 42 → stars (drop place bytes) ≡ 0
-stars_none_at bytes place inside other =
-    ap stars (drop_more bytes place 0 inside) ∙ stars_none (get_or bytes place 0) (drop (place + 1) bytes) other
-
-pub stars_end : (bytes : List ℕ) (place : ℕ) → length bytes ≤ place → stars (drop place bytes) ≡ 0
-stars_end bytes place past = ap stars (drop_all place bytes past)
 
 -- a run of asterisks before other bytes
 pub stars-replicate : (run : ℕ) (rest : List ℕ) → stars rest ≡ 0 → stars (replicate run 42 ++ rest) ≡ run

@@ -2,8 +2,8 @@
 use Rattle.std.specs.Prelude.{◌≡◌, ℕ, ℤ, pos, negsuc, [], ◌∷◌, codes, refl}
 use Rattle.ss_base.specs.declared.value.Value.TheVariants.{Whole, Text}
 use Rattle.ss_picture.specs.declared.field.Field.{Field}
-use Rattle.ss_picture.specs.declared.items.FieldValue.{FieldValue}
-use Rattle.ss_picture.specs.declared.items.FieldValue.TheVariants.{Is, Mean}
+use Rattle.ss_picture.specs.declared.items.Item.{Item}
+use Rattle.ss_picture.specs.declared.items.Item.TheVariants.{Is, Mean}
 use Rattle.ss_picture.specs.Numerals.{numeral, whole_text, mean_text}
 use Rattle.ss_picture.specs.Pictures.{Literal, Slot, pieces_of, picture_fields, filled}
 
@@ -126,7 +126,7 @@ two_periods = refl
 -- ---- lines
 
 -- a number as an item
-abbrev pub number : ℤ → FieldValue
+abbrev pub number : ℤ → Item
 number z = Is (Whole z)
 
 -- a number is put at the right

@@ -2,8 +2,8 @@
 use Rattle.std.specs.Prelude.{ℕ, zero, suc, ◌+◌, ◌-◌, ◌==◌, nat_le, if◌then◌else◌, List, [], ◌∷◌, ◌++◌, length, drop, replicate}
 use Rattle.ss_base.specs.declared.value.Value.TheVariants.{Whole, Text}
 use Rattle.ss_picture.specs.declared.field.Field.{Field}
-use Rattle.ss_picture.specs.declared.items.FieldValue.{FieldValue}
-use Rattle.ss_picture.specs.declared.items.FieldValue.TheVariants.{Is, Mean}
+use Rattle.ss_picture.specs.declared.items.Item.{Item}
+use Rattle.ss_picture.specs.declared.items.Item.TheVariants.{Is, Mean}
 use Rattle.ss_picture.specs.Numerals.{period, whole_text, mean_text}
 
 -- the byte that fields are made of
@@ -105,18 +105,18 @@ at_left own text = if_it_fits own text (text ++ blanks_beside (length own) text)
 
 -- what a field of these characters and so many decimals shows of an item: a whole number and a mean to the right, a mean
 -- with its decimals, a text to the left
-abbrev pub shown_characters : List ℕ → ℕ → FieldValue → List ℕ
+abbrev pub shown_characters : List ℕ → ℕ → Item → List ℕ
 shown_characters own decimals (Is (Whole number)) = at_right own (whole_text number)
 shown_characters own decimals (Is (Text bytes)) = at_left own bytes
 shown_characters own decimals (Mean sum number) = at_right own (mean_text decimals sum number)
 
 -- these pieces one after another, an item in each field; a field without an item stays as it is
-abbrev pub joined : List Piece → List FieldValue → List ℕ
+abbrev pub joined : List Piece → List Item → List ℕ
 joined [] items = []
 joined (Literal bytes ∷ rest) items = bytes ++ joined rest items
 joined (Slot field ∷ rest) [] = characters field ++ joined rest []
 joined (Slot field ∷ rest) (item ∷ items) = shown_characters (characters field) field.decimals item ++ joined rest items
 
 -- the line of a picture with these items in its fields, without a line end
-unfoldable pub filled : List ℕ → List FieldValue → List ℕ
+unfoldable pub filled : List ℕ → List Item → List ℕ
 filled picture items = joined (pieces_of picture) items

@@ -1,8 +1,8 @@
 -- Which items the fields of a picture take.
 use Rattle.std.specs.Prelude.{◌≡◌, ◌≢◌, ℕ, ◌≤◌, ◌^◌, List, [], ◌∷◌, ℤ, pos, neg_ℤ, ◌*ℤ◌, ◌≤ℤ◌, ⊤}
 use Rattle.ss_picture.specs.declared.field.Field.{Field}
-use Rattle.ss_picture.specs.declared.items.FieldValue.{FieldValue}
-use Rattle.ss_picture.specs.declared.items.FieldValue.TheVariants.{Is, Mean}
+use Rattle.ss_picture.specs.declared.items.Item.{Item}
+use Rattle.ss_picture.specs.declared.items.Item.TheVariants.{Is, Mean}
 
 -- a sum and a number whose mean can be printed: the number is not below 0, and their quotient, where the number is not 0,
 -- lies from -2^63 to 2^63
@@ -12,12 +12,12 @@ pub record IsMean (sum number : ℤ) : Type 0 where
   pub high : number ≢ pos 0 → sum ≤ℤ (pos (2 ^ 63) *ℤ number)
 
 -- an item that a field of so many decimals takes: a value where it has none, a mean where they are at most 9
-abbrev pub Suits : ℕ → FieldValue → Type 0
+abbrev pub Suits : ℕ → Item → Type 0
 Suits decimals (Is value) = decimals ≡ 0
 Suits decimals (Mean sum number) = (decimals ≤ 9) × IsMean sum number
 
 -- each of these fields takes its item, as far as there are items
-abbrev pub EachSuits : List Field → List FieldValue → Type 0
+abbrev pub EachSuits : List Field → List Item → Type 0
 EachSuits fields [] = ⊤
 EachSuits [] (item ∷ items) = ⊤
 EachSuits (field ∷ fields) (item ∷ items) = Suits field.decimals item × EachSuits fields items

@@ -4,7 +4,7 @@ ghost use Rattle.ss_picture.specs.Fields.{starts};
 ghost use Rattle.ss_picture.specs.Suited.{EachSuits};
 
 use crate::field::{Field, first_field};
-use crate::items::{FieldValue, fill_field};
+use crate::items::{Item, fill_field};
 use std::alloc::{AllocError, Global};
 
 // The fields of a picture, from the left, and the place at which each begins.
@@ -47,7 +47,7 @@ impl Fields {
     }
 
     // Writes items over the fields of a picture, from the left.
-    pub(crate) fn fill(&self, line: &mut [u8], items: &[FieldValue])
+    pub(crate) fn fill(&self, line: &mut [u8], items: &[Item])
         requires starts { self.now.starts.items ≡ starts line.old }
         requires shapes { self.now.shapes.items ≡ picture_fields line.old }
         requires a_field_each { length items.now ≤ length (picture_fields line.old) }

@@ -1,7 +1,7 @@
 ghost use Rattle.std.specs.Prelude.{◌≡◌, ℕ, length, nat_le};
 ghost use Rattle.ss_picture.specs.Pictures.{at_right as right, at_left as left, shown_characters};
 ghost use Rattle.ss_picture.specs.Suited.{Suits};
-ghost use Rattle.ss_picture.specs.declared.items.FieldValue.TheVariants.{Is};
+ghost use Rattle.ss_picture.specs.declared.items.Item.TheVariants.{Is};
 
 use crate::means::fill_mean;
 use itoa::Buffer;
@@ -9,7 +9,7 @@ use ss_base::Value;
 
 /// What a field of a line shows.
 #[derive(Clone, Copy, Debug, PartialEq, Eq)]
-pub enum FieldValue {
+pub enum Item {
     /// A value, in a field without decimals: a number at the right, a text at the left.
     Is(Value),
     /// A mean, as a sum and the number by which it is divided.
@@ -20,13 +20,13 @@ pub enum FieldValue {
 }
 
 // Writes an item to its field, which has so many decimals.
-pub(crate) fn fill_field(field: &mut [u8], decimals: usize, item: &FieldValue)
+pub(crate) fn fill_field(field: &mut [u8], decimals: usize, item: &Item)
     requires { Suits decimals item.now }
     ensures { field.new ≡ shown_characters field.old decimals item.now }
 {
     match item {
-        FieldValue::Is(value) => fill_value(field, value),
-        FieldValue::Mean(sum, number) => fill_mean(field, decimals, *sum, *number),
+        Item::Is(value) => fill_value(field, value),
+        Item::Mean(sum, number) => fill_mean(field, decimals, *sum, *number),
     }
 }
 

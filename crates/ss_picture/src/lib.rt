@@ -10,7 +10,7 @@ mod picture;
 mod sink;
 
 pub use field::Field;
-pub use items::FieldValue;
+pub use items::Item;
 pub use laws::{means_are_the_nearest, pieces_are_the_maximal_runs};
 pub use picture::Picture;
 pub use sink::{STALL_LIMIT, Sink, SinkError};

@@ -6,7 +6,7 @@ ghost use Rattle.ss_picture.specs.Suited.{EachSuits};
 
 use crate::field::Field;
 use crate::fields::Fields;
-use crate::items::FieldValue;
+use crate::items::Item;
 use std::alloc::{AllocError, Global};
 use std::marker::Model;
 
@@ -61,7 +61,7 @@ impl Picture {
     /// isn't 0, lies from -2^63 to 2^63.
     ///
     /// The error comes where memory was refused.
-    pub fn fill(&self, alloc: Global, items: &[FieldValue]) -> Result<Vec<u8>, AllocError>
+    pub fn fill(&self, alloc: Global, items: &[Item]) -> Result<Vec<u8>, AllocError>
         requires a_field_each { length items.now ≡ field_count self.now }
         requires suited { EachSuits (picture_fields self.now) items.now }
         ensures { IfOk result (λ line. line.items ≡ filled self.now items.now) }
@@ -76,7 +76,7 @@ impl Picture {
     ///
     /// The error comes where memory was refused, and `line` is then as it was; it never comes where
     /// `line` had room for as many bytes as the picture has.
-    pub fn fill_into(&self, line: &mut Vec<u8>, items: &[FieldValue]) -> Result<(), AllocError>
+    pub fn fill_into(&self, line: &mut Vec<u8>, items: &[Item]) -> Result<(), AllocError>
         requires a_field_each { length items.now ≤ field_count self.now }
         requires suited { EachSuits (picture_fields self.now) items.now }
         ensures ok { OnOk result (line.new.items ≡ line.old.items ++ filled self.now items.now) }

@@ -1,4 +1,4 @@
-pub use Rattle.ss_picture.specs.declared.items.FieldValue
+pub use Rattle.ss_picture.specs.declared.items.Item
 pub mod Program
 pub mod View
 pub mod Views

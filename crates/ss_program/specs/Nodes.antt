@@ -2,7 +2,7 @@
 -- text and picture in it, as far as it was written. Two places that are empty in no text's program count as one where
 -- they are, so that the nodes bound the code of every program: the tests of an alternative, and the alternatives of a condition.
 use Rattle.std.specs.Prelude.{ℕ, ◌+◌, List, [], ◌∷◌, length, Option, Some, None}
-use Rattle.ss_program.specs.Program.{Expression, Constant, Fetch, Attribute, OfSystemSet, OfSet, OfMember, Clock, TimeOf, Figure, FigureOf, Signed, Unary, Calculate, SetOwner, TheSystem, Entity, Test, Compare, DataEnded, Empty, Member, Condition, Start, AtEnd, From, After, Head, Numbers, Members, Each, Phrase, Guard, Place, ToVariable, ToAttribute, ToCount, Target, Position, ByDiscipline, AsFirst, AsLast, BeforeMember, AfterMember, When, At, In, Now, Restart, Item, AValue, AMean, AMeanOf, Statement, Let, Change, Call, Return, Stop, Read, Simulate, If, Loop, For, Find, Create, CreateEvery, Destroy, File, RemoveEnd, Remove, ScheduleNew, Schedule, Cancel, Reset, Print, Skip, Block, Done, Then, Routine, Event, Program}
+use Rattle.ss_program.specs.Program.{Expression, Constant, Fetch, Attribute, OfSystemSet, OfSet, OfMember, Clock, TimeOf, Figure, FigureOf, Signed, Unary, Calculate, SetOwner, TheSystem, Entity, Test, Compare, DataEnded, Empty, Member, Condition, Start, AtEnd, From, After, Head, Numbers, Members, Each, Phrase, Guard, Place, ToVariable, ToAttribute, ToCount, Target, Position, ByDiscipline, AsFirst, AsLast, BeforeMember, AfterMember, When, At, In, Now, Restart, PrintItem, AValue, AMean, AMeanOf, Statement, Let, Change, Call, Return, Stop, Read, Simulate, If, Loop, For, Find, Create, CreateEvery, Destroy, File, RemoveEnd, Remove, ScheduleNew, Schedule, Cancel, Reset, Print, Skip, Block, Done, Then, Routine, Event, Program}
 
 -- the nodes of the things in a list
 abbrev pub total : {A : Type 0} → (A → ℕ) → List A → ℕ
@@ -38,7 +38,7 @@ abbrev pub subscript_nodes : Expression → ℕ
 subscript_nodes e = unless_plain e (expression_nodes e)
 
 -- an item of PRINT
-abbrev pub item_nodes : Item → ℕ
+abbrev pub item_nodes : PrintItem → ℕ
 item_nodes (AValue e) = expression_nodes e
 item_nodes (AMean k) = 1
 item_nodes (AMeanOf k e) = 1 + unless_plain e (expression_nodes e)

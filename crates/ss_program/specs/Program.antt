@@ -130,11 +130,11 @@ pub record Restart : Type 0 where
   pub statistic : ℕ
   pub of : Option Expression
 
--- what PRINT shows in a field: a value, or the mean of a statistic, and of which entity or owner, if of one
-pub data Item : Type 0 where
-  AValue : Expression → Item
-  AMean : (statistic : ℕ) → Item
-  AMeanOf : (statistic : ℕ) → (entity : Expression) → Item
+-- what PRINT shows in a field, before it is evaluated: a value, or the mean of a statistic, and of which entity or owner, if of one
+pub data PrintItem : Type 0 where
+  AValue : Expression → PrintItem
+  AMean : (statistic : ℕ) → PrintItem
+  AMeanOf : (statistic : ℕ) → (entity : Expression) → PrintItem
 
 mutual
   -- a statement; the line of its first word comes first in those that may fault
@@ -170,7 +170,7 @@ mutual
     Cancel : Line → (class : ℕ) → (notice : Expression) → Statement
     Reset : Line → List Restart → Statement
     -- the items, and the lines with their fields
-    Print : Line → (items : List Item) → (pictures : List (List ℕ)) → Statement
+    Print : Line → (items : List PrintItem) → (pictures : List (List ℕ)) → Statement
     Skip : Line → Expression → Statement
 
   -- statements, one after the other

@@ -14,8 +14,8 @@ use Rattle.ss_program.specs.declared.head.Start.{Start as StartValue}
 use Rattle.ss_program.specs.declared.head.Start.TheVariants as starts
 use Rattle.ss_program.specs.declared.head.Head.{Head as HeadValue}
 use Rattle.ss_program.specs.declared.head.Head.TheVariants as heads
-use Rattle.ss_program.specs.declared.statement.Item.{Item as ItemValue}
-use Rattle.ss_program.specs.declared.statement.Item.TheVariants as items
+use Rattle.ss_program.specs.declared.statement.PrintItem.{PrintItem as ItemValue}
+use Rattle.ss_program.specs.declared.statement.PrintItem.TheVariants as items
 use Rattle.ss_program.specs.declared.statement.Place.{Place as PlaceValue}
 use Rattle.ss_program.specs.declared.statement.Place.TheVariants as places
 use Rattle.ss_program.specs.declared.statement.Target.{Target as TargetValue}
@@ -29,7 +29,7 @@ use Rattle.ss_program.specs.declared.statement.Statement.{Row_of-Statement, end_
 use Rattle.ss_program.specs.declared.sections.Routine.{Routine as RoutineValue}
 use Rattle.ss_program.specs.declared.sections.Event.{Event as EventValue}
 use Rattle.ss_program.specs.declared.sections.Program.{Program as ProgramValue}
-use Rattle.ss_program.specs.Program.{Expression, Constant, Fetch, Attribute, OfSystemSet, OfSet, OfMember, Clock, TimeOf, Figure, FigureOf, Signed, Unary, Calculate, SetOwner, TheSystem, Entity, Test, Compare, DataEnded, Empty, Member, Condition, Start, AtEnd, From, After, Head, Numbers, Members, Each, Phrase, Guard, Place, ToVariable, ToAttribute, ToCount, Target, Position, ByDiscipline, AsFirst, AsLast, BeforeMember, AfterMember, When, At, In, Now, Restart, Item, AValue, AMean, AMeanOf, Statement, Let, Change, Call, Return, Stop, Read, Simulate, If, Loop, For, Find, Create, CreateEvery, Destroy, File, RemoveEnd, Remove, ScheduleNew, Schedule, Cancel, Reset, Print, Skip, Block, Done, Then, Routine, Event, Program}
+use Rattle.ss_program.specs.Program.{Expression, Constant, Fetch, Attribute, OfSystemSet, OfSet, OfMember, Clock, TimeOf, Figure, FigureOf, Signed, Unary, Calculate, SetOwner, TheSystem, Entity, Test, Compare, DataEnded, Empty, Member, Condition, Start, AtEnd, From, After, Head, Numbers, Members, Each, Phrase, Guard, Place, ToVariable, ToAttribute, ToCount, Target, Position, ByDiscipline, AsFirst, AsLast, BeforeMember, AfterMember, When, At, In, Now, Restart, PrintItem, AValue, AMean, AMeanOf, Statement, Let, Change, Call, Return, Stop, Read, Simulate, If, Loop, For, Find, Create, CreateEvery, Destroy, File, RemoveEnd, Remove, ScheduleNew, Schedule, Cancel, Reset, Print, Skip, Block, Done, Then, Routine, Event, Program}
 
 unfoldable mutual
   pub view_expression : expressions.Expression → Expression
@@ -112,7 +112,7 @@ view_when whens.Now = Now
 abbrev pub view_restart : RestartValue → Restart
 view_restart r = record { statistic = r.statistic; of = view_option view_expression r.of }
 
-abbrev pub view_item : ItemValue → Item
+abbrev pub view_item : ItemValue → PrintItem
 view_item (items.Value e) = AValue (view_expression e)
 view_item (items.Mean k) = AMean k
 view_item (items.MeanOf k e) = AMeanOf k (view_expression e)

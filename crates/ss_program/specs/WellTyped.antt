@@ -21,7 +21,7 @@ use Rattle.ss_program.specs.declared.statement.CountedClass.{CountedClass}
 use Rattle.ss_program.specs.declared.sections.Subject.{Subject}
 use Rattle.ss_program.specs.declared.sections.Subject.TheVariants.{OfVariable, OfAttribute, OfCount}
 use Rattle.ss_program.specs.declared.sections.Statistic.{Statistic}
-use Rattle.ss_program.specs.Program.{Expression, Constant, Fetch, Attribute, OfSystemSet, OfSet, OfMember, Clock, TimeOf, Figure, FigureOf, Signed, Unary, Calculate, SetOwner, TheSystem, Entity, Test, Compare, DataEnded, Empty, Member, Condition, Start, AtEnd, From, After, Head, Numbers, Members, Each, Phrase, Place, ToVariable, ToAttribute, ToCount, Position, ByDiscipline, AsFirst, AsLast, BeforeMember, AfterMember, When, At, In, Now, Item, AValue, AMean, AMeanOf, Statement, Let, Change, Call, Return, Stop, Read, Simulate, If, Loop, For, Find, Create, CreateEvery, Destroy, File, RemoveEnd, Remove, ScheduleNew, Schedule, Cancel, Reset, Print, Skip, Block, Done, Then, Routine, Event, Program}
+use Rattle.ss_program.specs.Program.{Expression, Constant, Fetch, Attribute, OfSystemSet, OfSet, OfMember, Clock, TimeOf, Figure, FigureOf, Signed, Unary, Calculate, SetOwner, TheSystem, Entity, Test, Compare, DataEnded, Empty, Member, Condition, Start, AtEnd, From, After, Head, Numbers, Members, Each, Phrase, Place, ToVariable, ToAttribute, ToCount, Position, ByDiscipline, AsFirst, AsLast, BeforeMember, AfterMember, When, At, In, Now, PrintItem, AValue, AMean, AMeanOf, Statement, Let, Change, Call, Return, Stop, Read, Simulate, If, Loop, For, Find, Create, CreateEvery, Destroy, File, RemoveEnd, Remove, ScheduleNew, Schedule, Cancel, Reset, Print, Skip, Block, Done, Then, Routine, Event, Program}
 
 -- ---- what is numbered
 
@@ -172,13 +172,13 @@ GoodRestart s k None = HasSubject s.program IsAlone k
 GoodRestart s k (Some e) = HasSubject s.program IsOfEntities k × HasMode s e Integer
 
 -- a field takes the item: a value where it has no decimals, a mean where it has at most 9
-abbrev pub TakesItem : Scope → Field → Item → Type 0
+abbrev pub TakesItem : Scope → Field → PrintItem → Type 0
 TakesItem s field (AValue e) = ((m : Mode) × HasMode s e m) × (field.decimals ≡ 0)
 TakesItem s field (AMean k) = HasSubject s.program IsAlone k × (field.decimals ≤ 9)
 TakesItem s field (AMeanOf k e) = HasSubject s.program IsOfEntities k × HasMode s e Integer × (field.decimals ≤ 9)
 
 -- the fields of the pictures take the items, and are as many
-abbrev pub GoodPrint : Scope → List Item → List (List ℕ) → Type 0
+abbrev pub GoodPrint : Scope → List PrintItem → List (List ℕ) → Type 0
 GoodPrint s items pictures = AllZip (TakesItem s) (flat_map picture_fields pictures) items
 
 abbrev mutual

@@ -70,9 +70,9 @@ pub struct Restart {
     pub of: Option<Expression>,
 }
 
-/// What PRINT shows in a field.
+/// What PRINT shows in a field, before it is evaluated.
 #[derive(Drop)]
-pub enum Item {
+pub enum PrintItem {
     /// A value.
     Value {
         value: Expression,
@@ -220,7 +220,7 @@ pub enum Statement {
     /// PRINT: the items in the fields of the lines.
     Print {
         line: Line,
-        items: Vec<Item>,
+        items: Vec<PrintItem>,
         pictures: Vec<Vec<u8>>,
     },
     /// SKIP: so many empty lines.

@@ -4,6 +4,7 @@ pub use Rattle.ss_records_entities.specs.Classed
 pub use Rattle.ss_records_entities.specs.Passing
 pub use Rattle.ss_records_entities.specs.Skimming
 pub use Rattle.ss_records_entities.specs.declared.skimming.Filter
+pub use Rattle.ss_records_entities.specs.declared.skimming.SetWalk
 pub use Rattle.ss_records_entities.specs.declared.skimming.Skimmed
 pub use Rattle.ss_records_words.specs.Kept
 pub use Rattle.ss_world.specs.Sets

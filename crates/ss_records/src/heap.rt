@@ -16,7 +16,7 @@ ghost use Rattle.ss_records_entities.specs.Passing.{ranks_past, first_where, bef
 use ss_base::{Alpha, FaultKind, Layout, Mode, Refused, Value};
 use ss_records_entities::records::Records;
 use ss_records_entities::sets::{Member, WholeMember};
-use ss_records_entities::skimming::{Filter, Skimmed};
+use ss_records_entities::skimming::{Filter, SetWalk, Skimmed};
 use std::alloc::{AllocError, Global};
 use std::marker::Model;
 
@@ -200,7 +200,7 @@ impl Heap {
         ensures touches { (self.new.touches ≡ 0) × (self.new.total ≡ self.old.total) }
     {
         self.records.start();
-        self.records.add_whole(class, field, r, n)
+        self.records.change_whole(class, field, r, n, false)
     }
 
     /// Subtracts a number from an attribute of whole numbers. Faults: 1 to 5, then 14 where the difference does not fit 64 bits.
@@ -218,7 +218,7 @@ impl Heap {
         ensures touches { (self.new.touches ≡ 0) × (self.new.total ≡ self.old.total) }
     {
         self.records.start();
-        self.records.subtract_whole(class, field, r, n)
+        self.records.change_whole(class, field, r, n, true)
     }
 
     /// Whether a class owns a set.
@@ -310,7 +310,7 @@ impl Heap {
         ensures touches { (self.new.touches ≤ 1) × (IsOk result → 1 ≤ self.new.touches) × (self.new.total ≡ self.old.total + self.new.touches) }
     {
         self.records.start();
-        self.records.first(set, o)
+        self.records.end(set, o, false)
     }
 
     /// The last member of the set of an owner, 0 where there is none. Faults: 1 to 5.
@@ -321,7 +321,7 @@ impl Heap {
         ensures touches { (self.new.touches ≤ 1) × (IsOk result → 1 ≤ self.new.touches) × (self.new.total ≡ self.old.total + self.new.touches) }
     {
         self.records.start();
-        self.records.last(set, o)
+        self.records.end(set, o, true)
     }
 
     /// How many members the set of an owner has. Faults: 1 to 5.
@@ -361,7 +361,7 @@ impl Heap {
         ensures touches { (self.new.touches ≤ 1) × (IsOk result → 1 ≤ self.new.touches) × (self.new.total ≡ self.old.total + self.new.touches) }
     {
         self.records.start();
-        self.records.next(set, x)
+        self.records.next_to(set, x, false)
     }
 
     /// The value of an attribute of x, of the class of the members of a set, and the member that follows x in its set,
@@ -423,7 +423,7 @@ impl Heap {
         ensures touches { (self.new.touches ≤ 1) × (IsOk result → 1 ≤ self.new.touches) × (self.new.total ≡ self.old.total + self.new.touches) }
     {
         self.records.start();
-        self.records.previous(set, x)
+        self.records.next_to(set, x, true)
     }
 
     /// The member that follows x in the set of an owner, or in reverse the one that precedes it, 0 where there is none: an
@@ -441,30 +441,22 @@ impl Heap {
         self.records.onward(set, o, x, reverse)
     }
 
-    /// Walks along the set of an owner from the member x on, or in reverse, past members that a filter passes over. It looks at
-    /// `most` members at most, the one where it stops among them: an `onward` and a `value` for each, with one search for x. None
-    /// where x is not in that set or not of the class of the filter, or there is a fault, and it may give up elsewhere too.
+    /// Walks along a set from the member x on, past members that a filter passes over. It looks at `most` members at most, the
+    /// one where it stops among them: an `onward` and a `value` for each, with one search for x. None where x is not in that
+    /// set or not of the class of the filter, or there is a fault, and it may give up elsewhere too.
     #[inline(always)]
-    pub fn skim(
-        &mut self,
-        set: usize,
-        o: i64,
-        x: i64,
-        reverse: bool,
-        filter: &Filter,
-        most: u64,
-    ) -> Option<Skimmed>
-        requires set { set < length self.old.state.layout.sets }
+    pub fn skim(&mut self, walk: SetWalk, x: i64, filter: &Filter, most: u64) -> Option<Skimmed>
+        requires set { walk.set < length self.old.state.layout.sets }
         requires mode { slice_get (modes_of self.old.state.layout filter.now.class) filter.now.field ≡ Some Mode.Integer }
         requires some { 1 ≤ most }
         requires few { most < 2 ^ 32 }
-        ensures found { IfSome result (λ k. IsSkimmed self.old.state set o reverse filter.now x k) }
+        ensures found { IfSome result (λ k. IsSkimmed self.old.state walk.set walk.owner walk.reverse filter.now x k) }
         ensures within { IfSome result (λ k. k.passed < most) }
         ensures same { self.new.state ≡ self.old.state }
         ensures touches { (self.new.touches ≤ 2 * most) × (self.new.total ≡ self.old.total + self.new.touches) }
     {
         self.records.start();
-        self.records.skim(set, o, x, reverse, filter, most)
+        self.records.skim(walk, x, filter, most)
     }
 
     /// The owner whose set of this name x is in, if any. Faults: 1 to 5.
@@ -508,7 +500,7 @@ impl Heap {
         ensures touches { (self.new.touches ≤ 12) × (IsOk result → 4 ≤ self.new.touches) × (self.new.total ≡ self.old.total + self.new.touches) }
     {
         self.records.start();
-        self.records.file_before(set, o, x, y)
+        self.records.file_beside(set, o, x, y, true)
     }
 
     /// Files x directly after y in the set of an owner. Faults: those of x (1 to 5), of y, of the owner, then 6
@@ -519,7 +511,7 @@ impl Heap {
         ensures touches { (self.new.touches ≤ 12) × (IsOk result → 4 ≤ self.new.touches) × (self.new.total ≡ self.old.total + self.new.touches) }
     {
         self.records.start();
-        self.records.file_after(set, o, x, y)
+        self.records.file_beside(set, o, x, y, false)
     }
 
     /// Takes x out of the set of an owner. Faults: those of x (1 to 5), of the owner, then 7 where x isn't in this

@@ -10,5 +10,5 @@ pub use commands::{
 };
 pub use heap::Heap;
 pub use ss_records_entities::sets::{Member, WholeMember};
-pub use ss_records_entities::skimming::{Filter, Skimmed};
+pub use ss_records_entities::skimming::{Filter, SetWalk, Skimmed};
 pub use ss_records_words::shape::kind;

@@ -176,9 +176,6 @@ module _ (ps : Pages) (cur : Page) (start issued : ℕ) (P : Paged ps cur start 
   abbrev f : ℕ → Option Address
   f = entry ps cur start
 
-  pub living_in_all : sum_by living_count (values_of ps) + living_count cur ≡ living_count (upto f issued)
-  living_in_all = P.total
-
   -- the slot of the next number
   pub next_slot : issued < start + 256 → slice_get cur (issued - start) ≡ Some None
   next_slot h = let k : issued - start < length cur = omega (arith, h, P.low, P.size) in slot_is cur (issued - start) k ∙ ap Some (P.rest (issued - start) (omega (arith, P.low)))

@@ -81,6 +81,3 @@ unchanged_by cs ds es w ps b others count = record {
   words = λ q n. let none : NoneAt ps q = λ i p g z. n (subst (λ r. words_at cs r ≡ []) z (b.fresh i p g)) in others q none ∙ b.others q none;
   count = omega (arith, count, b.count);
 }
-
-pub unchanged_same : (cs : Cells) → Unchanged cs cs
-unchanged_same cs = record { words = λ q n. refl; count = refl }

@@ -64,10 +64,6 @@ words_without (c ∷ cs) p q n = by_ptr c.0 p
     (λ e i. rw (e, ptr_differs c.0 q (λ j. n (sym i ∙ j))) refl)
     (λ e m. rw e (elim (same_ptr c.0 q) as (λ t. cond t c.1 (words_at (without_block cs p) q) ≡ cond t c.1 (words_at cs q)) [ true ↦ refl | false ↦ words_without cs p q n ]))
 
--- a new block that is given back leaves what was
-pub without_new : (cs : Cells) (p : Ptr) (ws : List Word) → without_block ((p, ws) ∷ cs) p ≡ cs
-without_new cs p ws = rw (same_ptr_refl p) refl
-
 pub words_new : (cs : Cells) (p : Ptr) (ws : List Word) → words_at ((p, ws) ∷ cs) p ≡ ws
 words_new cs p ws = rw (same_ptr_refl p) refl
 

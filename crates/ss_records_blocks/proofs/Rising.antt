@@ -11,7 +11,7 @@ use Rattle.std.specs.List.Sorted.{IsStrictlySortedBy, IsNonDecreasingBy, IsSearc
 use Rattle.std.proofs.lemmas.Bool.Decides.{nat_tests}
 use Rattle.std.proofs.lemmas.Cmp.{ranked, nat_cmp_total, eq_by_cmp_equiv}
 use Rattle.std.proofs.lemmas.List.{get_or-map}
-use Rattle.std.proofs.lemmas.Map.{lookup-set_value, lookup-remove_entry, keys-set_value}
+use Rattle.std.proofs.lemmas.Map.{lookup-remove_entry, keys-set_value}
 use Rattle.std.proofs.lemmas.Map.Entries.{length-keys_of, lookup_from_place, lookup_at_gap}
 use Rattle.std.proofs.lemmas.Map.Keys.{IsDistinct-from_sorted, below_from_sorted}
 use Rattle.std.proofs.lemmas.Option.{slice_get-get_or, get_or_from_slice_get}
@@ -50,11 +50,6 @@ read_is ps k e x g h = h ∙ get_or_from_slice_get ps k e x g
 
 pub held_at : {A : Type 0} (ps : List (ℕ × A)) → Rises ps → (k q : ℕ) (p : A) → slice_get ps k ≡ Some (q, p) → under ps q ≡ Some p
 held_at ps r k q p g = lookup_from_place (eq_by_cmp_equiv nat_cmp_total) ps k q p (IsDistinct-from_sorted nat_cmp (keys_of ps) r) g
-
-pub same_page : {A : Type 0} (ps : List (ℕ × A)) (q : ℕ) (p v : A) → under ps q ≡ Some p → under ps q ≡ Some v → v ≡ p
-same_page {A} ps q p v g h = inside (sym g ∙ h) where
-  inside : {a b : A} → Some a ≡ Some b → b ≡ a
-  inside e = cc
 
 -- each later number is above
 above_at : {A : Type 0} (x : ℕ) (ps : List (ℕ × A)) → AllByRecursion (λ y. nat_cmp x y ≡ Less) (keys_of ps) → (k q : ℕ) (p : A) → slice_get ps k ≡ Some (q, p) → x < q
@@ -110,9 +105,6 @@ unfolding IsStrictlySortedBy
 rises_push [] q p s below = (tt, tt)
 rises_push (e ∷ es) q p s below = (all_push e.0 es q p s.0 (below 0 e.0 e.1 refl), rises_push es q p s.1 (λ k r v g. below (suc k) r v g))
 
-pub rises_pushed : {A : Type 0} (ps : List (ℕ × A)) (q : ℕ) (p : A) → Rises ps → ((r : ℕ) (v : A) → under ps r ≡ Some v → r < q) → Rises (ps ++ (q, p) ∷ [])
-rises_pushed ps q p s below = rises_push ps q p s (λ k r v g. below r v (held_at ps s k r v g))
-
 -- ## A write
 
 set_is : {A : Type 0} (ps : List (ℕ × A)) (k q : ℕ) (p w : A) → Rises ps → slice_get ps k ≡ Some (q, p) → slice_set ps k (q, w) ≡ set_value (is_at (nat_cmp q)) ps w
@@ -134,9 +126,6 @@ module _ {A : Type 0} (ps : List (ℕ × A)) (r : Rises ps) (k q : ℕ) (p : A) 
 
   there : IsSome (under ps q)
   there = subst IsSome (sym (held_at ps r k q p g)) refl
-
-  pub updates_written : (n : ℕ) → under (slice_set ps k (q, w)) n ≡ cond (is_at (nat_cmp q) n) (Some w) (under ps n)
-  updates_written n = ap (λ (es : List (ℕ × A)). under es n) written ∙ lookup-set_value (eq_by_cmp_equiv nat_cmp_total) (is_at (nat_cmp q)) (one_number q) n w ps there
 
 -- ## A removal
 

@@ -33,6 +33,10 @@ pub struct LinkPosition {
     pub count: u64,
 }
 
+// A word that is a link: where its block lies, and which word of it.
+#[derive(Clone, Copy)]
+struct LinkWord(Address, usize);
+
 impl Blocks {
     /// The entity that a link leads to: a touch.
     pub fn follow(&mut self, place: Address, k: usize) -> Entry
@@ -77,28 +81,20 @@ impl Blocks {
         self.set_link(place, k, to);
     }
 
-    // Sets where the word k of the owner leads, if the neighbour is the end, and else where the word j of the
-    // neighbour leads: a touch, which the caller counts.
-    fn hook(
-        &mut self,
-        ends: bool,
-        owner: Address,
-        k: usize,
-        neighbour: Address,
-        j: usize,
-        to: Address,
-    )
-        requires owner { IsLink (word_at self.old.cells owner.at k) }
-        requires neighbour { ends ≡ false → IsLink (word_at self.old.cells neighbour.at j) }
-        ensures cells { self.new.cells ≡ hooked ends self.old.cells owner.at k neighbour.at j to.at }
+    // Sets where the word of the owner leads, if the neighbour is the end, and else where that of the neighbour leads: a
+    // touch, which the caller counts.
+    fn hook(&mut self, ends: bool, owner: LinkWord, neighbour: LinkWord, to: Address)
+        requires owner { IsLink (word_at self.old.cells owner.0.at owner.1) }
+        requires neighbour { ends ≡ false → IsLink (word_at self.old.cells neighbour.0.at neighbour.1) }
+        ensures cells { self.new.cells ≡ hooked ends self.old.cells owner.0.at owner.1 neighbour.0.at neighbour.1 to.at }
         ensures links { (q : Ptr) (j : ℕ) → IsLink (word_at self.old.cells q j) → IsLink (word_at self.new.cells q j) }
         ensures counters { (q : Ptr) (j : ℕ) → IsCounter (word_at self.old.cells q j) → IsCounter (word_at self.new.cells q j) }
         ensures touches { (self.new.touches ≡ self.old.touches) × (self.new.total ≡ self.old.total + 1) }
     {
         if ends {
-            self.relink(owner, k, to);
+            self.relink(owner.0, owner.1, to);
         } else {
-            self.relink(neighbour, j, to);
+            self.relink(neighbour.0, neighbour.1, to);
         }
     }
 
@@ -127,8 +123,10 @@ impl Blocks {
         self.relink(x, member, after);
         self.relink(x, member + 1, before);
         self.relink(x, member + 2, owner);
-        self.hook(is_first, owner, set, before, member, x);
-        self.hook(is_last, owner, set + 1, after, member + 1, x);
+        let next = LinkWord(before, member);
+        let previous = LinkWord(after, member + 1);
+        self.hook(is_first, LinkWord(owner, set), next, x);
+        self.hook(is_last, LinkWord(owner, set + 1), previous, x);
         self.set_count(owner, set + 2, count + 1);
     }
 
@@ -154,8 +152,10 @@ impl Blocks {
             count,
         } = *position;
         self.expect(6);
-        self.hook(is_first, owner, set, before, member, after);
-        self.hook(is_last, owner, set + 1, after, member + 1, before);
+        let next = LinkWord(before, member);
+        let previous = LinkWord(after, member + 1);
+        self.hook(is_first, LinkWord(owner, set), next, after);
+        self.hook(is_last, LinkWord(owner, set + 1), previous, before);
         self.relink(x, member, x);
         self.relink(x, member + 1, x);
         self.relink(x, member + 2, x);

@@ -1,7 +1,6 @@
 -- The class of an entity that is known by its creation number.
-use Rattle.std.proofs.Common.{◌≡◌, ℕ, ◌<◌, length, Ok, Err, inl, refl, ap, subst, ◌∙◌}
+use Rattle.std.proofs.Common.{◌≡◌, ℕ, ◌<◌, length, Ok, inl, refl, ap, subst, ◌∙◌}
 use Rattle.std.specs.Prelude.{ℤ}
-use Rattle.ss_base.specs.declared.fault.FaultKind.TheVariants.{WrongClass}
 use Rattle.ss_base.specs.declared.layout.ClassKind.{ClassKind}
 use Rattle.ss_base.specs.declared.layout.ClassKind.TheVariants.{Permanent, Temporary, Notice}
 use Rattle.ss_world.specs.State.{State, numbered, and_then, of_class, no_value, kind_of, entity_of_kind, known_in}
@@ -14,7 +13,6 @@ use Rattle.ss_records_words.specs.Kept.{IsPermanent, numbered_place}
 use Rattle.ss_records_entities.specs.Parts.{IsKept, state, places}
 use Rattle.ss_records_entities.specs.Classed.{HasClass}
 use Rattle.ss_records_entities.proofs.Keeps.{read_place, numbered_is, there}
-use Rattle.ss_records_blocks.proofs.Same.{same, differs}
 
 -- the class is the one that the block at the place of the number says
 pub class_there : (r : Records) (K : IsKept r) (x : ℤ) (p : Address) (c : ℕ) → numbered_place r.directory.places x ≡ Ok p → word_at r.blocks.cells p.at 0 ≡ number c → HasClass (state r) x c
@@ -39,11 +37,3 @@ module _ (s : State) (x : ℤ) (c : ℕ) (h : HasClass s x c) where
 
   looked : (d : ℕ) → (IsPermanent (kind_of s.layout d) → ⊥) → known_in s d x ≡ no_value (of_class d h.seen)
   looked d k = ap no_value (by_kind (kind_of s.layout d) k d ∙ ap (λ r. and_then r (of_class d)) h.found)
-
-  -- it is an entity of that class
-  pub known_there : known_in s c x ≡ Ok tt
-  known_there = looked c h.kind ∙ rw (h.class, same c) refl
-
-  -- and of no other one of those whose entities come and go
-  pub known_elsewhere : (d : ℕ) → (IsPermanent (kind_of s.layout d) → ⊥) → (c ≡ d → ⊥) → known_in s d x ≡ Err WrongClass
-  known_elsewhere d k n = looked d k ∙ rw (h.class, differs c d n) refl

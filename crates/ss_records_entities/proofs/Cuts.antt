@@ -1,6 +1,6 @@
 -- The neighbours between which a filing links, and a removal.
-use Rattle.std.proofs.Common.{◌≡◌, ℕ, ◌+◌, ◌<◌, true, false, List, [], ◌∷◌, ◌++◌, length, slice_get, Some, Ok, Err, refl, sym, ap, subst, ◌∙◌, append_assoc, append-nil}
-use Rattle.std.specs.Prelude.{ℤ, Result, MatchResult}
+use Rattle.std.proofs.Common.{◌≡◌, ℕ, ◌+◌, ◌<◌, Bool, true, false, List, [], ◌∷◌, ◌++◌, length, slice_get, Some, Ok, Err, refl, sym, ap, subst, ◌∙◌, append_assoc, append-nil}
+use Rattle.std.specs.Prelude.{ℤ, if◌then◌else◌, Result, MatchResult}
 use denote.RawPtr.{Ptr}
 use Rattle.ss_base.specs.declared.fault.FaultKind.{FaultKind}
 use Rattle.ss_base.specs.declared.fault.FaultKind.TheVariants.{FiledTwice, NotFiled}
@@ -9,7 +9,7 @@ use Rattle.ss_records_entities.specs.declared.records.Records.{Records}
 use Rattle.ss_records_blocks.specs.declared.links.Entry.{Entry}
 use Rattle.ss_records_blocks.specs.Cells.{number, link, word_at}
 use Rattle.ss_world.specs.State.{State, and_then, members_of, contains, is_filed}
-use Rattle.ss_world.specs.Sets.{joiner, owner, put_before, put_after, less, with_list_of, put_in, put_beside, taken_out}
+use Rattle.ss_world.specs.Sets.{joiner, owner, put_before, put_after, less, with_list_of, put_in, put_beside, filed_before, filed_after, taken_out}
 use Rattle.ss_world.specs.Lists.{head0, last_or, succ, pred_from, In, NotIn, Distinct}
 use Rattle.ss_records_words.specs.Places.{entity_at}
 use Rattle.ss_records_blocks.specs.Links.{Leads}
@@ -20,6 +20,11 @@ use Rattle.ss_records_blocks.proofs.Entries.{get_there}
 use Rattle.ss_records_words.proofs.Filed.{contains_in}
 use Rattle.ss_records_entities.proofs.Listed.{put_before_cut, put_after_cut, less_cut, not_in_front}
 use Rattle.ss_records_entities.proofs.Leading.{To, leads, at_target, its_number, its_members, positive, first_to, last_to, next_to, prev_to}
+
+-- the list with one more directly before another, or after it
+abbrev pub put_by : Bool → ℕ → ℕ → List ℕ → List ℕ
+put_by true = put_before
+put_by false = put_after
 
 module _ (r : Records) (K : IsKept r) (s : ℕ) (inside : s < length r.layout.sets) where
   abbrev at : ℕ → Ptr
@@ -85,24 +90,45 @@ module _ (r : Records) (K : IsKept r) (s : ℕ) (inside : s < length r.layout.se
       next_is : (Lies r s q) × (q.number ≡ head0 ys)
       next_is = let l = lies_there y.place.at b _ next_there q w v in (l.0, l.1 ∙ ap (succ y.number) parts.2 ∙ succ_cut xs y.number ys some apart)
 
-      pub after_it : Between r s o y q (xs ++ y.number ∷ []) ys
+      after_it : Between r s o y q (xs ++ y.number ∷ []) ys
       after_it = record { list = parts.2 ∙ sym (append_assoc xs (y.number ∷ []) ys); before = j.lies; last = sym (last_splice 0 xs y.number []); after = next_is.0; first = next_is.1 }
 
     module _ (q : Entry) (w : word_at r.blocks.cells y.place.at (b + 1) ≡ link q.place.at) (v : word_at r.blocks.cells q.place.at 1 ≡ number q.number) where
       prev_is : (Lies r s q) × (q.number ≡ last_or 0 xs)
       prev_is = let l = lies_there y.place.at (b + 1) _ prev_there q w v in (l.0, l.1 ∙ ap (pred_from 0 y.number) parts.2 ∙ pred_cut xs y.number ys some apart)
 
-      pub before_it : Between r s o q y xs (y.number ∷ ys)
+      before_it : Between r s o q y xs (y.number ∷ ys)
       before_it = record { list = parts.2; before = prev_is.0; last = prev_is.1; after = j.lies; first = refl }
 
       pub around_it : (z : Entry) → word_at r.blocks.cells y.place.at b ≡ link z.place.at → word_at r.blocks.cells z.place.at 1 ≡ number z.number → Around r s o y.number q z xs ys
       around_it z wz vz = let n = next_is z wz vz in record { list = parts.2; before = prev_is.0; last = prev_is.1; after = n.0; first = n.1 }
 
-    pub list_before : (x : ℕ) → xs ++ x ∷ y.number ∷ ys ≡ put_before y.number x (f o)
+    list_before : (x : ℕ) → xs ++ x ∷ y.number ∷ ys ≡ put_before y.number x (f o)
     list_before x = sym (ap (put_before y.number x) parts.2 ∙ put_before_cut xs y.number x ys not_before)
 
-    pub list_after : (x : ℕ) → (xs ++ y.number ∷ []) ++ x ∷ ys ≡ put_after y.number x (f o)
+    list_after : (x : ℕ) → (xs ++ y.number ∷ []) ++ x ∷ ys ≡ put_after y.number x (f o)
     list_after x = append_assoc xs (y.number ∷ []) (x ∷ ys) ∙ sym (ap (put_after y.number x) parts.2 ∙ put_after_cut xs y.number x ys not_before)
+
+    -- on either side of it
+    pub beside_found : (before : Bool) → Leads r.blocks.cells y.place.at (if before then b + 1 else b)
+    beside_found true = prev_found
+    beside_found false = next_found
+
+    abbrev pub front : Bool → List ℕ
+    front true = xs
+    front false = xs ++ y.number ∷ []
+
+    abbrev pub back : Bool → List ℕ
+    back true = y.number ∷ ys
+    back false = ys
+
+    pub beside_it : (before : Bool) (q : Entry) → word_at r.blocks.cells y.place.at (if before then b + 1 else b) ≡ link q.place.at → word_at r.blocks.cells q.place.at 1 ≡ number q.number → Between r s o (if before then q else y) (if before then y else q) (front before) (back before)
+    beside_it true q w v = before_it q w v
+    beside_it false q w v = after_it q w v
+
+    pub list_beside : (before : Bool) (x : ℕ) → front before ++ x ∷ back before ≡ put_by before y.number x (f o)
+    list_beside true x = list_before x
+    list_beside false x = list_after x
 
     pub list_less : xs ++ ys ≡ less y.number (f o)
     list_less = sym (ap (less y.number) parts.2 ∙ less_cut xs y.number ys not_before)
@@ -134,15 +160,26 @@ module _ (st : State) (s : ℕ) (o x : ℤ) (m n : ℕ) (jn : joiner st s x ≡ 
     at_all : (g : ℕ → ℕ → ℕ → Result State FaultKind) → and_then (joiner st s x) (λ i. and_then (joiner st s y) (λ z. and_then (owner st s o) (g i z))) ≡ g n k m
     at_all g = ap (λ v. and_then v (λ i. and_then (joiner st s y) (λ z. and_then (owner st s o) (g i z)))) jn ∙ ap (λ v. and_then v (λ z. and_then (owner st s o) (g n z))) jk ∙ ap (λ v. and_then v (g n k)) om
 
-    module _ (put : ℕ → ℕ → List ℕ → List ℕ) where
+    side : (before : Bool) → (if before then filed_before else filed_after) st s o x y ≡ put_beside (put_by before) st s m n k
+    side true = at_all (λ i z a. put_beside put_before st s a i z)
+    side false = at_all (λ i z a. put_beside put_after st s a i z)
+
+    module _ (before : Bool) where
       abbrev whole : Result State FaultKind
-      whole = and_then (joiner st s x) (λ i. and_then (joiner st s y) (λ z. and_then (owner st s o) (λ a. put_beside put st s a i z)))
+      whole = (if before then filed_before else filed_after) st s o x y
 
       pub beside_twice : is_filed st.lists s n ≡ true → whole ≡ Err FiledTwice
-      beside_twice h = at_all (λ i z a. put_beside put st s a i z) ∙ rw h refl
+      beside_twice h = side before ∙ rw h refl
 
       pub not_beside : is_filed st.lists s n ≡ false → contains (members_of st.lists s m) k ≡ false → whole ≡ Err NotFiled
-      not_beside h i = at_all (λ i z a. put_beside put st s a i z) ∙ rw (h, i) refl
+      not_beside h i = side before ∙ rw (h, i) refl
 
-      pub beside_done : (new : State) → is_filed st.lists s n ≡ false → contains (members_of st.lists s m) k ≡ true → new ≡ with_list_of st s m (put k n (members_of st.lists s m)) → whole ≡ Ok new
-      beside_done new h i e = at_all (λ i z a. put_beside put st s a i z) ∙ rw (h, i) (ap Ok (sym e))
+      pub beside_done : (new : State) → is_filed st.lists s n ≡ false → contains (members_of st.lists s m) k ≡ true → new ≡ with_list_of st s m (put_by before k n (members_of st.lists s m)) → whole ≡ Ok new
+      beside_done new h i e = side before ∙ rw (h, i) (ap Ok (sym e))
+
+-- where one of the three references is to none, so does filing fail
+pub beside_failed : (before : Bool) (st : State) (s : ℕ) (o x y : ℤ) (f : FaultKind)
+    → ((g : ℕ → ℕ → ℕ → Result State FaultKind) → and_then (joiner st s x) (λ n. and_then (joiner st s y) (λ k. and_then (owner st s o) (g n k))) ≡ Err f)
+    → (if before then filed_before else filed_after) st s o x y ≡ Err f
+beside_failed true st s o x y f h = h (λ n k m. put_beside put_before st s m n k)
+beside_failed false st s o x y f h = h (λ n k m. put_beside put_after st s m n k)

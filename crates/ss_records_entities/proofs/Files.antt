@@ -20,14 +20,12 @@ use Rattle.ss_records_blocks.proofs.Entries.{get_there}
 use Rattle.ss_records_words.proofs.Filed.{above_zero, not_filed_in, contains_in, in_contains}
 use Rattle.ss_records_entities.proofs.Listed.{put_cut, less_cut, not_in_front}
 use Rattle.ss_records_entities.proofs.Leading.{is_link, first_to, last_to, is_counter, next_to, prev_to, owner_to, next_self, prev_self, owner_self}
+use Rattle.ss_records_entities.proofs.Still.{reads_only, unmoved}
 use Rattle.ss_records_entities.proofs.Relinked.{kept_linked, state_linked, kept_unlinked, state_unlinked}
 
--- a call that only looks leaves what holds
-pub unmoved : (r q : Records) → q ≡ record r { blocks = q.blocks } → q.blocks.cells ≡ r.blocks.cells → uncounted q ≡ uncounted r
-unmoved r q h e = ap uncounted h ∙ (λ i. record r { blocks = record { cells = e i; touches = 0; total = 0 } })
-
+-- a call that only looks, and then a read of the blocks
 pub looked : (r p : Records) (b : Memory) → p ≡ record r { blocks = p.blocks } → p.blocks.cells ≡ r.blocks.cells → b.cells ≡ p.blocks.cells → uncounted (record p { blocks = b }) ≡ uncounted r
-looked r p b h e k = (λ i. record p { blocks = record { cells = k i; touches = 0; total = 0 } }) ∙ unmoved r p h e
+looked r p b h e k = reads_only p b k ∙ unmoved r p h e
 
 -- what lies between two neighbours, and around a member, still does
 pub still_between : (r q : Records) (s o : ℕ) (a b : Entry) (xs ys : List ℕ) → uncounted q ≡ uncounted r → Between r s o a b xs ys → Between q s o a b xs ys

@@ -1,5 +1,5 @@
 -- A permanent entity by its index.
-use Rattle.std.proofs.Common.{◌≡◌, ℕ, zero, suc, List, [], ◌∷◌, map, slice_get, Option, Some, None, Ok, Err, inl, inr, refl, sym, ap, ◌∙◌}
+use Rattle.std.proofs.Common.{◌≡◌, ℕ, zero, suc, List, [], ◌∷◌, map, slice_get, Option, Some, None, Ok, Err, inr, refl, sym, ap, ◌∙◌}
 use Rattle.std.specs.Prelude.{Result, MatchResult, ℤ, pos, negsuc}
 use Rattle.ss_base.specs.declared.fault.FaultKind.{FaultKind}
 use Rattle.ss_base.specs.declared.layout.ClassKind.{ClassKind}
@@ -8,13 +8,13 @@ use Rattle.ss_base.specs.declared.layout.Layout.{Layout}
 use Rattle.ss_records_entities.specs.declared.records.Records.{Records}
 use Rattle.ss_records_blocks.specs.declared.store.Address.{Address}
 use Rattle.ss_records_blocks.specs.Cells.{Cells, words_at}
-use Rattle.ss_world.specs.State.{State, Members, and_then, numbered, of_class, entity_in, entity_of_kind, kind_of, indexed, indexed_record, records_in}
+use Rattle.ss_world.specs.State.{State, Members, entity_in, entity_of_kind, kind_of, indexed, indexed_record, records_in}
 use Rattle.ss_records_words.specs.Reading.{record_of, records_at}
-use Rattle.ss_records_words.specs.Places.{Made, Directory, class_at_place}
+use Rattle.ss_records_words.specs.Places.{Made, Directory}
 use Rattle.ss_records_blocks.specs.Places.{row_in}
-use Rattle.ss_records_words.specs.Kept.{IsPermanent, state_of, place_or, indexed_place, numbered_place}
+use Rattle.ss_records_words.specs.Kept.{IsPermanent, state_of, place_or, indexed_place}
 use Rattle.ss_records_entities.specs.Parts.{IsKept, state, places, Found}
-use Rattle.ss_records_entities.proofs.Keeps.{read_place, there}
+use Rattle.ss_records_entities.proofs.Keeps.{read_place}
 
 pub of_permanent : (st : State) (k : ClassKind) (c : ℕ) (x : ℤ) → IsPermanent k → entity_of_kind st k c x ≡ indexed st c x
 of_permanent st Permanent c x h = refl
@@ -66,19 +66,3 @@ module _ (r : Records) (K : IsKept r) (c : ℕ) (x : ℤ) (kind : IsPermanent (k
   pub find_indexed : (v : Result Address FaultKind) → v ≡ indexed_place (row_in (slice_get (places r).classes c)) x → MatchResult v (λ p. Found r c x p) (λ e. entity_in (state r) c x ≡ Err e)
   find_indexed (Ok p) h = found_at p (sym h)
   find_indexed (Err e) h = by_index ∙ ap (read_place r.layout r.blocks.cells) (sym h)
-
--- ## One that is known by its number
-
-pub of_temporary : (st : State) (k : ClassKind) (c : ℕ) (x : ℤ) → Temporary ≡ k → entity_of_kind st k c x ≡ and_then (numbered st x) (of_class c)
-of_temporary st k c x e = ap (λ z. entity_of_kind st z c x) (sym e)
-
-pub of_notices : (st : State) (k : ClassKind) (c : ℕ) (x : ℤ) → Notice ≡ k → entity_of_kind st k c x ≡ and_then (numbered st x) (of_class c)
-of_notices st k c x e = ap (λ z. entity_of_kind st z c x) (sym e)
-
-module _ (r : Records) (c : ℕ) (x : ℤ) (same : entity_in (state r) c x ≡ and_then (numbered (state r) x) (of_class c)) where
-  pub find_numbered : (v : Result Address FaultKind) → MatchResult v (λ p. (numbered_place r.directory.places x ≡ Ok p) × (class_at_place r.blocks.cells p ≡ c) × (and_then (numbered (state r) x) (of_class c) ≡ Ok (record_of r.layout (words_at r.blocks.cells p.at)))) (λ e. and_then (numbered (state r) x) (of_class c) ≡ Err e)
-      → MatchResult v (λ p. Found r c x p) (λ e. entity_in (state r) c x ≡ Err e)
-  find_numbered (Ok p) h =
-      let t = there r.directory.places x p h.0 in
-      record { index = t.0; is = t.1; entry = inl t.2; class = h.1; entity = same ∙ h.2 }
-  find_numbered (Err e) h = same ∙ h

@@ -1,5 +1,6 @@
 pub mod Apart
 pub mod Assigns
+pub mod Attributes
 pub mod Classed
 pub mod Creates
 pub mod Cuts

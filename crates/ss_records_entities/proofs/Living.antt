@@ -90,12 +90,6 @@ living_step (None ∷ zs) zero p h = cc
 living_step (Some q ∷ zs) zero p h = omega arith
 living_step (z ∷ zs) (suc i) p h = let q : suc i + 1 ≡ suc (i + 1) = omega arith in rw q (living_step zs i p h)
 
-pub living_skip : (d : Numbers) (i : ℕ) → slice_get d i ≡ Some None → living_count (drop i d) ≡ living_count (drop (i + 1) d)
-living_skip [] i h = cc
-living_skip (None ∷ zs) zero h = refl
-living_skip (Some q ∷ zs) zero h = cc
-living_skip (z ∷ zs) (suc i) h = let q : suc i + 1 ≡ suc (i + 1) = omega arith in rw q (living_skip zs i h)
-
 pub made_drop : (ms : Made) (c : ℕ) → length ms ≤ c → permanent_count (drop c ms) ≡ 0
 made_drop [] zero h = refl
 made_drop [] (suc c) h = refl

@@ -1,15 +1,16 @@
 -- What the functions that look at a set read.
-use Rattle.std.proofs.Common.{◌≡◌, ℕ, ◌+◌, ◌^◌, ◌<◌, true, List, length, slice_get, Some, None, Ok, refl, sym, ap, subst, ◌∙◌, arith}
-use Rattle.std.specs.Prelude.{ℤ, pos, not, nat_eq}
+use Rattle.std.proofs.Common.{◌≡◌, ℕ, ◌+◌, ◌^◌, ◌<◌, Bool, true, false, List, length, slice_get, Some, None, Ok, Err, refl, sym, ap, subst, ◌∙◌, arith}
+use Rattle.std.specs.Prelude.{ℤ, pos, not, nat_eq, if◌then◌else◌}
 use Rattle.std.specs.Int.{cast_signed}
 use Rattle.std.proofs.lemmas.Int.{ints}
 use mir.Syntax.{w64}
 use denote.RawPtr.{Ptr}
+use Rattle.ss_base.specs.declared.fault.FaultKind.{FaultKind}
 use Rattle.ss_base.specs.declared.layout.SetLayout.{SetLayout}
 use Rattle.ss_records_entities.specs.declared.records.Records.{Records}
 use Rattle.ss_records_blocks.specs.declared.links.Entry.{Entry}
 use Rattle.ss_records_blocks.specs.Cells.{number, counter, link, IsCounter, word_at}
-use Rattle.ss_world.specs.State.{and_then, members_of, owner_of, is_filed}
+use Rattle.ss_world.specs.State.{State, and_then, members_of, owner_of, is_filed}
 use Rattle.ss_world.specs.Sets.{joiner, owner, as_number, companions, follower, precursor, first_in, last_in, count_in, next_in, previous_in, owner_of_member}
 use Rattle.ss_world.specs.Lists.{head0, last_or, succ, pred_from, In}
 use Rattle.ss_records_words.specs.Places.{entity_at, owner_at}
@@ -22,6 +23,16 @@ use Rattle.ss_records_entities.proofs.Leading.{To, leads, its_number, first_to, 
 
 pub as_whole : (n m : ℕ) → n ≡ m → m < 2 ^ 62 → cast_signed w64 n ≡ pos m
 as_whole n m e h = let k : n < 2 ^ 63 = omega (arith, e, h) in let z : cast_signed w64 n ≡ pos n = omega (arith, ints, k) in z ∙ ap pos e
+
+-- where there is no owner, there is no end
+pub no_end : (last : Bool) (st : State) (s : ℕ) (x : ℤ) (e : FaultKind) → owner st s x ≡ Err e → Err e ≡ (if last then last_in st s x else first_in st s x)
+no_end false st s x e h = sym (ap (λ z. and_then z (λ n. Ok (pos (head0 (members_of st.lists s n))))) h)
+no_end true st s x e h = sym (ap (λ z. and_then z (λ n. Ok (pos (last_or 0 (members_of st.lists s n))))) h)
+
+-- where there is no member, there is none next to it
+pub none_beside : (reverse : Bool) (st : State) (s : ℕ) (x : ℤ) (e : FaultKind) → joiner st s x ≡ Err e → (if reverse then previous_in st s x else next_in st s x) ≡ Err e
+none_beside false st s x e h = ap (λ z. and_then z (λ n. Ok (pos (follower n (companions st.lists s n))))) h
+none_beside true st s x e h = ap (λ z. and_then z (λ n. Ok (pos (precursor 0 n (companions st.lists s n))))) h
 
 module _ (r : Records) (K : IsKept r) (s : ℕ) (inside : s < length r.layout.sets) where
   abbrev at : ℕ → Ptr
@@ -66,6 +77,21 @@ module _ (r : Records) (K : IsKept r) (s : ℕ) (inside : s < length r.layout.se
 
       pub last_value : (x : ℤ) → owner (state r) s x ≡ Ok e.number → Ok (cast_signed w64 q.number) ≡ last_in (state r) s x
       last_value x o = ap Ok (as_whole q.number _ last_number last_there.small) ∙ sym (ap (λ z. and_then z (λ n. Ok (pos (last_or 0 (members_of r.notes.lists s n))))) o)
+
+    -- at either end
+    pub end_leads : (last : Bool) → Leads r.blocks.cells e.place.at (if last then b + 1 else b)
+    end_leads false = first_leads
+    end_leads true = last_leads
+
+    module _ (q : Entry) (v : word_at r.blocks.cells q.place.at 1 ≡ number q.number) where
+      pub end_small : (last : Bool) → word_at r.blocks.cells e.place.at (if last then b + 1 else b) ≡ link q.place.at → q.number < 2 ^ 62
+      end_small false w = first_small q w v
+      end_small true w = last_small q w v
+
+      pub end_value : (last : Bool) → word_at r.blocks.cells e.place.at (if last then b + 1 else b) ≡ link q.place.at → (x : ℤ) → owner (state r) s x ≡ Ok e.number
+          → Ok (cast_signed w64 q.number) ≡ (if last then last_in (state r) s x else first_in (state r) s x)
+      end_value false w = first_value q w v
+      end_value true w = last_value q w v
 
     module _ (v : ℕ) (w : word_at r.blocks.cells e.place.at (b + 2) ≡ counter v) where
       pub how_many : v ≡ length (members_of r.notes.lists s e.number)

@@ -24,7 +24,7 @@ use Rattle.ss_records_blocks.proofs.Same.{differs, false_is_not_true}
 use Rattle.ss_records_blocks.proofs.Entries.{get_there}
 use Rattle.ss_records_words.proofs.Filed.{contains_in, in_contains}
 use Rattle.ss_records_entities.proofs.Leading.{its_number, next_beside, prev_beside}
-use Rattle.ss_records_entities.proofs.Looks.{next_leads, prev_leads, next_small, prev_small, is_filed_value, next_is, prev_is, as_whole, owner_has, owner_small}
+use Rattle.ss_records_entities.proofs.Looks.{next_leads, prev_leads, next_small, prev_small, next_fits, prev_fits, is_filed_value, next_is, prev_is, as_whole, owner_has, owner_small}
 use Rattle.ss_records_entities.proofs.Ends.{tested}
 use Rattle.ss_records_entities.proofs.Apart.{is_entity, sets_apart}
 
@@ -34,7 +34,7 @@ entity_number : (z : Result Record FaultKind) (n m : ℕ) → and_then z (λ r. 
 entity_number (Ok r) n m h = cc
 entity_number (Err f) n m h = absurd cc
 
--- an entity that is there is meant by its number
+-- the reference to an entity that is there is its number
 named_by : (st : State) (k : ClassKind) (c : ℕ) (o : ℤ) (m : ℕ) → and_then (entity_of_kind st k c o) (λ r. Ok (number_in o)) ≡ Ok m → o ≡ pos m
 named_by st k c (pos n) m h = ap pos (entity_number (entity_of_kind st k c (pos n)) n m h)
 named_by st Permanent c (negsuc n) m h = absurd cc
@@ -101,6 +101,16 @@ module _ (r : Records) (K : IsKept r) (s : ℕ) (inside : s < length r.layout.se
       beside_small false w = next_small r K s inside e h b base q w v
       beside_small true w = prev_small r K s inside e h b base q w v
 
+      pub beside_fits : (reverse : Bool) → word_at r.blocks.cells e.place.at (if reverse then b + 1 else b) ≡ link q.place.at
+          → (y : ℕ) → (q.number ≡ e.number → y ≡ 0) → ((q.number ≡ e.number → ⊥) → y ≡ q.number) → y < 2 ^ 62
+      beside_fits false w = next_fits r K s inside e h b base q w v
+      beside_fits true w = prev_fits r K s inside e h b base q w v
+
+      pub beside_is : (reverse : Bool) → word_at r.blocks.cells e.place.at (if reverse then b + 1 else b) ≡ link q.place.at
+          → (x : ℤ) (y : ℕ) → joiner (state r) s x ≡ Ok e.number → (q.number ≡ e.number → y ≡ 0) → ((q.number ≡ e.number → ⊥) → y ≡ q.number) → Ok (cast_signed w64 y) ≡ (if reverse then previous_in (state r) s x else next_in (state r) s x)
+      beside_is false w = next_is r K s inside e h b base q w v
+      beside_is true w = prev_is r K s inside e h b base q w v
+
       -- it is itself
       pub beside_free : (reverse : Bool) → word_at r.blocks.cells e.place.at (if reverse then b + 1 else b) ≡ link q.place.at → q.number ≡ e.number → is_filed r.notes.lists s e.number ≡ false
       beside_free false w n = let k = next_beside r.layout r.blocks.cells r.system.at (places r) r.notes.lists K s inside e.place.at e.number h.lies h.is b base in
@@ -119,8 +129,7 @@ module _ (r : Records) (K : IsKept r) (s : ℕ) (inside : s < length r.layout.se
 
         pub beside_value : (reverse : Bool) → word_at r.blocks.cells e.place.at (if reverse then b + 1 else b) ≡ link q.place.at → (x : ℤ) → joiner (state r) s x ≡ Ok e.number
             → (if reverse then previous_in (state r) s x else next_in (state r) s x) ≡ Ok (cast_signed w64 q.number)
-        beside_value false w x j = sym (next_is r K s inside e h b base q w v x q.number j (λ i. absurd (n i)) (λ _. refl))
-        beside_value true w x j = sym (prev_is r K s inside e h b base q w v x q.number j (λ i. absurd (n i)) (λ _. refl))
+        beside_value reverse w x j = sym (beside_is reverse w x q.number j (λ i. absurd (n i)) (λ _. refl))
 
     -- the owner that was read, where it is in a set
     module _ (filed : is_filed r.notes.lists s e.number ≡ true) (q : Entry) (w : word_at r.blocks.cells e.place.at (b + 2) ≡ link q.place.at) (v : word_at r.blocks.cells q.place.at 1 ≡ number q.number) where

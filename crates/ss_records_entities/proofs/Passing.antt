@@ -6,6 +6,7 @@ use denote.RawPtr.{Ptr}
 use Rattle.ss_base.specs.Order.{value_cmp}
 use Rattle.ss_base.specs.declared.value.Value.{Value}
 use Rattle.ss_base.specs.declared.value.Value.TheVariants.{Whole}
+use Rattle.ss_base.specs.declared.layout.Mode.{Mode}
 use Rattle.ss_base.specs.declared.layout.Mode.TheVariants.{Integer}
 use Rattle.ss_base.specs.declared.layout.SetLayout.{SetLayout}
 use Rattle.ss_records_blocks.specs.declared.store.Address.{Address}
@@ -20,21 +21,17 @@ use Rattle.ss_records_words.specs.Reading.{record_of, value_at}
 use Rattle.ss_records_words.specs.Places.{Lists, place_in_record, entity_at, class_at_place}
 use Rattle.ss_records_blocks.specs.Links.{Leads}
 use Rattle.ss_records_words.specs.Slotted.{member_base}
-use Rattle.ss_records_entities.specs.Parts.{IsKept, state, places, uncounted, Lies, Joins, Between}
+use Rattle.ss_records_entities.specs.Parts.{IsKept, state, places, Lies, Joins, Between}
 use Rattle.ss_records_entities.specs.Passing.{ranks_past, first_where, before_where}
 use Rattle.ss_records_blocks.proofs.Entries.{get_there}
 use Rattle.ss_records_words.proofs.Listing.{listed}
 use Rattle.ss_records_words.proofs.Disjoint.{entry_of}
-use Rattle.ss_records_entities.proofs.Assigns.{first_number, is_value}
+use Rattle.ss_records_entities.proofs.Assigns.{first_number, second_number, is_value}
 use Rattle.ss_records_words.proofs.Splice.{head_in, succ_cut, length_splice}
 use Rattle.ss_records_entities.proofs.Leading.{To, leads, next_to, small_of, count_small}
 use Rattle.ss_records_entities.proofs.Apart.{entity_is}
 use Rattle.ss_records_entities.proofs.Cuts.{lies_there}
 use Rattle.ss_records_entities.proofs.Ends.{joins_it}
-
--- records of which only the counts of touches have changed
-pub as_before : (r m : Records) → m ≡ record r { blocks = m.blocks } → m.blocks.cells ≡ r.blocks.cells → uncounted m ≡ uncounted r
-as_before r m same cells = ap uncounted same ∙ (λ i. record r { blocks = record { cells = cells i; touches = 0; total = 0 } })
 
 -- a test at the head of a list
 module _ (t : ℕ → Bool) (y : ℕ) (ys : List ℕ) where
@@ -53,7 +50,7 @@ none_first t [] n e h some = refl
 none_first t (z ∷ zs) n e h some = absurd (some z (inl refl) (sym h ∙ e))
 
 -- the value of an attribute of a member
-module _ (r : Records) (K : IsKept r) (s : ℕ) (q : Entry) (j : Joins r s q) (f k : ℕ) (start : k ≡ 2 + 2 * f) (mode : slice_get (modes_of r.layout (member_class r.layout s)) f ≡ Some Integer) where
+module _ (r : Records) (K : IsKept r) (s : ℕ) (q : Entry) (j : Joins r s q) (f k : ℕ) (start : k ≡ 2 + 2 * f) (m : Mode) (mode : slice_get (modes_of r.layout (member_class r.layout s)) f ≡ Some m) where
   abbrev class : ℕ
   class = member_class r.layout s
 
@@ -66,14 +63,19 @@ module _ (r : Records) (K : IsKept r) (s : ℕ) (q : Entry) (j : Joins r s q) (f
 
   pub is_number : IsNumber (word_at r.blocks.cells q.place.at k)
   is_number = subst (λ z. IsNumber (word_at r.blocks.cells z k)) (sym place.5)
-      (first_number r.layout r.blocks.cells r.system.at (places r) r.notes.lists K place.0 place.1 place.3 class place.4 (pos q.number) (ap pos place.2) its_entity f k start Integer mode)
+      (first_number r.layout r.blocks.cells r.system.at (places r) r.notes.lists K place.0 place.1 place.3 class place.4 (pos q.number) (ap pos place.2) its_entity f k start m mode)
 
-  pub its_value : value_in (state r) class f (pos q.number) ≡ Ok (value_at Integer r.blocks.cells q.place.at k)
-  its_value = is_value r.layout r.blocks.cells r.system.at (places r) r.notes.lists K place.0 place.1 place.3 class place.4 (pos q.number) (ap pos place.2) its_entity f k start Integer mode
-      ∙ ap (λ z. Ok (value_at Integer r.blocks.cells z k)) (sym place.5)
+  pub second_is_number : IsNumber (word_at r.blocks.cells q.place.at (k + 1))
+  second_is_number = subst (λ z. IsNumber (word_at r.blocks.cells z (k + 1))) (sym place.5)
+      (second_number r.layout r.blocks.cells r.system.at (places r) r.notes.lists K place.0 place.1 place.3 class place.4 (pos q.number) (ap pos place.2) its_entity f k start m mode)
 
-  pub test_is : (its own : ℤ) (high : Bool) → Whole its ≡ value_at Integer r.blocks.cells q.place.at k → match_ordering (int_cmp its own) high false (not high) ≡ ranks_past (state r) class f high (Whole own) q.number
-  test_is its own high h = ap (λ (w : Value). match_ordering (value_cmp w (Whole own)) high false (not high)) (h ∙ sym (ap value_or_zero its_value))
+  pub its_value : value_in (state r) class f (pos q.number) ≡ Ok (value_at m r.blocks.cells q.place.at k)
+  its_value = is_value r.layout r.blocks.cells r.system.at (places r) r.notes.lists K place.0 place.1 place.3 class place.4 (pos q.number) (ap pos place.2) its_entity f k start m mode
+      ∙ ap (λ z. Ok (value_at m r.blocks.cells z k)) (sym place.5)
+
+module _ (r : Records) (K : IsKept r) (s : ℕ) (q : Entry) (j : Joins r s q) (f k : ℕ) (start : k ≡ 2 + 2 * f) (mode : slice_get (modes_of r.layout (member_class r.layout s)) f ≡ Some Integer) where
+  pub test_is : (its own : ℤ) (high : Bool) → Whole its ≡ value_at Integer r.blocks.cells q.place.at k → match_ordering (int_cmp its own) high false (not high) ≡ ranks_past (state r) (member_class r.layout s) f high (Whole own) q.number
+  test_is its own high h = ap (λ (w : Value). match_ordering (value_cmp w (Whole own)) high false (not high)) (h ∙ sym (ap value_or_zero (its_value r K s q j f k start Integer mode)))
 
 -- how far a walk along the set s of o has come: it has passed the members xs, and is at the first of ys, or at the end
 pub record WalkState (r : Records) (s o : ℕ) (t : ℕ → Bool) (q : Entry) (touches : ℕ) : Type 0 where
@@ -144,9 +146,6 @@ module _ (r : Records) (K : IsKept r) (s : ℕ) (inside : s < length r.layout.se
     module _ (e : t q.number ≡ true) where
       pub it_is : q.number ≡ first_where t f
       it_is = sym (sym S.found ∙ ap (first_where t) shape.1 ∙ (stops t q.number shape.0 e).0)
-
-      pub so_many : touches ≤ 1 + before_where t f
-      so_many = omega (arith, S.touched, S.passed)
 
     -- and is passed
     module _ (b : ℕ) (base : (u : SetLayout) → slice_get r.layout.sets s ≡ Some u → b ≡ member_base r.layout s u) where

@@ -103,9 +103,6 @@ module _ (l : Layout) (cs : Cells) (sys : Ptr) (d : Directory) (ms : List Member
     pub state_linked : state_of l ds d (with_members ms s o (xs ++ x ∷ ys)) ≡ with_list_of (state_of l cs d ms) s o (xs ++ x ∷ ys)
     state_linked = relisted ds (xs ++ x ∷ ys) spares
 
-    pub count_linked : length ds ≡ length cs
-    count_linked = spares.count
-
   -- linked out from between xs and ys
   module _ (was : f o ≡ xs ++ x ∷ ys) where
     abbrev es : Cells
@@ -144,6 +141,3 @@ module _ (l : Layout) (cs : Cells) (sys : Ptr) (d : Directory) (ms : List Member
 
     pub state_unlinked : state_of l es d (with_members ms s o (xs ++ ys)) ≡ with_list_of (state_of l cs d ms) s o (xs ++ ys)
     state_unlinked = relisted es (xs ++ ys) spares'
-
-    pub count_unlinked : length es ≡ length cs
-    count_unlinked = spares'.count

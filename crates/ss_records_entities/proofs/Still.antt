@@ -1,14 +1,23 @@
 -- What a call that only reads leaves for the calls after it, and how many touches there are.
-use Rattle.std.proofs.Common.{◌≡◌, ℕ, ◌+◌, ◌≤◌, ◌<◌, ◌^◌, true, false, Fits, w64, length, slice_get, Some, sym, subst, arith}
+use Rattle.std.proofs.Common.{◌≡◌, ℕ, ◌+◌, ◌≤◌, ◌<◌, ◌^◌, Bool, true, false, Fits, w64, length, slice_get, Some, sym, ap, subst, ◌∙◌, arith}
 use Rattle.std.proofs.lemmas.Option.{slice_get_within}
 use Rattle.ss_base.specs.declared.layout.Layout.{Layout}
 use Rattle.ss_base.specs.declared.layout.Mode.{Mode}
 use Rattle.ss_records_entities.specs.declared.records.Records.{Records}
 use Rattle.ss_records_blocks.specs.declared.links.Entry.{Entry}
-use Rattle.ss_world.specs.State.{modes_of, is_filed}
+use Rattle.ss_records_blocks.specs.Cells.{Memory}
+use Rattle.ss_world.specs.State.{modes_of, is_filed, members_of, contains}
 use Rattle.ss_records_words.specs.Kept.{Small}
 use Rattle.ss_records_entities.specs.Parts.{IsKept, uncounted, Owns, Joins}
 use Rattle.ss_records_blocks.proofs.Same.{false_is_not_true}
+
+-- a read of the blocks changes nothing but counts of touches
+pub reads_only : (r : Records) (b : Memory) → b.cells ≡ r.blocks.cells → uncounted (record r { blocks = b }) ≡ uncounted r
+reads_only r b e = λ i. record r { blocks = record { cells = e i; touches = 0; total = 0 } }
+
+-- a call that only reads changes nothing else either
+pub unmoved : (r q : Records) → q ≡ record r { blocks = q.blocks } → q.blocks.cells ≡ r.blocks.cells → uncounted q ≡ uncounted r
+unmoved r q h e = ap uncounted h ∙ reads_only r q.blocks e
 
 module _ (r q : Records) (h : uncounted q ≡ uncounted r) where
   pub kept_still : IsKept r → IsKept q
@@ -31,6 +40,9 @@ module _ (r q : Records) (h : uncounted q ≡ uncounted r) where
 
   pub free_still : (s x : ℕ) → is_filed r.notes.lists s x ≡ false → is_filed q.notes.lists s x ≡ false
   free_still s x free = subst (λ (z : Records). is_filed z.notes.lists s x ≡ false) (sym h) free
+
+  pub listed_still : (s o x : ℕ) (b : Bool) → contains (members_of r.notes.lists s o) x ≡ b → contains (members_of q.notes.lists s o) x ≡ b
+  listed_still s o x b there = subst (λ (z : Records). contains (members_of z.notes.lists s o) x ≡ b) (sym h) there
 
 -- there are few attributes
 pub few_fields : (l : Layout) (c f : ℕ) (m : Mode) → Small l → slice_get (modes_of l c) f ≡ Some m → f < 1048576
@@ -109,21 +121,14 @@ module _ (a A b B : ℕ) (none : a ≡ 0) where
 
   -- after at most two touches
   module _ (more : (b ≤ a + 2) × (B + a ≡ A + b)) where
-    pub two_room : b + 1 < 2 ^ 64
-    two_room = omega (arith, none, more.0)
+    pub two_few : b ≤ 8
+    two_few = omega (arith, none, more.0)
 
     pub two_refused : (b ≤ 12) × (false ≡ true → 4 ≤ b) × (B ≡ A + b)
     two_refused = (omega (arith, none, more.0), λ z. absurd (false_is_not_true z), omega (arith, none, more.1))
 
-    pub two_then_room : (d D : ℕ) → (d ≡ b + 1) × (D ≡ B + 1) → d + 1 < 2 ^ 64
-    two_then_room d D first = omega (arith, none, more.0, first.0)
-
-    module _ (d D e E : ℕ) (first : (d ≡ b + 1) × (D ≡ B + 1)) (second : (e ≡ d + 1) × (E ≡ D + 1)) where
-      pub two_then_few : e ≤ 16
-      two_then_few = omega (arith, none, more.0, first.0, second.0)
-
-      pub two_then_linked : (f F : ℕ) → (f ≡ e + 7) × (F ≡ E + 7) → {Q : Type 0} → (f ≤ 12) × (Q → 4 ≤ f) × (F ≡ A + f)
-      two_then_linked f F link = (omega (arith, none, more.0, first.0, second.0, link.0), λ z. omega (arith, second.0, link.0), omega (arith, none, more.1, first.0, first.1, second.0, second.1, link.0, link.1))
+    pub two_then_nine : (f F : ℕ) → (f ≡ b + 9) × (F ≡ B + 9) → {Q : Type 0} → (f ≤ 12) × (Q → 4 ≤ f) × (F ≡ A + f)
+    two_then_nine f F cut = (omega (arith, none, more.0, cut.0), λ z. omega (arith, cut.0), omega (arith, none, more.1, cut.0, cut.1))
 
 -- of looks at each set
 pub start_ties : (a : ℕ) → a ≡ 0 → a ≤ 2 ^ 32

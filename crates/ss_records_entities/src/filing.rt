@@ -1,5 +1,5 @@
 // Filing and removing.
-ghost use Rattle.std.specs.Prelude.{◌≡◌, ℕ, ◌+◌, ◌<◌, ◌≤◌, ℤ, List, [], ◌∷◌, ◌++◌, length, false, true, Result, MatchResult, IsOk, Ok, Err};
+ghost use Rattle.std.specs.Prelude.{◌≡◌, ℕ, ◌+◌, ◌<◌, ◌≤◌, ℤ, List, [], ◌∷◌, ◌++◌, length, false, true, if◌then◌else◌, Result, MatchResult, IsOk, Ok, Err};
 ghost use Rattle.ss_world.specs.State.{State, and_then, is_filed, contains, members_of};
 ghost use Rattle.ss_world.specs.Disciplines.{first_removed, last_removed, member_test};
 ghost use Rattle.ss_world.specs.Sets.{joiner, owner, less, with_list_of, put_in, put_beside, taken_out, filed_first, filed_last, filed_before, filed_after, removed};
@@ -23,6 +23,31 @@ struct Triple {
     owner: Entry,
     x: Entry,
     y: Entry,
+}
+
+// Two neighbours in a set between which there is a place for one more.
+#[derive(Clone, Copy)]
+struct Gap {
+    before: Entry,
+    after: Entry,
+}
+
+// The gap before a member, or after it, by the neighbour on that side.
+#[inline(always)]
+fn gap_beside(member: Entry, neighbour: Entry, is_before: bool) -> Gap
+    ensures before { result.before ≡ (if is_before then neighbour else member) }
+    ensures after { result.after ≡ (if is_before then member else neighbour) }
+{
+    if is_before {
+        return Gap {
+            before: neighbour,
+            after: member,
+        };
+    }
+    Gap {
+        before: member,
+        after: neighbour,
+    }
 }
 
 impl Records {
@@ -182,13 +207,20 @@ impl Records {
         }
     }
 
-    /// Files x directly before y.
-    pub fn file_before(&mut self, s: usize, o: i64, x: i64, y: i64) -> Result<(), FaultKind>
+    /// Files x directly before y, or after it.
+    pub fn file_beside(
+        &mut self,
+        s: usize,
+        o: i64,
+        x: i64,
+        y: i64,
+        is_before: bool,
+    ) -> Result<(), FaultKind>
         requires kept { IsKept self.old }
         requires set { s < length self.old.layout.sets }
         requires touches { self.old.blocks.touches ≡ 0 }
         ensures kept { IsKept self.new }
-        ensures done { MatchResult result (λ _. filed_before (state self.old) s o x y ≡ Ok (state self.new)) (λ e. (filed_before (state self.old) s o x y ≡ Err e) × (state self.new ≡ state self.old)) }
+        ensures done { MatchResult result (λ _. (if is_before then filed_before else filed_after) (state self.old) s o x y ≡ Ok (state self.new)) (λ e. ((if is_before then filed_before else filed_after) (state self.old) s o x y ≡ Err e) × (state self.new ≡ state self.old)) }
         ensures touches { (self.new.blocks.touches ≤ 12) × (IsOk result → 4 ≤ self.new.blocks.touches) × (self.new.blocks.total ≡ self.old.blocks.total + self.new.blocks.touches) }
     {
         match self.triple(s, o, x, y) {
@@ -200,34 +232,10 @@ impl Records {
                 if !self.is_in(s, triple.owner, triple.y) {
                     return Err(FaultKind::NotFiled);
                 }
-                let beside = self.blocks.follow(triple.y.place, base + 1);
-                self.link_in(s, triple.owner, beside, triple.x, triple.y);
-                Ok(())
-            }
-            Err(fault) => Err(fault),
-        }
-    }
-
-    /// Files x directly after y.
-    pub fn file_after(&mut self, s: usize, o: i64, x: i64, y: i64) -> Result<(), FaultKind>
-        requires kept { IsKept self.old }
-        requires set { s < length self.old.layout.sets }
-        requires touches { self.old.blocks.touches ≡ 0 }
-        ensures kept { IsKept self.new }
-        ensures done { MatchResult result (λ _. filed_after (state self.old) s o x y ≡ Ok (state self.new)) (λ e. (filed_after (state self.old) s o x y ≡ Err e) × (state self.new ≡ state self.old)) }
-        ensures touches { (self.new.blocks.touches ≤ 12) × (IsOk result → 4 ≤ self.new.blocks.touches) × (self.new.blocks.total ≡ self.old.blocks.total + self.new.blocks.touches) }
-    {
-        match self.triple(s, o, x, y) {
-            Ok(triple) => {
-                let base = self.layout.member_base(s);
-                if self.is_filed(s, triple.x) {
-                    return Err(FaultKind::FiledTwice);
-                }
-                if !self.is_in(s, triple.owner, triple.y) {
-                    return Err(FaultKind::NotFiled);
-                }
-                let beside = self.blocks.follow(triple.y.place, base);
-                self.link_in(s, triple.owner, triple.y, triple.x, beside);
+                let word = sets::beside(base, is_before);
+                let neighbour = self.blocks.follow(triple.y.place, word);
+                let gap = gap_beside(triple.y, neighbour, is_before);
+                self.link_in(s, triple.owner, gap.before, triple.x, gap.after);
                 Ok(())
             }
             Err(fault) => Err(fault),
@@ -245,36 +253,17 @@ impl Records {
     {
         match self.pair(s, o, x) {
             Ok(pair) => {
-                let base = self.layout.member_base(s);
                 if !self.is_in(s, pair.owner, pair.x) {
                     return Err(FaultKind::NotFiled);
                 }
-                let before = self.blocks.follow(pair.x.place, base + 1);
-                let after = self.blocks.follow(pair.x.place, base);
-                self.link_out(s, pair.owner, before, pair.x, after);
+                self.cut_out(s, pair.owner, pair.x);
                 Ok(())
             }
             Err(fault) => Err(fault),
         }
     }
 
-    // Takes a member out of the set that it is in, and remembers it: nine touches.
-    fn take_out(&mut self, s: usize, owner: Entry, x: Entry)
-        requires kept { IsKept self.old }
-        requires set { s < length self.old.layout.sets }
-        requires owns { Owns self.old s owner }
-        requires joins { Joins self.old s x }
-        requires there { contains (members_of self.old.notes.lists s owner.number) x.number ≡ true }
-        requires touches { self.old.blocks.touches ≤ 8 }
-        ensures kept { IsKept self.new }
-        ensures done { state self.new ≡ with_list_of (state self.old) s owner.number (less x.number (members_of self.old.notes.lists s owner.number)) }
-        ensures touches { (self.new.blocks.touches ≡ self.old.blocks.touches + 9) × (self.new.blocks.total ≡ self.old.blocks.total + 9) }
-    {
-        self.remember(s, x);
-        self.cut_out(s, owner, x);
-    }
-
-    // Takes a member out of the set that it is in, without remembering it.
+    // Takes a member out of the set that it is in: nine touches.
     fn cut_out(&mut self, s: usize, owner: Entry, x: Entry)
         requires kept { IsKept self.old }
         requires set { s < length self.old.layout.sets }
@@ -326,7 +315,8 @@ impl Records {
                 if last.number == 0 {
                     return Err(FaultKind::EmptySet);
                 }
-                self.take_out(s, owner, last);
+                self.remember(s, last);
+                self.cut_out(s, owner, last);
                 Ok(last.number as i64)
             }
             Err(fault) => Err(fault),

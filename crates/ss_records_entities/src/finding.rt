@@ -15,6 +15,17 @@ use crate::records::Records;
 use ss_base::{ClassKind, FaultKind, Owner};
 use ss_records_blocks::{Address, CLASS};
 
+/// Where the block of an entity is looked for without a search.
+#[derive(Clone, Copy)]
+pub enum Hint {
+    /// Wherever its number is found without one.
+    Near,
+    /// Where an entity was met last.
+    Last,
+    /// Where one is likely to come next.
+    Next,
+}
+
 impl Records {
     // The block of a creation number.
     #[inline(always)]
@@ -22,7 +33,7 @@ impl Records {
         requires kept { IsKept self.now }
         ensures { result ≡ numbered_place self.now.directory.places r }
     {
-        match self.near_numbered(r) {
+        match self.hinted(r, Hint::Near) {
             Some(place) => Ok(place),
             None => self.numbered_apart(r),
         }
@@ -57,7 +68,7 @@ impl Records {
         requires class { class < length self.now.layout.classes }
         ensures found { MatchResult result (λ p. Found self.now class r p) (λ e. entity_in (state self.now) class r ≡ Err e) }
     {
-        match self.remembered(class, r) {
+        match self.hinted_of_class(class, r, Hint::Last) {
             Some(place) => Ok(place),
             None => match self.layout.kind(class) {
                 ClassKind::Permanent => self.indexed(class, r),
@@ -213,16 +224,6 @@ impl Records {
         }
     }
 
-    // The block of a creation number, where it is found without a search.
-    #[inline(always)]
-    fn near_numbered(&self, r: i64) -> Option<Address>
-        requires kept { IsKept self.now }
-        ensures { IfSome result (λ p. numbered_place self.now.directory.places r ≡ Ok p) }
-    {
-        let i = r.cast_unsigned().wrapping_sub(1);
-        self.directory.near(i as usize)
-    }
-
     /// The class of the entity of a creation number, if it is living.
     #[inline(always)]
     pub fn class_of(&self, r: i64) -> Option<usize>
@@ -230,7 +231,7 @@ impl Records {
         ensures found { IfSome result (λ c. HasClass (state self.now) r c) }
         ensures none { result ≡ None → (kind : FaultSeen) × (numbered (state self.now) r ≡ Err kind) }
     {
-        match self.remembered_numbered(r) {
+        match self.hinted(r, Hint::Last) {
             Some(place) => Some(self.blocks.number(place, CLASS) as usize),
             None => self.class_apart(r),
         }
@@ -250,14 +251,14 @@ impl Records {
         }
     }
 
-    // The block of a creation number of a class, where it was met last.
+    /// The block of a creation number of a class, where a hint leads to it.
     #[inline(always)]
-    fn remembered(&self, class: usize, r: i64) -> Option<Address>
+    pub fn hinted_of_class(&self, class: usize, r: i64, hint: Hint) -> Option<Address>
         requires kept { IsKept self.now }
         requires class { class < length self.now.layout.classes }
         ensures { IfSome result (λ p. Found self.now class r p) }
     {
-        match self.remembered_numbered(r) {
+        match self.hinted(r, hint) {
             Some(place) => {
                 if self.blocks.number(place, CLASS) == class as u64 {
                     Some(place)
@@ -269,43 +270,18 @@ impl Records {
         }
     }
 
-    // The block of a creation number, where it was met last.
+    // The block of a creation number, where a hint leads to it.
     #[inline(always)]
-    fn remembered_numbered(&self, r: i64) -> Option<Address>
+    fn hinted(&self, r: i64, hint: Hint) -> Option<Address>
         requires kept { IsKept self.now }
         ensures { IfSome result (λ p. numbered_place self.now.directory.places r ≡ Ok p) }
     {
         let i = r.cast_unsigned().wrapping_sub(1);
-        self.directory.remembered(i as usize)
-    }
-
-    /// The block of a creation number of a class, where it is likely to come next.
-    #[inline(always)]
-    pub fn expected(&self, class: usize, r: i64) -> Option<Address>
-        requires kept { IsKept self.now }
-        requires class { class < length self.now.layout.classes }
-        ensures { IfSome result (λ p. Found self.now class r p) }
-    {
-        match self.expected_numbered(r) {
-            Some(place) => {
-                if self.blocks.number(place, CLASS) == class as u64 {
-                    Some(place)
-                } else {
-                    None
-                }
-            }
-            None => None,
+        match hint {
+            Hint::Near => self.directory.near(i as usize),
+            Hint::Last => self.directory.remembered(i as usize),
+            Hint::Next => self.directory.expected(i as usize),
         }
-    }
-
-    // The block of a creation number, where it is likely to come next.
-    #[inline(always)]
-    fn expected_numbered(&self, r: i64) -> Option<Address>
-        requires kept { IsKept self.now }
-        ensures { IfSome result (λ p. numbered_place self.now.directory.places r ≡ Ok p) }
-    {
-        let i = r.cast_unsigned().wrapping_sub(1);
-        self.directory.expected(i as usize)
     }
 
     /// Remembers the entity of a number, if it is found without a search.
@@ -340,7 +316,7 @@ impl Records {
         requires kept { IsKept self.now }
         ensures { IfSome result (λ p. FoundNotice self.now r p) }
     {
-        match self.near_numbered(r) {
+        match self.hinted(r, Hint::Near) {
             Some(place) => {
                 if self.is_notice(self.blocks.number(place, CLASS)) {
                     Some(place)

@@ -1,5 +1,5 @@
 // The records, and what the block of each says.
-ghost use Rattle.std.specs.Prelude.{◌≡◌, ℕ, List, ◌+◌, ◌-◌, ◌*◌, ◌/◌, ◌^◌, ◌<◌, ◌≤◌, length, MatchResult, IfOk, Ok, Err, Some, None, slice_get, nat_abs, true, false, ⊤};
+ghost use Rattle.std.specs.Prelude.{◌≡◌, ℕ, List, ◌+◌, ◌-◌, ◌*◌, ◌/◌, ◌^◌, ◌<◌, ◌≤◌, length, MatchResult, IfOk, Ok, Err, Some, None, slice_get, nat_abs, true, false, if◌then◌else◌, ⊤};
 ghost use Rattle.ss_world.specs.State.{Members, kind_of, modes_of, is_notice, first_state, living_numbers, living_records, value_in, time_in, destroyed, created, created_all, is_made, with_made, assigned, timed, no_value, RefusedFor};
 ghost use Rattle.ss_world.specs.Sets.{owner_kind};
 ghost use Rattle.ss_records_blocks.specs.Cells.{words_at};
@@ -207,55 +207,31 @@ impl Records {
         }
     }
 
-    /// Adds a number to an attribute of whole numbers. Faults: those of the entity, then 14 where the result does not fit 64 bits.
+    /// Adds a number to an attribute of whole numbers, or subtracts it. Faults: those of the entity, then 14 where the result does
+    /// not fit 64 bits.
     #[inline(always)]
-    pub fn add_whole(&mut self, class: usize, field: usize, r: i64, n: i64) -> Result<(), FaultKind>
-        requires kept { IsKept self.old }
-        requires class { class < length self.old.layout.classes }
-        requires mode { slice_get (modes_of self.old.layout class) field ≡ Some Mode.Integer }
-        ensures kept { IsKept self.new }
-        ensures done { MatchResult result (λ _. IsChanged (λ z. plus_of z n) (state self.old) class field r (state self.new)) (λ e. (changed_number (λ z. plus_of z n) (value_in (state self.old) class field r) ≡ Err e) × (state self.new ≡ state self.old)) }
-        ensures touches { (self.new.blocks.touches ≡ self.old.blocks.touches) × (self.new.blocks.total ≡ self.old.blocks.total) }
-        ensures blocks { length self.new.blocks.cells ≡ length self.old.blocks.cells }
-    {
-        match self.find(class, r) {
-            Ok(place) => {
-                let k = value_start(field);
-                match plus(attributes::whole(&self.blocks, place, k), n) {
-                    Ok(changed) => {
-                        attributes::set_whole(&mut self.blocks, place, k, changed);
-                        Ok(())
-                    }
-                    Err(fault) => Err(fault),
-                }
-            }
-            Err(fault) => Err(fault),
-        }
-    }
-
-    /// Subtracts a number from an attribute of whole numbers. Faults: those of the entity, then 14 where the result does not fit 64 bits.
-    #[inline(always)]
-    pub fn subtract_whole(
+    pub fn change_whole(
         &mut self,
         class: usize,
         field: usize,
         r: i64,
         n: i64,
+        subtract: bool,
     ) -> Result<(), FaultKind>
         requires kept { IsKept self.old }
         requires class { class < length self.old.layout.classes }
         requires mode { slice_get (modes_of self.old.layout class) field ≡ Some Mode.Integer }
         ensures kept { IsKept self.new }
-        ensures done { MatchResult result (λ _. IsChanged (λ z. minus_of z n) (state self.old) class field r (state self.new)) (λ e. (changed_number (λ z. minus_of z n) (value_in (state self.old) class field r) ≡ Err e) × (state self.new ≡ state self.old)) }
+        ensures done { MatchResult result (λ _. IsChanged (λ z. (if subtract then minus_of else plus_of) z n) (state self.old) class field r (state self.new)) (λ e. (changed_number (λ z. (if subtract then minus_of else plus_of) z n) (value_in (state self.old) class field r) ≡ Err e) × (state self.new ≡ state self.old)) }
         ensures touches { (self.new.blocks.touches ≡ self.old.blocks.touches) × (self.new.blocks.total ≡ self.old.blocks.total) }
         ensures blocks { length self.new.blocks.cells ≡ length self.old.blocks.cells }
     {
         match self.find(class, r) {
             Ok(place) => {
                 let k = value_start(field);
-                match minus(attributes::whole(&self.blocks, place, k), n) {
-                    Ok(changed) => {
-                        attributes::set_whole(&mut self.blocks, place, k, changed);
+                match changed(attributes::whole(&self.blocks, place, k), n, subtract) {
+                    Ok(number) => {
+                        attributes::set_whole(&mut self.blocks, place, k, number);
                         Ok(())
                     }
                     Err(fault) => Err(fault),
@@ -495,6 +471,18 @@ impl Records {
             }
             Err(fault) => Err(fault),
         }
+    }
+}
+
+// The sum of two numbers, or their difference.
+#[inline(always)]
+fn changed(number: i64, by: i64, subtract: bool) -> Result<i64, FaultKind>
+    ensures { result ≡ (if subtract then minus_of else plus_of) number by }
+{
+    if subtract {
+        minus(number, by)
+    } else {
+        plus(number, by)
     }
 }
 

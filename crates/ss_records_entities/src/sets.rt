@@ -9,6 +9,7 @@ ghost use Rattle.ss_records_words.specs.Kept.{IsPermanent};
 ghost use Rattle.ss_records_entities.specs.Parts.{IsKept, state, Owns, Joins};
 ghost use Rattle.ss_records_entities.specs.Passing.{ranks_past, first_where, before_where};
 
+use crate::finding::Hint;
 use crate::records::Records;
 use ss_base::{FaultKind, Mode, Owner, Value};
 use ss_records_blocks::{Directory, Entry, NUMBER};
@@ -32,6 +33,14 @@ pub struct WholeMember {
     pub value: i64,
     /// The member that follows it, 0 where there is none.
     pub next: i64,
+}
+
+// One that may be in a set, and the member that comes next to it.
+#[derive(Clone, Copy)]
+struct FoundMember {
+    member: Entry,
+    // 0 where there is none.
+    next: i64,
 }
 
 impl Records {
@@ -98,12 +107,12 @@ impl Records {
         next.number != x.number
     }
 
-    /// The first member of a set, 0 where there is none: a touch.
-    pub fn first(&mut self, s: usize, o: i64) -> Result<i64, FaultKind>
+    /// The first member of a set, or the last, 0 where there is none: a touch.
+    pub fn end(&mut self, s: usize, o: i64, is_last: bool) -> Result<i64, FaultKind>
         requires kept { IsKept self.old }
         requires set { s < length self.old.layout.sets }
         requires touches { self.old.blocks.touches ≡ 0 }
-        ensures value { result ≡ first_in (state self.old) s o }
+        ensures value { result ≡ (if is_last then last_in (state self.old) s o else first_in (state self.old) s o) }
         ensures kept { IsKept self.new }
         ensures same { state self.new ≡ state self.old }
         ensures touches { (self.new.blocks.touches ≤ 1) × (IsOk result → 1 ≤ self.new.blocks.touches) × (self.new.blocks.total ≡ self.old.blocks.total + self.new.blocks.touches) }
@@ -111,28 +120,8 @@ impl Records {
         match self.owner(s, o) {
             Ok(owner) => {
                 let base = self.layout.owner_base(s);
-                let first = self.blocks.follow(owner.place, base);
-                Ok(first.number as i64)
-            }
-            Err(fault) => Err(fault),
-        }
-    }
-
-    /// The last member of a set, 0 where there is none: a touch.
-    pub fn last(&mut self, s: usize, o: i64) -> Result<i64, FaultKind>
-        requires kept { IsKept self.old }
-        requires set { s < length self.old.layout.sets }
-        requires touches { self.old.blocks.touches ≡ 0 }
-        ensures value { result ≡ last_in (state self.old) s o }
-        ensures kept { IsKept self.new }
-        ensures same { state self.new ≡ state self.old }
-        ensures touches { (self.new.blocks.touches ≤ 1) × (IsOk result → 1 ≤ self.new.blocks.touches) × (self.new.blocks.total ≡ self.old.blocks.total + self.new.blocks.touches) }
-    {
-        match self.owner(s, o) {
-            Ok(owner) => {
-                let base = self.layout.owner_base(s);
-                let last = self.blocks.follow(owner.place, base + 1);
-                Ok(last.number as i64)
+                let end = self.blocks.follow(owner.place, beside(base, is_last));
+                Ok(end.number as i64)
             }
             Err(fault) => Err(fault),
         }
@@ -162,22 +151,42 @@ impl Records {
         }
     }
 
-    /// The member that follows x in its set, 0 where there is none: a touch.
-    pub fn next(&mut self, s: usize, x: i64) -> Result<i64, FaultKind>
+    // The entity that x refers to, which may be in a set, and the member that follows it, or in reverse precedes it: a touch.
+    #[inline(always)]
+    fn read_beside(&mut self, s: usize, x: i64, reverse: bool) -> Result<FoundMember, FaultKind>
         requires kept { IsKept self.old }
         requires set { s < length self.old.layout.sets }
         requires touches { self.old.blocks.touches ≡ 0 }
-        ensures value { result ≡ next_in (state self.old) s x }
-        ensures kept { IsKept self.new }
-        ensures same { state self.new ≡ state self.old }
+        ensures found { MatchResult result (λ b. Joins self.old s b.member × (joiner (state self.old) s x ≡ Ok b.member.number) × ((if reverse then previous_in (state self.old) s x else next_in (state self.old) s x) ≡ Ok b.next)) (λ e. (if reverse then previous_in (state self.old) s x else next_in (state self.old) s x) ≡ Err e) }
+        ensures same { self.new ≡ record self.old { blocks = self.new.blocks } }
+        ensures cells { self.new.blocks.cells ≡ self.old.blocks.cells }
         ensures touches { (self.new.blocks.touches ≤ 1) × (IsOk result → 1 ≤ self.new.blocks.touches) × (self.new.blocks.total ≡ self.old.blocks.total + self.new.blocks.touches) }
     {
         match self.joiner(s, x) {
             Ok(member) => {
                 let base = self.layout.member_base(s);
-                let next = self.blocks.follow(member.place, base);
-                Ok(other_than(next.number, member.number) as i64)
+                let next = self.blocks.follow(member.place, beside(base, reverse));
+                Ok(FoundMember {
+                    member,
+                    next: other_than(next.number, member.number) as i64,
+                })
             }
+            Err(fault) => Err(fault),
+        }
+    }
+
+    /// The member that follows x in its set, or in reverse the one that precedes it, 0 where there is none: a touch.
+    pub fn next_to(&mut self, s: usize, x: i64, reverse: bool) -> Result<i64, FaultKind>
+        requires kept { IsKept self.old }
+        requires set { s < length self.old.layout.sets }
+        requires touches { self.old.blocks.touches ≡ 0 }
+        ensures value { result ≡ (if reverse then previous_in (state self.old) s x else next_in (state self.old) s x) }
+        ensures kept { IsKept self.new }
+        ensures same { state self.new ≡ state self.old }
+        ensures touches { (self.new.blocks.touches ≤ 1) × (IsOk result → 1 ≤ self.new.blocks.touches) × (self.new.blocks.total ≡ self.old.blocks.total + self.new.blocks.touches) }
+    {
+        match self.read_beside(s, x, reverse) {
+            Ok(found) => Ok(found.next),
             Err(fault) => Err(fault),
         }
     }
@@ -193,18 +202,15 @@ impl Records {
         ensures same { state self.new ≡ state self.old }
         ensures touches { (self.new.blocks.touches ≤ 1) × (IsOk result → 1 ≤ self.new.blocks.touches) × (self.new.blocks.total ≡ self.old.blocks.total + self.new.blocks.touches) }
     {
-        let class = self.layout.member_class(s);
-        match self.find(class, x) {
-            Ok(place) => {
-                let number = self.blocks.number(place, NUMBER);
+        match self.read_beside(s, x, false) {
+            Ok(found) => {
+                let class = self.layout.member_class(s);
                 let mode = self.layout.mode(class, field);
                 let k = value_start(field);
-                let value = attributes::value(&self.blocks, place, k, mode);
-                let base = self.layout.member_base(s);
-                let next = self.blocks.follow(place, base);
+                let value = attributes::value(&self.blocks, found.member.place, k, mode);
                 Ok(Member {
                     value,
-                    next: other_than(next.number, number) as i64,
+                    next: found.next,
                 })
             }
             Err(fault) => Err(fault),
@@ -222,17 +228,13 @@ impl Records {
         ensures same { state self.new ≡ state self.old }
         ensures touches { (self.new.blocks.touches ≤ 1) × (IsOk result → 1 ≤ self.new.blocks.touches) × (self.new.blocks.total ≡ self.old.blocks.total + self.new.blocks.touches) }
     {
-        let class = self.layout.member_class(s);
-        match self.find(class, x) {
-            Ok(place) => {
-                let number = self.blocks.number(place, NUMBER);
+        match self.read_beside(s, x, false) {
+            Ok(found) => {
                 let k = value_start(field);
-                let value = attributes::whole(&self.blocks, place, k);
-                let base = self.layout.member_base(s);
-                let next = self.blocks.follow(place, base);
+                let value = attributes::whole(&self.blocks, found.member.place, k);
                 Ok(WholeMember {
                     value,
-                    next: other_than(next.number, number) as i64,
+                    next: found.next,
                 })
             }
             Err(fault) => Err(fault),
@@ -302,26 +304,6 @@ impl Records {
         is_after(attributes::whole(&self.blocks, member.place, k), own, high)
     }
 
-    /// The member that precedes x in its set, 0 where there is none: a touch.
-    pub fn previous(&mut self, s: usize, x: i64) -> Result<i64, FaultKind>
-        requires kept { IsKept self.old }
-        requires set { s < length self.old.layout.sets }
-        requires touches { self.old.blocks.touches ≡ 0 }
-        ensures value { result ≡ previous_in (state self.old) s x }
-        ensures kept { IsKept self.new }
-        ensures same { state self.new ≡ state self.old }
-        ensures touches { (self.new.blocks.touches ≤ 1) × (IsOk result → 1 ≤ self.new.blocks.touches) × (self.new.blocks.total ≡ self.old.blocks.total + self.new.blocks.touches) }
-    {
-        match self.joiner(s, x) {
-            Ok(member) => {
-                let base = self.layout.member_base(s);
-                let previous = self.blocks.follow(member.place, base + 1);
-                Ok(other_than(previous.number, member.number) as i64)
-            }
-            Err(fault) => Err(fault),
-        }
-    }
-
     /// The member that follows x in the set of an owner, or in reverse the one that precedes it, 0 where there is none: at most
     /// two touches. None where x is not in that set, or there is a fault. The system is the owner 0.
     #[inline(always)]
@@ -366,7 +348,7 @@ impl Records {
         requires set { s < length self.now.layout.sets }
         ensures { IfSome result (λ e. Joins self.now s e × (joiner (state self.now) s x ≡ Ok e.number)) }
     {
-        match self.expected(self.layout.member_class(s), x) {
+        match self.hinted_of_class(self.layout.member_class(s), x, Hint::Next) {
             Some(place) => Some(Entry {
                 place,
                 number: self.blocks.number(place, NUMBER),
@@ -497,10 +479,10 @@ fn is_after(its: i64, own: i64, high: bool) -> bool
     false
 }
 
-// The word that links to the member that follows, or in reverse to the one that precedes.
+// Of two words side by side the first, which links to what comes first or follows, or in reverse the second.
 #[inline(always)]
 pub fn beside(base: usize, reverse: bool) -> usize
-    requires { base ≤ 5242883 }
+    requires { base < 2 ^ 32 }
     ensures { result ≡ (if reverse then base + 1 else base) }
 {
     if reverse { base + 1 } else { base }

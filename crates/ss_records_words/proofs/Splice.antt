@@ -101,9 +101,6 @@ pub last_splice : (p : ℕ) (xs : List ℕ) (x : ℕ) (ys : List ℕ) → last_o
 last_splice p [] x ys = refl
 last_splice p (z ∷ zs) x ys = last_splice z zs x ys
 
-pub last_same : (p q : ℕ) (xs : List ℕ) (w : ℕ) (ws : List ℕ) → last_or p (xs ++ w ∷ ws) ≡ last_or q (w ∷ ws)
-last_same p q xs w ws = last_splice p xs w ws
-
 in_part : (xs ys : List ℕ) → NotIn 0 (xs ++ ys) → NotIn 0 xs
 in_part [] ys n = tt
 in_part (z ∷ zs) ys n = (n.0, in_part zs ys n.1)
@@ -119,9 +116,6 @@ tail_splice xs x (w ∷ ws) n = rw (differs w 0 (not_in_mid 0 xs w ws n)) (last_
 pub head_less : (xs : List ℕ) (x : ℕ) (ys : List ℕ) → NotIn 0 (xs ++ ys) → head0 (xs ++ ys) ≡ cond (last_or 0 xs == 0) (head0 ys) (head0 (xs ++ x ∷ ys))
 head_less [] x ys n = refl
 head_less (z ∷ zs) x ys n = rw (differs (last_or z zs) 0 (not_last 0 z zs n.0 (in_part zs ys n.1))) refl
-
-not_mid : (y : ℕ) (xs : List ℕ) (z : ℕ) (zs : List ℕ) → NotIn y (xs ++ z ∷ zs) → (z ≡ y → ⊥)
-not_mid = not_in_mid
 
 pub tail_less : (xs : List ℕ) (x : ℕ) (ys : List ℕ) → NotIn 0 (xs ++ ys) → last_or 0 (xs ++ ys) ≡ cond (head0 ys == 0) (last_or 0 xs) (last_or 0 (xs ++ x ∷ ys))
 tail_less xs x [] n = ap (last_or 0) (append-nil xs)

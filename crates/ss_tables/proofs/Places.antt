@@ -8,7 +8,7 @@ use Rattle.std.proofs.lemmas.Option.{slice_get-get_or}
 use Rattle.ss_tree.specs.Tree.{ProgramTree}
 use Rattle.ss_tree.specs.Names.{NameBytes}
 use Rattle.ss_names_declarations.specs.Declarations.{declarations}
-use Rattle.ss_names_declarations.specs.Firsts.{firsts, place_among, place_in, same_name, value_for}
+use Rattle.ss_names_declarations.specs.Firsts.{first_entries, place_among, place_in, same_name, value_for}
 use Rattle.ss_names_declarations.proofs.Entries.{entry_of_key, firsts_once, no_place, place_from, place_of_value}
 use Rattle.ss_names.specs.declared.meaning.Meaning.{Meaning}
 use Rattle.ss_names.specs.declared.names.NameId.{NameId}
@@ -28,10 +28,10 @@ found_is_there None entries name h = tt
 found_is_there (Some id) entries name h = is_there (keys_of entries) name id.0 (sym h)
 
 -- each name has one entry: the place of its entry is the one that is found
-one_entry : (all : List (NameBytes × Meaning)) (n : ℕ) (name : NameBytes) → slice_get (keys_of (firsts all)) n ≡ Some name → place_in (firsts all) name ≡ Some n
+one_entry : (all : List (NameBytes × Meaning)) (n : ℕ) (name : NameBytes) → slice_get (keys_of (first_entries all)) n ≡ Some name → place_in (first_entries all) name ≡ Some n
 one_entry all n name h =
-    let at = entry_of_key (firsts all) n name h in
-    place_from (firsts all) n name at.0 (firsts_once all) at.1
+    let at = entry_of_key (first_entries all) n name h in
+    place_from (first_entries all) n name at.0 (firsts_once all) at.1
 
 pub there_is_found : (p : ProgramTree) (t : Table) → t ≡ table p → (n : ℕ) (name : NameBytes) →
     slice_get (keys_of t.meanings) n ≡ Some name → place_in t.meanings name ≡ Some n

@@ -70,8 +70,8 @@ fn names_of(
     ensures refused { IfErr result (λ e. ReportsTableError e (refusal_of_declarations (view_program program.now))) }
 {
     let seed = seed_of(declarations);
-    let names = Names::of(alloc, seed, declarations)?;
-    let broken = refusal_of(alloc, seed, &names, declarations, program);
+    let (names, clash) = Names::of(alloc, seed, declarations)?;
+    let broken = refusal_of(alloc, seed, &names, clash, declarations, program);
     names_unless(names, broken)
 }
 

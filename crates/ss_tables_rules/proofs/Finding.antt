@@ -2,10 +2,9 @@
 use Rattle.std.proofs.Common.{◌≡◌, not, nat_lt, Bool, true, false, cond, List, [], ◌∷◌, map, option_map, Option, Some, None, refl, ap, ◌∙◌}
 use Rattle.std.specs.List.{fold}
 use Rattle.ss_base.specs.declared.line.Line.{Line}
-use Rattle.ss_names_declarations.specs.Earliest.{earlier, earlier_of}
-use Rattle.ss_names.specs.Table.{sooner}
+use Rattle.ss_names_declarations.specs.Earliest.{earlier, earlier_of, unless}
+use Rattle.ss_names.specs.Filling.{sooner}
 use Rattle.ss_tables_rules.specs.Order.{order_of}
-use Rattle.ss_tables_rules.specs.Rules.{unless}
 use Rattle.ss_tables_rules.specs.declared.error.TableError.{TableError}
 use Rattle.ss_tables_rules.specs.declared.error.TableError.TheVariants as e
 

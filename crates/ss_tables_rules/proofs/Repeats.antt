@@ -8,13 +8,13 @@ use Rattle.ss_names_declarations.specs.Earliest.{earlier, earlier_of}
 use Rattle.ss_names_declarations.specs.declared.declaration.Declared.{Declared}
 use Rattle.ss_names_declarations.specs.declared.declaration.Declaration.{Declaration}
 use Rattle.ss_names.specs.Table.{Table}
-use Rattle.ss_names_scopes.specs.Locals.{as_list}
 use Rattle.ss_tables_rules.specs.declared.once.Once.{Once}
 use Rattle.ss_tables_rules.specs.declared.once.Once.TheVariants as o
 use Rattle.ss_tables_rules.specs.declared.error.TableError.{TableError}
 use Rattle.ss_tables_rules.specs.Keyed.{Key, again_by_key, has_key, key_if, key_of, repeats_by_key, same_key, with_key}
-use Rattle.ss_tables_rules.specs.Once.{again, is_among, once_of, repeats_after, said_again, same_once, with_said}
+use Rattle.ss_tables_rules.specs.Once.{again, is_among, once_of, repeats_after, repeated_breach, same_once, once_added}
 use Rattle.ss_tables_rules.specs.Order.{order_of}
+use Rattle.std.specs.Prelude.{option_to_list}
 use Rattle.ss_names_scopes.proofs.Finding.{earlier_of_list}
 
 -- ---- keys
@@ -41,13 +41,13 @@ has_keyed (s ∷ ss) once = λ i. keyed once s i || has_keyed ss once i
 
 again_keyed : (said : List Once) (line : Line) (what : Declared) (once : Option Once) → again_by_key (map key_of said) line what (key_if once) ≡ again said line what once
 again_keyed said line what None = refl
-again_keyed said line what (Some once) = ap (λ b. cond b (Some (said_again line what)) None) (has_keyed said once)
+again_keyed said line what (Some once) = ap (λ b. cond b (Some (repeated_breach line what)) None) (has_keyed said once)
 
 mapped_if : (b : Bool) (said : List Once) (once : Once) → cond b (map key_of said) (map key_of said ++ key_of once ∷ []) ≡ map key_of (cond b said (said ++ once ∷ []))
 mapped_if true said once = refl
 mapped_if false said once = sym (map_push key_of said once)
 
-with_keyed : (said : List Once) (once : Option Once) → with_key (map key_of said) (key_if once) ≡ map key_of (with_said said once)
+with_keyed : (said : List Once) (once : Option Once) → with_key (map key_of said) (key_if once) ≡ map key_of (once_added said once)
 with_keyed said None = refl
 with_keyed said (Some once) =
     ap (λ b. cond b (map key_of said) (map key_of said ++ key_of once ∷ [])) (has_keyed said once) ∙ mapped_if (is_among said once) said once
@@ -57,9 +57,9 @@ pub repeats_keyed : (t : Table) (said : List Once) (ds : List Declaration) → r
 repeats_keyed t said [] = refl
 repeats_keyed t said (x ∷ ds) =
     let once = once_of t x.what in
-    let rest : repeats_by_key t (with_key (map key_of said) (key_if once)) ds ≡ repeats_after t (with_said said once) ds =
-    ap (λ s. repeats_by_key t s ds) (with_keyed said once) ∙ repeats_keyed t (with_said said once) ds in
-    λ i. as_list (again_keyed said x.line x.what once i) ++ rest i
+    let rest : repeats_by_key t (with_key (map key_of said) (key_if once)) ds ≡ repeats_after t (once_added said once) ds =
+    ap (λ s. repeats_by_key t s ds) (with_keyed said once) ∙ repeats_keyed t (once_added said once) ds in
+    λ i. option_to_list (again_keyed said x.line x.what once i) ++ rest i
 
 -- ---- one declaration more
 
@@ -72,7 +72,7 @@ repeat_more t said after found next total ds i x lt is n a h =
     let breach = again_by_key said x.line x.what key in
     (λ k. fold (earlier order_of) (n k) (repeats_by_key t (a k) rest))
     ∙ ap (λ (b : Option TableError). fold (earlier order_of) b (repeats_by_key t (with_key said key) rest)) (earlier_of_list order_of found breach)
-    ∙ sym (fold-append (earlier order_of) found (as_list breach) (repeats_by_key t (with_key said key) rest))
+    ∙ sym (fold-append (earlier order_of) found (option_to_list breach) (repeats_by_key t (with_key said key) rest))
     ∙ ap (λ (y : Declaration). fold (earlier order_of) found (repeats_by_key t said (y ∷ rest))) is
     ∙ sym (at_drop_more (λ (l : List Declaration). fold (earlier order_of) found (repeats_by_key t said l)) ds i x lt)
     ∙ h

@@ -1,12 +1,11 @@
 -- The first rule that a program breaks by what it declares, and the first line of the text where it does.
-use Rattle.std.specs.Prelude.{List, [], ◌++◌, map, Option, is_some, if◌then◌else◌}
+use Rattle.std.specs.Prelude.{List, Option, [], option_to_list, if◌then◌else◌, is_some, map, ◌++◌}
 use Rattle.std.specs.List.{flat_map}
 use Rattle.ss_tree.specs.Tree.{SectionTree, ProgramTree}
 use Rattle.ss_names_declarations.specs.Declarations.{declarations}
 use Rattle.ss_names_declarations.specs.Earliest.{earliest}
 use Rattle.ss_names_declarations.specs.declared.declaration.Declaration.{Declaration}
 use Rattle.ss_names.specs.Table.{Table, clashes, declared}
-use Rattle.ss_names_scopes.specs.Locals.{as_list}
 use Rattle.ss_tables_rules.specs.Keys.{misranked}
 use Rattle.ss_tables_rules.specs.Once.{repeats}
 use Rattle.ss_tables_rules.specs.Rules.{broken_by, unmoded_in}
@@ -18,7 +17,7 @@ use Rattle.ss_tables_rules.specs.declared.error.TableError.TheVariants as e
 
 -- a declaration that breaks a rule by the table
 abbrev pub breaks : Table → Declaration → List TableError
-breaks t x = as_list (broken_by t x)
+breaks t x = option_to_list (broken_by t x)
 
 -- the uses of local variables without a mode
 abbrev pub unmoded : Table → List SectionTree → List TableError

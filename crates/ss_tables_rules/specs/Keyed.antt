@@ -1,5 +1,5 @@
 -- What may be said once, by keys: the number of its kind, that of its section, and its name.
-use Rattle.std.specs.Prelude.{ℕ, Bool, ◌&&◌, List, [], ◌∷◌, ◌++◌, Option, Some, None, if◌then◌else◌, nat_eq}
+use Rattle.std.specs.Prelude.{Bool, List, None, Option, Some, ℕ, [], option_to_list, if◌then◌else◌, nat_eq, ◌&&◌, ◌++◌, ◌∷◌}
 use Rattle.std.specs.List.{list_any}
 use Rattle.std.specs.Option.{option_eq}
 use Rattle.std.specs.Cmp.Lexicographic.{pointwise}
@@ -8,11 +8,10 @@ use Rattle.ss_tree.specs.Names.{NameBytes}
 use Rattle.ss_names_declarations.specs.declared.declaration.Declared.{Declared}
 use Rattle.ss_names_declarations.specs.declared.declaration.Declaration.{Declaration}
 use Rattle.ss_names.specs.Table.{Table}
-use Rattle.ss_names_scopes.specs.Locals.{as_list}
 use Rattle.ss_tables_rules.specs.declared.once.Once.{Once}
 use Rattle.ss_tables_rules.specs.declared.once.Once.TheVariants as o
 use Rattle.ss_tables_rules.specs.declared.error.TableError.{TableError}
-use Rattle.ss_tables_rules.specs.Once.{once_of, said_again}
+use Rattle.ss_tables_rules.specs.Once.{once_of, repeated_breach}
 
 abbrev pub Key : Type 0
 Key = ℕ × (ℕ × Option NameBytes)
@@ -44,7 +43,7 @@ has_key said key = list_any (same_key key) said
 
 abbrev pub again_by_key : List Key → Line → Declared → Option Key → Option TableError
 again_by_key said line what None = None
-again_by_key said line what (Some key) = if has_key said key then Some (said_again line what) else None
+again_by_key said line what (Some key) = if has_key said key then Some (repeated_breach line what) else None
 
 abbrev pub with_key : List Key → Option Key → List Key
 with_key said None = said
@@ -54,5 +53,5 @@ with_key said (Some key) = if has_key said key then said else said ++ key ∷ []
 abbrev pub repeats_by_key : Table → List Key → List Declaration → List TableError
 repeats_by_key t said [] = []
 repeats_by_key t said (x ∷ xs) =
-    as_list (again_by_key said x.line x.what (key_if (once_of t x.what)))
+    option_to_list (again_by_key said x.line x.what (key_if (once_of t x.what)))
     ++ repeats_by_key t (with_key said (key_if (once_of t x.what))) xs

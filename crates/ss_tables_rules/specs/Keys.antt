@@ -1,5 +1,5 @@
 -- Refusal 57: the keys of a ranked set are attributes of its members' class. The line is that of the DEFINE.
-use Rattle.std.specs.Prelude.{ℕ, Bool, true, false, not, List, [], ◌∷◌, Option, Some, None, if◌then◌else◌, nat_eq}
+use Rattle.std.specs.Prelude.{ℕ, Bool, true, false, not, List, [], ◌∷◌, Option, Some, None, option_and_then, option_map, if◌then◌else◌, nat_eq}
 use Rattle.std.specs.List.{flat_map, list_any}
 use Rattle.ss_base.specs.declared.line.Line.{Line}
 use Rattle.ss_tree.specs.Names.{NameBytes}
@@ -9,20 +9,18 @@ use Rattle.ss_names_declarations.specs.Firsts.{value_for}
 use Rattle.ss_names.specs.declared.entry.Attribute.{Attribute}
 use Rattle.ss_names.specs.declared.entry.Set.{Set}
 use Rattle.ss_names.specs.Table.{Table}
-use Rattle.ss_tables_rules.specs.Rules.{set_named}
+use Rattle.ss_tables_rules.specs.Rules.{set_by_name}
 use Rattle.ss_tables_rules.specs.declared.error.TableError.{TableError}
 use Rattle.ss_tables_rules.specs.declared.error.TableError.TheVariants.{RankKey}
 
 abbrev pub member_of : Option Set → Option ℕ
-member_of None = None
-member_of (Some set) = set.member
+member_of set = option_and_then (λ (s : Set). s.member) set
 
 abbrev pub member_named : Table → NameBytes → Option ℕ
-member_named t set = member_of (set_named t set)
+member_named t set = member_of (set_by_name t set)
 
 abbrev pub class_of : Option Attribute → Option ℕ
-class_of None = None
-class_of (Some a) = Some a.class
+class_of attribute = option_map (λ (a : Attribute). a.class) attribute
 
 -- whether a key of this class is none of the members' class, where there is one
 abbrev pub is_foreign : Option ℕ → Option ℕ → Bool

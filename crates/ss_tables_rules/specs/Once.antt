@@ -1,5 +1,5 @@
 -- Refusals 51 and 58: what may be said once is said once. The line is that of the later place.
-use Rattle.std.specs.Prelude.{Bool, true, false, ◌&&◌, List, [], ◌∷◌, ◌++◌, Option, Some, None, is_some, if◌then◌else◌, nat_eq}
+use Rattle.std.specs.Prelude.{Bool, List, None, Option, Some, [], option_to_list, false, if◌then◌else◌, is_some, nat_eq, true, ◌&&◌, ◌++◌, ◌∷◌}
 use Rattle.std.specs.List.{list_any}
 use Rattle.ss_base.specs.declared.line.Line.{Line}
 use Rattle.ss_tree.specs.Names.{NameBytes}
@@ -8,7 +8,6 @@ use Rattle.ss_names_declarations.specs.declared.declaration.Declared.{Declared}
 use Rattle.ss_names_declarations.specs.declared.declaration.Declared.TheVariants as d
 use Rattle.ss_names_declarations.specs.declared.declaration.Declaration.{Declaration}
 use Rattle.ss_names.specs.Table.{Table}
-use Rattle.ss_names_scopes.specs.Locals.{as_list}
 use Rattle.ss_tables_rules.specs.declared.once.Once.{Once}
 use Rattle.ss_tables_rules.specs.declared.once.Once.TheVariants as o
 use Rattle.ss_tables_rules.specs.declared.error.TableError.{TableError}
@@ -37,9 +36,9 @@ once_of t (d.Local name section mode) = Some (o.Local name section)
 once_of t _ = None
 
 -- the breach of saying it again
-abbrev pub said_again : Line → Declared → TableError
-said_again line (d.Subject name weighting) = TallyTwice line
-said_again line _ = Twice line
+abbrev pub repeated_breach : Line → Declared → TableError
+repeated_breach line (d.Subject name weighting) = TallyTwice line
+repeated_breach line _ = Twice line
 
 -- whether both are the same
 abbrev pub same_once : Once → Once → Bool
@@ -63,17 +62,17 @@ is_among said once = list_any (same_once once) said
 
 abbrev pub again : List Once → Line → Declared → Option Once → Option TableError
 again said line what None = None
-again said line what (Some once) = if is_among said once then Some (said_again line what) else None
+again said line what (Some once) = if is_among said once then Some (repeated_breach line what) else None
 
-abbrev pub with_said : List Once → Option Once → List Once
-with_said said None = said
-with_said said (Some once) = if is_among said once then said else said ++ once ∷ []
+abbrev pub once_added : List Once → Option Once → List Once
+once_added said None = said
+once_added said (Some once) = if is_among said once then said else said ++ once ∷ []
 
 -- the breaches of declarations that say again what was said before
 abbrev pub repeats_after : Table → List Once → List Declaration → List TableError
 repeats_after t said [] = []
 repeats_after t said (x ∷ xs) =
-    as_list (again said x.line x.what (once_of t x.what)) ++ repeats_after t (with_said said (once_of t x.what)) xs
+    option_to_list (again said x.line x.what (once_of t x.what)) ++ repeats_after t (once_added said (once_of t x.what)) xs
 
 abbrev pub repeats : Table → List Declaration → List TableError
 repeats t ds = repeats_after t [] ds

@@ -1,14 +1,15 @@
 -- The rules 51 to 60 that one declaration and the table decide, and 52 on the uses of sections.
-use Rattle.std.specs.Prelude.{ℕ, Bool, true, false, not, ◌||◌, List, [], ◌∷◌, Option, Some, None, is_some, if◌then◌else◌, nat_le, nat_eq, slice_get}
+use Rattle.std.specs.Prelude.{ℕ, Bool, true, false, not, ◌||◌, List, [], ◌∷◌, Option, Some, None, is_some, option_and_then, option_map, if◌then◌else◌, nat_le, nat_eq, slice_get}
 use Rattle.std.specs.List.{flat_map}
 use Rattle.std.specs.Map.{lookup}
-use Rattle.std.specs.Option.{option_or}
+use Rattle.std.specs.Option.{option_map_or, option_or}
 use Rattle.ss_base.specs.declared.line.Line.{Line}
 use Rattle.ss_base.specs.declared.layout.Mode.{Mode as ValueMode}
 use Rattle.ss_tree.specs.Names.{NameBytes}
 use Rattle.ss_tree.specs.Tree.{SectionTree}
 use Rattle.ss_tree.specs.declared.preamble.Mode.{Mode}
 use Rattle.ss_tree.specs.declared.preamble.Mode.TheVariants as modes
+use Rattle.ss_names_declarations.specs.Earliest.{unless}
 use Rattle.ss_names_declarations.specs.Firsts.{is_one_of, place_among, place_in, same_name, value_for}
 use Rattle.ss_names_declarations.specs.declared.declaration.Declared.{Declared}
 use Rattle.ss_names_declarations.specs.declared.declaration.Declared.TheVariants as d
@@ -25,21 +26,14 @@ use Rattle.ss_names_scopes.specs.Locals.{Moded, local_of, locals}
 use Rattle.ss_tables_rules.specs.declared.error.TableError.{TableError}
 use Rattle.ss_tables_rules.specs.declared.error.TableError.TheVariants as e
 
--- the breach of a rule that doesn't hold
-abbrev pub unless : Bool → TableError → Option TableError
-unless true breach = None
-unless false breach = Some breach
-
 -- ---- what the rules ask
 
 -- a number past the most: 64 classes, 64 sets, 64 attributes of a class
 abbrev pub is_too_many : Option ℕ → Bool
-is_too_many None = false
-is_too_many (Some number) = nat_le 64 number
+is_too_many number = option_map_or (nat_le 64) number false
 
 abbrev pub field_of : Option Attribute → Option ℕ
-field_of None = None
-field_of (Some a) = Some a.field
+field_of attribute = option_map (λ (a : Attribute). a.field) attribute
 
 -- a parameter or a local variable may hide a variable, that of a class, or nothing
 abbrev pub may_be_hidden : Option Meaning → Bool
@@ -53,19 +47,16 @@ is_real modes.Real = true
 is_real _ = false
 
 abbrev pub set_at : Table → Option ℕ → Option Set
-set_at t None = None
-set_at t (Some number) = slice_get t.sets number
+set_at t number = option_and_then (slice_get t.sets) number
 
-abbrev pub set_named : Table → NameBytes → Option Set
-set_named t name = set_at t (place_among t.set_names name)
+abbrev pub set_by_name : Table → NameBytes → Option Set
+set_by_name t name = set_at t (place_among t.set_names name)
 
 abbrev pub has_owner : Option Set → Bool
-has_owner None = false
-has_owner (Some set) = is_some set.owner
+has_owner set = option_map_or (λ (s : Set). is_some s.owner) set false
 
 abbrev pub has_member : Option Set → Bool
-has_member None = false
-has_member (Some set) = is_some set.member
+has_member set = option_map_or (λ (s : Set). is_some s.member) set false
 
 abbrev pub is_class_of : Option Attribute → Option ℕ → Bool
 is_class_of (Some a) (Some class) = nat_eq a.class class
@@ -85,10 +76,10 @@ broken_in t line (d.Attribute name class) =
     option_or (unless (is_some t.usual || is_some (value_for t.modes name)) (e.RealMode line))
     (unless (not (is_too_many (field_of (value_for t.attributes name)))) (e.TooMany line))
 broken_in t line (d.Owner set class) =
-    option_or (unless (has_member (set_named t set)) (e.NoMember line))
+    option_or (unless (has_member (set_by_name t set)) (e.NoMember line))
     (unless (not (is_too_many (place_among t.set_names set))) (e.TooMany line))
 broken_in t line (d.Member set class) =
-    option_or (unless (has_owner (set_named t set)) (e.NoOwner line))
+    option_or (unless (has_owner (set_by_name t set)) (e.NoOwner line))
     (unless (not (is_too_many (place_among t.set_names set))) (e.TooMany line))
 broken_in t line (d.Variable name mode) = unless (not (is_real mode)) (e.RealMode line)
 broken_in t line (d.Order set rule statement) = unless (is_one_of t.set_names set) (e.UnknownSet line)
@@ -111,8 +102,7 @@ has_no_mode _ = false
 
 -- whether a use names a local variable that has no mode
 abbrev pub lacks_mode : Moded → Option NameBytes → Bool
-lacks_mode ls None = false
-lacks_mode ls (Some name) = has_no_mode (lookup (same_name name) ls)
+lacks_mode ls name = option_map_or (λ n. has_no_mode (lookup (same_name n) ls)) name false
 
 abbrev pub unmoded_use : Table → Moded → Use → List TableError
 unmoded_use t ls u = if lacks_mode ls (local_of t u.what) then e.RealMode u.line ∷ [] else []

@@ -3,7 +3,8 @@
 ghost use Rattle.std.specs.Prelude.{◌≡◌, option_map, IfOk};
 ghost use Rattle.ss_tables_rules.specs.declared.error.TableError.TheVariants as e;
 ghost use Rattle.ss_tree.specs.View.{view_program};
-ghost use Rattle.ss_names.specs.Table.{declared};
+ghost use Rattle.ss_names.specs.Filling.{first_line};
+ghost use Rattle.ss_names.specs.Table.{clashes, declared};
 ghost use Rattle.ss_names_declarations.specs.Declarations.{declarations as declarations_seen};
 ghost use Rattle.ss_tables_rules.specs.Broken.{refusal_of_declarations};
 
@@ -77,7 +78,8 @@ fn clash_breach(clash: Option<Line>) -> Option<TableError>
 }
 
 /// The first rule that a program breaks by what it declares, in the order of the rules' numbers, with the first line where
-/// it does; None where it breaks none. The declarations are those of the program, and the table is made from them.
+/// it does; None where it breaks none. The declarations are those of the program, the table is made from them, and the clash is
+/// the first line where one of them declares a name as another thing than before.
 ///
 /// # Errors
 /// `AllocError` where memory is refused.
@@ -85,15 +87,17 @@ pub fn refusal_of(
     alloc: Global,
     seed: Seed,
     names: &Names,
+    clash: Option<Line>,
     declarations: &[Declaration],
     program: &Program,
 ) -> Result<Option<TableError>, AllocError>
     requires declarations { declarations.now ≡ declarations_seen (view_program program.now) }
     requires names { names.now ≡ declared declarations.now }
+    requires clash { clash ≡ first_line (clashes declarations.now) }
     ensures { IfOk result (λ b. b ≡ refusal_of_declarations (view_program program.now)) }
 {
-    let clash = clash_breach(names.clash);
-    let once = repeated(alloc, seed, names, declarations, clash)?;
+    let twice = clash_breach(clash);
+    let once = repeated(alloc, seed, names, declarations, twice)?;
     let by_table = declared_breaks(names, declarations, once);
     let by_keys = misranked(names, &program.preamble, by_table);
     unmoded(alloc, names, &program.sections, by_keys)

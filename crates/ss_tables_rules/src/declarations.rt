@@ -3,13 +3,13 @@
 ghost use Rattle.std.specs.Prelude.{◌≡◌, ◌||◌, not, is_some};
 ghost use Rattle.std.specs.List.{flat_map, fold};
 ghost use Rattle.std.specs.Option.{option_or};
-ghost use Rattle.ss_names_declarations.specs.Earliest.{earlier};
+ghost use Rattle.ss_names_declarations.specs.Earliest.{earlier, unless};
 ghost use Rattle.ss_names_declarations.specs.Firsts.{place_among, value_for};
 ghost use Rattle.ss_names.specs.Entries.{is_notice};
 ghost use Rattle.ss_tables_rules.specs.declared.error.TableError.TheVariants as e;
 ghost use Rattle.ss_tables_rules.specs.Broken.{breaks};
 ghost use Rattle.ss_tables_rules.specs.Order.{order_of};
-ghost use Rattle.ss_tables_rules.specs.Rules.{broken_by, broken_in, field_of, has_member, has_owner, is_attribute_of, is_class_of, is_real, is_too_many, may_be_hidden, set_named, unless};
+ghost use Rattle.ss_tables_rules.specs.Rules.{broken_by, broken_in, field_of, has_member, has_owner, is_attribute_of, is_class_of, is_real, is_too_many, may_be_hidden, set_by_name};
 
 use crate::error::TableError;
 use ss_base::{Line, Name};
@@ -111,8 +111,8 @@ fn attribute_breaks(names: &Names, line: Line, attribute: &Name) -> Option<Table
 }
 
 // A set of this name.
-pub(crate) fn set_named(names: &Names, set: &Name) -> Option<Set>
-    ensures { result ≡ set_named names.now set.now }
+pub(crate) fn set_by_name(names: &Names, set: &Name) -> Option<Set>
+    ensures { result ≡ set_by_name names.now set.now }
 {
     match names.set_names.place(set) {
         Some(number) => names.set_at(number),
@@ -142,10 +142,10 @@ fn has_member(set: Option<Set>) -> bool
 
 // A set that has an owner and no members, or that is one too many.
 fn owner_breaks(names: &Names, line: Line, set: &Name) -> Option<TableError>
-    ensures { result ≡ option_or (unless (has_member (set_named names.now set.now)) (e.NoMember line)) (unless (not (is_too_many (place_among names.now.set_names set.now))) (e.TooMany line)) }
+    ensures { result ≡ option_or (unless (has_member (set_by_name names.now set.now)) (e.NoMember line)) (unless (not (is_too_many (place_among names.now.set_names set.now))) (e.TooMany line)) }
 {
     let lacking = unless(
-        has_member(set_named(names, set)),
+        has_member(set_by_name(names, set)),
         TableError::NoMember(line),
     );
     lacking.or(too_many(line, names.set_names.place(set)))
@@ -153,9 +153,12 @@ fn owner_breaks(names: &Names, line: Line, set: &Name) -> Option<TableError>
 
 // A set that has members and no owner, or that is one too many.
 fn member_breaks(names: &Names, line: Line, set: &Name) -> Option<TableError>
-    ensures { result ≡ option_or (unless (has_owner (set_named names.now set.now)) (e.NoOwner line)) (unless (not (is_too_many (place_among names.now.set_names set.now))) (e.TooMany line)) }
+    ensures { result ≡ option_or (unless (has_owner (set_by_name names.now set.now)) (e.NoOwner line)) (unless (not (is_too_many (place_among names.now.set_names set.now))) (e.TooMany line)) }
 {
-    let lacking = unless(has_owner(set_named(names, set)), TableError::NoOwner(line));
+    let lacking = unless(
+        has_owner(set_by_name(names, set)),
+        TableError::NoOwner(line),
+    );
     lacking.or(too_many(line, names.set_names.place(set)))
 }
 

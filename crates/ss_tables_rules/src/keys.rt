@@ -4,14 +4,13 @@ ghost use Rattle.std.specs.Prelude.{◌≡◌, ◌||◌, not, None, map};
 ghost use Rattle.std.specs.List.{flat_map, fold};
 ghost use Rattle.std.specs.Option.{option_or};
 ghost use Rattle.ss_tree.specs.View.{view_order, view_preamble};
-ghost use Rattle.ss_names_declarations.specs.Earliest.{earlier};
+ghost use Rattle.ss_names_declarations.specs.Earliest.{earlier, unless};
 ghost use Rattle.ss_names_declarations.specs.Firsts.{value_for};
 ghost use Rattle.ss_tables_rules.specs.Keys.{class_of, is_foreign, is_foreign_to_any, keys_of_order, member_named, member_of, misranked, misranked_in, misranked_key};
 ghost use Rattle.ss_tables_rules.specs.Order.{order_of};
-ghost use Rattle.ss_tables_rules.specs.Rules.{unless};
 ghost use Rattle.ss_tables_rules.specs.declared.error.TableError.TheVariants as e;
 
-use crate::declarations::{set_named, unless};
+use crate::declarations::{set_by_name, unless};
 use crate::error::TableError;
 use ss_base::{Line, Name};
 use ss_names::{Attribute, Names, Set};
@@ -32,7 +31,7 @@ fn member_of(set: Option<Set>) -> Option<usize>
 fn member_named(names: &Names, set: &Name) -> Option<usize>
     ensures { result ≡ member_named names.now set.now }
 {
-    member_of(set_named(names, set))
+    member_of(set_by_name(names, set))
 }
 
 // The class of an attribute.

@@ -3,11 +3,11 @@
 ghost use Rattle.std.specs.Prelude.{◌≡◌, not, map, IfOk};
 ghost use Rattle.std.specs.List.{flat_map, fold};
 ghost use Rattle.ss_tree.specs.View.{view_section};
-ghost use Rattle.ss_names_declarations.specs.Earliest.{earlier};
+ghost use Rattle.ss_names_declarations.specs.Earliest.{earlier, unless};
 ghost use Rattle.ss_names_scopes.specs.Locals.{local_of};
 ghost use Rattle.ss_tables_rules.specs.Broken.{unmoded};
 ghost use Rattle.ss_tables_rules.specs.Order.{order_of};
-ghost use Rattle.ss_tables_rules.specs.Rules.{has_no_mode, lacks_mode, unless, unmoded_in, unmoded_use};
+ghost use Rattle.ss_tables_rules.specs.Rules.{has_no_mode, lacks_mode, unmoded_in, unmoded_use};
 ghost use Rattle.ss_tables_rules.specs.declared.error.TableError.TheVariants as e;
 
 use crate::declarations::unless;

@@ -5,7 +5,7 @@ ghost use Rattle.std.specs.List.{fold};
 ghost use Rattle.ss_names_declarations.specs.Earliest.{earlier};
 ghost use Rattle.ss_names_declarations.specs.Firsts.{is_one_of, value_for};
 ghost use Rattle.ss_tables_rules.specs.declared.once.Once.TheVariants as o;
-ghost use Rattle.ss_tables_rules.specs.Once.{if_class, once_of, repeats, said_again};
+ghost use Rattle.ss_tables_rules.specs.Once.{if_class, once_of, repeats, repeated_breach};
 ghost use Rattle.ss_tables_rules.specs.Keyed.{again_by_key, key_if, key_of, with_key};
 ghost use Rattle.ss_tables_rules.specs.Order.{order_of};
 
@@ -145,8 +145,8 @@ fn key_said(names: &Names, what: &Declared) -> Option<Key>
 }
 
 // The breach of saying it again.
-fn said_again(line: Line, what: &Declared) -> TableError
-    ensures { result ≡ said_again line what.now }
+fn repeated_breach(line: Line, what: &Declared) -> TableError
+    ensures { result ≡ repeated_breach line what.now }
 {
     match what {
         Declared::Subject { .. } => TableError::TallyTwice(line),
@@ -165,7 +165,7 @@ fn again_by_key(
     match key {
         Some(key) => {
             if said.contains(key) {
-                Some(said_again(declaration.line, &declaration.what))
+                Some(repeated_breach(declaration.line, &declaration.what))
             } else {
                 None
             }

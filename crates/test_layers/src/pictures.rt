@@ -2,23 +2,23 @@ ghost use Rattle.std.specs.Prelude.{◌≡◌, true};
 ghost use Rattle.ss_picture.specs.Suited.{Suits, EachSuits};
 
 use ss_base::{Alpha, Faulty, FaultyWrite, MemoryWrite, Plan, Value, WriteFailure};
-use ss_picture::{Field, FieldValue, Picture, Sink, SinkError};
+use ss_picture::{Field, Item, Picture, Sink, SinkError};
 use std::alloc::{AllocError, Global};
 use std::io;
 use std::io::ErrorKind;
 
 // Whether an item is a value, and its field has no decimals.
-fn is_plain(field: &Field, item: &FieldValue) -> bool
+fn is_plain(field: &Field, item: &Item) -> bool
     ensures { result ≡ true → Suits field.now.decimals item.now }
 {
     match item {
-        FieldValue::Is(_) => field.decimals == 0,
-        FieldValue::Mean(_, _) => false,
+        Item::Is(_) => field.decimals == 0,
+        Item::Mean(_, _) => false,
     }
 }
 
 // Whether the items are values, and their fields have no decimals.
-fn are_plain(fields: &[Field], items: &[FieldValue]) -> bool
+fn are_plain(fields: &[Field], items: &[Item]) -> bool
     ensures { result ≡ true → EachSuits fields.now items.now }
 {
     let mut rest = items;
@@ -53,13 +53,7 @@ fn have_shapes(fields: &[Field], shapes: &[Shape]) -> bool {
 }
 
 // Whether a picture has these fields, and gives this line with these values.
-fn gives(
-    alloc: Global,
-    picture: &Picture,
-    shapes: &[Shape],
-    items: &[FieldValue],
-    line: &[u8],
-) -> bool {
+fn gives(alloc: Global, picture: &Picture, shapes: &[Shape], items: &[Item], line: &[u8]) -> bool {
     let fields = picture.fields();
     if !have_shapes(fields, shapes) || fields.len() != items.len() || !are_plain(fields, items) {
         return false;
@@ -71,13 +65,7 @@ fn gives(
 }
 
 // Whether the picture of these bytes does.
-fn is_line(
-    alloc: Global,
-    bytes: &[u8],
-    shapes: &[Shape],
-    items: &[FieldValue],
-    line: &[u8],
-) -> bool {
+fn is_line(alloc: Global, bytes: &[u8], shapes: &[Shape], items: &[Item], line: &[u8]) -> bool {
     match Picture::of(alloc, bytes) {
         Ok(picture) => gives(alloc, &picture, shapes, items, line),
         Err(_) => false,
@@ -93,8 +81,8 @@ fn is_shaped(alloc: Global, bytes: &[u8], shapes: &[Shape]) -> bool {
 }
 
 // The item that shows a number.
-fn number(value: i64) -> FieldValue {
-    FieldValue::Is(Value::Whole(value))
+fn number(value: i64) -> Item {
+    Item::Is(Value::Whole(value))
 }
 
 // A picture of one field, its width, and the line that it gives with this number.
@@ -174,7 +162,7 @@ fn are_texts(alloc: Global, rows: &[TextRow]) -> bool {
             alloc,
             picture,
             &[(*width, 0)],
-            &[FieldValue::Is(Value::Text(text))],
+            &[Item::Is(Value::Text(text))],
             line,
         ) {
             return false;
@@ -216,7 +204,7 @@ fn pictured(alloc: Global, picture: &[u8]) -> Result<Picture, AllocError> {
 }
 
 // The line that a picture makes of values, one for each field, where memory may be refused: then the next try succeeds.
-fn filled(alloc: Global, picture: &Picture, items: &[FieldValue]) -> Result<Vec<u8>, AllocError> {
+fn filled(alloc: Global, picture: &Picture, items: &[Item]) -> Result<Vec<u8>, AllocError> {
     let fields = picture.fields();
     if fields.len() != items.len() || !are_plain(fields, items) {
         return Err(AllocError);
@@ -249,7 +237,7 @@ fn refused_memory_leaves_the_picture(rt: HostRuntime) {
 }
 
 // Whether a picture with these values, which may be fewer than its fields, adds a line to make these bytes.
-fn adds(picture: &Picture, line: &mut Vec<u8>, items: &[FieldValue], wanted: &[u8]) -> bool {
+fn adds(picture: &Picture, line: &mut Vec<u8>, items: &[Item], wanted: &[u8]) -> bool {
     let fields = picture.fields();
     if fields.len() < items.len() || !are_plain(fields, items) {
         return false;

@@ -8,4 +8,12 @@ mod layers;
 #[cfg(test)]
 mod outcomes;
 #[cfg(test)]
+mod records;
+#[cfg(test)]
+mod spellings;
+#[cfg(test)]
+mod stops;
+#[cfg(test)]
+mod streams;
+#[cfg(test)]
 mod texts;

@@ -1,10 +1,13 @@
 //! The words for outcomes, refusals and listings, and a whole run whose memory is refused.
 
 use ss_base::{FaultKind, Line, MemoryRead, MemoryWrite, Plan, WriteFailure};
-use ss_engine::{
-    CheckError, LexError, Model, Outcome, ParseError, Refusal, Stop, TableError, compile,
-    outcome_line, outcome_status, simulate,
-};
+use ss_check::CheckError;
+use ss_code::CodeError;
+use ss_engine::{Model, Outcome, Refusal, compile, outcome_line, outcome_status, simulate};
+use ss_lex::LexError;
+use ss_machine::Stop;
+use ss_parse::ParseError;
+use ss_tables::TableError;
 use std::alloc::Global;
 use std::test::Fail;
 
@@ -15,7 +18,7 @@ static ANSWER_LISTING: &[u8] = b"0       multiply                6, 7, to local 
 2       leave\n";
 
 // The model that the manual lists, and its listing there.
-static BELL: &[u8] = b"PREAMBLE\n\
+pub(crate) static BELL: &[u8] = b"PREAMBLE\n\
 NORMALLY, MODE IS INTEGER\n\
 EVENT NOTICES INCLUDE BELL\n\
 END\n\
@@ -75,7 +78,7 @@ fn is_listing(alloc: Global, model: &Model, listing: &[u8]) -> bool {
 }
 
 // Whether the code of a text is listed so.
-fn is_listed(alloc: Global, text: &[u8], listing: &[u8]) -> bool {
+pub(crate) fn is_listed(alloc: Global, text: &[u8], listing: &[u8]) -> bool {
     match compile(alloc, text) {
         Ok(model) => {
             let is = is_listing(alloc, &model, listing);
@@ -110,9 +113,22 @@ fn is_reported(alloc: Global, outcome: &Outcome, status: u8, line: &[u8]) -> boo
 }
 
 #[test]
-fn statuses_and_lines(rt: HostRuntime) {
+fn an_end_and_a_pause_are_reported(rt: HostRuntime) {
     let alloc = rt.alloc();
     assert!(rt; is_reported(alloc, &Outcome::Stopped(Stop::Ended, 0), 0, b""));
+    assert!(rt;
+        is_reported(
+            alloc,
+            &Outcome::Stopped(Stop::Paused, 2),
+            4,
+            b"paused after 2 ticks\n"
+        )
+    );
+}
+
+#[test]
+fn refusals_and_faults_have_their_lines(rt: HostRuntime) {
+    let alloc = rt.alloc();
     assert!(rt;
         is_reported(
             alloc,
@@ -137,14 +153,11 @@ fn statuses_and_lines(rt: HostRuntime) {
             b"fault 3 DESTROYED ENTITY at line 19\n"
         )
     );
-    assert!(rt;
-        is_reported(
-            alloc,
-            &Outcome::Stopped(Stop::Paused, 2),
-            4,
-            b"paused after 2 ticks\n"
-        )
-    );
+}
+
+#[test]
+fn want_of_memory_is_reported(rt: HostRuntime) {
+    let alloc = rt.alloc();
     assert!(rt;
         is_reported(
             alloc,
@@ -161,6 +174,11 @@ fn statuses_and_lines(rt: HostRuntime) {
             b"out of memory\n"
         )
     );
+}
+
+#[test]
+fn failures_are_reported(rt: HostRuntime) {
+    let alloc = rt.alloc();
     assert!(rt;
         is_reported(
             alloc,
@@ -193,7 +211,7 @@ fn is_named(refusal: &Refusal, number: u32, name: &str, line: u32) -> bool {
 }
 
 #[test]
-fn refusals_of_texts_and_grammar(rt: HostRuntime) {
+fn refusals_of_texts_and_numbers(rt: HostRuntime) {
     assert!(rt;
         is_named(
             &Refusal::Lexed(LexError::TooLong(Line(0))),
@@ -218,6 +236,10 @@ fn refusals_of_texts_and_grammar(rt: HostRuntime) {
             2
         )
     );
+}
+
+#[test]
+fn refusals_of_words_and_pictures(rt: HostRuntime) {
     assert!(rt;
         is_named(
             &Refusal::Lexed(LexError::OpenText(Line(3))),
@@ -250,6 +272,10 @@ fn refusals_of_texts_and_grammar(rt: HostRuntime) {
             6
         )
     );
+}
+
+#[test]
+fn refusals_of_grammar(rt: HostRuntime) {
     assert!(rt;
         is_named(
             &Refusal::Parsed(ParseError::Syntax(Line(2))),
@@ -269,7 +295,7 @@ fn refusals_of_texts_and_grammar(rt: HostRuntime) {
 }
 
 #[test]
-fn refusals_of_declarations(rt: HostRuntime) {
+fn refusals_of_names(rt: HostRuntime) {
     assert!(rt;
         is_named(
             &Refusal::Declared(TableError::Twice(Line(1))),
@@ -302,6 +328,10 @@ fn refusals_of_declarations(rt: HostRuntime) {
             3
         )
     );
+}
+
+#[test]
+fn refusals_of_sets(rt: HostRuntime) {
     assert!(rt;
         is_named(
             &Refusal::Declared(TableError::NoOwner(Line(4))),
@@ -326,6 +356,10 @@ fn refusals_of_declarations(rt: HostRuntime) {
             6
         )
     );
+}
+
+#[test]
+fn refusals_of_statistics_counts_and_ties(rt: HostRuntime) {
     assert!(rt;
         is_named(
             &Refusal::Declared(TableError::TallyTwice(Line(7))),
@@ -353,7 +387,7 @@ fn refusals_of_declarations(rt: HostRuntime) {
 }
 
 #[test]
-fn refusals_of_uses(rt: HostRuntime) {
+fn refusals_of_sections(rt: HostRuntime) {
     assert!(rt; is_named(&Refusal::Used(CheckError::NoMain(Line(0))), 71, "NoMain", 0));
     assert!(rt;
         is_named(
@@ -363,6 +397,18 @@ fn refusals_of_uses(rt: HostRuntime) {
             5
         )
     );
+    assert!(rt;
+        is_named(
+            &Refusal::Used(CheckError::StartPlace(Line(5))),
+            78,
+            "StartPlace",
+            5
+        )
+    );
+}
+
+#[test]
+fn refusals_of_values(rt: HostRuntime) {
     assert!(rt; is_named(&Refusal::Used(CheckError::Mode(Line(1))), 73, "Mode", 1));
     assert!(rt;
         is_named(
@@ -380,6 +426,10 @@ fn refusals_of_uses(rt: HostRuntime) {
             3
         )
     );
+}
+
+#[test]
+fn refusals_of_targets_fields_and_names(rt: HostRuntime) {
     assert!(rt;
         is_named(
             &Refusal::Used(CheckError::NotAssignable(Line(4))),
@@ -389,14 +439,6 @@ fn refusals_of_uses(rt: HostRuntime) {
         )
     );
     assert!(rt; is_named(&Refusal::Used(CheckError::Fields(Line(8))), 77, "Fields", 8));
-    assert!(rt;
-        is_named(
-            &Refusal::Used(CheckError::StartPlace(Line(5))),
-            78,
-            "StartPlace",
-            5
-        )
-    );
     assert!(rt;
         is_named(
             &Refusal::Used(CheckError::Unknown(Line(6))),
@@ -411,6 +453,16 @@ fn refusals_of_uses(rt: HostRuntime) {
 fn refusals_of_size_and_memory(rt: HostRuntime) {
     assert!(rt; is_named(&Refusal::CodeTooLong, 81, "CodeTooLong", 0));
     assert!(rt; is_named(&Refusal::Memory, 0, "Memory", 0));
+}
+
+#[test]
+fn refused_memory_is_the_same_everywhere(rt: HostRuntime) {
+    assert_eq!(rt; Refusal::from(LexError::Memory), Refusal::Memory);
+    assert_eq!(rt; Refusal::from(ParseError::Memory), Refusal::Memory);
+    assert_eq!(rt; Refusal::from(TableError::Memory), Refusal::Memory);
+    assert_eq!(rt; Refusal::from(CheckError::Memory), Refusal::Memory);
+    assert_eq!(rt; Refusal::from(CodeError::Memory), Refusal::Memory);
+    assert_eq!(rt; Refusal::from(CodeError::CodeTooLong), Refusal::CodeTooLong);
 }
 
 // Whether a run of that text ended as it should, or out of memory with the first of its report.

@@ -1,11 +1,9 @@
 //! From a text to its report, layer by layer.
 
-use crate::layers::jobs;
+use crate::layers::is_of_jobs;
 use ss_base::{Counted, Line, MemoryWrite, Plan, WriteFailure};
 use ss_check::{CheckError, Checked, check};
-use ss_code::code::Code;
-use ss_code::error::CodeError;
-use ss_code::generate;
+use ss_code::{Code, CodeError, generate};
 use ss_lex::{LexError, Span, Token, TokenKind, Tokens, Word, tokens};
 use ss_machine::{Machine, Source, Stop};
 use ss_parse::{ParseError, Program, parse};
@@ -13,7 +11,7 @@ use ss_picture::Sink;
 use ss_program::release::release_checked;
 use ss_tables::{NameId, TableError, Tables};
 use ss_tree::release::release_tree;
-use std::alloc::{AllocError, Global};
+use std::alloc::Global;
 use std::test::Fail;
 
 static ANSWER: &[u8] = b"MAIN\nPRINT 1 LINE WITH 6*7 THUS\nANSWER ***\nEND";
@@ -108,15 +106,6 @@ END\n\
 MAIN\n\
 END";
 
-// What a text declares.
-fn tables_of(alloc: Global, text: &[u8]) -> Option<Tables> {
-    let tokens = tokens(alloc, text).ok()?;
-    let program = parse(alloc, &tokens).ok()?;
-    let tables = Tables::of(alloc, &program).ok();
-    release_tree(program);
-    tables
-}
-
 // Whether a name is found, and is spelled so.
 fn is_found(tables: &Tables, spelling: &[u8]) -> bool {
     let found: Option<NameId> = tables.find(spelling);
@@ -126,13 +115,47 @@ fn is_found(tables: &Tables, spelling: &[u8]) -> bool {
     }
 }
 
+// Whether tables have the layout of `layers.rt`.
+fn are_of_jobs(alloc: Global, tables: &Tables) -> bool {
+    match tables.layout(alloc) {
+        Ok(layout) => is_of_jobs(alloc, &layout),
+        Err(_) => false,
+    }
+}
+
+// Whether tables have that layout, and find N.POOL and no TOOL.
+fn are_right(alloc: Global, tables: &Tables) -> bool {
+    is_found(tables, b"N.POOL") && tables.find(b"TOOL").is_none() && are_of_jobs(alloc, tables)
+}
+
+// Whether the tables of a tree are right. What they own goes with what is checked.
+fn has_right_tables(alloc: Global, program: Program) -> bool {
+    match Tables::of(alloc, &program) {
+        Ok(tables) => {
+            let are_right = are_right(alloc, &tables);
+            if let Ok(checked) = check(alloc, program, tables) {
+                release_checked(checked);
+            }
+            are_right
+        }
+        Err(_) => {
+            release_tree(program);
+            false
+        }
+    }
+}
+
+// Whether the tables of a text are right.
+fn declares_jobs(alloc: Global, text: &[u8]) -> bool {
+    match tree_of(alloc, text) {
+        Ok(program) => has_right_tables(alloc, program),
+        Err(_) => false,
+    }
+}
+
 #[test]
-fn a_declared_name_is_found(rt: HostRuntime) -> Result<(), Fail> {
-    let tables = tables_of(rt.alloc(), JOBS).ok_or("refused")?;
-    assert!(rt; is_found(&tables, b"N.POOL"));
-    assert_eq!(rt; tables.find(b"TOOL"), None);
-    assert_eq!(rt; tables.layout(rt.alloc())?, jobs(rt.alloc())?);
-    Ok(())
+fn a_declared_name_is_found(rt: HostRuntime) {
+    assert!(rt; declares_jobs(rt.alloc(), JOBS));
 }
 
 // How many lines there are.
@@ -140,26 +163,56 @@ fn lines(text: &[u8]) -> usize {
     text.iter().filter(|byte| **byte == b'\n').count()
 }
 
-// What the machine answers, and whether the report is this.
-fn ran(alloc: Global, code: Code, wanted: &[u8]) -> Result<(Stop, u64, bool), AllocError> {
-    let mut machine = Machine::new(alloc, code)?;
+// How many instructions a code has, and how many lines its listing.
+fn sizes(alloc: Global, code: &Code) -> Option<(usize, usize)> {
+    match code.listing(alloc) {
+        Ok(listing) => Some((code.len(), lines(&listing))),
+        Err(_) => None,
+    }
+}
+
+// The same of the code of a text.
+fn sizes_of(alloc: Global, text: &[u8]) -> Option<(usize, usize)> {
+    match code_of(alloc, text) {
+        Ok(code) => {
+            let sizes = sizes(alloc, &code);
+            code.release();
+            sizes
+        }
+        Err(_) => None,
+    }
+}
+
+// A multiply, a print and a leave.
+#[test]
+fn code_has_a_line_for_each_instruction(rt: HostRuntime) {
+    assert_eq!(rt; sizes_of(rt.alloc(), ANSWER), Some((3, 3)));
+}
+
+// Why a machine without data stops, and how many ticks it used.
+fn run(mut machine: Machine, report: &mut Sink<MemoryWrite>) -> (Stop, u64) {
     let mut source = Source::new(Counted::new(b"".as_slice()));
-    let report = MemoryWrite::new(alloc, 100, Plan::smooth(4096), WriteFailure::Error)?;
-    let mut sink = Sink::new(report);
-    let stop = machine.run(1_000_000, &mut source, &mut sink);
+    let stop = machine.run(1_000_000, &mut source, report);
     let used = machine.used();
     machine.release();
-    Ok((stop, used, sink.into_inner().bytes() == wanted))
+    (stop, used)
+}
+
+// The same of the code of a text.
+fn run_text(alloc: Global, text: &[u8], report: &mut Sink<MemoryWrite>) -> Option<(Stop, u64)> {
+    let code = code_of(alloc, text).ok()?;
+    let machine = Machine::new(alloc, code).ok()?;
+    Some(run(machine, report))
 }
 
 #[test]
 fn code_is_run(rt: HostRuntime) -> Result<(), Fail> {
-    let code = code_of(rt.alloc(), ANSWER).map_err(|_| AllocError)?;
-    let listing = code.listing(rt.alloc())?;
-    assert_eq!(rt; lines(&listing), code.len());
+    let writer = MemoryWrite::new(rt.alloc(), 100, Plan::smooth(4096), WriteFailure::Error)?;
+    let mut report = Sink::new(writer);
     assert_eq!(rt;
-        ran(rt.alloc(), code, b"ANSWER  42\n")?,
-        (Stop::Ended, 0, true)
+        run_text(rt.alloc(), ANSWER, &mut report),
+        Some((Stop::Ended, 0))
     );
+    assert_eq!(rt; report.into_inner().bytes(), b"ANSWER  42\n".as_slice());
     Ok(())
 }

@@ -1,11 +1,28 @@
 // How values, ties, keys and entries compare.
-ghost use Rattle.std.specs.Prelude.{◌≡◌};
-ghost use Rattle.ss_world.specs.Order.{tie_order, key_order, entry_order, comes_before};
-ghost use Rattle.std.specs.Cmp.Lexicographic.{slice_cmp};
+ghost use Rattle.std.specs.Prelude.{◌≡◌, nat_eq};
+ghost use Rattle.std.specs.Ordering.{on, eq_of_both, int_eq};
+ghost use Rattle.std.specs.Cmp.{on_equiv, and_equiv, nat_eq_equiv, int_eq_equiv, partial_equiv_from_equiv};
+ghost use Rattle.std.specs.Cmp.Lexicographic.{slice_cmp, pointwise, lists_equiv};
+ghost use Rattle.ss_world.specs.Order.{tie_order, key_order, comes_before};
+ghost use Rattle.ss_world.specs.contracts.ties.TieEq.TheImpl.Laws as tie_laws;
 
 use super::{Entry, Key};
 use ss_world::Tie;
 use std::cmp::Ordering;
+
+impl PartialEq for Key {
+    ghost eq = { eq_of_both (eq_of_both (on (λ k. k.time) int_eq) (on (λ k. k.rank) nat_eq)) (on (λ k. k.ties) (pointwise ⟦<Tie as PartialEq>⟧.eq)) };
+
+    ghost laws = { partial_equiv_from_equiv (and_equiv (and_equiv (on_equiv (λ k. k.time) int_eq_equiv) (on_equiv (λ k. k.rank) nat_eq_equiv)) (on_equiv (λ k. k.ties) (lists_equiv tie_laws.laws-law))) };
+
+    fn eq(&self, other: &Key) -> bool {
+        self.time == other.time && self.rank == other.rank && self.ties == other.ties
+    }
+}
+
+impl Eq for Key {
+    ghost laws = { and_equiv (and_equiv (on_equiv (λ k. k.time) int_eq_equiv) (on_equiv (λ k. k.rank) nat_eq_equiv)) (on_equiv (λ k. k.ties) (lists_equiv tie_laws.laws-law)) };
+}
 
 fn tie_order(a: &Tie, b: &Tie) -> Ordering
     ensures { result ≡ tie_order a.now b.now }

@@ -249,8 +249,8 @@ impl Places {
     }
 
     /// Puts a plain entry after the last of a line of its time, if a line is found that ends before it, there is room for it, and its
-    /// notice is found to be new at once; and says whether it did. If not, no entry has changed. Counts a comparison where the last of a
-    /// line is found, and a move where it did.
+    /// notice is found to be new at once; and says whether it did. If not, no entry has changed. Counts a comparison where there is room
+    /// and the last of a line is found, and a move where it did.
     #[inline(always)]
     pub(crate) fn append_plain(
         &mut self,
@@ -296,10 +296,10 @@ impl Places {
         ensures counted { result ≡ true → counter.new ≡ record counter.old { comparisons = counter.old.comparisons + 1; moves = counter.old.moves + 1 } }
         ensures tried { result ≡ false → ComparesOnce counter.old counter.new }
     {
-        if !is_last_before(&self.slots, self.count, before, mark, counter) {
+        if self.free == 0 || self.slots.len() - self.free >= self.directory.cells() / 4 {
             return false;
         }
-        if self.free == 0 || self.slots.len() - self.free >= self.directory.cells() / 4 {
+        if !is_last_before(&self.slots, self.count, before, mark, counter) {
             return false;
         }
         let last = self.count + self.free - 1;

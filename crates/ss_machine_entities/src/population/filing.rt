@@ -11,7 +11,7 @@ ghost use Rattle.ss_sets.specs.Disciplines.{FitsMembers, filed, first_removed, l
 
 use crate::population::Population;
 use ss_base::{Discipline, FaultKind};
-use ss_records::{Filter, Skimmed};
+use ss_records::{Filter, SetWalk, Skimmed};
 use ss_sets::file;
 
 impl Population {
@@ -130,27 +130,19 @@ impl Population {
         self.heap.onward(set, o, n, reverse)
     }
 
-    /// Walks along the set of an owner from the member x on, or in reverse, past members that a filter passes over, and at most `most`
-    /// of all, the one that it ends at among them. None where x is not in that set or not of the class of the filter, or there is a
-    /// fault, and it may give up elsewhere too.
+    /// Walks along a set from the member x on, past members that a filter passes over, and at most `most` of all, the one that it
+    /// ends at among them. None where x is not in that set or not of the class of the filter, or there is a fault, and it may
+    /// give up elsewhere too.
     #[inline(always)]
-    pub fn skim(
-        &mut self,
-        set: usize,
-        o: i64,
-        n: i64,
-        reverse: bool,
-        filter: &Filter,
-        most: u64,
-    ) -> Option<Skimmed>
-        requires set { set < length self.old.layout.sets }
+    pub fn skim(&mut self, walk: SetWalk, n: i64, filter: &Filter, most: u64) -> Option<Skimmed>
+        requires set { walk.set < length self.old.layout.sets }
         requires mode { slice_get (modes_of self.old.layout filter.now.class) filter.now.field ≡ Some Integer }
         requires some { 1 ≤ most }
         requires few { most < 2 ^ 32 }
-        ensures found { IfSome result (λ k. IsSkimmed self.old set o reverse filter.now n k) }
+        ensures found { IfSome result (λ k. IsSkimmed self.old walk.set walk.owner walk.reverse filter.now n k) }
         ensures within { IfSome result (λ k. k.passed < most) }
         ensures same { self.new ≡ self.old }
     {
-        self.heap.skim(set, o, n, reverse, filter, most)
+        self.heap.skim(walk, n, filter, most)
     }
 }

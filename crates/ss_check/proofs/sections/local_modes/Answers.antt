@@ -1,7 +1,7 @@
 use Rattle.std.proofs.Common.{length, subst, ◌<◌}
-use Rattle.ss_names_meaning.specs.Resolved.{local_mode}
 use Rattle.ss_names_meaning.proofs.Steps.{failed}
 use Rattle.ss_names_meaning.proofs.Numbers.{numbers_fail, no_plain_numbers, plain_numbers_next}
+use Rattle.ss_names_scopes.specs.Scopes.{local_mode}
 use Rattle.ss_check.proofs.sections.local_modes.Goals as goal
 
 pub loop-number-init : goal.loop-number-init

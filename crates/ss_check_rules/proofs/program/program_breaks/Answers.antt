@@ -3,7 +3,7 @@ use Rattle.std.specs.List.{fold, list_any}
 use Rattle.ss_tree.specs.View.{view_section}
 use Rattle.ss_names_declarations.specs.Earliest.{earlier}
 use Rattle.ss_check_rules.specs.Order.{order_of}
-use Rattle.ss_check_rules.specs.Refusal.{is_main_section}
+use Rattle.ss_names_scopes.specs.Scopes.{is_main_section}
 use Rattle.ss_check_rules.specs.declared.error.CheckError.TheVariants as e
 use Rattle.ss_check_rules.proofs.SectionBreaks.{any_viewed}
 use Rattle.ss_check_rules.proofs.program.program_breaks.Goals as goal

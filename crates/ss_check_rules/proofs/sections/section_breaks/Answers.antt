@@ -1,6 +1,6 @@
 use Rattle.std.proofs.Common.{ap, ◌∙◌}
 use Rattle.ss_names_declarations.specs.Earliest.{earlier, earlier_of}
-use Rattle.ss_names_scopes.specs.Seen.{scope_seen}
+use Rattle.ss_names_scopes.specs.Seen.{view_scope}
 use Rattle.ss_names_scopes.proofs.Finding.{earlier_of_list, found_after}
 use Rattle.ss_check_rules.specs.Order.{order_of}
 use Rattle.ss_check_rules.specs.Refusal.{breaks, use_breaks}
@@ -8,7 +8,7 @@ use Rattle.ss_check_rules.proofs.sections.section_breaks.Goals as goal
 
 pub loop-one-preserved : goal.loop-one-preserved
 loop-one-preserved c =
-    let s = scope_seen c.args.scope.now in
+    let s = view_scope c.args.scope.now in
     let u = c.one-item.result in
     found_after (earlier order_of) (breaks s c.args.in_main) c.args.found c.loop-one.found _ c.args.uses.now c.loop-one.one-index u
     c.loop-one-test.true c.one-item.is c.loop-one.invariant

@@ -1,4 +1,4 @@
-use Rattle.std.proofs.Common.{◌≡◌, ◌∷◌, ◌++◌, ◌∙◌, ap, length, List, IsPermutation, sym, subst, arith}
+use Rattle.std.proofs.Common.{◌∷◌, ◌++◌, ◌∙◌, length, List, IsPermutation, sym, subst, arith}
 use Rattle.std.proofs.lemmas.List.Sorted.{IsPermutation-append_left, IsPermutation-cons, IsPermutation-trans}
 use Rattle.ss_events_entries.specs.declared.entry.Entry.{Entry}
 use Rattle.ss_events_entries.specs.HeapEntries.{heap_lines, all_of}

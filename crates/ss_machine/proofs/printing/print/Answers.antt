@@ -1,8 +1,7 @@
-use Rattle.std.proofs.Common.{rules, sym, subst, arith}
+use Rattle.std.proofs.Common.{rules, sym, ap, subst}
 use Rattle.ss_code_instructions.specs.declared.instruction.Instruction.TheVariants.{Print as Runs}
-use Rattle.ss_machine_instructions.proofs.Placing.{small}
+use Rattle.ss_machine_instructions.specs.Ways.{on_after}
 use Rattle.ss_machine.specs.Shown.{CanShow, TakeAll, SentAll, SentPart}
-use Rattle.ss_machine.specs.Writing.{DidWrite}
 use Rattle.ss_machine.proofs.Written.{can_show, take_given, unsent}
 use Rattle.ss_machine.proofs.Sending.{Hands, all_sent, part_sent}
 use Rattle.ss_machine.proofs.printing.print.Goals as goal
@@ -19,12 +18,6 @@ print_from-requires g c =
       fields = subst (λ k. TakeAll s.scene s.rows k l) from (take_given z.1.0 z.1.1 c.args.here s z.0 c.args.cell z.1.3 l z.1.2);
     }
 
-pub on-requires : goal.on-requires
-on-requires g c =
-    let z = c.requires in
-    let lt = small z.1.0 z.1.1 c.args.here c.args.state.now (Runs z.0 c.args.cell) z.1.3 in
-    omega (arith, lt)
-
 pub returns-in-Ok-clause-written : goal.returns-in-Ok-clause-written
 returns-in-Ok-clause-written g c = λ number.
     let s = c.args.state.now in
@@ -32,8 +25,7 @@ returns-in-Ok-clause-written g c = λ number.
     let before = g.W.FaultyWrite.contents c.args.sink.now.writer in
     let after = g.W.FaultyWrite.contents c.print_from.new.sink.writer in
     let sent : SentAll s.scene s.rows c.cell-from.result l before after = search rules in
-    subst (λ o. DidWrite (Hands c.args.here s number c.args.cell l before after) c.args.here s (Runs number c.args.cell) before after s o) (sym c.on.ensures)
-    (all_sent c.args.here s number c.args.cell l before after (subst (λ k. SentAll s.scene s.rows k l before after) c.cell-from.ensures sent))
+    all_sent c.args.here s number c.args.cell l before after (subst (λ k. SentAll s.scene s.rows k l before after) c.cell-from.ensures sent)
 
 pub returns-in-Err-clause-written : goal.returns-in-Err-clause-written
 returns-in-Err-clause-written g c = λ number.
@@ -42,10 +34,10 @@ returns-in-Err-clause-written g c = λ number.
     let before = g.W.FaultyWrite.contents c.args.sink.now.writer in
     let after = g.W.FaultyWrite.contents c.print_from.new.sink.writer in
     let sent : SentPart s.scene s.rows c.cell-from.result l before after = search rules in
-    unsent (Hands c.args.here s number c.args.cell l before after) c.args.here s (Runs number c.args.cell) before after c.in-Err.ending c.stop.new.self c.stop.result
+    unsent (Hands c.args.here s number c.args.cell l before after) c.args.here s (Runs number c.args.cell) before after c.in-Err.ending c.stop.new.self (on_after c.args.here c.stop.result)
     (c.print_from.ensures.unsent c.in-Err.ending c.in-Err.is)
     (part_sent c.args.here s number c.args.cell l before after (subst (λ k. SentPart s.scene s.rows k l before after) c.cell-from.ensures sent))
-    c.stop.ensures.stopped c.stop.ensures.none
+    c.stop.ensures.stopped (ap (on_after c.args.here) c.stop.ensures.none)
 
 pub returns-in-Err-clause-output : goal.returns-in-Err-clause-output
 returns-in-Err-clause-output g c = λ none q. c.print_from.ensures.output (search rules)

@@ -1,4 +1,4 @@
-use Rattle.std.proofs.Common.{rules, ◌≡◌, true, replicate, inr, sym, ap, ◌∙◌, subst, arith, w64, of_z, to_z, pos}
+use Rattle.std.proofs.Common.{rules, ◌≡◌, true, replicate, inr, sym, ap, ◌∙◌, subst, w64, of_z, to_z, pos}
 use Rattle.std.specs.Prelude.{int_lt, ◌||◌}
 use Rattle.std.specs.Io.KnownBytes.{Appends}
 use Rattle.ss_base.specs.declared.fault.FaultKind.TheVariants.{BadCount}
@@ -7,7 +7,7 @@ use Rattle.ss_code_instructions.specs.declared.instruction.Instruction.TheVarian
 use Rattle.ss_code_instructions.specs.States.{Rest, Breaks}
 use Rattle.ss_machine_instructions.specs.declared.flow.Ending.TheVariants.{NoOutput}
 use Rattle.ss_machine_instructions.specs.Doing.{Compiled, line_or}
-use Rattle.ss_machine_instructions.proofs.Placing.{small}
+use Rattle.ss_machine_instructions.specs.Ways.{on_after}
 use Rattle.ss_machine.specs.Sent.{TookPart}
 use Rattle.ss_machine.specs.Writing.{IsUnsent, Sending, DidWrite}
 use Rattle.ss_machine.proofs.Known.{keeps_same}
@@ -23,9 +23,6 @@ number-count-requires g c = let z = c.requires in count_within z.0 z.1 c.args.he
 pub lines_in-requires : goal.lines_in-requires
 lines_in-requires g c = sym c.is_bad.ensures ∙ c.if-is_bad.false
 
-pub on-requires : goal.on-requires
-on-requires g c = let z = c.requires in let lt = small z.0 z.1 c.args.here c.args.state.now (Runs c.args.count.now) z.2 in omega (arith, lt)
-
 pub returns-then-is_bad-clause-written : goal.returns-then-is_bad-clause-written
 returns-then-is_bad-clause-written g c =
     let s = c.args.state.now in
@@ -34,7 +31,7 @@ returns-then-is_bad-clause-written g c =
     let same : to_z w64 (of_z w64 n) ≡ n = search rules in
     let test : (int_lt (to_z w64 (of_z w64 n)) (pos 0) || int_lt (pos 1000) (to_z w64 (of_z w64 n))) ≡ true = sym c.is_bad.ensures ∙ c.if-is_bad.true in
     let bad = bad_lines n (subst (λ m. (int_lt m (pos 0) || int_lt (pos 1000) m) ≡ true) same test) in
-    subst (λ o. DidWrite None_handed c.args.here s (Runs c.args.count.now) known known c.fault.new.self o) (sym c.fault.ensures.none)
+    subst (λ o. DidWrite None_handed c.args.here s (Runs c.args.count.now) known known c.fault.new.self o) (ap (on_after c.args.here) (sym c.fault.ensures.none))
     (rw c.fault.ensures.faulted (
       keeps_same known,
       λ w core u r. skip_fails w core c.args.here s c.args.count.now r n c.number-count.ensures bad ∙ ap (λ o. Rest (Breaks BadCount (line_or r.placed.line o))) (sym r.holds.line),
@@ -50,12 +47,11 @@ returns-in-Ok-clause-written g c =
     let same : to_z w64 (of_z w64 n) ≡ n = search rules in
     let good = few_lines n k (sym same ∙ c.lines_in.ensures.number) c.lines_in.ensures.few in
     let took : Appends before after (replicate k line_end) = search rules in
-    subst (λ o. DidWrite None_handed c.args.here s (Runs c.args.count.now) before after s o) (sym c.on.ensures)
-    (record {
+    record {
       bytes = replicate k line_end;
       took = took;
       goes = λ w core u r. skip_on w core c.args.here s c.args.count.now r n c.number-count.ensures (replicate k line_end) good;
-    })
+    }
 
 pub returns-in-Err-clause-written : goal.returns-in-Err-clause-written
 returns-in-Err-clause-written g c =
@@ -68,11 +64,11 @@ returns-in-Err-clause-written g c =
     let good = few_lines n k (sym same ∙ c.lines_in.ensures.number) c.lines_in.ensures.few in
     let part : TookPart before after (replicate k line_end) = search rules in
     let failed : c.in-Err.ending ≡ NoOutput = c.send_empty.ensures.reason c.in-Err.ending c.in-Err.is in
-    unsent None_handed c.args.here s (Runs c.args.count.now) before after c.in-Err.ending c.stop.new.self c.stop.result
+    unsent None_handed c.args.here s (Runs c.args.count.now) before after c.in-Err.ending c.stop.new.self (on_after c.args.here c.stop.result)
     (subst IsUnsent (sym failed) tt)
     (record {
       part = part.part;
       took = part.took;
       within = inr (λ w core u r. (part.rest, subst (Sending c.args.here s (Runs c.args.count.now) w core r) part.whole (skip_sends w core c.args.here s c.args.count.now r n c.number-count.ensures (replicate k line_end) good)));
     })
-    c.stop.ensures.stopped c.stop.ensures.none
+    c.stop.ensures.stopped (ap (on_after c.args.here) c.stop.ensures.none)

@@ -1,4 +1,4 @@
-use Rattle.std.proofs.Common.{rules, ◌≡◌, ℕ, ℤ, [], subst, to_z, of_z, w64}
+use Rattle.std.proofs.Common.{rules, ◌≡◌, ◌∙◌, ℤ, [], subst, to_z, of_z, w64}
 use Rattle.ss_world.specs.SortKey.{SortKey}
 use Rattle.ss_machine_events.specs.Scheduled.{Does, scheduled_known}
 use Rattle.ss_machine_events.proofs.Filing.{files_untied}
@@ -10,12 +10,11 @@ rank-rank-requires c = record { class = c.requires.notices.within }
 pub returns : goal.returns
 returns c =
     let k = c.requires.notices in let n = c.args.notice in let time = c.args.time in let e = c.args.scene.now in
-    let new = c.file_untied.new.scene in let b = c.file_untied.result in
-    let key : ℕ → ℤ → SortKey = λ r t. record { time = t; rank = r; ties = [] } in
+    let new = c.file_under.new.scene in let b = c.file_under.result in
     let number : to_z w64 (of_z w64 n) ≡ n = search rules in
     let same : to_z w64 (of_z w64 time) ≡ time = search rules in
     let rank : c.rank-rank.result ≡ k.ranked.rank = c.rank-rank.ensures k.ranked k.is in
+    let key : c.with_ties.result ≡ record { time = time; rank = k.ranked.rank; ties = [] } = c.with_ties.ensures ∙ (λ i. record { time = same i; rank = rank i; ties = c.new.ensures.items i }) in
     files_untied e c.args.class n time k c.requires.known c.requires.untied new b
-    (subst (λ (r : ℕ). Does (scheduled_known (key r time) n) b e new) rank
-    (subst (λ (t : ℤ). Does (scheduled_known (key c.rank-rank.result t) n) b e new) same
-    (subst (λ (m : ℤ). Does (scheduled_known (key c.rank-rank.result (to_z w64 (of_z w64 time))) m) b e new) number c.file_untied.ensures)))
+    (subst (λ (key : SortKey). Does (scheduled_known key n) b e new) key
+    (subst (λ (m : ℤ). Does (scheduled_known c.with_ties.result m) b e new) number c.file_under.ensures))

@@ -1,4 +1,4 @@
-use Rattle.std.proofs.Common.{rules, ◌≡◌, ◌+◌, ◌<◌, ℤ, List, Some, Ok, Err, length, refl, ap, sym, ◌∙◌, subst, to_z, of_z, w64, arith}
+use Rattle.std.proofs.Common.{ℕ, rules, ◌≡◌, ◌+◌, ◌<◌, ℤ, List, Some, Ok, Err, length, refl, ap, sym, ◌∙◌, subst, to_z, of_z, w64, arith}
 use Rattle.std.specs.Prelude.{IfSome, slice_get}
 use Rattle.std.proofs.lemmas.Option.{slice_get_read}
 use Rattle.ss_base.specs.declared.layout.Mode.{Mode}
@@ -7,15 +7,17 @@ use Rattle.ss_meaning.specs.Entities.{is_single}
 use Rattle.ss_meaning.specs.Store.{Notices}
 use Rattle.ss_code_instructions.specs.declared.entry.Entry.{Entry}
 use Rattle.ss_code_instructions.specs.declared.instruction.Instruction.TheVariants.{TakeEvent}
+use Rattle.ss_machine_instructions.specs.Ways.{begun_at}
 use Rattle.ss_machine_frames.proofs.Entering.{cleared_long}
 use Rattle.ss_machine_world.specs.Seen.{Seen}
 use Rattle.ss_machine_notices.specs.Beginning.{IsUnbegun, Receives}
 use Rattle.ss_machine_instructions.specs.Entered.{Enters, IsRefused}
+use Rattle.ss_machine_instructions.specs.declared.flow.Here.{Here}
 use Rattle.ss_machine_instructions.specs.declared.state.State.{State}
 use Rattle.ss_machine_instructions.proofs.Placing.{small}
 use Rattle.ss_machine_instructions.proofs.Filing.{one}
 use Rattle.ss_machine_notices.proofs.Beginning.{saved_within, receives_not}
-use Rattle.ss_machine_notices.proofs.Begun.{begun_class, begun_single, begun_rank, begun_said, begun_saved, begun_modes, begun_entry_within, held_small, frame_within}
+use Rattle.ss_machine_notices.proofs.Begun.{begun_class, begun_single, begun_rank, begun_said, begun_saved, begun_modes, begun_entry_within, begun_frame, frame_within}
 use Rattle.ss_machine_notices.proofs.Started.{entry_is, begins, begins_fault, unbegun_as}
 use Rattle.ss_machine_notices.proofs.events.begin_event.Goals as goal
 
@@ -44,7 +46,7 @@ enter-requires-clause-sized c =
     (entry_is z.0 z.1 c.args.here c.args.state.now c.args.cell c.args.notice c.args.class z.3 d at).sized
 
 pub enter-requires-clause-small : goal.enter-requires-clause-small
-enter-requires-clause-small c = let z = c.requires in held_small z.0 z.1 c.args.here c.args.state.now c.args.cell c.args.notice c.args.class z.3
+enter-requires-clause-small c = let z = c.requires in begun_frame z.0 z.1 c.args.here c.args.state.now c.args.cell c.args.notice c.args.class z.3
 
 pub enter-requires-clause-place : goal.enter-requires-clause-place
 enter-requires-clause-place c = let z = c.requires in let lt = small z.0 z.1 c.args.here z.3.before (TakeEvent c.args.cell) z.3.ready in omega (arith, lt)
@@ -94,7 +96,7 @@ returns-in_default c = λ w core all n.
     let at : slice_get w.run.events n.coming.ranked.rank ≡ Some d = ap (slice_get w.run.events) (sym rank) ∙ ap (λ (l : List Entry). slice_get l k) (sym all) ∙ slice_get_read es (length es) k d refl within c.index-events-rank.is in
     let here : slice_get s1.scene.notices k ≡ Some n.coming.ranked.said = ap (slice_get s1.scene.notices) rank ∙ ap (λ (e : Seen). slice_get e.notices n.coming.ranked.rank) refused.scene ∙ begun_said w core c.args.here s c.args.cell c.args.notice c.args.class n in
     let u = subst (λ (y : ℤ). IsUnbegun n.coming.ranked.said class y s1 new) same (c.unbegun.ensures.state n.coming.ranked.said here) in
-    unbegun_as w core c.args.here s c.args.cell c.args.notice c.args.class n d at s1 new c.unbegun.result refused u c.unbegun.ensures.none
+    unbegun_as w core c.args.here s c.args.cell c.args.notice c.args.class n d at s1 new (begun_at c.args.here c.args.cell c.unbegun.result) refused u (ap (begun_at c.args.here c.args.cell) c.unbegun.ensures.none)
 
 pub receive-requires-clause-rank : goal.receive-requires-clause-rank
 receive-requires-clause-rank c =
@@ -166,7 +168,7 @@ returns-in-Ok-receive c = λ w core all n.
     let got =
     subst (λ (ms : List Mode). Receives n.coming.ranked.said class x ms frame s1 c.receive.new.state (Ok tt)) c.deref.ensures.value
     (subst (λ (y : ℤ). Receives n.coming.ranked.said class y c.deref.result.now frame s1 c.receive.new.state (Ok tt)) same (c.in-Ok-receive.ensures n.coming.ranked.said here)) in
-    begins w core c.args.here s c.args.cell c.args.notice c.args.class n d at s1 frame enters c.receive.new.state got c.to.result c.to.ensures (omega (arith, enters.begin))
+    begins w core c.args.here s c.args.cell c.args.notice c.args.class n d at s1 frame enters c.receive.new.state got (begun_at c.args.here c.args.cell (Some d.place)) (ap (λ (f : ℕ). let h : Here = record { place = d.place; frame = f } in Some h) (sym enters.begin)) (omega (arith, enters.begin))
 
 pub returns-in-Err : goal.returns-in-Err
 returns-in-Err c = λ w core all n.
@@ -183,7 +185,7 @@ returns-in-Err c = λ w core all n.
     (subst (λ (y : ℤ). Receives n.coming.ranked.said class y c.deref.result.now frame s1 c.receive.new.state (Err c.in-Err.kind)) same (c.in-Err.ensures n.coming.ranked.said here)) in
     let kept = receives_not n.coming.ranked.said class x d.given.items frame s1 c.receive.new.state c.in-Err.kind got in
     let still : slice_get c.receive.new.state.scene.notices k ≡ Some n.coming.ranked.said = ap (λ (e : Seen). slice_get e.notices k) kept ∙ here in
-    begins_fault w core c.args.here s c.args.cell c.args.notice c.args.class n d at s1 frame enters c.receive.new.state c.in-Err.kind got c.fault_of_event.new.state c.fault_of_event.result (c.fault_of_event.ensures.state n.coming.ranked.said still) c.fault_of_event.ensures.none
+    begins_fault w core c.args.here s c.args.cell c.args.notice c.args.class n d at s1 frame enters c.receive.new.state c.in-Err.kind got c.fault_of_event.new.state (begun_at c.args.here c.args.cell c.fault_of_event.result) (c.fault_of_event.ensures.state n.coming.ranked.said still) (ap (begun_at c.args.here c.args.cell) c.fault_of_event.ensures.none)
 
 pub receive-requires-clause-small : goal.receive-requires-clause-small
 receive-requires-clause-small c =

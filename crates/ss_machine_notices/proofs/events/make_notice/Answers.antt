@@ -2,11 +2,16 @@ use Rattle.std.proofs.Common.{rules, ◌≡◌, ◌+◌, ℤ, Some, Ok, Err, ap,
 use Rattle.std.specs.Prelude.{slice_get}
 use Rattle.ss_code_instructions.specs.declared.instruction.Instruction.TheVariants.{MakeNotice as Runs}
 use Rattle.ss_code_instructions.specs.Machine.{act}
+use Rattle.ss_machine_instructions.specs.Ways.{on_after}
 use Rattle.ss_machine_frames.specs.Rows.{TwoRows, with_number}
 use Rattle.ss_machine_instructions.specs.Doing.{Delivers, as_value}
 use Rattle.ss_machine_notices.specs.Giving.{MadeIn, Gives}
 use Rattle.ss_machine_notices.proofs.Notices.{makes_in, make_gives, make_core, make_delivers, makes, makes_not}
+use Rattle.ss_machine_instructions.proofs.Placing.{frame_small}
 use Rattle.ss_machine_notices.proofs.events.make_notice.Goals as goal
+
+pub cell-from-requires : goal.cell-from-requires
+cell-from-requires c = let z = c.requires in frame_small z.0 z.1 c.args.here c.args.state.now (Runs c.args.values.class c.args.values.cell c.args.values.count c.args.to.now c.args.values.noted) z.2
 
 pub number_at-time-requires : goal.number_at-time-requires
 number_at-time-requires c =
@@ -65,7 +70,7 @@ returns-in-Ok c = λ w core r.
     let d' = subst (λ (x : TwoRows). Delivers w k l m c.args.here (record s { scene = e; rows = x }) c.args.to.now (as_value (Ok n))) (sym rows) d in
     let same_n : to_z w64 (of_z w64 n) ≡ n = search rules in
     let d'' = subst (λ (y : ℤ). Delivers w k l m c.args.here (record s { scene = e; rows = c.set_number_at.new.self }) c.args.to.now (as_value (Ok y))) (sym same_n) d' in
-    makes w core c.args.here s (Runs c.args.values.class c.args.values.cell c.args.values.count c.args.to.now c.args.values.noted) r c.args.values.class c.args.values.cell c.args.values.count c.args.to.now r.runs.carries.1 e c.set_number_at.new.self c.put.new.self c.put.result (c.put.ensures w k l m d'')
+    makes w core c.args.here s (Runs c.args.values.class c.args.values.cell c.args.values.count c.args.to.now c.args.values.noted) r c.args.values.class c.args.values.cell c.args.values.count c.args.to.now r.runs.carries.1 e c.set_number_at.new.self c.put.new.self (on_after c.args.here c.put.result) (c.put.ensures w k l m d'')
 
 pub returns-in-Err : goal.returns-in-Err
 returns-in-Err c = λ w core r.
@@ -78,4 +83,4 @@ returns-in-Err c = λ w core r.
     let all = subst (λ j. (g : Gives class notes j given s.rows s.scene) → MadeIn g.store class g.values (to_z w64 (of_z w64 t)) s.scene e (Err c.in-Err.refused)) cell c.in-Err.ensures in
     let g = make_gives w core c.args.here s (Runs c.args.values.class c.args.values.cell c.args.values.count c.args.to.now c.args.values.noted) r c.args.values.class c.args.values.cell c.args.values.count c.args.to.now notes r.runs.carries.1 r.runs.carries.0 in
     let made = subst (λ (y : ℤ). MadeIn core.store class g.values y s.scene e (Err c.in-Err.refused)) same (all g) in
-    makes_not w core c.args.here s (Runs c.args.values.class c.args.values.cell c.args.values.count c.args.to.now c.args.values.noted) r c.args.values.class c.args.values.cell c.args.values.count c.args.to.now notes r.runs.carries.0 r.runs.carries.1 t e c.in-Err.refused c.refused.new.self c.refused.result at made c.refused.ensures.state c.refused.ensures.none
+    makes_not w core c.args.here s (Runs c.args.values.class c.args.values.cell c.args.values.count c.args.to.now c.args.values.noted) r c.args.values.class c.args.values.cell c.args.values.count c.args.to.now notes r.runs.carries.0 r.runs.carries.1 t e c.in-Err.refused c.refused.new.self (on_after c.args.here c.refused.result) at made c.refused.ensures.state (ap (on_after c.args.here) c.refused.ensures.none)

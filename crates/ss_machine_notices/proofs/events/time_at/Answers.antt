@@ -2,6 +2,7 @@ use Rattle.std.proofs.Common.{rules, ◌≡◌, ℤ, ap, subst, to_z, of_z, w64}
 use Rattle.ss_meaning.specs.Events.{not_past}
 use Rattle.ss_code_instructions.specs.declared.instruction.Instruction.TheVariants.{At as Runs}
 use Rattle.ss_code_instructions.specs.Machine.{act, is_due}
+use Rattle.ss_machine_instructions.specs.Ways.{on_after}
 use Rattle.ss_machine_world.specs.Seen.{Looks}
 use Rattle.ss_machine_instructions.proofs.Placing.{calm}
 use Rattle.ss_machine_notices.proofs.Scheduling.{at_in, ats}
@@ -25,4 +26,4 @@ returns c = λ w core r.
     let same : to_z w64 (of_z w64 n) ≡ n = search rules in
     let looks = subst (λ (t : ℤ). Looks (not_past t) s.scene q) same c.time_at-answer.ensures in
     let d = ats w core c.args.here s (Runs c.args.time.now c.args.to.now) r c.args.time.now c.args.to.now n q r.runs.carries c.number-time.ensures looks in
-    calm w core c.args.here s (Runs c.args.time.now c.args.to.now) r c.put.new.self c.put.result (ap is_due r.runs.carries.2.2) (c.put.ensures w core l (act w.code l r.placed.instruction core) d)
+    calm w core c.args.here s (Runs c.args.time.now c.args.to.now) r c.put.new.self (on_after c.args.here c.put.result) (ap is_due r.runs.carries.2.2) (c.put.ensures w core l (act w.code l r.placed.instruction core) d)

@@ -3,13 +3,13 @@ use Rattle.ss_tree.specs.Names.{NameBytes}
 use Rattle.ss_names.specs.declared.entry.Set.{Set}
 use Rattle.ss_names.specs.Entries.{fields_by_class}
 use Rattle.ss_names.specs.Filling.{no_set, with_rows}
-use Rattle.ss_names.specs.View.{table_seen}
+use Rattle.ss_names.specs.View.{view_table}
 use Rattle.ss_names.proofs.filling.add_rows.Goals as goal
 
 pub returns : goal.returns
 returns c =
     let none : NameBytes → Set = λ name. no_set in
-    (λ i. record (table_seen c.names.inside) {
+    (λ i. record (view_table c.names.inside) {
       fields = (c.in_ok-fields.ensures ∙ ap (fields_by_class []) c.len.ensures) i;
       sets = (c.in_ok-sets.ensures ∙ ap (map none) c.as_slice.ensures) i;
     })

@@ -4,7 +4,7 @@ use Rattle.std.proofs.lemmas.Result.{on_ok_weaker}
 use Rattle.ss_names_declarations.specs.Firsts.{value_for, with_first}
 use Rattle.ss_names.specs.Table.{Table}
 use Rattle.ss_names.specs.Filling.{with_variables}
-use Rattle.ss_names.specs.View.{table_seen}
+use Rattle.ss_names.specs.View.{view_table}
 use Rattle.ss_names.proofs.filling.add_variable.Goals as goal
 
 pub returns-then-has_attribute : goal.returns-then-has_attribute
@@ -18,7 +18,7 @@ returns c =
     let t = c.args.names.now in
     let new : is_some (value_for t.attributes c.args.variable.now) ≡ false = sym c.has_attribute.ensures ∙ c.if-has_attribute.false in
     on_ok_weaker c.insert_spelled.result
-    (λ e. (λ i. record (table_seen c.names.inside) { variables = (e ∙ ap (λ name. with_first c.names.inside.variables (name, c.args.mode)) c.of_name.ensures) i })
+    (λ e. (λ i. record (view_table c.names.inside) { variables = (e ∙ ap (λ name. with_first c.names.inside.variables (name, c.args.mode)) c.of_name.ensures) i })
     ∙ ap (λ (s : Table). with_variables s (with_first s.variables (c.args.variable.now, c.args.mode))) c.names.view_is
     ∙ ap (λ b. with_variables t (fold with_first t.variables (cond b [] ((c.args.variable.now, c.args.mode) ∷ [])))) (sym new))
     c.insert_spelled.ensures.ok

@@ -1,7 +1,7 @@
 use Rattle.std.proofs.Common.{◌≡◌, ◌<◌, Some, length, sym, ap, ◌∙◌, arith}
 use Rattle.ss_names.specs.Table.{Table}
 use Rattle.ss_names.specs.Filling.{merged_if, with_sets}
-use Rattle.ss_names.specs.View.{table_seen}
+use Rattle.ss_names.specs.View.{view_table}
 use Rattle.ss_names.proofs.Fields.{place_below}
 use Rattle.ss_names.proofs.filling.merge_set.Goals as goal
 
@@ -20,6 +20,6 @@ returns-in-None c =
 pub returns-in-Some : goal.returns-in-Some
 returns-in-Some c =
     let t = c.args.names.now in
-    (λ i. record (table_seen c.names.inside) { sets = c.merge_at.ensures i })
+    (λ i. record (view_table c.names.inside) { sets = c.merge_at.ensures i })
     ∙ ap (λ (s : Table). with_sets s (merged_if s.sets c.args.more (Some c.in-Some.number))) c.names.view_is
     ∙ ap (λ o. with_sets t (merged_if t.sets c.args.more o)) (sym (sym c.set_number.ensures ∙ c.in-Some.is))

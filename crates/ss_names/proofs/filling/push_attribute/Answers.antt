@@ -4,7 +4,7 @@ use Rattle.std.proofs.lemmas.Result.{on_ok_weaker}
 use Rattle.ss_names_declarations.specs.Firsts.{value_for}
 use Rattle.ss_names.specs.Entries.{row_of}
 use Rattle.ss_names.specs.Table.{Table}
-use Rattle.ss_names.specs.View.{table_seen}
+use Rattle.ss_names.specs.View.{view_table}
 use Rattle.ss_names.proofs.Steps.{attribute_pushed}
 use Rattle.ss_names.proofs.filling.push_attribute.Goals as goal
 
@@ -20,5 +20,5 @@ returns c =
     let none : value_for c.names.inside.attributes name ≡ None = ap (λ (s : Table). value_for s.attributes name) c.names.view_is ∙ c.requires.new in
     let long : length c.attributes_of.result.now ≡ length (get_or t.fields c.args.class []) = ap length c.attributes_of.ensures in
     on_ok_weaker c.insert_new.result
-    (λ e. attribute_pushed (table_seen c.names.inside) t name c.args.class _ _ _ _ c.names.view_is none long c.mode_of.ensures e c.in_ok-push_field.ensures)
+    (λ e. attribute_pushed (view_table c.names.inside) t name c.args.class _ _ _ _ c.names.view_is none long c.mode_of.ensures e c.in_ok-push_field.ensures)
     c.insert_new.ensures.ok

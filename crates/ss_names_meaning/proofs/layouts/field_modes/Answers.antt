@@ -1,6 +1,6 @@
-use Rattle.ss_names_meaning.specs.Layouts.{field_mode}
 use Rattle.ss_names_meaning.proofs.Each.{each_plain_fails, each_plain_next, no_plain_items}
 use Rattle.ss_names_meaning.proofs.Steps.{failed}
+use Rattle.ss_names.specs.Table.{field_mode}
 use Rattle.ss_names_meaning.proofs.layouts.field_modes.Goals as goal
 
 pub loop-tree-init : goal.loop-tree-init

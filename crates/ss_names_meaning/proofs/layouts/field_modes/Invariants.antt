@@ -1,6 +1,6 @@
 use Rattle.std.proofs.Common.{◌≡◌, take, Some}
 use Rattle.ss_names_meaning.specs.Answers.{each}
-use Rattle.ss_names_meaning.specs.Layouts.{field_mode}
+use Rattle.ss_names.specs.Table.{field_mode}
 use Rattle.ss_names_meaning.proofs.layouts.field_modes.Given as goal
 
 abbrev pub invariant-loop-tree : goal.invariant-loop-tree

@@ -1,6 +1,8 @@
 use Rattle.std.proofs.Common.{rules, ◌≡◌, ◌∷◌, [], true, length, append_assoc}
+use Rattle.ss_base.specs.declared.words.Sign.{Sign}
+use Rattle.ss_tree.specs.Tree.{ExpressionTree}
 use Rattle.ss_tree.specs.View.{view_expression, view_term}
-use Rattle.ss_names_uses.specs.Uses.{in_expression, in_term}
+use Rattle.ss_names_uses.specs.Uses.{in_expression}
 use Rattle.ss_names_uses.proofs.Rows.{in_named_made, in_call_made, in_product_made, in_sum_made, next_noted}
 use Rattle.ss_names_uses.proofs.expressions.+adding.Goals as goal
 
@@ -28,4 +30,4 @@ add_numbers-loop-expression-preserved t c =
 
 pub add_terms-loop-term-preserved : goal.add_terms-loop-term-preserved
 add_terms-loop-term-preserved t c =
-    next_noted (in_term c.args.line) view_term c.args.terms.now c.loop-term.term-index c.term-item.result c.args.into.now.items c.loop-term.into.items c.add_expression.new.into.items c.loop-term-test.true c.term-item.is c.loop-term.invariant c.in_ok-add_expression.ensures
+    next_noted (λ (t : Sign × ExpressionTree). in_expression c.args.line true t.1) view_term c.args.terms.now c.loop-term.term-index c.term-item.result c.args.into.now.items c.loop-term.into.items c.add_expression.new.into.items c.loop-term-test.true c.term-item.is c.loop-term.invariant c.in_ok-add_expression.ensures

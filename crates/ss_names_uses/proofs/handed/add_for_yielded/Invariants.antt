@@ -1,7 +1,8 @@
-use Rattle.std.proofs.Common.{◌≡◌, ◌++◌, map, take}
+use Rattle.std.proofs.Common.{◌≡◌, ℕ, ◌++◌, map, take}
 use Rattle.ss_tree.specs.View.{view_named}
-use Rattle.ss_names_uses.specs.Uses.{for_yielded, in_places}
+use Rattle.ss_names_uses.specs.Uses.{in_places, in_target}
+use Rattle.ss_names_uses.specs.declared.used.ModeOf.TheVariants as modes
 use Rattle.ss_names_uses.proofs.handed.add_for_yielded.Given as goal
 
 abbrev pub invariant-loop-place : goal.invariant-loop-place
-invariant-loop-place l = l.into.items ≡ l.initial.into.items ++ in_places (for_yielded l.line l.routine) 0 (map view_named (take l.place l.targets))
+invariant-loop-place l = l.into.items ≡ l.initial.into.items ++ in_places (λ (i : ℕ). in_target l.line (modes.Yielded l.routine i)) 0 (map view_named (take l.place l.targets))

@@ -1,17 +1,5 @@
 use Rattle.ss_records.proofs.Changed.{first_changes, last_changes, before_changes, after_changes, removed_changes}
 use Rattle.ss_records.proofs.commands.filing_changes_its_set.Goals as goal
 
-pub returns-clause-first : goal.returns-clause-first
-returns-clause-first c = first_changes
-
-pub returns-clause-last : goal.returns-clause-last
-returns-clause-last c = last_changes
-
-pub returns-clause-before : goal.returns-clause-before
-returns-clause-before c = before_changes
-
-pub returns-clause-after : goal.returns-clause-after
-returns-clause-after c = after_changes
-
-pub returns-clause-remove : goal.returns-clause-remove
-returns-clause-remove c = removed_changes
+pub returns : goal.returns
+returns c = record { first = first_changes; last = last_changes; before = before_changes; after = after_changes; remove = removed_changes }

@@ -9,14 +9,11 @@ use Rattle.ss_records_blocks.proofs.pages.tidy.Goals as goal
 left : (c : goal.After-shrink) → c.shrink.new.spots.items ≡ filter has_page c.args.spots.now.items
 left c = c.shrink.ensures ∙ filter_from_retain _ has_page (λ f s kept g called. search rules) _ _ _ c.retain.ensures.filtered
 
-pub returns-clause-rises : goal.returns-clause-rises
-returns-clause-rises c = subst Rises (sym (left c)) (rises_cut c.args.spots.now.items c.requires.rises)
-
-pub returns-clause-count : goal.returns-clause-count
-returns-clause-count c = subst (λ (ss : Spots). 0 + length (pages_held ss) ≡ length ss) (sym (left c)) (omega (arith, all_held c.args.spots.now.items))
-
-pub returns-clause-pages_held : goal.returns-clause-pages_held
-returns-clause-pages_held c = ap pages_held (left c) ∙ held_cut c.args.spots.now.items
-
-pub returns-clause-above : goal.returns-clause-above
-returns-clause-above c = subst (λ (ss : Spots). (k q : ℕ) (o : Option Page) → slice_get ss k ≡ Some (q, o) → q < c.args.number) (sym (left c)) (all_below c.args.spots.now.items c.requires.rises c.args.number c.requires.above)
+pub returns : goal.returns
+returns c =
+    record {
+      rises = subst Rises (sym (left c)) (rises_cut c.args.spots.now.items c.requires.rises);
+      count = subst (λ (ss : Spots). 0 + length (pages_held ss) ≡ length ss) (sym (left c)) (omega (arith, all_held c.args.spots.now.items));
+      pages_held = ap pages_held (left c) ∙ held_cut c.args.spots.now.items;
+      above = subst (λ (ss : Spots). (k q : ℕ) (o : Option Page) → slice_get ss k ≡ Some (q, o) → q < c.args.number) (sym (left c)) (all_below c.args.spots.now.items c.requires.rises c.args.number c.requires.above);
+    }

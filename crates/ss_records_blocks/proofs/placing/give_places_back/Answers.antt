@@ -18,11 +18,10 @@ loop-i-preserved c =
       touches = (c.give_back.ensures.touches.0 ∙ c.loop-i.invariant.touches.0, c.give_back.ensures.touches.1 ∙ c.loop-i.invariant.touches.1);
     }
 
-pub returns-clause-others : goal.returns-clause-others
-returns-clause-others c = c.loop-i.invariant.backed.others
-
-pub returns-clause-count : goal.returns-clause-count
-returns-clause-count c = omega (arith, c.loop-i.invariant.backed.count, c.loop-i-test.false, c.loop-i.auto.i-end)
-
-pub returns-clause-touches : goal.returns-clause-touches
-returns-clause-touches c = c.loop-i.invariant.touches
+pub returns : goal.returns
+returns c =
+    record {
+      others = c.loop-i.invariant.backed.others;
+      count = omega (arith, c.loop-i.invariant.backed.count, c.loop-i-test.false, c.loop-i.auto.i-end);
+      touches = c.loop-i.invariant.touches;
+    }

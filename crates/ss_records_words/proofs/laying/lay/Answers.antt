@@ -26,8 +26,7 @@ fill_owned-requires-clause-blank c = λ k a b. blank_above c.fill_links.ensures.
 
 pub returns-clause-laid : goal.returns-clause-laid
 returns-clause-laid c =
-    let p = c.args.place.at in let l = c.args.layout.now in
-    let a = c.lay_head.new.blocks.cells in let b = c.fill_numbers.new.blocks.cells in let d = c.fill_links.new.blocks.cells in let e = c.fill_owned.new.blocks.cells in
+    let p = c.args.place.at in let l = c.args.layout.now in let a = c.lay_head.new.blocks.cells in let b = c.fill_numbers.new.blocks.cells in let d = c.fill_links.new.blocks.cells in let e = c.fill_owned.new.blocks.cells in
     let f2 = subst (λ n. Filled a b p 2 n zeros) c.links_start-links.ensures.at c.fill_numbers.ensures.filled in
     let f3 = subst (λ n. Filled b d p n (n + 3 * c.joined_count-joined.result) (links_to p)) c.links_start-links.ensures.at c.fill_links.ensures.filled in
     let g3 = subst (λ n. Filled b d p (links_start l c.args.class) (links_start l c.args.class + 3 * n) (links_to p)) c.joined_count-joined.ensures.value f3 in
@@ -36,7 +35,9 @@ returns-clause-laid c =
     rw c.expect.ensures.cells (laid_from l c.args.blocks.now.cells a b d e c.args.end.at p c.args.class c.args.number c.lay_head.ensures.filled f2 g3 g4)
 
 pub returns-clause-links : goal.returns-clause-links
-returns-clause-links c = omega (arith, c.lay_head.ensures.touches.0, c.fill_numbers.ensures.touches.0, c.fill_links.ensures.touches.0, c.fill_owned.ensures.touches.0, c.expect.ensures.touches.0, c.block_words-words.ensures.size, c.links_start-links.ensures.at)
+returns-clause-links c =
+    omega (arith, c.lay_head.ensures.touches.0, c.fill_numbers.ensures.touches.0, c.fill_links.ensures.touches.0, c.fill_owned.ensures.touches.0, c.expect.ensures.touches.0, c.block_words-words.ensures.size, c.links_start-links.ensures.at)
 
 pub returns-clause-few : goal.returns-clause-few
-returns-clause-few c = omega (arith, c.lay_head.ensures.touches.0, c.fill_numbers.ensures.touches.0, c.fill_links.ensures.touches.0, c.fill_owned.ensures.touches.0, c.expect.ensures.touches.0, c.joined_count-joined.ensures.bound, c.owned_count-count.ensures.bound)
+returns-clause-few c =
+    omega (arith, c.lay_head.ensures.touches.0, c.fill_numbers.ensures.touches.0, c.fill_links.ensures.touches.0, c.fill_owned.ensures.touches.0, c.expect.ensures.touches.0, c.joined_count-joined.ensures.bound, c.owned_count-count.ensures.bound)

@@ -17,7 +17,8 @@ lay-requires-clause-room c =
     ap length (c.loop-i.invariant.laid.rest c.loop-i.i _ g (omega arith) ∙ c.requires.blank c.loop-i.i _ g) ∙ length-blanks _
 
 pub lay-requires-clause-blank : goal.lay-requires-clause-blank
-lay-requires-clause-blank c = λ k.
+lay-requires-clause-blank c =
+    λ k.
     let g = place_at c.args.places.now c.loop-i.i _ c.loop-i-test.true in
     ap (λ us. word_of us k) (c.loop-i.invariant.laid.rest c.loop-i.i _ g (omega arith) ∙ c.requires.blank c.loop-i.i _ g) ∙ word_blank _ k
 
@@ -33,15 +34,11 @@ loop-i-preserved c =
       touches = (omega (arith, h.touches.0, c.lay.ensures.few), omega (arith, h.touches.1, c.lay.ensures.touches), omega (arith, h.touches.2, c.lay.ensures.links));
     }
 
-pub returns-clause-laid : goal.returns-clause-laid
-returns-clause-laid c =
+pub returns : goal.returns
+returns c =
     let n : c.loop-i.i ≡ length c.args.places.now = omega (arith, c.loop-i-test.false, c.loop-i.auto.i-end) in
-    subst (λ k. LaidTo c.args.layout.now c.args.blocks.now.cells c.loop-i.blocks.cells c.args.end.at c.args.places.now c.args.class k) n c.loop-i.invariant.laid
-
-pub returns-clause-touches : goal.returns-clause-touches
-returns-clause-touches c = c.loop-i.invariant.touches.1
-
-pub returns-clause-links : goal.returns-clause-links
-returns-clause-links c =
-    let n : c.loop-i.i ≡ length c.args.places.now = omega (arith, c.loop-i-test.false, c.loop-i.auto.i-end) in
-    c.loop-i.invariant.touches.2 ∙ ap (λ k. k * (3 * set_places c.args.layout.now (Class c.args.class))) n
+    record {
+      laid = subst (λ k. LaidTo c.args.layout.now c.args.blocks.now.cells c.loop-i.blocks.cells c.args.end.at c.args.places.now c.args.class k) n c.loop-i.invariant.laid;
+      touches = c.loop-i.invariant.touches.1;
+      links = c.loop-i.invariant.touches.2 ∙ ap (λ k. k * (3 * set_places c.args.layout.now (Class c.args.class))) n;
+    }

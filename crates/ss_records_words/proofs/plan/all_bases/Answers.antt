@@ -8,17 +8,13 @@ use Rattle.ss_records_words.proofs.plan.all_bases.Goals as goal
 pub loop-s-init : goal.loop-s-init
 loop-s-init c = record { many = ap length c.in_ok-bases.ensures.items; each = λ k small t h. absurd (omega (arith, small)) }
 
-pub member_base-requires-clause-small : goal.member_base-requires-clause-small
-member_base-requires-clause-small c = c.requires
+pub member_base-requires : goal.member_base-requires
+member_base-requires c =
+    record { small = c.requires; set = omega (arith, c.loop-s-test.true, c.loop-s.auto.s-end, ap (λ (l : Layout). length l.sets) c.layout.view_is) }
 
-pub member_base-requires-clause-set : goal.member_base-requires-clause-set
-member_base-requires-clause-set c = omega (arith, c.loop-s-test.true, c.loop-s.auto.s-end, ap (λ (l : Layout). length l.sets) c.layout.view_is)
-
-pub owner_base-requires-clause-small : goal.owner_base-requires-clause-small
-owner_base-requires-clause-small c = c.requires
-
-pub owner_base-requires-clause-set : goal.owner_base-requires-clause-set
-owner_base-requires-clause-set c = omega (arith, c.loop-s-test.true, c.loop-s.auto.s-end, ap (λ (l : Layout). length l.sets) c.layout.view_is)
+pub owner_base-requires : goal.owner_base-requires
+owner_base-requires c =
+    record { small = c.requires; set = omega (arith, c.loop-s-test.true, c.loop-s.auto.s-end, ap (λ (l : Layout). length l.sets) c.layout.view_is) }
 
 pub loop-s-smaller : goal.loop-s-smaller
 loop-s-smaller c = omega (arith, c.loop-s-test.true)
@@ -36,20 +32,14 @@ loop-s-preserved c =
 pub returns : goal.returns
 returns c = λ s t h. c.loop-s.invariant.each s (omega (arith, c.loop-s-test.false, c.loop-s.auto.s-end, ap (λ (l : Layout). length l.sets) c.layout.view_is, slice_get_within c.args.layout.now.sets s t h)) t h
 
-pub member_class-requires-clause-small : goal.member_class-requires-clause-small
-member_class-requires-clause-small c = c.requires
+pub member_class-requires : goal.member_class-requires
+member_class-requires c =
+    record { small = c.requires; set = omega (arith, c.loop-s-test.true, c.loop-s.auto.s-end, ap (λ (l : Layout). length l.sets) c.layout.view_is) }
 
-pub member_class-requires-clause-set : goal.member_class-requires-clause-set
-member_class-requires-clause-set c = omega (arith, c.loop-s-test.true, c.loop-s.auto.s-end, ap (λ (l : Layout). length l.sets) c.layout.view_is)
+pub holds_permanent-requires : goal.holds_permanent-requires
+holds_permanent-requires c =
+    record { small = c.requires; set = omega (arith, c.loop-s-test.true, c.loop-s.auto.s-end, ap (λ (l : Layout). length l.sets) c.layout.view_is) }
 
-pub holds_permanent-requires-clause-small : goal.holds_permanent-requires-clause-small
-holds_permanent-requires-clause-small c = c.requires
-
-pub holds_permanent-requires-clause-set : goal.holds_permanent-requires-clause-set
-holds_permanent-requires-clause-set c = omega (arith, c.loop-s-test.true, c.loop-s.auto.s-end, ap (λ (l : Layout). length l.sets) c.layout.view_is)
-
-pub is_of_system-requires-clause-small : goal.is_of_system-requires-clause-small
-is_of_system-requires-clause-small c = c.requires
-
-pub is_of_system-requires-clause-set : goal.is_of_system-requires-clause-set
-is_of_system-requires-clause-set c = omega (arith, c.loop-s-test.true, c.loop-s.auto.s-end, ap (λ (l : Layout). length l.sets) c.layout.view_is)
+pub is_of_system-requires : goal.is_of_system-requires
+is_of_system-requires c =
+    record { small = c.requires; set = omega (arith, c.loop-s-test.true, c.loop-s.auto.s-end, ap (λ (l : Layout). length l.sets) c.layout.view_is) }

@@ -6,7 +6,7 @@ use Rattle.ss_tables.proofs.tables.names_of.Goals as goal
 pub returns-clause-made : goal.returns-clause-made
 returns-clause-made c =
     unless_made (view_program c.args.program.now) c.args.declarations.now c.in_ok-names.names c.refusal_of-broken.result c.names_unless.result
-    c.requires c.in_ok-names.ensures c.names_unless.ensures c.refusal_of-broken.ensures
+    c.requires c.in_ok-names.ensures.names c.names_unless.ensures c.refusal_of-broken.ensures
 
 pub returns-clause-refused : goal.returns-clause-refused
 returns-clause-refused c =

@@ -26,8 +26,8 @@ returns c =
     let third = flat_map (breaks t) ds in
     let fourth = misranked t p.preamble in
     let fifth = unmoded t p.sections in
-    let clash : c.clash_breach-clash.result ≡ fold step None first =
-    c.clash_breach-clash.ensures ∙ ap (λ (s : Table). option_map e.Twice s.clash) (c.names.view_is ∙ c.requires.names) ∙ sym (twice_first None (clashes ds)) in
+    let clash : c.clash_breach-twice.result ≡ fold step None first =
+    c.clash_breach-twice.ensures ∙ ap (option_map e.Twice) c.requires.clash ∙ sym (twice_first None (clashes ds)) in
     let one : c.in_ok-once.once ≡ fold step (fold step None first) second =
     c.in_ok-once.ensures ∙ ap (λ (f : Option TableError). fold step f second) clash in
     let two : c.declared_breaks-by_table.result ≡ fold step (fold step (fold step None first) second) third =

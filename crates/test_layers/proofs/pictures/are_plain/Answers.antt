@@ -1,11 +1,11 @@
 use Rattle.std.proofs.Common.{List, [], ◌∷◌, sym, subst, arith}
 use Rattle.std.proofs.lemmas.List.{drop_all}
 use Rattle.ss_picture.specs.declared.field.Field.{Field}
-use Rattle.ss_picture.specs.declared.items.FieldValue.{FieldValue}
+use Rattle.ss_picture.specs.declared.items.Item.{Item}
 use Rattle.ss_picture.specs.Suited.{EachSuits}
 use Rattle.test_layers.proofs.pictures.are_plain.Goals as goal
 
-no_field : (items : List FieldValue) → EachSuits [] items
+no_field : (items : List Item) → EachSuits [] items
 no_field [] = tt
 no_field (x ∷ xs) = tt
 

@@ -4,149 +4,127 @@ use Rattle.std.proofs.lemmas.List.{take_more, take_all, map-append}
 use Rattle.std.specs.List.{AllByRecursion as Every}
 use Rattle.ss_base.specs.declared.layout.Mode.TheVariants.{Integer}
 use Rattle.ss_program.specs.Program as p
-use Rattle.ss_program.specs.Program.{Statement}
 use Rattle.ss_program.specs.View.{view_expression, view_place, view_target, view_position, view_owner, view_when, view_restart, view_item, view_condition, view_guard, view_phrase, view_head, view_statement, view_body, block_of}
 use Rattle.ss_program.specs.Views.{view_if_made, view_loop_made, view_for_made, view_find_made}
-use Rattle.ss_program.specs.WellTyped.{TakesMode, GoodHead, GoodPhrase, GoodCondition, GoodRestart, Good}
+use Rattle.ss_program.specs.WellTyped.{TakesMode, GoodRestart, Good}
 use Rattle.ss_code_instructions.specs.Instructions as i
-use Rattle.ss_code_instructions.specs.Translation.{place, height, after_values, values_code, gives_code, let_code, change_code, reads_code, to_place_code, creates_code, with_operand, file_code, remove_end_code, remove_code, schedule_new_code, schedule_code, restarts_code, loop_code, find_code, phrases_code}
+use Rattle.ss_code_instructions.specs.Translation.{place, height, after_values, values_code, gives_code, let_code, change_code, reads_code, to_place_code, creates_code, with_operand, file_code, remove_end_code, remove_code, schedule_new_code, schedule_code, restarts_code}
 use Rattle.ss_code_generator.specs.declared.generator.Site.{Site as Here}
-use Rattle.ss_code_pieces.specs.Lined.{nothing}
-use Rattle.ss_code_generator.specs.Emitted.{EmitsAround, EmitsAroundBoth}
 use Rattle.ss_code_generator.specs.Notices.{simulate_code}
-use Rattle.ss_code_generator.specs.Printed.{line_or_none, PrintsLines, EmitsStatement, EmitsBlock}
-use Rattle.ss_code_generator.proofs.Bodies.{on_both, let_seen, change_seen, call_seen, return_seen, stop_seen, read_seen, simulate_seen, create_seen, create_every_seen, destroy_seen, file_seen, remove_end_seen, remove_seen, schedule_new_seen, schedule_seen, cancel_seen, reset_seen, print_seen, skip_seen, said, emits_same, put_said, loop_said, for_said, if_said, find_said, print_said, body_none, body_more}
+use Rattle.ss_code_generator.specs.Printed.{line_or_none, EmitsBlock}
+use Rattle.ss_code_generator.proofs.Emitting.{both_ok}
+use Rattle.ss_code_generator.proofs.Bodies.{let_seen, change_seen, call_seen, return_seen, stop_seen, read_seen, simulate_seen, create_seen, create_every_seen, destroy_seen, file_seen, remove_end_seen, remove_seen, schedule_new_seen, schedule_seen, cancel_seen, reset_seen, print_seen, skip_seen, said, put_said, loop_said, for_said, if_said, find_said, print_said, body_none, body_more}
 use Rattle.ss_code_generator.proofs.generator.Generator.+statements.Goals as goal
 
 pub statement-returns-in-Let : goal.statement-returns-in-Let
 statement-returns-in-Let t' c =
     let i' = c.in-Let in
-    let site : Here = record { line = c.line_of.result; height = c.args.height } in
     on_ok_weaker c.assignment.result (λ m.
     said c.args.self.now c.assignment.new.self c.args.code.now c.assignment.new.code c.args.height c.line_of.result c.args.prints.now.items c.args.s.now _ _ (λ k. Good k (p.Let c.line_of.result (view_place i'.target) (view_expression i'.value))) (λ t. let_code t (view_place i'.target) (view_expression i'.value)) m i'.is (let_seen i'.line i'.target i'.value) c.line_of.ensures (λ k h. h) refl (λ first t. refl)) c.assignment.ensures
 
 pub statement-returns-in-Change : goal.statement-returns-in-Change
 statement-returns-in-Change t' c =
     let i' = c.in-Change in
-    let site : Here = record { line = c.line_of.result; height = c.args.height } in
     on_ok_weaker c.change.result (λ m.
     said c.args.self.now c.change.new.self c.args.code.now c.change.new.code c.args.height c.line_of.result c.args.prints.now.items c.args.s.now _ _ (λ k. Good k (p.Change c.line_of.result i'.sign (view_place i'.target) (view_expression i'.value))) (λ t. change_code t i'.sign (view_place i'.target) (view_expression i'.value)) m i'.is (change_seen i'.line i'.sign i'.target i'.value) c.line_of.ensures (λ k h. h) refl (λ first t. refl)) c.change.ensures
 
 pub statement-returns-in-Call : goal.statement-returns-in-Call
 statement-returns-in-Call t' c =
     let i' = c.in-Call in
-    let site : Here = record { line = c.line_of.result; height = c.args.height } in
-    let given = c.deref.result.now in
-    let yielding = c.deref-in-Call.result.now in
     on_ok_weaker c.call.result (λ m.
-    let one = emits_same given i'.given.items c.args.self.now c.call.new.self c.args.code.now c.call.new.code site (λ es k. Good k (p.Call c.line_of.result i'.routine (map view_expression es) (map view_place yielding))) (λ es t. values_code t (map view_expression es) ++ place (after_values t (map view_expression es)) (i.Call i'.routine (height t)) ∷ gives_code t (map view_place yielding)) c.deref.ensures.value m in
-    let two = emits_same yielding i'.yielding.items c.args.self.now c.call.new.self c.args.code.now c.call.new.code site (λ ps k. Good k (p.Call c.line_of.result i'.routine (map view_expression i'.given.items) (map view_place ps))) (λ ps t. values_code t (map view_expression i'.given.items) ++ place (after_values t (map view_expression i'.given.items)) (i.Call i'.routine (height t)) ∷ gives_code t (map view_place ps)) c.deref-in-Call.ensures.value one in
-    said c.args.self.now c.call.new.self c.args.code.now c.call.new.code c.args.height c.line_of.result c.args.prints.now.items c.args.s.now _ _ (λ k. Good k (p.Call c.line_of.result i'.routine (map view_expression i'.given.items) (map view_place i'.yielding.items))) (λ t. values_code t (map view_expression i'.given.items) ++ place (after_values t (map view_expression i'.given.items)) (i.Call i'.routine (height t)) ∷ gives_code t (map view_place i'.yielding.items)) two i'.is (call_seen i'.line i'.routine i'.given i'.yielding) c.line_of.ensures (λ k h. h) refl (λ first t. refl)) c.call.ensures
+    said c.args.self.now c.call.new.self c.args.code.now c.call.new.code c.args.height c.line_of.result c.args.prints.now.items c.args.s.now _ _ (λ k. Good k (p.Call c.line_of.result i'.routine (map view_expression i'.given.items) (map view_place i'.yielding.items))) (λ t. values_code t (map view_expression i'.given.items) ++ place (after_values t (map view_expression i'.given.items)) (i.Call i'.routine (height t)) ∷ gives_code t (map view_place i'.yielding.items)) m i'.is (call_seen i'.line i'.routine i'.given i'.yielding) c.line_of.ensures (λ k h. h) refl (λ first t. refl)) (rw (c.deref.ensures.value, c.deref-in-Call.ensures.value) at c.call.ensures)
 
 pub statement-returns-in-Return : goal.statement-returns-in-Return
 statement-returns-in-Return t' c =
     let i' = c.in-Return in
     let site : Here = record { line = c.line_of.result; height = c.args.height } in
-    on_ok_weaker c.put.result (λ both.
+    both_ok c.put.result c.put.ensures.instructions c.put.ensures.lines (λ is ls.
     said c.args.self.now c.args.self.now c.args.code.now c.put.new.code c.args.height c.line_of.result c.args.prints.now.items c.args.s.now _ _ (λ k. Unit {0}) (λ t. place t i.Leave ∷ [])
-    (put_said c.args.self.now c.args.code.now c.put.new.code site i.Leave _ both.0 both.1 (λ f t. refl) (λ f t. tt)) i'.is return_seen c.line_of.ensures (λ k h. tt) refl (λ first t. refl)) (on_both _ _ c.put.result c.put.ensures.instructions c.put.ensures.lines)
+    (put_said c.args.self.now c.args.code.now c.put.new.code site i.Leave _ is ls (λ f t. refl) (λ f t. tt)) i'.is return_seen c.line_of.ensures (λ k h. tt) refl (λ first t. refl))
 
 pub statement-returns-in-Stop : goal.statement-returns-in-Stop
 statement-returns-in-Stop t' c =
     let i' = c.in-Stop in
     let site : Here = record { line = c.line_of.result; height = c.args.height } in
-    on_ok_weaker c.put-in-Stop.result (λ both.
+    both_ok c.put-in-Stop.result c.put-in-Stop.ensures.instructions c.put-in-Stop.ensures.lines (λ is ls.
     said c.args.self.now c.args.self.now c.args.code.now c.put-in-Stop.new.code c.args.height c.line_of.result c.args.prints.now.items c.args.s.now _ _ (λ k. Unit {0}) (λ t. place t i.Halt ∷ [])
-    (put_said c.args.self.now c.args.code.now c.put-in-Stop.new.code site i.Halt _ both.0 both.1 (λ f t. refl) (λ f t. tt)) i'.is stop_seen c.line_of.ensures (λ k h. tt) refl (λ first t. refl)) (on_both _ _ c.put-in-Stop.result c.put-in-Stop.ensures.instructions c.put-in-Stop.ensures.lines)
+    (put_said c.args.self.now c.args.code.now c.put-in-Stop.new.code site i.Halt _ is ls (λ f t. refl) (λ f t. tt)) i'.is stop_seen c.line_of.ensures (λ k h. tt) refl (λ first t. refl))
 
 pub statement-returns-in-Read : goal.statement-returns-in-Read
 statement-returns-in-Read t' c =
     let i' = c.in-Read in
-    let site : Here = record { line = c.line_of.result; height = c.args.height } in
     on_ok_weaker c.reads.result (λ m.
-    said c.args.self.now c.reads.new.self c.args.code.now c.reads.new.code c.args.height c.line_of.result c.args.prints.now.items c.args.s.now _ _ (λ k. Every (λ x. TakesMode k x.place x.mode) (map view_target i'.targets.items)) (λ t. reads_code t (map view_target i'.targets.items)) (emits_same c.deref-in-Read.result.now i'.targets.items c.args.self.now c.reads.new.self c.args.code.now c.reads.new.code site (λ xs k. Every (λ x. TakesMode k x.place x.mode) (map view_target xs)) (λ xs t. reads_code t (map view_target xs)) c.deref-in-Read.ensures.value m) i'.is (read_seen i'.line i'.targets) c.line_of.ensures (λ k h. h) refl (λ first t. refl)) c.reads.ensures
+    said c.args.self.now c.reads.new.self c.args.code.now c.reads.new.code c.args.height c.line_of.result c.args.prints.now.items c.args.s.now _ _ (λ k. Every (λ x. TakesMode k x.place x.mode) (map view_target i'.targets.items)) (λ t. reads_code t (map view_target i'.targets.items)) m i'.is (read_seen i'.line i'.targets) c.line_of.ensures (λ k h. h) refl (λ first t. refl)) (rw c.deref-in-Read.ensures.value at c.reads.ensures)
 
 pub statement-returns-in-Simulate : goal.statement-returns-in-Simulate
 statement-returns-in-Simulate t' c =
     let i' = c.in-Simulate in
-    let site : Here = record { line = c.line_of.result; height = c.args.height } in
     on_ok_weaker c.simulate.result (λ m.
     said c.args.self.now c.args.self.now c.args.code.now c.simulate.new.code c.args.height c.line_of.result c.args.prints.now.items c.args.s.now _ _ (λ k. Unit {0}) (λ t. simulate_code t) m i'.is simulate_seen c.line_of.ensures (λ k h. tt) refl (λ first t. refl)) c.simulate.ensures
 
 pub statement-returns-in-Create : goal.statement-returns-in-Create
 statement-returns-in-Create t' c =
     let i' = c.in-Create in
-    let site : Here = record { line = c.line_of.result; height = c.args.height } in
     on_ok_weaker c.create.result (λ m.
     said c.args.self.now c.create.new.self c.args.code.now c.create.new.code c.args.height c.line_of.result c.args.prints.now.items c.args.s.now _ _ (λ k. TakesMode k (view_place i'.into) Integer) (λ t. to_place_code t (view_place i'.into) Integer (λ u to. place u (i.Create i'.class to) ∷ [])) m i'.is (create_seen i'.line i'.class i'.into) c.line_of.ensures (λ k h. h.1) refl (λ first t. refl)) c.create.ensures
 
 pub statement-returns-in-CreateEvery : goal.statement-returns-in-CreateEvery
 statement-returns-in-CreateEvery t' c =
     let i' = c.in-CreateEvery in
-    let site : Here = record { line = c.line_of.result; height = c.args.height } in
     on_ok_weaker c.creates.result (λ m.
-    said c.args.self.now c.creates.new.self c.args.code.now c.creates.new.code c.args.height c.line_of.result c.args.prints.now.items c.args.s.now _ _ (λ k. Unit {0}) (λ t. creates_code t i'.classes.items) (emits_same c.deref-in-CreateEvery.result.now i'.classes.items c.args.self.now c.creates.new.self c.args.code.now c.creates.new.code site (λ xs k. Unit {0}) (λ xs t. creates_code t xs) c.deref-in-CreateEvery.ensures.value m) i'.is (create_every_seen i'.line i'.classes) c.line_of.ensures (λ k h. tt) refl (λ first t. refl)) c.creates.ensures
+    said c.args.self.now c.creates.new.self c.args.code.now c.creates.new.code c.args.height c.line_of.result c.args.prints.now.items c.args.s.now _ _ (λ k. Unit {0}) (λ t. creates_code t i'.classes.items) m i'.is (create_every_seen i'.line i'.classes) c.line_of.ensures (λ k h. tt) refl (λ first t. refl)) (rw c.deref-in-CreateEvery.ensures.value at c.creates.ensures)
 
 pub statement-returns-in-Destroy : goal.statement-returns-in-Destroy
 statement-returns-in-Destroy t' c =
     let i' = c.in-Destroy in
-    let site : Here = record { line = c.line_of.result; height = c.args.height } in
     on_ok_weaker c.destroy.result (λ m.
     said c.args.self.now c.destroy.new.self c.args.code.now c.destroy.new.code c.args.height c.line_of.result c.args.prints.now.items c.args.s.now _ _ (λ k. Good k (p.Destroy c.line_of.result i'.class (view_expression i'.entity))) (λ t. with_operand t (view_expression i'.entity) (i.Destroy i'.class)) m i'.is (destroy_seen i'.line i'.class i'.entity) c.line_of.ensures (λ k h. h) refl (λ first t. refl)) c.destroy.ensures
 
 pub statement-returns-in-File : goal.statement-returns-in-File
 statement-returns-in-File t' c =
     let i' = c.in-File in
-    let site : Here = record { line = c.line_of.result; height = c.args.height } in
     on_ok_weaker c.file.result (λ m.
     said c.args.self.now c.file.new.self c.args.code.now c.file.new.code c.args.height c.line_of.result c.args.prints.now.items c.args.s.now _ _ (λ k. Good k (p.File c.line_of.result i'.set (view_expression i'.member) (view_position i'.position) (view_owner i'.owner))) (λ t. file_code t i'.set (view_expression i'.member) (view_position i'.position) (view_owner i'.owner)) m i'.is (file_seen i'.line i'.set i'.member i'.position i'.owner) c.line_of.ensures (λ k h. h) refl (λ first t. refl)) c.file.ensures
 
 pub statement-returns-in-RemoveEnd : goal.statement-returns-in-RemoveEnd
 statement-returns-in-RemoveEnd t' c =
     let i' = c.in-RemoveEnd in
-    let site : Here = record { line = c.line_of.result; height = c.args.height } in
     on_ok_weaker c.remove_end.result (λ m.
     said c.args.self.now c.remove_end.new.self c.args.code.now c.remove_end.new.code c.args.height c.line_of.result c.args.prints.now.items c.args.s.now _ _ (λ k. Good k (p.RemoveEnd c.line_of.result i'.end i'.set (view_place i'.into) (view_owner i'.owner))) (λ t. remove_end_code t i'.end i'.set (view_place i'.into) (view_owner i'.owner)) m i'.is (remove_end_seen i'.line i'.end i'.set i'.into i'.owner) c.line_of.ensures (λ k h. h) refl (λ first t. refl)) c.remove_end.ensures
 
 pub statement-returns-in-Remove : goal.statement-returns-in-Remove
 statement-returns-in-Remove t' c =
     let i' = c.in-Remove in
-    let site : Here = record { line = c.line_of.result; height = c.args.height } in
     on_ok_weaker c.remove.result (λ m.
     said c.args.self.now c.remove.new.self c.args.code.now c.remove.new.code c.args.height c.line_of.result c.args.prints.now.items c.args.s.now _ _ (λ k. Good k (p.Remove c.line_of.result i'.set (view_expression i'.member) (view_owner i'.owner))) (λ t. remove_code t i'.set (view_expression i'.member) (view_owner i'.owner)) m i'.is (remove_seen i'.line i'.set i'.member i'.owner) c.line_of.ensures (λ k h. h) refl (λ first t. refl)) c.remove.ensures
 
 pub statement-returns-in-ScheduleNew : goal.statement-returns-in-ScheduleNew
 statement-returns-in-ScheduleNew t' c =
     let i' = c.in-ScheduleNew in
-    let site : Here = record { line = c.line_of.result; height = c.args.height } in
     on_ok_weaker c.schedule_new.result (λ m.
-    said c.args.self.now c.schedule_new.new.self c.args.code.now c.schedule_new.new.code c.args.height c.line_of.result c.args.prints.now.items c.args.s.now _ _ (λ k. Good k (p.ScheduleNew c.line_of.result i'.class (view_place i'.into) (map view_expression i'.given.items) (view_when i'.when))) (λ t. schedule_new_code t i'.class (view_place i'.into) (map view_expression i'.given.items) (view_when i'.when)) (emits_same c.deref-in-ScheduleNew.result.now i'.given.items c.args.self.now c.schedule_new.new.self c.args.code.now c.schedule_new.new.code site (λ xs k. Good k (p.ScheduleNew c.line_of.result i'.class (view_place i'.into) (map view_expression xs) (view_when i'.when))) (λ xs t. schedule_new_code t i'.class (view_place i'.into) (map view_expression xs) (view_when i'.when)) c.deref-in-ScheduleNew.ensures.value m) i'.is (schedule_new_seen i'.line i'.class i'.into i'.given i'.when) c.line_of.ensures (λ k h. h) refl (λ first t. refl)) c.schedule_new.ensures
+    said c.args.self.now c.schedule_new.new.self c.args.code.now c.schedule_new.new.code c.args.height c.line_of.result c.args.prints.now.items c.args.s.now _ _ (λ k. Good k (p.ScheduleNew c.line_of.result i'.class (view_place i'.into) (map view_expression i'.given.items) (view_when i'.when))) (λ t. schedule_new_code t i'.class (view_place i'.into) (map view_expression i'.given.items) (view_when i'.when)) m i'.is (schedule_new_seen i'.line i'.class i'.into i'.given i'.when) c.line_of.ensures (λ k h. h) refl (λ first t. refl)) (rw c.deref-in-ScheduleNew.ensures.value at c.schedule_new.ensures)
 
 pub statement-returns-in-Schedule : goal.statement-returns-in-Schedule
 statement-returns-in-Schedule t' c =
     let i' = c.in-Schedule in
-    let site : Here = record { line = c.line_of.result; height = c.args.height } in
     on_ok_weaker c.schedule.result (λ m.
-    said c.args.self.now c.schedule.new.self c.args.code.now c.schedule.new.code c.args.height c.line_of.result c.args.prints.now.items c.args.s.now _ _ (λ k. Good k (p.Schedule c.line_of.result i'.class (view_expression i'.notice) (map view_expression i'.given.items) (view_when i'.when))) (λ t. schedule_code t i'.class (view_expression i'.notice) (map view_expression i'.given.items) (view_when i'.when)) (emits_same c.deref-in-Schedule.result.now i'.given.items c.args.self.now c.schedule.new.self c.args.code.now c.schedule.new.code site (λ xs k. Good k (p.Schedule c.line_of.result i'.class (view_expression i'.notice) (map view_expression xs) (view_when i'.when))) (λ xs t. schedule_code t i'.class (view_expression i'.notice) (map view_expression xs) (view_when i'.when)) c.deref-in-Schedule.ensures.value m) i'.is (schedule_seen i'.line i'.class i'.notice i'.given i'.when) c.line_of.ensures (λ k h. h) refl (λ first t. refl)) c.schedule.ensures
+    said c.args.self.now c.schedule.new.self c.args.code.now c.schedule.new.code c.args.height c.line_of.result c.args.prints.now.items c.args.s.now _ _ (λ k. Good k (p.Schedule c.line_of.result i'.class (view_expression i'.notice) (map view_expression i'.given.items) (view_when i'.when))) (λ t. schedule_code t i'.class (view_expression i'.notice) (map view_expression i'.given.items) (view_when i'.when)) m i'.is (schedule_seen i'.line i'.class i'.notice i'.given i'.when) c.line_of.ensures (λ k h. h) refl (λ first t. refl)) (rw c.deref-in-Schedule.ensures.value at c.schedule.ensures)
 
 pub statement-returns-in-Cancel : goal.statement-returns-in-Cancel
 statement-returns-in-Cancel t' c =
     let i' = c.in-Cancel in
-    let site : Here = record { line = c.line_of.result; height = c.args.height } in
     on_ok_weaker c.cancel.result (λ m.
     said c.args.self.now c.cancel.new.self c.args.code.now c.cancel.new.code c.args.height c.line_of.result c.args.prints.now.items c.args.s.now _ _ (λ k. Good k (p.Cancel c.line_of.result i'.class (view_expression i'.notice))) (λ t. with_operand t (view_expression i'.notice) (i.Cancel i'.class)) m i'.is (cancel_seen i'.line i'.class i'.notice) c.line_of.ensures (λ k h. h) refl (λ first t. refl)) c.cancel.ensures
 
 pub statement-returns-in-Reset : goal.statement-returns-in-Reset
 statement-returns-in-Reset t' c =
     let i' = c.in-Reset in
-    let site : Here = record { line = c.line_of.result; height = c.args.height } in
     on_ok_weaker c.resets.result (λ m.
-    said c.args.self.now c.resets.new.self c.args.code.now c.resets.new.code c.args.height c.line_of.result c.args.prints.now.items c.args.s.now _ _ (λ k. Every (λ r. GoodRestart k r.statistic r.of) (map view_restart i'.restarts.items)) (λ t. restarts_code t (map view_restart i'.restarts.items)) (emits_same c.deref-in-Reset.result.now i'.restarts.items c.args.self.now c.resets.new.self c.args.code.now c.resets.new.code site (λ xs k. Every (λ r. GoodRestart k r.statistic r.of) (map view_restart xs)) (λ xs t. restarts_code t (map view_restart xs)) c.deref-in-Reset.ensures.value m) i'.is (reset_seen i'.line i'.restarts) c.line_of.ensures (λ k h. h) refl (λ first t. refl)) c.resets.ensures
+    said c.args.self.now c.resets.new.self c.args.code.now c.resets.new.code c.args.height c.line_of.result c.args.prints.now.items c.args.s.now _ _ (λ k. Every (λ r. GoodRestart k r.statistic r.of) (map view_restart i'.restarts.items)) (λ t. restarts_code t (map view_restart i'.restarts.items)) m i'.is (reset_seen i'.line i'.restarts) c.line_of.ensures (λ k h. h) refl (λ first t. refl)) (rw c.deref-in-Reset.ensures.value at c.resets.ensures)
 
 pub statement-returns-in-Skip : goal.statement-returns-in-Skip
 statement-returns-in-Skip t' c =
     let i' = c.in-Skip in
-    let site : Here = record { line = c.line_of.result; height = c.args.height } in
     on_ok_weaker c.skip.result (λ m.
     said c.args.self.now c.skip.new.self c.args.code.now c.skip.new.code c.args.height c.line_of.result c.args.prints.now.items c.args.s.now _ _ (λ k. Good k (p.Skip c.line_of.result (view_expression i'.count))) (λ t. with_operand t (view_expression i'.count) i.Skip) m i'.is (skip_seen i'.line i'.count) c.line_of.ensures (λ k h. h) refl (λ first t. refl)) c.skip.ensures
 
@@ -154,12 +132,9 @@ pub statement-returns-in-Print : goal.statement-returns-in-Print
 statement-returns-in-Print t' c =
     let i' = c.in-Print in
     let seen : view_statement c.args.s.now ≡ p.Print i'.line (map view_item i'.items.items) (map (λ line. line.items) i'.pictures.items) = ap view_statement i'.is ∙ print_seen i'.line i'.items i'.pictures in
-    let site : Here = record { line = c.line_of.result; height = c.args.height } in
-    on_ok_weaker c.print.result (λ m.
-    let one = subst (λ xs. PrintsLines c.args.self.now c.print.new.self c.args.code.now c.print.new.code site c.args.prints.now.items c.print.new.prints.items (map view_item xs) (map (λ line. line.items) c.deref-in-Print-2.result.now)) c.deref-in-Print.ensures.value m in
-    let two = subst (λ ls. PrintsLines c.args.self.now c.print.new.self c.args.code.now c.print.new.code site c.args.prints.now.items c.print.new.prints.items (map view_item i'.items.items) (map (λ line. line.items) ls)) c.deref-in-Print-2.ensures.value one in
-    subst (λ x. EmitsStatement c.args.self.now c.print.new.self c.args.code.now c.print.new.code c.args.height c.args.prints.now.items c.print.new.prints.items x) (sym seen)
-    (print_said c.args.self.now c.print.new.self c.args.code.now c.print.new.code c.args.height c.args.prints.now.items c.print.new.prints.items c.line_of.result i'.line (map view_item i'.items.items) (map (λ line. line.items) i'.pictures.items) (c.line_of.ensures ∙ ap line_or_none seen) two)) c.print.ensures
+    rw seen (on_ok_weaker c.print.result
+    (print_said c.args.self.now c.print.new.self c.args.code.now c.print.new.code c.args.height c.args.prints.now.items c.print.new.prints.items c.line_of.result i'.line (map view_item i'.items.items) (map (λ line. line.items) i'.pictures.items) (c.line_of.ensures ∙ ap line_or_none seen))
+    (rw (c.deref-in-Print.ensures.value, c.deref-in-Print-2.ensures.value) at c.print.ensures))
 
 pub statement-returns-in_ok-second-in-If : goal.statement-returns-in_ok-second-in-If
 statement-returns-in_ok-second-in-If t' c =
@@ -167,19 +142,10 @@ statement-returns-in_ok-second-in-If t' c =
     let a = view_body i'.then.items in
     let b = view_body i'.otherwise.items in
     let seen : view_statement c.args.s.now ≡ p.If i'.line (view_condition i'.condition) a b = ap view_statement i'.is ∙ view_if_made i'.line i'.condition i'.then i'.otherwise in
-    let one = c.in_ok-first-in-If.first in
-    let two = c.in_ok-second-in-If.second in
-    let g0 = c.args.self.now in
-    let g1 = c.body.new.self in
-    let g2 = c.body-in-If.new.self in
-    let p0 = c.args.prints.now.items in
-    let p1 = c.body.new.prints.items in
-    let p2 = c.body-in-If.new.prints.items in
-    let m : EmitsBlock g0 g1 one c.args.height p0 p1 a = subst (λ ss. EmitsBlock g0 g1 one c.args.height p0 p1 (view_body ss)) c.deref-in-If.ensures.value c.in_ok-first-in-If.ensures in
-    let n : EmitsBlock g1 g2 two c.args.height p1 p2 b = subst (λ ss. EmitsBlock g1 g2 two c.args.height p1 p2 (view_body ss)) c.deref-in-If-2.ensures.value c.in_ok-second-in-If.ensures in
-    on_ok_weaker c.branches.result (λ o.
-    subst (λ x. EmitsStatement g0 c.branches.new.self c.args.code.now c.branches.new.code c.args.height p0 p2 x) (sym seen)
-    (if_said g0 g1 g2 c.args.height one two p0 p1 p2 a b m n c.branches.new.self c.args.code.now c.branches.new.code c.line_of.result i'.line (view_condition i'.condition) (c.line_of.ensures ∙ ap line_or_none seen) o)) c.branches.ensures
+    let one = c.in_ok-first-in-If in
+    let two = c.in_ok-second-in-If in
+    rw seen (on_ok_weaker c.branches.result
+    (if_said c.args.self.now c.body.new.self c.body-in-If.new.self c.args.height one.first two.second c.args.prints.now.items c.body.new.prints.items c.body-in-If.new.prints.items a b (rw c.deref-in-If.ensures.value at one.ensures) (rw c.deref-in-If-2.ensures.value at two.ensures) c.branches.new.self c.args.code.now c.branches.new.code c.line_of.result i'.line (view_condition i'.condition) (c.line_of.ensures ∙ ap line_or_none seen)) c.branches.ensures)
 
 pub statement-returns-in_ok-turn-in-Loop : goal.statement-returns-in_ok-turn-in-Loop
 statement-returns-in_ok-turn-in-Loop t' c =
@@ -187,17 +153,10 @@ statement-returns-in_ok-turn-in-Loop t' c =
     let a = view_body i'.body.items in
     let gs = map view_guard i'.guards.items in
     let seen : view_statement c.args.s.now ≡ p.Loop i'.line gs a = ap view_statement i'.is ∙ view_loop_made i'.line i'.guards i'.body in
-    let site : Here = record { line = c.line_of.result; height = c.args.height } in
-    let turn = c.in_ok-turn-in-Loop.turn in
-    let g0 = c.args.self.now in
-    let g1 = c.body-in-Loop.new.self in
-    let p0 = c.args.prints.now.items in
-    let p1 = c.body-in-Loop.new.prints.items in
-    let m : EmitsBlock g0 g1 turn c.args.height p0 p1 a = subst (λ ss. EmitsBlock g0 g1 turn c.args.height p0 p1 (view_body ss)) c.deref-in-Loop.ensures.value c.in_ok-turn-in-Loop.ensures in
-    on_ok_weaker c.guarded_loop.result (λ n.
-    let o = subst (λ guards. EmitsAround g1 c.guarded_loop.new.self c.args.code.now c.guarded_loop.new.code site turn (λ s. Every (λ g. GoodCondition s g.condition) (map view_guard guards)) (λ t b. loop_code t (map view_guard guards) b)) c.deref-in-Loop-2.ensures.value n in
-    subst (λ x. EmitsStatement g0 c.guarded_loop.new.self c.args.code.now c.guarded_loop.new.code c.args.height p0 p1 x) (sym seen)
-    (loop_said g0 g1 c.args.height turn p0 p1 a m c.guarded_loop.new.self c.args.code.now c.guarded_loop.new.code c.line_of.result i'.line gs (c.line_of.ensures ∙ ap line_or_none seen) o)) c.guarded_loop.ensures
+    let turn = c.in_ok-turn-in-Loop in
+    rw seen (on_ok_weaker c.guarded_loop.result
+    (loop_said c.args.self.now c.body-in-Loop.new.self c.args.height turn.turn c.args.prints.now.items c.body-in-Loop.new.prints.items a (rw c.deref-in-Loop.ensures.value at turn.ensures) c.guarded_loop.new.self c.args.code.now c.guarded_loop.new.code c.line_of.result i'.line gs (c.line_of.ensures ∙ ap line_or_none seen))
+    (rw c.deref-in-Loop-2.ensures.value at c.guarded_loop.ensures))
 
 pub statement-returns-in_ok-turn-in-For : goal.statement-returns-in_ok-turn-in-For
 statement-returns-in_ok-turn-in-For t' c =
@@ -205,19 +164,10 @@ statement-returns-in_ok-turn-in-For t' c =
     let a = view_body i'.body.items in
     let ps = map view_phrase i'.phrases.items in
     let seen : view_statement c.args.s.now ≡ p.For i'.line (view_head i'.head) ps a = ap view_statement i'.is ∙ view_for_made i'.line i'.head i'.phrases i'.body in
-    let up = c.above-above.result in
-    let inner = c.in_ok-inner-in-For.inner in
-    let turn = c.in_ok-turn-in-For.turn in
-    let g1 = c.reach.new.self in
-    let g2 = c.body-in-For.new.self in
-    let g3 = c.phrases.new.self in
-    let p0 = c.args.prints.now.items in
-    let p1 = c.body-in-For.new.prints.items in
-    let m : EmitsBlock g1 g2 inner up.height p0 p1 a = subst (λ ss. EmitsBlock g1 g2 inner up.height p0 p1 (view_body ss)) c.deref-in-For.ensures.value c.in_ok-inner-in-For.ensures in
-    let n : EmitsAround g2 g3 nothing turn up inner (λ s. Every (GoodPhrase s) ps) (λ t b. phrases_code t ps b) = subst (λ phrases. EmitsAround g2 g3 nothing turn up inner (λ s. Every (GoodPhrase s) (map view_phrase phrases)) (λ t b. phrases_code t (map view_phrase phrases) b)) c.deref-in-For-2.ensures.value c.in_ok-turn-in-For.ensures in
-    on_ok_weaker c.for_loop.result (λ o.
-    subst (λ x. EmitsStatement c.args.self.now c.for_loop.new.self c.args.code.now c.for_loop.new.code c.args.height p0 p1 x) (sym seen)
-    (for_said c.args.self.now g1 g2 g3 c.for_loop.new.self c.args.code.now c.for_loop.new.code inner turn c.args.height up p0 p1 c.line_of.result i'.line (view_head i'.head) ps a c.cells_of.result (c.line_of.ensures ∙ ap line_or_none seen) c.cells_of.ensures c.above-above.ensures.line c.above-above.ensures.height c.reach.ensures.grows c.reach.ensures.room m n o)) c.for_loop.ensures
+    let inner = c.in_ok-inner-in-For in
+    let turn = c.in_ok-turn-in-For in
+    rw seen (on_ok_weaker c.for_loop.result
+    (for_said c.args.self.now c.reach.new.self c.body-in-For.new.self c.phrases.new.self c.for_loop.new.self c.args.code.now c.for_loop.new.code inner.inner turn.turn c.args.height c.above-above.result c.args.prints.now.items c.body-in-For.new.prints.items c.line_of.result i'.line (view_head i'.head) ps a c.cells_of.result (c.line_of.ensures ∙ ap line_or_none seen) c.cells_of.ensures c.above-above.ensures.line c.above-above.ensures.height c.reach.ensures.grows c.reach.ensures.room (rw c.deref-in-For.ensures.value at inner.ensures) (rw c.deref-in-For-2.ensures.value at turn.ensures)) c.for_loop.ensures)
 
 pub statement-returns-in_ok-second-in-Find : goal.statement-returns-in_ok-second-in-Find
 statement-returns-in_ok-second-in-Find t' c =
@@ -226,26 +176,14 @@ statement-returns-in_ok-second-in-Find t' c =
     let b = view_body i'.none.items in
     let ps = map view_phrase i'.phrases.items in
     let seen : view_statement c.args.s.now ≡ p.Find i'.line (view_head i'.head) ps a b = ap view_statement i'.is ∙ view_find_made i'.line i'.head i'.phrases i'.found i'.none in
-    let site : Here = record { line = c.line_of.result; height = c.args.height } in
-    let one = c.in_ok-first-in-Find.first in
-    let two = c.in_ok-second-in-Find.second in
-    let g0 = c.args.self.now in
-    let g1 = c.body-in-Find.new.self in
-    let g2 = c.body-in-Find-2.new.self in
-    let p0 = c.args.prints.now.items in
-    let p1 = c.body-in-Find.new.prints.items in
-    let p2 = c.body-in-Find-2.new.prints.items in
-    let m : EmitsBlock g0 g1 one c.args.height p0 p1 a = subst (λ ss. EmitsBlock g0 g1 one c.args.height p0 p1 (view_body ss)) c.deref-in-Find.ensures.value c.in_ok-first-in-Find.ensures in
-    let n : EmitsBlock g1 g2 two c.args.height p1 p2 b = subst (λ ss. EmitsBlock g1 g2 two c.args.height p1 p2 (view_body ss)) c.deref-in-Find-2.ensures.value c.in_ok-second-in-Find.ensures in
-    on_ok_weaker c.find.result (λ o.
-    let q = subst (λ phrases. EmitsAroundBoth g2 c.find.new.self c.args.code.now c.find.new.code site one two (λ s. GoodHead s (view_head i'.head) × Every (GoodPhrase s) (map view_phrase phrases)) (λ t b. find_code t (view_head i'.head) (map view_phrase phrases) b.first b.second)) c.deref-in-Find-3.ensures.value o in
-    subst (λ x. EmitsStatement g0 c.find.new.self c.args.code.now c.find.new.code c.args.height p0 p2 x) (sym seen)
-    (find_said g0 g1 g2 c.args.height one two p0 p1 p2 a b m n c.find.new.self c.args.code.now c.find.new.code c.line_of.result i'.line (view_head i'.head) ps (c.line_of.ensures ∙ ap line_or_none seen) q)) c.find.ensures
+    let one = c.in_ok-first-in-Find in
+    let two = c.in_ok-second-in-Find in
+    rw seen (on_ok_weaker c.find.result
+    (find_said c.args.self.now c.body-in-Find.new.self c.body-in-Find-2.new.self c.args.height one.first two.second c.args.prints.now.items c.body-in-Find.new.prints.items c.body-in-Find-2.new.prints.items a b (rw c.deref-in-Find.ensures.value at one.ensures) (rw c.deref-in-Find-2.ensures.value at two.ensures) c.find.new.self c.args.code.now c.find.new.code c.line_of.result i'.line (view_head i'.head) ps (c.line_of.ensures ∙ ap line_or_none seen))
+    (rw c.as_slice-phrases.ensures.value at c.find.ensures))
 
 pub body-returns : goal.body-returns
-body-returns t' c =
-    let l = c.loop-s in
-    subst (λ ss. EmitsBlock c.args.self.now l.self l.code c.args.height c.args.prints.now.items l.prints.items (view_body ss)) (take_all l.s-index c.args.body.now c.loop-s-test.false) l.invariant
+body-returns t' c = rw (take_all c.loop-s.s-index c.args.body.now c.loop-s-test.false) at c.loop-s.invariant
 
 pub body-loop-s-init : goal.body-loop-s-init
 body-loop-s-init t' c = body_none c.args.self.now c.new-code.result c.args.height c.args.prints.now.items c.new-code.ensures

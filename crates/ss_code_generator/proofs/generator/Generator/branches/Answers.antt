@@ -1,14 +1,14 @@
 use Rattle.std.proofs.Common.{◌≡◌, ◌+◌, length, ap, ◌∙◌, arith}
-use Rattle.std.proofs.lemmas.Result.{on_ok_weaker}
 use Rattle.ss_program.specs.View.{view_condition}
-use Rattle.ss_code_generator.proofs.Bodies.{on_both, one_sided, two_sided}
+use Rattle.ss_code_generator.proofs.Emitting.{both_ok}
+use Rattle.ss_code_generator.proofs.Bodies.{one_sided, two_sided}
 use Rattle.ss_code_generator.proofs.generator.Generator.branches.Goals as goal
 
 pub returns-then-len-eq0 : goal.returns-then-len-eq0
 returns-then-len-eq0 c =
     let none : length c.args.otherwise.instructions ≡ 0 = omega (arith, c.if-len-eq0.true, c.len.ensures.value) in
-    on_ok_weaker c.put_one_side.result (λ b.
-    one_sided c.args.self.now c.condition.new.self c.args.code.now c.put_one_side.new.code c.args.site c.args.then c.args.otherwise c.in_ok-test.test (view_condition c.args.condition.now) c.in_ok-past.past none (c.in_ok-past.ensures ∙ c.len-then-len-eq0.ensures.value) c.in_ok-test.ensures b.0 b.1) (on_both _ _ c.put_one_side.result c.put_one_side.ensures.instructions c.put_one_side.ensures.lines)
+    both_ok c.put_one_side.result c.put_one_side.ensures.instructions c.put_one_side.ensures.lines
+    (one_sided c.args.self.now c.condition.new.self c.args.code.now c.put_one_side.new.code c.args.site c.args.then c.args.otherwise c.in_ok-test.test (view_condition c.args.condition.now) c.in_ok-past.past none (c.in_ok-past.ensures ∙ c.len-then-len-eq0.ensures.value) c.in_ok-test.ensures)
 
 pub returns : goal.returns
 returns c =

@@ -1,16 +1,12 @@
-use Rattle.std.proofs.Common.{◌+◌, ◌≤◌, ◌∷◌, [], ◌++◌, length, map, ap, ◌∙◌, arith}
+use Rattle.std.proofs.Common.{◌+◌, ◌≤◌, length, map, arith}
 use Rattle.std.proofs.lemmas.List.{length-map}
 use Rattle.std.proofs.lemmas.Result.{on_ok_weaker}
 use Rattle.ss_program.specs.View.{view_expression, view_place}
-use Rattle.ss_code_instructions.specs.declared.instruction.Instruction.TheVariants as r
 use Rattle.ss_code_generator.proofs.Called.{called}
 use Rattle.ss_code_generator.proofs.generator.Generator.call.Goals as goal
 
 pub returns : goal.returns
 returns c =
     let es = map view_expression c.args.given.now in
-    let ps = map view_place c.args.yielding.now in
     let room : c.args.site.height + length es ≤ c.values.new.self.deepest = omega (arith, c.in_ok-values.ensures.room, length-map c.args.given.now view_expression) in
-    let put = c.in_ok-put.ensures.instructions ∙ ap (λ k. c.values.new.code.instructions ++ r.Call k c.in_ok-cell.cell ∷ []) c.in_ok-routine.ensures in
-    on_ok_weaker c.gives.result (λ n.
-    called c.args.self.now c.values.new.self c.gives.new.self c.args.code.now c.values.new.code c.put.new.self c.gives.new.code c.args.site c.args.site.line c.args.routine c.in_ok-cell.cell es ps c.in_ok-values.ensures.code room c.in_ok-cell.ensures put c.in_ok-put.ensures.lines n) c.gives.ensures
+    on_ok_weaker c.gives.result (called c.args.self.now c.values.new.self c.gives.new.self c.args.code.now c.values.new.code c.put.new.self c.gives.new.code c.args.site c.args.site.line c.args.routine c.in_ok-cell.cell es (map view_place c.args.yielding.now) c.in_ok-values.ensures.code room c.in_ok-cell.ensures (rw c.in_ok-routine.ensures at c.in_ok-put.ensures.instructions) c.in_ok-put.ensures.lines) c.gives.ensures

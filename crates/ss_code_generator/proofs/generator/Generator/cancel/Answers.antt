@@ -1,11 +1,15 @@
-use Rattle.std.proofs.Common.{ℕ, [], ◌∷◌, ◌++◌, ap, ◌∙◌}
-use Rattle.ss_code_instructions.specs.declared.instruction.Instruction.TheVariants as r
+use Rattle.std.proofs.Common.{refl}
+use Rattle.ss_program.specs.Program as p
 use Rattle.ss_program.specs.View.{view_expression}
-use Rattle.ss_code_generator.proofs.Noticing.{cancelled}
+use Rattle.ss_program.specs.WellTyped.{Good}
+use Rattle.ss_code_instructions.specs.declared.instruction.Instruction.TheVariants as r
+use Rattle.ss_code_instructions.specs.Instructions as i
+use Rattle.ss_code_instructions.specs.Translation.{operand}
+use Rattle.ss_code_generator.proofs.Called.{of_one}
 use Rattle.ss_code_generator.proofs.generator.Generator.cancel.Goals as goal
 
 pub returns : goal.returns
 returns c =
+    let e = view_expression c.args.notice.now in
     let o = c.in_ok-notice.field-0 in
-    cancelled c.args.self.now c.operand.new.self c.args.code.now c.operand.new.code c.put.new.self c.args.site c.args.class (view_expression c.args.notice.now) o c.in_ok-notice.ensures
-    (c.in_ok-put.ensures.instructions ∙ ap (λ (k : ℕ). c.operand.new.code.instructions ++ r.Cancel k o.address ∷ []) c.in_ok-class.ensures) c.in_ok-put.ensures.lines
+    of_one c.args.self.now c.operand.new.self c.args.code.now c.operand.new.code c.put.new.self c.args.site e o (λ k. Good k (p.Cancel c.args.site.line c.args.class e)) (i.Cancel c.args.class) (r.Cancel c.args.class o.address) c.in_ok-notice.ensures (rw c.in_ok-class.ensures at c.in_ok-put.ensures.instructions) c.in_ok-put.ensures.lines (λ s h. h.1) (λ f t at. (operand t e, at, refl)) (λ f t. tt)

@@ -1,4 +1,4 @@
-use Rattle.std.proofs.Common.{◌∷◌, [], ◌++◌, refl, ap, ◌∙◌}
+use Rattle.std.proofs.Common.{refl}
 use Rattle.ss_program.specs.Program as p
 use Rattle.ss_program.specs.View.{view_expression}
 use Rattle.ss_program.specs.WellTyped.{Good}
@@ -11,6 +11,5 @@ use Rattle.ss_code_generator.proofs.generator.Generator.destroy.Goals as goal
 pub returns : goal.returns
 returns c =
     let e = view_expression c.args.entity.now in
-    let a = c.in_ok-entity.field-0.address in
-    let put = c.in_ok-put.ensures.instructions ∙ ap (λ k. c.operand.new.code.instructions ++ r.Destroy k a ∷ []) c.in_ok-class.ensures in
-    of_one c.args.self.now c.operand.new.self c.args.code.now c.operand.new.code c.put.new.self c.args.site e c.in_ok-entity.field-0 (λ k. Good k (p.Destroy c.args.site.line c.args.class e)) (i.Destroy c.args.class) (r.Destroy c.args.class a) c.in_ok-entity.ensures put c.in_ok-put.ensures.lines (λ s h. h.1) (λ f t at. (operand t e, at, refl)) (λ f t. tt)
+    let o = c.in_ok-entity.field-0 in
+    of_one c.args.self.now c.operand.new.self c.args.code.now c.operand.new.code c.put.new.self c.args.site e o (λ k. Good k (p.Destroy c.args.site.line c.args.class e)) (i.Destroy c.args.class) (r.Destroy c.args.class o.address) c.in_ok-entity.ensures (rw c.in_ok-class.ensures at c.in_ok-put.ensures.instructions) c.in_ok-put.ensures.lines (λ s h. h.1) (λ f t at. (operand t e, at, refl)) (λ f t. tt)

@@ -1,16 +1,8 @@
-use Rattle.std.proofs.Common.{ap}
 use Rattle.ss_program.specs.View.{view_expression, view_owner}
-use Rattle.ss_code_instructions.specs.declared.instruction.Instruction.TheVariants as r
-use Rattle.ss_code_generator.proofs.Emitting.{put_as}
 use Rattle.ss_code_generator.proofs.Filed.{member_beside}
 use Rattle.ss_code_generator.proofs.generator.Generator.file_beside.Goals as goal
 
 pub returns : goal.returns
 returns c =
-    let x = c.in_ok-member.member in
-    let y = c.in_ok-beside.beside in
-    let w = c.in_ok-owner.field-0 in
-    let noted = c.is_count_watched.result in
-    member_beside c.args.self.now c.member.new.self c.member-2.new.self c.owner.new.self c.args.code.now c.member.new.code c.member-2.new.code c.owner.new.code c.put.new.self c.args.site c.above-above.result c.above.result c.args.set (view_expression c.args.member.now) (view_expression c.args.beside.now) (view_owner c.args.owner.now) x y w c.args.after noted
-    c.in_ok-member.ensures c.above-above.ensures.line c.above-above.ensures.height c.in_ok-beside.ensures c.above.ensures.line c.above.ensures.height c.in_ok-owner.ensures c.is_count_watched.ensures
-    (put_as c.owner.new.code c.put.new.self (r.FileBeside noted c.args.after c.in_ok-as_index.field-0 x.address y.address w.address) (r.FileBeside noted c.args.after c.args.set x.address y.address w.address) (ap (λ k. r.FileBeside noted c.args.after k x.address y.address w.address) c.in_ok-as_index.ensures) c.in_ok-put.ensures.instructions) c.in_ok-put.ensures.lines
+    member_beside c.args.self.now c.member.new.self c.member-2.new.self c.owner.new.self c.args.code.now c.member.new.code c.member-2.new.code c.owner.new.code c.put.new.self c.args.site c.above-above.result c.above-higher.result c.args.of.set (view_expression c.args.of.member.now) (view_expression c.args.beside.now) (view_owner c.args.of.owner.now) c.in_ok-member.member c.in_ok-beside.beside c.in_ok-owner.field-0 c.args.after c.is_count_watched.result
+    c.in_ok-member.ensures c.above-above.ensures.line c.above-above.ensures.height c.in_ok-beside.ensures c.above-higher.ensures.line c.above-higher.ensures.height c.in_ok-owner.ensures c.is_count_watched.ensures (rw c.in_ok-as_index.ensures at c.in_ok-put.ensures.instructions) c.in_ok-put.ensures.lines

@@ -1,8 +1,7 @@
-use Rattle.std.proofs.Common.{◌≡◌, None, IfOk, ap, sym, subst}
+use Rattle.std.proofs.Common.{None}
 use Rattle.std.proofs.lemmas.Result.{IfOk-weaker}
-use Rattle.ss_program.specs.Program.{TheSystem, Entity}
-use Rattle.ss_program.specs.View.{view_expression, view_owner}
-use Rattle.ss_code_instructions.specs.Facts.{expression_of}
+use Rattle.ss_program.specs.Program.{TheSystem}
+use Rattle.ss_program.specs.View.{view_expression}
 use Rattle.ss_code_generator.specs.Emitted.{Bears}
 use Rattle.ss_code_generator.specs.Looped.{KeepsOwner}
 use Rattle.ss_code_generator.proofs.Rounds.{system_kept, entity_kept}
@@ -10,14 +9,15 @@ use Rattle.ss_code_generator.proofs.generator.Generator.kept_owner.Goals as goal
 
 pub returns-in-TheSystem : goal.returns-in-TheSystem
 returns-in-TheSystem c =
-    let seen : view_owner c.args.owner.now ≡ TheSystem = ap view_owner c.in-TheSystem.is in
-    let borne = subst (λ o. IfOk c.owner.result (λ r. Bears c.args.self.now c.owner.new.self c.args.code.now c.owner.new.code c.args.site (expression_of o) r)) seen c.owner.ensures in
-    subst (λ o. IfOk c.owner.result (λ r. KeepsOwner c.args.self.now c.owner.new.self c.args.code.now c.owner.new.code c.args.site o r)) (sym seen)
-    (IfOk-weaker c.owner.result (λ r. Bears c.args.self.now c.owner.new.self c.args.code.now c.owner.new.code c.args.site None r) (λ r. KeepsOwner c.args.self.now c.owner.new.self c.args.code.now c.owner.new.code c.args.site TheSystem r)
-    (λ r m. system_kept c.args.self.now c.owner.new.self c.args.code.now c.owner.new.code c.args.site r m) borne)
+    let old = c.args.self.now in
+    let new = c.owner.new.self in
+    let p = c.args.code.now in
+    let q = c.owner.new.code in
+    rw c.in-TheSystem.is
+    (IfOk-weaker c.owner.result (Bears old new p q c.args.site None) (KeepsOwner old new p q c.args.site TheSystem) (system_kept old new p q c.args.site) (rw c.in-TheSystem.is at c.owner.ensures))
 
 pub returns-in_ok-cell-in-Entity : goal.returns-in_ok-cell-in-Entity
 returns-in_ok-cell-in-Entity c =
-    let seen : view_owner c.args.owner.now ≡ Entity (view_expression c.in-Entity.entity) = ap view_owner c.in-Entity.is in
-    subst (λ o. KeepsOwner c.args.self.now c.cell.new.self c.args.code.now c.push.new.code c.args.site o (record { address = c.in_ok-cell-in-Entity.field-0; cells = 1 })) (sym seen)
-    (entity_kept c.args.self.now c.push.new.self c.cell.new.self c.args.code.now c.push.new.code c.args.site (view_expression c.in-Entity.entity) c.in_ok-cell-in-Entity.field-0 c.in_ok-push-in-Entity.ensures.code c.in_ok-push-in-Entity.ensures.room c.in_ok-cell-in-Entity.ensures.grows c.in_ok-cell-in-Entity.ensures.at)
+    let push = c.in_ok-push-in-Entity in
+    let cell = c.in_ok-cell-in-Entity in
+    rw c.in-Entity.is (entity_kept c.args.self.now c.push.new.self c.cell.new.self c.args.code.now c.push.new.code c.args.site (view_expression c.in-Entity.entity) cell.field-0 push.ensures.code push.ensures.room cell.ensures.grows cell.ensures.at)

@@ -1,9 +1,6 @@
-use Rattle.std.proofs.Common.{ap}
 use Rattle.ss_base.specs.declared.layout.Mode.TheVariants.{Integer}
 use Rattle.ss_program.specs.View.{view_expression}
-use Rattle.ss_code_instructions.specs.declared.instruction.Instruction.TheVariants as r
 use Rattle.ss_code_generator.specs.Emitted.{IsNumber}
-use Rattle.ss_code_generator.proofs.Emitting.{put_as}
 use Rattle.ss_code_generator.proofs.Operands.{unlooked_reads}
 use Rattle.ss_code_generator.proofs.Filed.{member_looked}
 use Rattle.ss_code_generator.proofs.generator.Generator.member.Goals as goal
@@ -16,7 +13,5 @@ returns-then-not-is_looked c =
 
 pub returns : goal.returns
 returns c =
-    let o = c.in_ok-member.member in
     rw c.if-not-is_looked.false
-    (member_looked c.args.self.now c.operand.new.self c.args.code.now c.operand.new.code c.put.new.self c.args.site c.args.set (view_expression c.args.e.now) o c.in_ok-member.ensures
-    (put_as c.operand.new.code c.put.new.self (r.LookMember c.in_ok-set.set o.address) (r.LookMember c.args.set o.address) (ap (λ k. r.LookMember k o.address) c.in_ok-set.ensures) c.in_ok-put.ensures.instructions) c.in_ok-put.ensures.lines)
+    (member_looked c.args.self.now c.operand.new.self c.args.code.now c.operand.new.code c.put.new.self c.args.site c.args.set (view_expression c.args.e.now) c.in_ok-member.member c.in_ok-member.ensures (rw c.in_ok-set.ensures at c.in_ok-put.ensures.instructions) c.in_ok-put.ensures.lines)

@@ -1,7 +1,6 @@
-use Rattle.std.proofs.Common.{◌∷◌, [], ◌++◌, refl, ap, ◌∙◌, arith}
+use Rattle.std.proofs.Common.{refl, ◌∙◌, arith}
 use Rattle.std.proofs.lemmas.Result.{on_ok_weaker}
 use Rattle.ss_program.specs.View.{view_owner, view_start}
-use Rattle.ss_code_instructions.specs.declared.instruction.Instruction.{Instruction as Running}
 use Rattle.ss_code_generator.specs.declared.loops.Walk.{Walk}
 use Rattle.ss_code_generator.specs.Looped.{is_after, begin_of}
 use Rattle.ss_code_generator.proofs.Rounds.{Puts, members_walked}
@@ -9,13 +8,13 @@ use Rattle.ss_code_generator.proofs.generator.Generator.members.Goals as goal
 
 pub returns : goal.returns
 returns c =
-    let w : Walk = record { variable = c.in_ok-variable_spot.field-0; set = c.in_ok-as_index.field-0; owner = c.in_ok-kept.kept.address; cell = c.in_ok-place_of.field-0; reverse = c.args.reverse } in
-    let put : Puts c.start.new.code c.put.new.self c.args.site (begin_of w (is_after (view_start c.args.start.now)) c.in_ok-skip.skip) = record {
-      instructions = c.in_ok-put.ensures.instructions ∙ ap (λ (y : Running). c.start.new.code.instructions ++ y ∷ []) c.begin.ensures;
+    let w : Walk = record { variable = c.in_ok-variable_spot.field-0; set = c.in_ok-as_index.field-0; owner = c.in_ok-kept.kept.address; cell = c.in_ok-place_of.field-0; reverse = c.args.of.reverse } in
+    let put : Puts c.start.new.code c.put.new.self c.args.site (begin_of w (is_after (view_start c.args.of.start.now)) c.in_ok-skip.skip) = record {
+      instructions = rw c.begin.ensures at c.in_ok-put.ensures.instructions;
       lines = c.in_ok-put.ensures.lines;
     } in
     on_ok_weaker c.forget.result (λ forgets.
-    members_walked c.args.self.now c.kept_owner.new.self c.start.new.self c.reach.new.self c.args.code.now c.kept_owner.new.code c.start.new.code c.put.new.self c.append.new.self c.forget.new.code c.args.site c.above-below.result c.above-above.result w c.in_ok-kept.kept c.args.turn c.in_ok-members.members c.args.variable c.args.set (view_owner c.args.owner.now) (view_start c.args.start.now) c.args.reverse (record {
+    members_walked c.args.self.now c.kept_owner.new.self c.start.new.self c.reach.new.self c.args.code.now c.kept_owner.new.code c.start.new.code c.put.new.self c.append.new.self c.forget.new.code c.args.site c.above-below.result c.above-above.result w c.in_ok-kept.kept c.args.turn c.in_ok-members.members c.args.of.variable c.args.of.set (view_owner c.args.of.owner.now) (view_start c.args.of.start.now) c.args.of.reverse (record {
       keeps = c.in_ok-kept.ensures;
       below_line = c.above-below.ensures.line;
       below_height = c.above-below.ensures.height;

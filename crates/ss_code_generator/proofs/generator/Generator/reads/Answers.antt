@@ -1,6 +1,4 @@
-use Rattle.std.proofs.Common.{◌≡◌, ◌+◌, List, [], ◌∷◌, ◌++◌, map, take, sym, subst}
-use Rattle.ss_code_generator.specs.Emitted.{Emits}
-use Rattle.std.specs.List.{AllByRecursion as Every}
+use Rattle.std.proofs.Common.{◌≡◌, ◌+◌, [], ◌∷◌, ◌++◌, map, take}
 use Rattle.ss_program.specs.Program.{Target}
 use Rattle.ss_program.specs.View.{view_target}
 use Rattle.ss_program.specs.WellTyped.{TakesMode}
@@ -15,5 +13,5 @@ loop-target-preserved c =
     let x = c.target-item.result in
     let xs = c.args.targets.now in
     let more : map view_target (take (l.target-index + 1) xs) ≡ map view_target (take l.target-index xs) ++ view_target x ∷ [] = next_mapped view_target xs l.target-index x c.loop-target-test.true c.target-item.is in
-    let step = listed_more (λ (y : Target) s. TakesMode s y.place y.mode) (λ t (y : Target). to_place_code t y.place y.mode (λ u to. place u (Read y.mode to) ∷ [])) reads_code reads_more c.args.self.now l.self c.read.new.self c.args.code.now l.code c.read.new.code c.args.site (map view_target (take l.target-index xs)) (view_target x) l.invariant c.in_ok-read.ensures in
-    subst (λ (ys : List Target). Emits c.args.self.now c.read.new.self c.args.code.now c.read.new.code c.args.site (λ s. Every (λ (y : Target). TakesMode s y.place y.mode) ys) (λ t. reads_code t ys)) (sym more) step
+    rw more
+    (listed_more (λ (y : Target) s. TakesMode s y.place y.mode) (λ t (y : Target). to_place_code t y.place y.mode (λ u to. place u (Read y.mode to) ∷ [])) reads_code reads_more c.args.self.now l.self c.read.new.self c.args.code.now l.code c.read.new.code c.args.site (map view_target (take l.target-index xs)) (view_target x) l.invariant c.in_ok-read.ensures)

@@ -1,17 +1,10 @@
-use Rattle.std.proofs.Common.{ap, ◌∙◌}
+use Rattle.std.proofs.lemmas.Result.{on_ok_weaker}
 use Rattle.ss_program.specs.View.{view_owner, view_place}
-use Rattle.ss_code_instructions.specs.Forms.{removing}
-use Rattle.ss_code_generator.proofs.Emitting.{one_ok, put_as}
 use Rattle.ss_code_generator.proofs.Removing.{end_removed}
 use Rattle.ss_code_generator.proofs.generator.Generator.remove_end.Goals as goal
 
 pub returns : goal.returns
 returns c =
-    let s = c.in_ok-spot.spot in
-    let w = c.in_ok-owner.field-0 in
-    let to = c.in_ok-to.to in
-    let noted = c.is_count_watched-noted.result in
-    one_ok c.take.result c.take.ensures
-    (end_removed c.args.self.now c.looked_spot.new.self c.owner.new.self c.landing.new.self c.args.code.now c.looked_spot.new.code c.owner.new.code c.put.new.self c.take.new.code c.args.site c.above-above.result (view_place c.args.place.now) s c.args.end c.args.set (view_owner c.args.owner.now) w to noted
-    c.in_ok-spot.ensures c.above-above.ensures.line (rw c.cells.ensures at c.above-above.ensures.height) c.in_ok-owner.ensures c.in_ok-to.ensures.grows c.in_ok-to.ensures.at c.is_count_watched-noted.ensures
-    (put_as c.owner.new.code c.put.new.self c.remove_by.result (removing c.args.end c.args.set w.address to noted) (c.remove_by.ensures ∙ ap (λ k. removing c.args.end k w.address to noted) c.in_ok-as_index.ensures) c.in_ok-put.ensures.instructions) c.in_ok-put.ensures.lines)
+    on_ok_weaker c.take.result
+    (end_removed c.args.self.now c.looked_spot.new.self c.owner.new.self c.landing.new.self c.args.code.now c.looked_spot.new.code c.owner.new.code c.put.new.self c.take.new.code c.args.site c.above-above.result (view_place c.args.place.now) c.in_ok-spot.spot c.args.from.end c.args.from.set (view_owner c.args.owner.now) c.in_ok-owner.field-0 c.in_ok-to.to c.is_count_watched-noted.result
+    c.in_ok-spot.ensures c.above-above.ensures.line (rw c.cells.ensures at c.above-above.ensures.height) c.in_ok-owner.ensures c.in_ok-to.ensures.grows c.in_ok-to.ensures.at c.is_count_watched-noted.ensures (rw (c.remove_by.ensures, c.in_ok-set.ensures) at c.in_ok-put.ensures.instructions) c.in_ok-put.ensures.lines) c.take.ensures

@@ -1,6 +1,4 @@
-use Rattle.std.proofs.Common.{◌≡◌, ◌+◌, List, [], ◌∷◌, ◌++◌, map, take, sym, subst}
-use Rattle.ss_code_generator.specs.Emitted.{Emits}
-use Rattle.std.specs.List.{AllByRecursion as Every}
+use Rattle.std.proofs.Common.{◌≡◌, ◌+◌, [], ◌∷◌, ◌++◌, map, take}
 use Rattle.ss_program.specs.Program.{Restart}
 use Rattle.ss_program.specs.View.{view_restart}
 use Rattle.ss_program.specs.WellTyped.{GoodRestart}
@@ -14,5 +12,5 @@ loop-restart-preserved c =
     let x = c.restart-item.result in
     let xs = c.args.restarts.now in
     let more : map view_restart (take (l.restart-index + 1) xs) ≡ map view_restart (take l.restart-index xs) ++ view_restart x ∷ [] = next_mapped view_restart xs l.restart-index x c.loop-restart-test.true c.restart-item.is in
-    let step = listed_more (λ (y : Restart) s. GoodRestart s y.statistic y.of) (λ t (y : Restart). restarts_code t (y ∷ [])) restarts_code restarts_more c.args.self.now l.self c.reset.new.self c.args.code.now l.code c.reset.new.code c.args.site (map view_restart (take l.restart-index xs)) (view_restart x) l.invariant c.in_ok-reset.ensures in
-    subst (λ (ys : List Restart). Emits c.args.self.now c.reset.new.self c.args.code.now c.reset.new.code c.args.site (λ s. Every (λ (y : Restart). GoodRestart s y.statistic y.of) ys) (λ t. restarts_code t ys)) (sym more) step
+    rw more
+    (listed_more (λ (y : Restart) s. GoodRestart s y.statistic y.of) (λ t (y : Restart). restarts_code t (y ∷ [])) restarts_code restarts_more c.args.self.now l.self c.reset.new.self c.args.code.now l.code c.reset.new.code c.args.site (map view_restart (take l.restart-index xs)) (view_restart x) l.invariant c.in_ok-reset.ensures)

@@ -1,9 +1,7 @@
-use Rattle.std.proofs.Common.{◌∙◌, subst}
-use Rattle.ss_code_generator.specs.Looped.{TakesItem}
+use Rattle.std.proofs.Common.{◌∙◌}
 use Rattle.ss_code_generator.proofs.Pushing.{items_taken}
 use Rattle.ss_code_generator.proofs.generator.Generator.take_items.Goals as goal
 
 pub returns : goal.returns
 returns c =
-    let first = subst (λ p. TakesItem c.args.self.now p c.take_item.new.code c.args.site c.args.cell c.args.variable) c.new-code.ensures c.in_ok-take_item.ensures in
-    items_taken c.args.self.now c.take_item.new.code c.append.new.self c.put.new.self c.args.turn c.args.site c.args.cell c.in_ok-back.back c.args.variable first c.in_ok-append.ensures.instructions c.in_ok-append.ensures.lines (c.in_ok-back.ensures ∙ c.len.ensures.value) c.in_ok-put.ensures.instructions c.in_ok-put.ensures.lines
+    items_taken c.args.self.now c.take_item.new.code c.append.new.self c.put.new.self c.args.turn c.args.site c.args.cell c.in_ok-back.back c.args.variable (rw c.new-code.ensures at c.in_ok-take_item.ensures) c.in_ok-append.ensures.instructions c.in_ok-append.ensures.lines (c.in_ok-back.ensures ∙ c.len.ensures.value) c.in_ok-put.ensures.instructions c.in_ok-put.ensures.lines

@@ -1,9 +1,7 @@
-use Rattle.std.proofs.Common.{◌∙◌, subst}
-use Rattle.ss_code_generator.specs.Looped.{TakesItem}
+use Rattle.std.proofs.Common.{◌∙◌}
 use Rattle.ss_code_generator.proofs.Rounds.{members_taken}
 use Rattle.ss_code_generator.proofs.generator.Generator.take_members.Goals as goal
 
 pub returns : goal.returns
 returns c =
-    let first = subst (λ p. TakesItem c.args.self.now p c.take_item.new.code c.args.site c.args.walk.cell c.args.walk.variable) c.new-code.ensures c.in_ok-take_item.ensures in
-    members_taken c.args.self.now c.take_item.new.code c.append.new.self c.put.new.self c.args.turn c.args.site c.args.walk c.in_ok-back.back first (record { instructions = c.in_ok-append.ensures.instructions; lines = c.in_ok-append.ensures.lines }) (c.in_ok-back.ensures ∙ c.len.ensures.value) (record { instructions = c.in_ok-put.ensures.instructions; lines = c.in_ok-put.ensures.lines })
+    members_taken c.args.self.now c.take_item.new.code c.append.new.self c.put.new.self c.args.turn c.args.site c.args.walk c.in_ok-back.back (rw c.new-code.ensures at c.in_ok-take_item.ensures) (record { instructions = c.in_ok-append.ensures.instructions; lines = c.in_ok-append.ensures.lines }) (c.in_ok-back.ensures ∙ c.len.ensures.value) (record { instructions = c.in_ok-put.ensures.instructions; lines = c.in_ok-put.ensures.lines })

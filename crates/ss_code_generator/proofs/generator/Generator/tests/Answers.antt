@@ -1,11 +1,5 @@
-use Rattle.std.proofs.Common.{◌≡◌, ℕ, ◌+◌, ◌-◌, ◌<◌, List, ◌∷◌, length, map, drop, ap, sym, ◌∙◌, subst, arith}
-use Rattle.ss_code_pieces.specs.Lined.{Lined, nothing}
-use Rattle.ss_code_generator.specs.Emitted.{Emits}
-use Rattle.std.specs.List.{AllByRecursion as Every}
-use Rattle.ss_program.specs.declared.condition.Test.{Test as TestValue}
+use Rattle.std.proofs.Common.{◌≡◌, ℕ, ◌+◌, ◌-◌, ◌<◌, ◌∷◌, length, map, drop, ap, ◌∙◌, arith}
 use Rattle.ss_program.specs.View.{view_test}
-use Rattle.ss_program.specs.WellTyped.{GoodTest}
-use Rattle.ss_code_instructions.specs.Translation.{test_code, tests_code}
 use Rattle.ss_code_generator.proofs.Listed.{next_dropped}
 use Rattle.ss_code_generator.proofs.Testing.{tests_step}
 use Rattle.ss_code_generator.proofs.generator.Generator.tests.Goals as goal
@@ -19,7 +13,6 @@ loop-i-preserved c =
     let low : j < length ts = omega arith in
     let x = c.index-tests-i.result in
     let drops : drop j ts ≡ x ∷ drop l.i ts = next_dropped ts j x low c.index-tests-i.is ∙ ap (λ (k : ℕ). x ∷ drop k ts) up in
-    let front = subst (λ (p : Lined). Emits l.self c.test.new.self p c.test.new.code c.args.site (λ s. GoodTest s (view_test x)) (λ t. test_code t c.in_ok-past.past (view_test x))) c.new-front.ensures c.in_ok-test.ensures in
-    let step = tests_step c.args.self.now l.self c.test.new.self l.rest c.test.new.code c.put_before.new.self c.args.site c.args.skip c.in_ok-past.past (view_test x) (map view_test (drop l.i ts)) l.invariant front
-    (c.in_ok-past.ensures ∙ ap (λ (k : ℕ). k + c.args.skip) c.len.ensures.value) c.in_ok-put_before.ensures.instructions c.in_ok-put_before.ensures.lines in
-    subst (λ (xs : List TestValue). Emits c.args.self.now c.test.new.self nothing c.put_before.new.self c.args.site (λ s. Every (GoodTest s) (map view_test xs)) (λ t. tests_code t c.args.skip (map view_test xs))) (sym drops) step
+    rw drops
+    (tests_step c.args.self.now l.self c.test.new.self l.rest c.test.new.code c.put_before.new.self c.args.site c.args.skip c.in_ok-past.past (view_test x) (map view_test (drop l.i ts)) l.invariant (rw c.new-front.ensures at c.in_ok-test.ensures)
+    (c.in_ok-past.ensures ∙ ap (λ (k : ℕ). k + c.args.skip) c.len.ensures.value) c.in_ok-put_before.ensures.instructions c.in_ok-put_before.ensures.lines)

@@ -1,4 +1,4 @@
-use Rattle.std.proofs.Common.{◌≡◌, ◌<◌, ◌∙◌, Some, length, get_or, ap, sym, subst, arith}
+use Rattle.std.proofs.Common.{◌<◌, ◌∙◌, Some, length, get_or, ap, sym, subst, arith}
 use Rattle.ss_events_entries.specs.CountedList.{with_work}
 use Rattle.ss_events_entries.specs.HeapEntries.{HeapEntries, AreAfterHeads, event_of}
 use Rattle.ss_events.proofs.Agendas.{next-none, next-first, at_top}
@@ -13,7 +13,7 @@ returns-then-len-eq0-clause-next c =
 pub returns-clause-next : goal.returns-clause-next
 returns-clause-next c =
     let anew = c.reset_counts.ensures in
-    let following : AreAfterHeads c.self.inside.heap.entries c.self.inside.heap.followers = subst (λ (h : HeapEntries). AreAfterHeads h.entries h.followers) anew c.are_after_heads-2.ensures in
+    let following : AreAfterHeads c.self.inside.heap.entries c.self.inside.heap.followers = subst (λ (h : HeapEntries). AreAfterHeads h.entries h.followers) anew c.are_after_heads.ensures in
     let some : 0 < length c.self.inside.heap.entries = omega (arith, ap (λ h. length h.entries) anew) in
     let top = at_top c.self.inside.heap.entries some in
     ap Some (c.first-event.ensures top.0 ∙ ap (λ h. event_of (get_or h.entries 0 top.0)) anew ∙ ap event_of (sym top.1))

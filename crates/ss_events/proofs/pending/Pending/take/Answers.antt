@@ -7,23 +7,21 @@ use Rattle.ss_events_entries.specs.CountedList.{with_work}
 use Rattle.ss_events.specs.Sifting.{IsLogarithmic}
 use Rattle.ss_events.proofs.Agendas.{next-none, after_next-none, next-first, after_next-first, agenda-taken, in_order-taken, work_of}
 use Rattle.ss_events.proofs.pending.Pending.take.Goals as goal
+use Rattle.ss_events.proofs.pending.Pending.take.Goals.{After-are_after_heads}
 
--- where no head is
-after_heads : (c : goal.After-are_after_heads) → AreAfterHeads c.self.inside.heap.entries c.self.inside.heap.followers
-after_heads c = subst (λ (h : HeapEntries). AreAfterHeads h.entries h.followers) c.reset_counts.ensures c.are_after_heads.ensures
+-- each follower comes after a head
+following : (c : After-are_after_heads) → AreAfterHeads c.self.inside.heap.entries c.self.inside.heap.followers
+following c = subst (λ (h : HeapEntries). AreAfterHeads h.entries h.followers) c.reset_counts.ensures c.are_after_heads.ensures
 
 pub returns-then-len-eq0-clause-next : goal.returns-then-len-eq0-clause-next
 returns-then-len-eq0-clause-next c =
-    sym (next-none c.self.inside.heap c.args.self.now.list (ap (λ v. v.list.entries) c.self.view_is) (after_heads c) (omega (arith, ap (λ h. length h.entries) c.reset_counts.ensures)))
+    sym (next-none c.self.inside.heap c.args.self.now.list (ap (λ v. v.list.entries) c.self.view_is) (following (goal.at.returns-then-len-eq0-clause-next c).After-are_after_heads) (omega (arith, ap (λ h. length h.entries) c.reset_counts.ensures)))
 
 pub returns-then-len-eq0-clause-rest : goal.returns-then-len-eq0-clause-rest
 returns-then-len-eq0-clause-rest c =
     ap (λ h. record { entries = in_order (all_of h); schedulings = c.self.inside.schedulings; classes = map (λ shapes. shapes.items) c.self.inside.classes.items }) c.reset_counts.ensures
     ∙ ap (λ v. v.list) c.self.view_is
-    ∙ sym (after_next-none c.self.inside.heap c.args.self.now.list (ap (λ v. v.list.entries) c.self.view_is) (after_heads c) (omega (arith, ap (λ h. length h.entries) c.reset_counts.ensures)))
-
-following : (c : goal.After-take_out) → AreAfterHeads c.self.inside.heap.entries c.self.inside.heap.followers
-following c = subst (λ (h : HeapEntries). AreAfterHeads h.entries h.followers) c.reset_counts.ensures c.are_after_heads-2.ensures
+    ∙ sym (after_next-none c.self.inside.heap c.args.self.now.list (ap (λ v. v.list.entries) c.self.view_is) (following (goal.at.returns-then-len-eq0-clause-rest c).After-are_after_heads) (omega (arith, ap (λ h. length h.entries) c.reset_counts.ensures)))
 
 -- the entry that went and the others are those of the heap
 all : (c : goal.After-take_out) → IsPermutation (all_of c.self.inside.heap) (c.take_out.ensures.taken.entry ∷ all_of c.take_out.new.heap)
@@ -41,7 +39,7 @@ returns-clause-next c =
     let some : 0 < length c.self.inside.heap.entries = omega (arith, ap (λ h. length h.entries) anew) in
     let first = taken.there ∙ ap (λ h. get_or h.entries 0 taken.entry) anew in
     ap Some taken.is
-    ∙ sym (next-first c.self.inside.heap c.args.self.now.list (ap (λ v. v.list.entries) c.self.view_is) (following c) c.self.inside.schedulings c.self.invariant taken.entry some first)
+    ∙ sym (next-first c.self.inside.heap c.args.self.now.list (ap (λ v. v.list.entries) c.self.view_is) (following (goal.at.returns-clause-next c).After-are_after_heads) c.self.inside.schedulings c.self.invariant taken.entry some first)
 
 pub returns-clause-rest : goal.returns-clause-rest
 returns-clause-rest c =
@@ -53,7 +51,7 @@ returns-clause-rest c =
     let rest = in_order-taken c.self.inside.heap.entries (all_of c.self.inside.heap) c.self.inside.schedulings c.self.invariant entry (all_of c.take_out.new.heap) (all c) entry.notice (int_eq_equiv.refl entry.notice) in
     ap (λ es. record { entries = es; schedulings = c.self.inside.schedulings; classes = map (λ shapes. shapes.items) c.self.inside.classes.items }) rest
     ∙ ap (λ v. record v.list { entries = without_notice entry.notice v.list.entries }) c.self.view_is
-    ∙ sym (after_next-first c.self.inside.heap c.args.self.now.list (ap (λ v. v.list.entries) c.self.view_is) (following c) c.self.inside.schedulings c.self.invariant entry some first)
+    ∙ sym (after_next-first c.self.inside.heap c.args.self.now.list (ap (λ v. v.list.entries) c.self.view_is) (following (goal.at.returns-clause-rest c).After-are_after_heads) c.self.inside.schedulings c.self.invariant entry some first)
 
 work : (c : goal.After-take_out) → IsLogarithmic (length c.args.self.now.list.entries) c.take_out.new.heap
 work c = work_of c.self.inside.heap c.args.self.now.list.entries (ap (λ v. v.list.entries) c.self.view_is) c.reset_counts.new.self.entries c.take_out.new.heap (ap (λ h. h.entries) c.reset_counts.ensures) c.take_out.ensures.work

@@ -35,5 +35,5 @@ returns-else-noted c =
       said = Ok tt;
       after = after_unnoted c.args.answer tt c.args.noted note c.args.self.now.scene c.in-Ok.is c.if-noted.false;
       state = refl;
-      way = c.on.ensures;
+      way = refl;
     }

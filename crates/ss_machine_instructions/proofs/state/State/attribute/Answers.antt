@@ -5,6 +5,7 @@ use Rattle.ss_base.specs.declared.layout.Mode.TheVariants.{Integer}
 use Rattle.ss_base.specs.declared.value.Value.TheVariants.{Whole}
 use Rattle.ss_world.specs.State.{value_in}
 use Rattle.ss_code_instructions.specs.Machine.{is_due}
+use Rattle.ss_machine_instructions.specs.Ways.{on_after}
 use Rattle.ss_machine_instructions.specs.Doing.{as_value}
 use Rattle.ss_machine_instructions.proofs.Placing.{calm}
 use Rattle.ss_machine_instructions.proofs.Delivering.{number_right}
@@ -40,4 +41,4 @@ returns c = λ w core r.
     let found : MatchResult c.whole-answer.result (λ x. value_in c.args.self.now.scene.heap c.args.class c.args.field c.number-entity.result ≡ Ok (Whole x)) (λ kind. value_in c.args.self.now.scene.heap c.args.class c.args.field c.number-entity.result ≡ Err kind) = search rules in
     let e = whole_answer c.whole-answer.result (value_in c.args.self.now.scene.heap c.args.class c.args.field c.number-entity.result) found in
     let d = attributes w core c.args.here c.args.self.now (Runs c.args.class c.args.field c.args.entity.now c.args.to.now) r Integer c.args.class c.args.field c.args.entity.now c.args.to.now c.number-entity.result (as_value c.whole-answer.result) r.runs.carries c.number-entity.ensures e (number_right c.whole-answer.result) in
-    calm w core c.args.here c.args.self.now (Runs c.args.class c.args.field c.args.entity.now c.args.to.now) r c.put.new.self c.put.result (ap is_due r.runs.carries.1.2.2) (c.put.ensures w core r.placed.line _ d)
+    calm w core c.args.here c.args.self.now (Runs c.args.class c.args.field c.args.entity.now c.args.to.now) r c.put.new.self (on_after c.args.here c.put.result) (ap is_due r.runs.carries.1.2.2) (c.put.ensures w core r.placed.line _ d)

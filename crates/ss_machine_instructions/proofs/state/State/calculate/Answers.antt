@@ -2,6 +2,7 @@ use Rattle.std.proofs.Common.{rules, ◌≡◌, ap}
 use Rattle.ss_code_instructions.specs.Forms.{calculating}
 use Rattle.ss_code_instructions.specs.Machine.{is_due}
 use Rattle.ss_meaning.specs.Values.{computed}
+use Rattle.ss_machine_instructions.specs.Ways.{on_after}
 use Rattle.ss_machine_instructions.proofs.Placing.{calm}
 use Rattle.ss_machine_instructions.proofs.Calculating.{calculates_in, calculates}
 use Rattle.ss_machine_instructions.proofs.Forms.{calculated}
@@ -23,4 +24,4 @@ pub returns : goal.returns
 returns c = λ w core r.
     let e : computed c.args.operator c.number.result c.number-2.result ≡ c.compute-answer.result = search rules in
     let d = calculates w core c.args.here c.args.self.now (calculating c.args.operator c.args.left.now c.args.right.now c.args.to.now) r c.args.operator c.args.left.now c.args.right.now c.args.to.now c.number.result c.number-2.result c.compute-answer.result (calculated w.code w.run.constants r.placed c.args.operator c.args.left.now c.args.right.now c.args.to.now r.runs.carries) c.number.ensures c.number-2.ensures e in
-    calm w core c.args.here c.args.self.now (calculating c.args.operator c.args.left.now c.args.right.now c.args.to.now) r c.put.new.self c.put.result (ap is_due (calculated w.code w.run.constants r.placed c.args.operator c.args.left.now c.args.right.now c.args.to.now r.runs.carries).2.2.2) (c.put.ensures w core r.placed.line _ d)
+    calm w core c.args.here c.args.self.now (calculating c.args.operator c.args.left.now c.args.right.now c.args.to.now) r c.put.new.self (on_after c.args.here c.put.result) (ap is_due (calculated w.code w.run.constants r.placed c.args.operator c.args.left.now c.args.right.now c.args.to.now r.runs.carries).2.2.2) (c.put.ensures w core r.placed.line _ d)

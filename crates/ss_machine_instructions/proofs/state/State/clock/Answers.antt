@@ -2,6 +2,7 @@ use Rattle.std.proofs.Common.{rules, ◌≡◌, ap, ℤ, Ok, sym, subst, to_z, o
 use Rattle.ss_code_instructions.specs.declared.instruction.Instruction.TheVariants.{Clock as Runs}
 use Rattle.ss_code_instructions.specs.Machine.{act, is_due}
 use Rattle.ss_base.specs.declared.value.Value.TheVariants.{Whole}
+use Rattle.ss_machine_instructions.specs.Ways.{on_after}
 use Rattle.ss_machine_instructions.specs.Doing.{Delivers}
 use Rattle.ss_machine_instructions.proofs.Placing.{calm}
 use Rattle.ss_machine_instructions.proofs.Assigning.{clocks}
@@ -24,4 +25,4 @@ returns c = λ w core r.
     let m = act w.code l r.placed.instruction core in
     let same : to_z w64 (of_z w64 c.time-time.result) ≡ c.time-time.result = search rules in
     let handed = subst (λ (v : ℤ). Delivers w core l m c.args.here c.args.self.now c.args.to.now (Ok (Whole v))) (sym same) d in
-    calm w core c.args.here c.args.self.now (Runs c.args.to.now) r c.put.new.self c.put.result (ap is_due r.runs.carries.2) (c.put.ensures w core l m handed)
+    calm w core c.args.here c.args.self.now (Runs c.args.to.now) r c.put.new.self (on_after c.args.here c.put.result) (ap is_due r.runs.carries.2) (c.put.ensures w core l m handed)

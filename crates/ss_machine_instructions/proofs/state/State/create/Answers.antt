@@ -1,9 +1,10 @@
-use Rattle.std.proofs.Common.{rules, Ok, Err, ◌≡◌, ℤ, sym, subst, to_z, of_z, w64}
+use Rattle.std.proofs.Common.{rules, Ok, Err, ◌≡◌, ℤ, sym, subst, to_z, of_z, w64, ap}
 use Rattle.ss_code_instructions.specs.declared.instruction.Instruction.TheVariants.{Create as Runs}
 use Rattle.ss_meaning.specs.Entities.{made_one}
 use Rattle.ss_machine_world.specs.Seen.{Makes}
 use Rattle.ss_code_instructions.specs.Machine.{act}
 use Rattle.ss_base.specs.declared.value.Value.TheVariants.{Whole}
+use Rattle.ss_machine_instructions.specs.Ways.{on_after}
 use Rattle.ss_machine_instructions.specs.Doing.{Delivers, IsDelivered}
 use Rattle.ss_machine_instructions.proofs.Creating.{creates_within, creates_single, creates, created, creates_not}
 use Rattle.ss_machine_instructions.proofs.state.State.create.Goals as goal
@@ -39,4 +40,4 @@ returns-in-Ok c = λ w core r.
 pub returns-in-Err : goal.returns-in-Err
 returns-in-Err c = λ w core r.
     let made : Makes (made_one c.args.class) c.args.self.now.scene c.create.new.self (Err c.in-Err.refused) = search rules in
-    creates_not w core c.args.here c.args.self.now (Runs c.args.class c.args.to.now) r c.args.class c.args.to.now c.create.new.self c.in-Err.refused c.refused.new.self c.refused.result r.runs.carries made c.refused.ensures.state c.refused.ensures.none
+    creates_not w core c.args.here c.args.self.now (Runs c.args.class c.args.to.now) r c.args.class c.args.to.now c.create.new.self c.in-Err.refused c.refused.new.self (on_after c.args.here c.refused.result) r.runs.carries made c.refused.ensures.state (ap (on_after c.args.here) c.refused.ensures.none)

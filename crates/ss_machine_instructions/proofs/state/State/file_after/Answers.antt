@@ -1,9 +1,9 @@
-use Rattle.std.proofs.Common.{rules, ◌≡◌, ℤ, subst, to_z, of_z, w64, true}
+use Rattle.std.proofs.Common.{rules, ◌≡◌, ℤ, subst, to_z, of_z, w64, true, ap}
 use Rattle.ss_base.specs.declared.value.Value.TheVariants.{Whole}
 use Rattle.ss_code_instructions.specs.declared.instruction.Instruction.TheVariants.{FileBeside as Runs}
 use Rattle.ss_meaning.specs.Sets.{JustAfter}
+use Rattle.ss_machine_instructions.specs.Ways.{on_after}
 use Rattle.ss_machine_instructions.specs.Worldly.{Files}
-use Rattle.ss_machine_instructions.proofs.Settling.{next_small}
 use Rattle.ss_machine_instructions.proofs.Setwork.{files_after_in, files_after}
 use Rattle.ss_machine_instructions.proofs.state.State.file_after.Goals as goal
 
@@ -19,9 +19,6 @@ number-owner-requires c = let z = c.requires in (files_after_in z.0 z.1 c.args.h
 pub put_after-answer-requires : goal.put_after-answer-requires
 put_after-answer-requires c = let z = c.requires in record { set = (files_after_in z.0 z.1 c.args.here c.args.self.now (Runs c.args.noted true c.args.set c.args.member.now c.args.beside.now c.args.owner.now) z.2 c.args.set c.args.beside.now c.args.member.now c.args.owner.now z.2.runs.carries.1).1.set_place }
 
-pub done-requires : goal.done-requires
-done-requires c = let z = c.requires in next_small z.0 z.1 c.args.here c.args.self.now (Runs c.args.noted true c.args.set c.args.member.now c.args.beside.now c.args.owner.now) z.2
-
 pub returns : goal.returns
 returns c = λ w core r.
     let s = c.args.self.now in let set = c.args.set in let notes = c.args.noted in
@@ -32,4 +29,4 @@ returns c = λ w core r.
     let same_k : to_z w64 (of_z w64 k) ≡ k = search rules in
     let raw = subst (λ (v : ℤ). Files (JustAfter (Whole v)) set notes s.scene e q (to_z w64 (of_z w64 m)) (to_z w64 (of_z w64 n))) same_k c.put_after-answer.ensures in
     let filed = subst (λ (y : ℤ). Files (JustAfter (Whole k)) set notes s.scene e q y n) same_m (subst (λ (x : ℤ). Files (JustAfter (Whole k)) set notes s.scene e q (to_z w64 (of_z w64 m)) x) same_n raw) in
-    files_after w core c.args.here s (Runs c.args.noted true c.args.set c.args.member.now c.args.beside.now c.args.owner.now) r c.args.set c.args.beside.now c.args.member.now c.args.owner.now k n m notes e q c.done.new.self c.done.result r.runs.carries.0 r.runs.carries.1 c.number-beside.ensures c.number-member.ensures c.number-owner.ensures filed (c.done.ensures.state, c.done.ensures.way)
+    files_after w core c.args.here s (Runs c.args.noted true c.args.set c.args.member.now c.args.beside.now c.args.owner.now) r c.args.set c.args.beside.now c.args.member.now c.args.owner.now k n m notes e q c.done.new.self (on_after c.args.here c.done.result) r.runs.carries.0 r.runs.carries.1 c.number-beside.ensures c.number-member.ensures c.number-owner.ensures filed (c.done.ensures.state, ap (on_after c.args.here) c.done.ensures.way)

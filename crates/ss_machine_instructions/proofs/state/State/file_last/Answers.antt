@@ -1,8 +1,8 @@
-use Rattle.std.proofs.Common.{rules, ◌≡◌, ℤ, subst, to_z, of_z, w64}
+use Rattle.std.proofs.Common.{rules, ◌≡◌, ℤ, subst, to_z, of_z, w64, ap}
 use Rattle.ss_code_instructions.specs.declared.instruction.Instruction.TheVariants.{FileLast as Runs}
 use Rattle.ss_meaning.specs.Sets.{Hindmost}
+use Rattle.ss_machine_instructions.specs.Ways.{on_after}
 use Rattle.ss_machine_instructions.specs.Worldly.{Files}
-use Rattle.ss_machine_instructions.proofs.Settling.{next_small}
 use Rattle.ss_machine_instructions.proofs.Setwork.{files_last_in, files_last}
 use Rattle.ss_machine_instructions.proofs.state.State.file_last.Goals as goal
 
@@ -15,9 +15,6 @@ number-owner-requires c = let z = c.requires in (files_last_in z.0 z.1 c.args.he
 pub put_last-answer-requires : goal.put_last-answer-requires
 put_last-answer-requires c = let z = c.requires in record { set = (files_last_in z.0 z.1 c.args.here c.args.self.now (Runs c.args.set c.args.member.now c.args.owner.now c.args.noted) z.2 c.args.set c.args.member.now c.args.owner.now z.2.runs.carries.1).set_place }
 
-pub done-requires : goal.done-requires
-done-requires c = let z = c.requires in next_small z.0 z.1 c.args.here c.args.self.now (Runs c.args.set c.args.member.now c.args.owner.now c.args.noted) z.2
-
 pub returns : goal.returns
 returns c = λ w core r.
     let s = c.args.self.now in let set = c.args.set in let notes = c.args.noted in
@@ -26,4 +23,4 @@ returns c = λ w core r.
     let same_n : to_z w64 (of_z w64 n) ≡ n = search rules in
     let same_m : to_z w64 (of_z w64 m) ≡ m = search rules in
     let filed = subst (λ (y : ℤ). Files Hindmost set notes s.scene e q y n) same_m (subst (λ (x : ℤ). Files Hindmost set notes s.scene e q (to_z w64 (of_z w64 m)) x) same_n c.put_last-answer.ensures) in
-    files_last w core c.args.here s (Runs c.args.set c.args.member.now c.args.owner.now c.args.noted) r c.args.set c.args.member.now c.args.owner.now n m notes e q c.done.new.self c.done.result r.runs.carries.0 r.runs.carries.1 c.number-member.ensures c.number-owner.ensures filed (c.done.ensures.state, c.done.ensures.way)
+    files_last w core c.args.here s (Runs c.args.set c.args.member.now c.args.owner.now c.args.noted) r c.args.set c.args.member.now c.args.owner.now n m notes e q c.done.new.self (on_after c.args.here c.done.result) r.runs.carries.0 r.runs.carries.1 c.number-member.ensures c.number-owner.ensures filed (c.done.ensures.state, ap (on_after c.args.here) c.done.ensures.way)

@@ -1,11 +1,11 @@
-use Rattle.std.proofs.Common.{arith, rules}
+use Rattle.std.proofs.Common.{rules, ap}
 use Rattle.std.specs.Prelude.{pos}
 use Rattle.ss_code_instructions.specs.declared.instruction.Instruction.TheVariants.{Keep as Runs}
 use Rattle.ss_base.specs.declared.value.Value.TheVariants.{Whole}
 use Rattle.ss_program.specs.declared.sections.Subject.TheVariants.{OfVariable}
 use Rattle.ss_meaning.specs.Histories.{noted}
 use Rattle.ss_machine_world.specs.Seen.{Changes}
-use Rattle.ss_machine_instructions.proofs.Placing.{small}
+use Rattle.ss_machine_instructions.specs.Ways.{on_after}
 use Rattle.ss_machine_instructions.proofs.Figuring.{keeps_in, kept_within, keeps}
 use Rattle.ss_machine_instructions.proofs.state.State.keep.Goals as goal
 
@@ -18,10 +18,7 @@ set_number_at-requires c =
     let lt = kept_within z.0 z.1 c.args.here c.args.self.now (Runs c.args.from.now c.args.variable) z.2 c.args.variable c.args.from.now z.2.runs.carries in
     search rules
 
-pub done-requires : goal.done-requires
-done-requires c = let z = c.requires in let lt = small z.0 z.1 c.args.here c.args.self.now (Runs c.args.from.now c.args.variable) z.2 in omega (arith, lt)
-
 pub returns : goal.returns
 returns c = λ w core r.
     let changed : Changes (noted (OfVariable c.args.variable) (pos 0) (Whole c.number-value.result)) c.args.self.now.scene c.note_variable-answer.new.self c.note_variable-answer.result = search rules in
-    keeps w core c.args.here c.args.self.now (Runs c.args.from.now c.args.variable) r c.args.variable c.args.from.now c.number-value.result c.note_variable-answer.new.self c.note_variable-answer.result c.done.new.self c.done.result r.runs.carries c.number-value.ensures changed (search rules) c.done.ensures.way
+    keeps w core c.args.here c.args.self.now (Runs c.args.from.now c.args.variable) r c.args.variable c.args.from.now c.number-value.result c.note_variable-answer.new.self c.note_variable-answer.result c.done.new.self (on_after c.args.here c.done.result) r.runs.carries c.number-value.ensures changed (search rules) (ap (on_after c.args.here) c.done.ensures.way)

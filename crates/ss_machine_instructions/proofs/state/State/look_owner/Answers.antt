@@ -1,8 +1,8 @@
-use Rattle.std.proofs.Common.{arith, rules, ◌≡◌}
+use Rattle.std.proofs.Common.{rules, ◌≡◌, ap}
 use Rattle.ss_code_instructions.specs.declared.instruction.Instruction.TheVariants.{LookOwner as Runs}
 use Rattle.ss_world.specs.State.{no_value}
 use Rattle.ss_world.specs.Sets.{owner}
-use Rattle.ss_machine_instructions.proofs.Placing.{small}
+use Rattle.ss_machine_instructions.specs.Ways.{on_after}
 use Rattle.ss_machine_instructions.proofs.Looking.{owner_in, owner_set_in, looks_at_owner}
 use Rattle.ss_machine_instructions.proofs.state.State.look_owner.Goals as goal
 
@@ -15,10 +15,7 @@ look_owner-answer-requires c =
     let lt = owner_set_in z.0 z.1 c.args.here c.args.self.now (Runs c.args.set c.args.owner.now) z.2 c.args.set c.args.owner.now z.2.runs.carries in
     record { set = search rules }
 
-pub done-requires : goal.done-requires
-done-requires c = let z = c.requires in let lt = small z.0 z.1 c.args.here c.args.self.now (Runs c.args.set c.args.owner.now) z.2 in omega (arith, lt)
-
 pub returns : goal.returns
 returns c = λ w core r.
     let known : c.look_owner-answer.result ≡ no_value (owner c.args.self.now.scene.heap c.args.set c.number-owner.result) = search rules in
-    looks_at_owner w core c.args.here c.args.self.now (Runs c.args.set c.args.owner.now) r c.args.set c.args.owner.now c.number-owner.result c.look_owner-answer.result c.done.new.self c.done.result r.runs.carries c.number-owner.ensures known c.done.ensures.state c.done.ensures.way
+    looks_at_owner w core c.args.here c.args.self.now (Runs c.args.set c.args.owner.now) r c.args.set c.args.owner.now c.number-owner.result c.look_owner-answer.result c.done.new.self (on_after c.args.here c.done.result) r.runs.carries c.number-owner.ensures known c.done.ensures.state (ap (on_after c.args.here) c.done.ensures.way)

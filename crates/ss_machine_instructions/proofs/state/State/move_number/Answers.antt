@@ -5,6 +5,7 @@ use Rattle.ss_code_instructions.specs.declared.instruction.Instruction.TheVarian
 use Rattle.ss_code_instructions.specs.Machine.{act, is_due}
 use Rattle.ss_machine_frames.specs.Rows.{place_at}
 use Rattle.ss_machine_frames.proofs.Reading.{only_number}
+use Rattle.ss_machine_instructions.specs.Ways.{on_after}
 use Rattle.ss_machine_instructions.specs.Doing.{Delivers}
 use Rattle.ss_machine_instructions.proofs.Placing.{calm}
 use Rattle.ss_machine_instructions.proofs.Calculating.{moves_in, moves}
@@ -30,4 +31,4 @@ returns c = λ w core r.
     let m = act w.code l r.placed.instruction core in
     let same : to_z w64 (of_z w64 c.number-number.result) ≡ c.number-number.result = search rules in
     let handed = subst (λ (v : ℤ). Delivers w core l m c.args.here c.args.self.now c.args.to.now (Ok (Whole v))) (sym same) d in
-    calm w core c.args.here c.args.self.now (Runs c.args.from.now c.args.to.now) r c.put.new.self c.put.result (ap is_due r.runs.carries.2.1.2) (c.put.ensures w core l m handed)
+    calm w core c.args.here c.args.self.now (Runs c.args.from.now c.args.to.now) r c.put.new.self (on_after c.args.here c.put.result) (ap is_due r.runs.carries.2.1.2) (c.put.ensures w core l m handed)

@@ -5,6 +5,7 @@ use Rattle.ss_code_instructions.specs.declared.instruction.Instruction.TheVarian
 use Rattle.ss_code_instructions.specs.Machine.{is_due}
 use Rattle.ss_machine_frames.specs.Rows.{place_at}
 use Rattle.ss_machine_frames.proofs.Reading.{only_text}
+use Rattle.ss_machine_instructions.specs.Ways.{on_after}
 use Rattle.ss_machine_instructions.proofs.Placing.{calm}
 use Rattle.ss_machine_instructions.proofs.Calculating.{moves_in, moves}
 use Rattle.ss_machine_instructions.proofs.state.State.move_text.Goals as goal
@@ -22,4 +23,4 @@ pub returns : goal.returns
 returns c = λ w core r.
     let only = only_text c.args.self.now.rows (place_at c.args.here.frame c.args.from.now) c.text-text.result c.text-text.ensures in
     let d = moves w core c.args.here c.args.self.now (Runs c.args.from.now c.args.to.now) r Alpha c.args.from.now c.args.to.now (Text c.text-text.result) r.runs.carries refl only in
-    calm w core c.args.here c.args.self.now (Runs c.args.from.now c.args.to.now) r c.put_text.new.self c.put_text.result (ap is_due r.runs.carries.2.1.2) (c.put_text.ensures w core r.placed.line _ d)
+    calm w core c.args.here c.args.self.now (Runs c.args.from.now c.args.to.now) r c.put_text.new.self (on_after c.args.here c.put_text.result) (ap is_due r.runs.carries.2.1.2) (c.put_text.ensures w core r.placed.line _ d)

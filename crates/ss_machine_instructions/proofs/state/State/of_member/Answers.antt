@@ -2,6 +2,7 @@ use Rattle.std.proofs.Common.{rules, ◌≡◌, ℤ, ap, sym, subst, to_z, of_z,
 use Rattle.ss_code_instructions.specs.Forms.{asking_member}
 use Rattle.ss_code_instructions.specs.Machine.{act, is_due}
 use Rattle.ss_machine_world.specs.Seen.{Seen}
+use Rattle.ss_machine_instructions.specs.Ways.{on_after}
 use Rattle.ss_machine_instructions.specs.Doing.{Delivers, as_value}
 use Rattle.ss_machine_instructions.specs.Worldly.{member_answer}
 use Rattle.ss_machine_instructions.proofs.Forms.{asked_of_member}
@@ -33,4 +34,4 @@ returns c = λ w core r.
     let e : q ≡ member_answer c.args.query s.scene.heap c.args.set n = subst (λ (x : ℤ). q ≡ member_answer c.args.query s.scene.heap c.args.set x) same c.ask_member-answer.ensures.value in
     let d = asks_member w core c.args.here s (asking_member c.args.query c.args.set c.args.member.now c.args.to.now) r c.args.query c.args.set c.args.member.now c.args.to.now n q (asked_of_member w.code w.run.constants r.placed c.args.query c.args.set c.args.member.now c.args.to.now r.runs.carries) c.number-member.ensures e in
     let d' = subst (λ (v : Seen). Delivers w core l m c.args.here (record s { scene = v }) c.args.to.now (as_value q)) (sym c.ask_member-answer.ensures.same) d in
-    takes w core c.args.here s (asking_member c.args.query c.args.set c.args.member.now c.args.to.now) r c.ask_member-answer.new.scene c.put.new.self c.put.result (ap is_due (asked_of_member w.code w.run.constants r.placed c.args.query c.args.set c.args.member.now c.args.to.now r.runs.carries).2.2) (c.put.ensures w core l m d')
+    takes w core c.args.here s (asking_member c.args.query c.args.set c.args.member.now c.args.to.now) r c.ask_member-answer.new.scene c.put.new.self (on_after c.args.here c.put.result) (ap is_due (asked_of_member w.code w.run.constants r.placed c.args.query c.args.set c.args.member.now c.args.to.now r.runs.carries).2.2) (c.put.ensures w core l m d')

@@ -3,6 +3,7 @@ use Rattle.ss_code_instructions.specs.Forms.{asking_set}
 use Rattle.ss_code_instructions.specs.Machine.{act, is_due}
 use Rattle.ss_meaning.specs.Sets.{set_answer}
 use Rattle.ss_machine_world.specs.Seen.{Seen}
+use Rattle.ss_machine_instructions.specs.Ways.{on_after}
 use Rattle.ss_machine_instructions.specs.Doing.{Delivers, as_value}
 use Rattle.ss_machine_instructions.proofs.Forms.{asked_of_set}
 use Rattle.ss_machine_instructions.proofs.Setwork.{asks_set_in, asks_set, takes}
@@ -33,4 +34,4 @@ returns c = λ w core r.
     let e : q ≡ set_answer c.args.query s.scene.heap c.args.set n = subst (λ (x : ℤ). q ≡ set_answer c.args.query s.scene.heap c.args.set x) same c.ask_set-answer.ensures.value in
     let d = asks_set w core c.args.here s (asking_set c.args.query c.args.set c.args.owner.now c.args.to.now) r c.args.query c.args.set c.args.owner.now c.args.to.now n q (asked_of_set w.code w.run.constants r.placed c.args.query c.args.set c.args.owner.now c.args.to.now r.runs.carries) c.number-owner.ensures e in
     let d' = subst (λ (v : Seen). Delivers w core l m c.args.here (record s { scene = v }) c.args.to.now (as_value q)) (sym c.ask_set-answer.ensures.same) d in
-    takes w core c.args.here s (asking_set c.args.query c.args.set c.args.owner.now c.args.to.now) r c.ask_set-answer.new.scene c.put.new.self c.put.result (ap is_due (asked_of_set w.code w.run.constants r.placed c.args.query c.args.set c.args.owner.now c.args.to.now r.runs.carries).2.2) (c.put.ensures w core l m d')
+    takes w core c.args.here s (asking_set c.args.query c.args.set c.args.owner.now c.args.to.now) r c.ask_set-answer.new.scene c.put.new.self (on_after c.args.here c.put.result) (ap is_due (asked_of_set w.code w.run.constants r.placed c.args.query c.args.set c.args.owner.now c.args.to.now r.runs.carries).2.2) (c.put.ensures w core l m d')

@@ -1,4 +1,4 @@
-use Rattle.std.proofs.Common.{arith, rules, ◌≡◌, ℕ, ℤ, Option, Some, subst, to_z, of_z, w64}
+use Rattle.std.proofs.Common.{rules, ◌≡◌, ℕ, ℤ, Option, Some, subst, to_z, of_z, w64, ap}
 use Rattle.std.specs.Prelude.{slice_get}
 use Rattle.ss_code_instructions.specs.declared.instruction.Instruction.TheVariants.{Reset as Runs}
 use Rattle.ss_base.specs.declared.value.Value.{Value}
@@ -6,7 +6,7 @@ use Rattle.ss_meaning.specs.Statistics.{reset}
 use Rattle.ss_machine_time.specs.Figures.{variable_of}
 use Rattle.ss_machine_world.specs.Seen.{ChangesWhere, IsRight}
 use Rattle.ss_machine_world.specs.Numbers.{RefersToSubject, HasSubject}
-use Rattle.ss_machine_instructions.proofs.Placing.{small}
+use Rattle.ss_machine_instructions.specs.Ways.{on_after}
 use Rattle.ss_machine_instructions.proofs.Figuring.{has_subject, resets_in, resets, held_within}
 use Rattle.ss_machine_world.specs.Numbers.{Holds as VariableHolds}
 use Rattle.ss_machine_instructions.proofs.state.State.reset.Goals as goal
@@ -23,9 +23,6 @@ reset-answer-requires c =
     let has : HasSubject c.args.self.now.scene c.args.statistic = has_subject z.0 z.1 c.args.here c.args.self.now (Runs c.args.statistic c.args.entity.now) z.2 c.args.statistic in
     record { subject = search rules }
 
-pub done-requires : goal.done-requires
-done-requires c = let z = c.requires in let lt = small z.0 z.1 c.args.here c.args.self.now (Runs c.args.statistic c.args.entity.now) z.2 in omega (arith, lt)
-
 pub returns : goal.returns
 returns c = λ w core r.
     let at : (k : ℕ) → variable_of c.args.self.now.scene.statistics c.args.statistic ≡ Some k → slice_get c.args.self.now.rows.numbers k ≡ Some c.held-held.result = c.held-held.ensures in
@@ -35,4 +32,4 @@ returns c = λ w core r.
     let same_held : to_z w64 (of_z w64 held) ≡ held = search rules in
     let changed_x = subst (λ (n : ℤ). (o : Option Value) → RefersToSubject c.args.self.now.scene c.args.statistic o n → ChangesWhere (λ s. IsRight (reset c.args.statistic o s) × VariableHolds c.args.statistic (to_z w64 (of_z w64 held)) s) (reset c.args.statistic o) c.args.self.now.scene c.reset-answer.new.self c.reset-answer.result) same_x c.reset-answer.ensures in
     let changed = subst (λ (h : ℤ). (o : Option Value) → RefersToSubject c.args.self.now.scene c.args.statistic o x → ChangesWhere (λ s. IsRight (reset c.args.statistic o s) × VariableHolds c.args.statistic h s) (reset c.args.statistic o) c.args.self.now.scene c.reset-answer.new.self c.reset-answer.result) same_held changed_x in
-    resets w core c.args.here c.args.self.now (Runs c.args.statistic c.args.entity.now) r c.args.statistic c.args.entity.now c.number-entity.result c.held-held.result c.reset-answer.new.self c.reset-answer.result c.done.new.self c.done.result r.runs.carries c.number-entity.ensures at changed c.done.ensures.state c.done.ensures.way
+    resets w core c.args.here c.args.self.now (Runs c.args.statistic c.args.entity.now) r c.args.statistic c.args.entity.now c.number-entity.result c.held-held.result c.reset-answer.new.self c.reset-answer.result c.done.new.self (on_after c.args.here c.done.result) r.runs.carries c.number-entity.ensures at changed c.done.ensures.state (ap (on_after c.args.here) c.done.ensures.way)

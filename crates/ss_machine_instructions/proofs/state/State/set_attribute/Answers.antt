@@ -1,4 +1,4 @@
-use Rattle.std.proofs.Common.{arith, rules, ◌≡◌, Err, ap, ◌∙◌, ◌<◌, length, sym, subst, to_z, of_z, w64}
+use Rattle.std.proofs.Common.{rules, ◌≡◌, Err, ap, ◌∙◌, ◌<◌, length, sym, subst, to_z, of_z, w64}
 use Rattle.std.specs.Prelude.{slice_get, MatchResult}
 use Rattle.ss_code_instructions.specs.declared.instruction.Instruction.TheVariants.{SetAttribute as Runs}
 use Rattle.ss_base.specs.declared.layout.Layout.{Layout}
@@ -9,7 +9,6 @@ use Rattle.ss_records.specs.Attributes.{IsAssigned}
 use Rattle.ss_machine_world.specs.Seen.{Seen}
 use Rattle.ss_machine_world.specs.Numbers.{attribute_noted}
 use Rattle.ss_machine_instructions.specs.Noted.{Notes}
-use Rattle.ss_machine_instructions.proofs.Placing.{small}
 use Rattle.ss_machine_instructions.proofs.Seeing.{mode_there, class_within}
 use Rattle.ss_machine_instructions.proofs.Assigning.{sets_in, sets}
 use Rattle.ss_machine_instructions.proofs.state.State.set_attribute.Goals as goal
@@ -33,9 +32,6 @@ assign_number-answer-requires-clause-mode c =
     let there = mode_there z.0 z.1 c.args.here c.args.self.now (Runs c.args.class c.args.field c.args.entity.now c.args.from.now c.args.noted) z.2 c.args.class c.args.field Integer z.2.runs.carries.1.0 in
     search rules
 
-pub assigned-requires-clause-place : goal.assigned-requires-clause-place
-assigned-requires-clause-place c = let z = c.requires in let lt = small z.0 z.1 c.args.here c.args.self.now (Runs c.args.class c.args.field c.args.entity.now c.args.from.now c.args.noted) z.2 in omega (arith, lt)
-
 pub assigned-requires-clause-class : goal.assigned-requires-clause-class
 assigned-requires-clause-class c =
     let z = c.requires in
@@ -56,6 +52,6 @@ returns c = λ w core r.
     let same_n : to_z w64 (of_z w64 n) ≡ n = search rules in
     let same_v : to_z w64 (of_z w64 v) ≡ v = search rules in
     let done : MatchResult q (λ _. IsAssigned s.scene.heap c.args.class c.args.field n v e.heap) (λ kind. (assigned s.scene.heap c.args.class c.args.field n (Whole v) ≡ Err kind) × (e.heap ≡ s.scene.heap)) = simp (same_n, same_v) at c.assign_number-answer.ensures.done in
-    let noted : Notes c.args.noted (attribute_noted c.args.class c.args.field n) c.args.here q (record s { scene = e }) c.assigned.new.self c.assigned.result = simp same_n at c.assigned.ensures in
-    let after = subst (λ (x : Seen). Notes c.args.noted (attribute_noted c.args.class c.args.field n) c.args.here q (record s { scene = x }) c.assigned.new.self c.assigned.result) c.assign_number-answer.ensures.same noted in
+    let noted : Notes c.args.noted (attribute_noted c.args.class c.args.field n) q (record s { scene = e }) c.assigned.new.self c.assigned.result = simp same_n at c.assigned.ensures in
+    let after = subst (λ (x : Seen). Notes c.args.noted (attribute_noted c.args.class c.args.field n) q (record s { scene = x }) c.assigned.new.self c.assigned.result) c.assign_number-answer.ensures.same noted in
     sets w core c.args.here s (Runs c.args.class c.args.field c.args.entity.now c.args.from.now c.args.noted) r c.args.class c.args.field c.args.entity.now c.args.from.now c.args.noted n v q e.heap c.assigned.new.self c.assigned.result r.runs.carries.0 r.runs.carries.1 c.number-entity.ensures c.number-number.ensures done c.assign_number-answer.ensures.layout after

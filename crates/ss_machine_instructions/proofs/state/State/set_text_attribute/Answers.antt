@@ -1,12 +1,11 @@
-use Rattle.std.proofs.Common.{arith, rules, ◌≡◌, Ok, Err, ap, ◌∙◌, to_z, of_z, w64}
+use Rattle.std.proofs.Common.{rules, ◌≡◌, Ok, Err, ap, ◌∙◌, to_z, of_z, w64}
 use Rattle.std.specs.Prelude.{MatchResult}
 use Rattle.ss_code_instructions.specs.declared.instruction.Instruction.TheVariants.{SetTextAttribute as Runs}
 use Rattle.ss_base.specs.declared.layout.Mode.TheVariants.{Alpha}
 use Rattle.ss_base.specs.declared.value.Value.TheVariants.{Text}
 use Rattle.ss_world.specs.State.{assigned}
 use Rattle.ss_machine_world.specs.Seen.{Seen}
-use Rattle.ss_machine_instructions.specs.Ways.{faulted_by}
-use Rattle.ss_machine_instructions.proofs.Placing.{small}
+use Rattle.ss_machine_instructions.specs.Ways.{faulted_by, on_after}
 use Rattle.ss_machine_instructions.proofs.Seeing.{mode_there, class_within}
 use Rattle.ss_machine_instructions.proofs.Assigning.{sets_in, sets_text}
 use Rattle.ss_machine_instructions.proofs.state.State.set_text_attribute.Goals as goal
@@ -30,9 +29,6 @@ assign_text-answer-requires-clause-mode c =
     let there = mode_there z.0 z.1 c.args.here c.args.self.now (Runs c.args.class c.args.field c.args.entity.now c.args.from.now) z.2 c.args.class c.args.field Alpha z.2.runs.carries.1.0 in
     search rules
 
-pub done-requires : goal.done-requires
-done-requires c = let z = c.requires in let lt = small z.0 z.1 c.args.here c.args.self.now (Runs c.args.class c.args.field c.args.entity.now c.args.from.now) z.2 in omega (arith, lt)
-
 pub returns : goal.returns
 returns c = λ w core r.
     let n = c.number-entity.result in let t = c.text-text.result in
@@ -40,5 +36,5 @@ returns c = λ w core r.
     let q = c.assign_text-answer.result in let e = c.assign_text-answer.new.scene in
     let same_n : to_z w64 (of_z w64 n) ≡ n = search rules in
     let done : MatchResult q (λ _. assigned s.scene.heap c.args.class c.args.field n (Text t) ≡ Ok e.heap) (λ kind. (assigned s.scene.heap c.args.class c.args.field n (Text t) ≡ Err kind) × (e.heap ≡ s.scene.heap)) = simp same_n at c.assign_text-answer.ensures.done in
-    sets_text w core c.args.here s (Runs c.args.class c.args.field c.args.entity.now c.args.from.now) r c.args.class c.args.field c.args.entity.now c.args.from.now n t q e.heap c.done.new.self c.done.result r.runs.carries.0 r.runs.carries.1 c.number-entity.ensures c.text-text.ensures done
-    (c.done.ensures.state ∙ ap (λ (x : Seen). faulted_by q (record s { scene = x })) c.assign_text-answer.ensures.same) c.done.ensures.way
+    sets_text w core c.args.here s (Runs c.args.class c.args.field c.args.entity.now c.args.from.now) r c.args.class c.args.field c.args.entity.now c.args.from.now n t q e.heap c.done.new.self (on_after c.args.here c.done.result) r.runs.carries.0 r.runs.carries.1 c.number-entity.ensures c.text-text.ensures done
+    (c.done.ensures.state ∙ ap (λ (x : Seen). faulted_by q (record s { scene = x })) c.assign_text-answer.ensures.same) (ap (on_after c.args.here) c.done.ensures.way)

@@ -5,6 +5,7 @@ use Rattle.ss_base.specs.declared.layout.Mode.TheVariants.{Alpha}
 use Rattle.ss_base.specs.declared.value.Value.TheVariants.{Text}
 use Rattle.ss_world.specs.State.{value_in}
 use Rattle.ss_code_instructions.specs.Machine.{is_due}
+use Rattle.ss_machine_instructions.specs.Ways.{on_after}
 use Rattle.ss_machine_instructions.specs.Doing.{as_text}
 use Rattle.ss_machine_instructions.proofs.Placing.{calm}
 use Rattle.ss_machine_instructions.proofs.Seeing.{text_answer, text_right, mode_there, class_within}
@@ -39,4 +40,4 @@ returns c = λ w core r.
     let found : MatchResult c.text-answer.result (λ x. value_in c.args.self.now.scene.heap c.args.class c.args.field c.number-entity.result ≡ Ok (Text x)) (λ kind. value_in c.args.self.now.scene.heap c.args.class c.args.field c.number-entity.result ≡ Err kind) = search rules in
     let e = text_answer c.text-answer.result (value_in c.args.self.now.scene.heap c.args.class c.args.field c.number-entity.result) found in
     let d = attributes w core c.args.here c.args.self.now (Runs c.args.class c.args.field c.args.entity.now c.args.to.now) r Alpha c.args.class c.args.field c.args.entity.now c.args.to.now c.number-entity.result (as_text c.text-answer.result) r.runs.carries c.number-entity.ensures e (text_right c.text-answer.result) in
-    calm w core c.args.here c.args.self.now (Runs c.args.class c.args.field c.args.entity.now c.args.to.now) r c.put_text.new.self c.put_text.result (ap is_due r.runs.carries.1.2.2) (c.put_text.ensures w core r.placed.line _ d)
+    calm w core c.args.here c.args.self.now (Runs c.args.class c.args.field c.args.entity.now c.args.to.now) r c.put_text.new.self (on_after c.args.here c.put_text.result) (ap is_due r.runs.carries.1.2.2) (c.put_text.ensures w core r.placed.line _ d)

@@ -2,6 +2,7 @@ use Rattle.std.proofs.Common.{rules, ◌≡◌, ap}
 use Rattle.ss_code_instructions.specs.declared.instruction.Instruction.TheVariants.{TimeOf as Runs}
 use Rattle.ss_world.specs.State.{time_in}
 use Rattle.ss_code_instructions.specs.Machine.{is_due}
+use Rattle.ss_machine_instructions.specs.Ways.{on_after}
 use Rattle.ss_machine_instructions.proofs.Placing.{calm}
 use Rattle.ss_machine_instructions.proofs.Assigning.{time_of_in, times_of}
 use Rattle.ss_machine_instructions.proofs.state.State.time_of.Goals as goal
@@ -19,4 +20,4 @@ pub returns : goal.returns
 returns c = λ w core r.
     let e : time_in c.args.self.now.scene.heap c.number-notice.result ≡ c.time_a-answer.result = search rules in
     let d = times_of w core c.args.here c.args.self.now (Runs c.args.notice.now c.args.to.now) r c.args.notice.now c.args.to.now c.number-notice.result c.time_a-answer.result r.runs.carries c.number-notice.ensures e in
-    calm w core c.args.here c.args.self.now (Runs c.args.notice.now c.args.to.now) r c.put.new.self c.put.result (ap is_due r.runs.carries.2.2) (c.put.ensures w core r.placed.line _ d)
+    calm w core c.args.here c.args.self.now (Runs c.args.notice.now c.args.to.now) r c.put.new.self (on_after c.args.here c.put.result) (ap is_due r.runs.carries.2.2) (c.put.ensures w core r.placed.line _ d)

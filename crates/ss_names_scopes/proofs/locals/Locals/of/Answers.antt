@@ -3,7 +3,7 @@ use Rattle.std.specs.List.{flat_map}
 use Rattle.std.specs.Prelude.{Option}
 use Rattle.ss_base.specs.declared.layout.Mode.{Mode}
 use Rattle.ss_tree.specs.Names.{NameBytes}
-use Rattle.ss_names_declarations.specs.Firsts.{firsts}
+use Rattle.ss_names_declarations.specs.Firsts.{first_entries}
 use Rattle.ss_names_scopes.specs.Locals.{defined, local_used}
 use Rattle.ss_names_scopes.proofs.Entering.{moded_found}
 use Rattle.ss_names_scopes.proofs.locals.Locals.of.Goals as goal
@@ -13,5 +13,5 @@ returns c =
     let t = c.args.names.now in
     let us = c.args.uses.now in
     c.in_ok-entries.ensures
-    ∙ ap (λ (g : NameBytes → NameBytes × Option Mode). firsts (map g (flat_map (local_used t) us)))
+    ∙ ap (λ (g : NameBytes → NameBytes × Option Mode). first_entries (map g (flat_map (local_used t) us)))
     (moded_found t.usual (defined us) c.in_ok-modes.modes c.in_ok-modes.ensures)

@@ -13,6 +13,5 @@ returns-clause-done c =
 
 pub returns-clause-links : goal.returns-clause-links
 returns-clause-links c =
-    let e : state c.start.new.self ≡ c.args.self.now.state = ap state c.start.ensures ∙ ap (λ (w : Heaped). w.state) c.self.view_is in
-    let n = c.create.new.self.blocks.touches in
+    let e : state c.start.new.self ≡ c.args.self.now.state = ap state c.start.ensures ∙ ap (λ (w : Heaped). w.state) c.self.view_is in let n = c.create.new.self.blocks.touches in
     subst (λ (s : State). MatchResult c.create.result (λ _. n ≡ 3 * set_places s.layout (Class c.args.class)) (λ _. n ≡ 0)) e c.create.ensures.links

@@ -7,11 +7,8 @@ use Rattle.ss_records.proofs.heap.Heap.last.Goals as goal
 
 pub returns-clause-value : goal.returns-clause-value
 returns-clause-value c =
-    let e : state c.start.new.self ≡ c.args.self.now.state = ap state c.start.ensures ∙ ap (λ (w : Heaped). w.state) c.self.view_is in
-    let fits = c.ranges.o in let h = simp to_z-of_z at c.last.ensures.value in
-    subst (λ (s : State). c.last.result ≡ last_in s c.args.set c.args.o) e h
+    let e : state c.start.new.self ≡ c.args.self.now.state = ap state c.start.ensures ∙ ap (λ (w : Heaped). w.state) c.self.view_is in let fits = c.ranges.o in let h = simp to_z-of_z at c.end.ensures.value in
+    subst (λ (s : State). c.end.result ≡ last_in s c.args.set c.args.o) e h
 
 pub returns-clause-same : goal.returns-clause-same
-returns-clause-same c =
-    let e : state c.start.new.self ≡ c.args.self.now.state = ap state c.start.ensures ∙ ap (λ (w : Heaped). w.state) c.self.view_is in
-    c.last.ensures.same ∙ e
+returns-clause-same c = let e : state c.start.new.self ≡ c.args.self.now.state = ap state c.start.ensures ∙ ap (λ (w : Heaped). w.state) c.self.view_is in c.end.ensures.same ∙ e

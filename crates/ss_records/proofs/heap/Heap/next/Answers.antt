@@ -7,11 +7,8 @@ use Rattle.ss_records.proofs.heap.Heap.next.Goals as goal
 
 pub returns-clause-value : goal.returns-clause-value
 returns-clause-value c =
-    let e : state c.start.new.self ≡ c.args.self.now.state = ap state c.start.ensures ∙ ap (λ (w : Heaped). w.state) c.self.view_is in
-    let fits = c.ranges.x in let h = simp to_z-of_z at c.next.ensures.value in
-    subst (λ (s : State). c.next.result ≡ next_in s c.args.set c.args.x) e h
+    let e : state c.start.new.self ≡ c.args.self.now.state = ap state c.start.ensures ∙ ap (λ (w : Heaped). w.state) c.self.view_is in let fits = c.ranges.x in let h = simp to_z-of_z at c.next_to.ensures.value in
+    subst (λ (s : State). c.next_to.result ≡ next_in s c.args.set c.args.x) e h
 
 pub returns-clause-same : goal.returns-clause-same
-returns-clause-same c =
-    let e : state c.start.new.self ≡ c.args.self.now.state = ap state c.start.ensures ∙ ap (λ (w : Heaped). w.state) c.self.view_is in
-    c.next.ensures.same ∙ e
+returns-clause-same c = let e : state c.start.new.self ≡ c.args.self.now.state = ap state c.start.ensures ∙ ap (λ (w : Heaped). w.state) c.self.view_is in c.next_to.ensures.same ∙ e

@@ -10,5 +10,5 @@ use Rattle.ss_records.proofs.heap.Heap.subtract_whole.Goals as goal
 pub returns-clause-done : goal.returns-clause-done
 returns-clause-done c =
     let e : state c.start.new.self ≡ c.args.self.now.state = ap state c.start.ensures ∙ ap (λ (w : Heaped). w.state) c.self.view_is in
-    let fr = c.ranges.r in let fn = c.ranges.n in let h = simp to_z-of_z at c.subtract_whole.ensures.done in
-    subst (λ (s : State). MatchResult c.subtract_whole.result (λ _. IsChanged (λ z. minus_of z c.args.n) s c.args.class c.args.field c.args.r (state c.subtract_whole.new.self)) (λ f. (changed_number (λ z. minus_of z c.args.n) (value_in s c.args.class c.args.field c.args.r) ≡ Err f) × (state c.subtract_whole.new.self ≡ s))) e h
+    let fr = c.ranges.r in let fn = c.ranges.n in let h = simp to_z-of_z at c.change_whole.ensures.done in
+    subst (λ (s : State). MatchResult c.change_whole.result (λ _. IsChanged (λ z. minus_of z c.args.n) s c.args.class c.args.field c.args.r (state c.change_whole.new.self)) (λ f. (changed_number (λ z. minus_of z c.args.n) (value_in s c.args.class c.args.field c.args.r) ≡ Err f) × (state c.change_whole.new.self ≡ s))) e h

@@ -12,8 +12,7 @@ returns-in-Some-clause-found c =
     let fits = c.ranges.r in let h = simp to_z-of_z at c.in-Some.ensures in
     class_there c.args.self.now c.requires.kept c.args.r c.in-Some.place _ h c.number.ensures
 
-pub returns-in-None-clause-found : goal.returns-in-None-clause-found
-returns-in-None-clause-found c = let fits = c.ranges.r in simp to_z-of_z at c.class_apart.ensures.found
-
-pub returns-in-None-clause-none : goal.returns-in-None-clause-none
-returns-in-None-clause-none c = let fits = c.ranges.r in simp to_z-of_z at c.class_apart.ensures.none
+pub returns-in-None : goal.returns-in-None
+returns-in-None c =
+    let fits = c.ranges.r in
+    record { found = simp to_z-of_z at c.class_apart.ensures.found; none = simp to_z-of_z at c.class_apart.ensures.none }

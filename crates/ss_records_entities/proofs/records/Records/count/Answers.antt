@@ -3,15 +3,11 @@ use Rattle.std.proofs.lemmas.Int.{ints, to_z-of_z}
 use Rattle.ss_records_blocks.proofs.Same.{false_is_not_true}
 use Rattle.ss_records_entities.specs.Parts.{state}
 use Rattle.ss_records_entities.proofs.Looks.{counts, how_many_small, how_many_value}
-use Rattle.ss_records_entities.proofs.Passing.{as_before}
-use Rattle.ss_records_entities.proofs.Still.{kept_still}
+use Rattle.ss_records_entities.proofs.Still.{kept_still, unmoved}
 use Rattle.ss_records_entities.proofs.records.Records.count.Goals as goal
 
-pub owner-requires-clause-kept : goal.owner-requires-clause-kept
-owner-requires-clause-kept c = c.requires.kept
-
-pub owner-requires-clause-set : goal.owner-requires-clause-set
-owner-requires-clause-set c = c.requires.set
+pub owner-requires : goal.owner-requires
+owner-requires c = record { kept = c.requires.kept; set = c.requires.set }
 
 pub owner_base-base-requires : goal.owner_base-base-requires
 owner_base-base-requires c = c.requires.set
@@ -33,35 +29,23 @@ overflow_cast-result c =
     let h = how_many_small c.args.self.now c.requires.kept c.args.s c.requires.set c.in-Ok.owner c.in-Ok.ensures.found.0 c.owner_base-base.result c.owner_base-base.ensures.at c.peek_count-count.result c.peek_count-count.ensures.word in
     omega (arith, ints, h)
 
-pub returns-in-Ok-clause-value : goal.returns-in-Ok-clause-value
-returns-in-Ok-clause-value c =
-    let fits = c.ranges.o in let f = simp to_z-of_z at c.in-Ok.ensures.found in
-    how_many_value c.args.self.now c.requires.kept c.args.s c.requires.set c.in-Ok.owner f.0 c.owner_base-base.result c.owner_base-base.ensures.at c.peek_count-count.result c.peek_count-count.ensures.word c.args.o f.1
-
-pub returns-in-Ok-clause-kept : goal.returns-in-Ok-clause-kept
-returns-in-Ok-clause-kept c =
-    let r = c.args.self.now in let q = record r { blocks = c.start_at.new.self } in
-    kept_still r q (as_before r q refl (c.start_at.ensures.cells ∙ c.peek_count-count.ensures.cells)) c.requires.kept
-
-pub returns-in-Ok-clause-same : goal.returns-in-Ok-clause-same
-returns-in-Ok-clause-same c =
+pub returns-in-Ok : goal.returns-in-Ok
+returns-in-Ok c =
     let r = c.args.self.now in
-    ap state (as_before r (record r { blocks = c.start_at.new.self }) refl (c.start_at.ensures.cells ∙ c.peek_count-count.ensures.cells))
-
-pub returns-in-Ok-clause-touches : goal.returns-in-Ok-clause-touches
-returns-in-Ok-clause-touches c =
-    let n = c.peek_count-count.ensures.touches in let at = c.start_at.ensures.touches in
-    (omega (arith, at.0), λ _. omega (arith, at.0), omega (arith, n.1, at.0, at.1))
+    record {
+      value =
+          let fits = c.ranges.o in let f = simp to_z-of_z at c.in-Ok.ensures.found in
+          how_many_value c.args.self.now c.requires.kept c.args.s c.requires.set c.in-Ok.owner f.0 c.owner_base-base.result c.owner_base-base.ensures.at c.peek_count-count.result c.peek_count-count.ensures.word c.args.o f.1;
+      kept = let q = record r { blocks = c.start_at.new.self } in kept_still r q (unmoved r q refl (c.start_at.ensures.cells ∙ c.peek_count-count.ensures.cells)) c.requires.kept;
+      same = ap state (unmoved r (record r { blocks = c.start_at.new.self }) refl (c.start_at.ensures.cells ∙ c.peek_count-count.ensures.cells));
+      touches = let n = c.peek_count-count.ensures.touches in let at = c.start_at.ensures.touches in (omega (arith, at.0), λ _. omega (arith, at.0), omega (arith, n.1, at.0, at.1));
+    }
 
 pub returns-in-Err-clause-kept : goal.returns-in-Err-clause-kept
-returns-in-Err-clause-kept c =
-    let r = c.args.self.now in let q = record r { blocks = c.start.new.self } in
-    kept_still r q (as_before r q refl c.start.ensures.cells) c.requires.kept
+returns-in-Err-clause-kept c = let r = c.args.self.now in let q = record r { blocks = c.start.new.self } in kept_still r q (unmoved r q refl c.start.ensures.cells) c.requires.kept
 
 pub returns-in-Err-clause-same : goal.returns-in-Err-clause-same
-returns-in-Err-clause-same c = let r = c.args.self.now in ap state (as_before r (record r { blocks = c.start.new.self }) refl c.start.ensures.cells)
+returns-in-Err-clause-same c = let r = c.args.self.now in ap state (unmoved r (record r { blocks = c.start.new.self }) refl c.start.ensures.cells)
 
 pub returns-in-Err-clause-touches : goal.returns-in-Err-clause-touches
-returns-in-Err-clause-touches c =
-    let f = c.start.ensures.touches in
-    (omega (arith, f.0), λ e. absurd (false_is_not_true e), omega (arith, f.0, f.1))
+returns-in-Err-clause-touches c = let f = c.start.ensures.touches in (omega (arith, f.0), λ e. absurd (false_is_not_true e), omega (arith, f.0, f.1))

@@ -16,8 +16,15 @@ use Rattle.ss_records_entities.proofs.records.Records.create.Goals as goal
 pub place-requires-clause-room : goal.place-requires-clause-room
 place-requires-clause-room c = let r = c.args.self.now in room_for_one r.layout r.blocks.cells r.system.at (places r) r.notes.lists c.requires.kept
 
+pub lay-requires-clause-small : goal.lay-requires-clause-small
+lay-requires-clause-small c = c.requires.kept.small
+
+pub lay-requires-clause-class : goal.lay-requires-clause-class
+lay-requires-clause-class c = c.requires.class
+
 pub lay-requires-clause-room : goal.lay-requires-clause-room
-lay-requires-clause-room c = rw (c.in-Ok.ensures.placed.1, words_new c.args.self.now.blocks.cells c.in-Ok.place.at (blanks c.block_words-words.result)) (length-blanks c.block_words-words.result ∙ c.block_words-words.ensures.size)
+lay-requires-clause-room c =
+    rw (c.in-Ok.ensures.placed.1, words_new c.args.self.now.blocks.cells c.in-Ok.place.at (blanks c.block_words-words.result)) (length-blanks c.block_words-words.result ∙ c.block_words-words.ensures.size)
 
 pub lay-requires-clause-blank : goal.lay-requires-clause-blank
 lay-requires-clause-blank c = λ k. rw (c.in-Ok.ensures.placed.1, words_new c.args.self.now.blocks.cells c.in-Ok.place.at (blanks c.block_words-words.result)) (word_blank c.block_words-words.result k)
@@ -39,6 +46,9 @@ returns-in-Ok-push-clause-done c =
     let z : cast_signed w64 (c.len-i.result + 1) ≡ pos (length r.directory.places + 1) = omega (arith, ints, n, room) in
     rw c.in-Ok-push.ensures (is_created l cs r.system.at (places r) r.notes.lists c.requires.kept q c.in-Ok.ensures.placed.0 w c.args.class c.block_words-words.ensures.size ds laid c.requires.kind c.requires.class room _ z)
 
+pub returns-in-Ok-push-clause-links : goal.returns-in-Ok-push-clause-links
+returns-in-Ok-push-clause-links c = omega (arith, c.lay.ensures.links, c.in-Ok.ensures.touches.0, c.requires.touches)
+
 pub give_back-requires : goal.give_back-requires
 give_back-requires c = record {
   size = (
@@ -50,32 +60,21 @@ give_back-requires c = record {
 pub place-requires-clause-size : goal.place-requires-clause-size
 place-requires-clause-size c = block_fits c.block_words-words.result c.block_words-words.ensures.bound
 
-pub lay-requires-clause-small : goal.lay-requires-clause-small
-lay-requires-clause-small c = c.requires.kept.small
-
-pub lay-requires-clause-class : goal.lay-requires-clause-class
-lay-requires-clause-class c = c.requires.class
-
 pub returns-then-i-ge-LAST_NUMBER-clause-kept : goal.returns-then-i-ge-LAST_NUMBER-clause-kept
 returns-then-i-ge-LAST_NUMBER-clause-kept c = c.requires.kept
 
 pub returns-then-i-ge-LAST_NUMBER-clause-touches : goal.returns-then-i-ge-LAST_NUMBER-clause-touches
 returns-then-i-ge-LAST_NUMBER-clause-touches c = let r = c.args.self.now in at_rest r.blocks.touches r.blocks.total c.requires.touches
 
-pub returns-in_default-clause-kept : goal.returns-in_default-clause-kept
-returns-in_default-clause-kept c =
+pub returns-in_default : goal.returns-in_default
+returns-in_default c =
     let r = c.args.self.now in
-    subst (λ bs. Kept r.layout bs r.system.at (places r) r.notes.lists) (sym c.in_default.ensures.placed) c.requires.kept
-
-pub returns-in_default-clause-done : goal.returns-in_default-clause-done
-returns-in_default-clause-done c =
-    let r = c.args.self.now in
-    (ap (λ bs. state_of r.layout bs (places r) r.notes.lists) c.in_default.ensures.placed, one_left r.layout r.blocks.cells (places r) r.notes.lists c.args.class c.len-i.result c.len-i.ensures c.if-i-ge-LAST_NUMBER.false)
-
-pub returns-in_default-clause-touches : goal.returns-in_default-clause-touches
-returns-in_default-clause-touches c =
-    let r = c.args.self.now in let b = c.place.new.self in
-    rests r.blocks.touches r.blocks.total b.touches b.total c.requires.touches c.in_default.ensures.touches
+    record {
+      kept = subst (λ bs. Kept r.layout bs r.system.at (places r) r.notes.lists) (sym c.in_default.ensures.placed) c.requires.kept;
+      done = (ap (λ bs. state_of r.layout bs (places r) r.notes.lists) c.in_default.ensures.placed, one_left r.layout r.blocks.cells (places r) r.notes.lists c.args.class c.len-i.result c.len-i.ensures c.if-i-ge-LAST_NUMBER.false);
+      touches = let b = c.place.new.self in rests r.blocks.touches r.blocks.total b.touches b.total c.requires.touches c.in_default.ensures.touches;
+      links = c.in_default.ensures.touches.0 ∙ c.requires.touches;
+    }
 
 pub push-requires : goal.push-requires
 push-requires c = record { room = c.requires.kept.issued }
@@ -87,12 +86,6 @@ returns-in-Err-clause-touches c =
 
 pub returns-then-i-ge-LAST_NUMBER-clause-links : goal.returns-then-i-ge-LAST_NUMBER-clause-links
 returns-then-i-ge-LAST_NUMBER-clause-links c = c.requires.touches
-
-pub returns-in_default-clause-links : goal.returns-in_default-clause-links
-returns-in_default-clause-links c = c.in_default.ensures.touches.0 ∙ c.requires.touches
-
-pub returns-in-Ok-push-clause-links : goal.returns-in-Ok-push-clause-links
-returns-in-Ok-push-clause-links c = omega (arith, c.lay.ensures.links, c.in-Ok.ensures.touches.0, c.requires.touches)
 
 pub returns-in-Err-clause-links : goal.returns-in-Err-clause-links
 returns-in-Err-clause-links c = c.give_back.ensures.touches.0 ∙ c.in-Ok.ensures.touches.0 ∙ c.requires.touches

@@ -18,14 +18,25 @@ make-requires-clause-class c = c.requires.class
 pub make-requires-clause-kind : goal.make-requires-clause-kind
 make-requires-clause-kind c = c.requires.kind
 
+pub make-requires-clause-free : goal.make-requires-clause-free
+make-requires-clause-free c =
+    let r = c.args.self.now in let row = c.index.result.now in let there = slice_get_read r.permanents.items (length r.layout.classes) c.args.class row (sym c.requires.kept.width) c.requires.class c.index.ensures in
+    there ∙ ap Some (none_is row (sym c.is_made.ensures ∙ c.if-is_made.false))
+
 pub make-requires-clause-touches : goal.make-requires-clause-touches
 make-requires-clause-touches c = c.requires.touches
 
-pub returns-then-is_made-clause-kept : goal.returns-then-is_made-clause-kept
-returns-then-is_made-clause-kept c = c.requires.kept
-
-pub returns-then-is_made-clause-touches : goal.returns-then-is_made-clause-touches
-returns-then-is_made-clause-touches c = let r = c.args.self.now in at_rest r.blocks.touches r.blocks.total c.requires.touches
+pub returns-then-is_made : goal.returns-then-is_made
+returns-then-is_made c =
+    let r = c.args.self.now in
+    record {
+      kept = c.requires.kept;
+      done =
+          let row = c.index.result.now in let there = slice_get_read r.permanents.items (length r.layout.classes) c.args.class row (sym c.requires.kept.width) c.requires.class c.index.ensures in
+          (refl, made_twice r.layout r.blocks.cells (places r) r.notes.lists c.args.class row there c.args.n (sym c.is_made.ensures ∙ c.if-is_made.true));
+      touches = at_rest r.blocks.touches r.blocks.total c.requires.touches;
+      links = c.requires.touches;
+    }
 
 pub returns-then-n-lt0-clause-kept : goal.returns-then-n-lt0-clause-kept
 returns-then-n-lt0-clause-kept c = c.requires.kept
@@ -33,54 +44,30 @@ returns-then-n-lt0-clause-kept c = c.requires.kept
 pub returns-then-n-lt0-clause-touches : goal.returns-then-n-lt0-clause-touches
 returns-then-n-lt0-clause-touches c = let r = c.args.self.now in at_rest r.blocks.touches r.blocks.total c.requires.touches
 
-pub returns-in-Ok-clause-kept : goal.returns-in-Ok-clause-kept
-returns-in-Ok-clause-kept c = c.make.ensures.kept
+pub returns-in-Ok : goal.returns-in-Ok
+returns-in-Ok c =
+    record {
+      kept = c.make.ensures.kept;
+      done =
+          let r = c.args.self.now in let row = c.index.result.now in let there = slice_get_read r.permanents.items (length r.layout.classes) c.args.class row (sym c.requires.kept.width) c.requires.class c.index.ensures in
+          let made = made_once r.layout r.blocks.cells (places r) r.notes.lists c.args.class row there (to_z w64 (of_z w64 c.args.n)) (sym c.is_made.ensures ∙ c.if-is_made.false) c.if-n-lt0.false c.if-n-gt-MOST_ENTITIES.false in
+          ap (λ (z : ℤ). created_all (state r) c.args.class z) (sym (to_z-of_z w64 c.args.n c.ranges.n)) ∙ made ∙ ap Ok (sym c.in-Ok.ensures.done);
+      touches = c.make.ensures.touches;
+      links = c.in-Ok.ensures.links ∙ ap (λ (z : ℤ). nat_abs z * (3 * set_places c.args.self.now.layout (Class c.args.class))) (to_z-of_z w64 c.args.n c.ranges.n);
+    }
 
-pub returns-in-Ok-clause-touches : goal.returns-in-Ok-clause-touches
-returns-in-Ok-clause-touches c = c.make.ensures.touches
-
-pub returns-in-Err-clause-kept : goal.returns-in-Err-clause-kept
-returns-in-Err-clause-kept c = c.make.ensures.kept
-
-pub returns-in-Err-clause-touches : goal.returns-in-Err-clause-touches
-returns-in-Err-clause-touches c = c.make.ensures.touches
-
-pub returns-then-is_made-clause-done : goal.returns-then-is_made-clause-done
-returns-then-is_made-clause-done c =
-    let r = c.args.self.now in let row = c.index.result.now in
-    let there = slice_get_read r.permanents.items (length r.layout.classes) c.args.class row (sym c.requires.kept.width) c.requires.class c.index.ensures in
-    (refl, made_twice r.layout r.blocks.cells (places r) r.notes.lists c.args.class row there c.args.n (sym c.is_made.ensures ∙ c.if-is_made.true))
-
-pub make-requires-clause-free : goal.make-requires-clause-free
-make-requires-clause-free c =
-    let r = c.args.self.now in let row = c.index.result.now in
-    let there = slice_get_read r.permanents.items (length r.layout.classes) c.args.class row (sym c.requires.kept.width) c.requires.class c.index.ensures in
-    there ∙ ap Some (none_is row (sym c.is_made.ensures ∙ c.if-is_made.false))
-
-pub returns-in-Ok-clause-done : goal.returns-in-Ok-clause-done
-returns-in-Ok-clause-done c =
-    let r = c.args.self.now in let row = c.index.result.now in
-    let there = slice_get_read r.permanents.items (length r.layout.classes) c.args.class row (sym c.requires.kept.width) c.requires.class c.index.ensures in
-    let made = made_once r.layout r.blocks.cells (places r) r.notes.lists c.args.class row there (to_z w64 (of_z w64 c.args.n)) (sym c.is_made.ensures ∙ c.if-is_made.false) c.if-n-lt0.false c.if-n-gt-MOST_ENTITIES.false in
-    ap (λ (z : ℤ). created_all (state r) c.args.class z) (sym (to_z-of_z w64 c.args.n c.ranges.n)) ∙ made ∙ ap Ok (sym c.in-Ok.ensures.done)
-
-pub returns-in-Err-clause-done : goal.returns-in-Err-clause-done
-returns-in-Err-clause-done c =
-    let r = c.args.self.now in let row = c.index.result.now in
-    let there = slice_get_read r.permanents.items (length r.layout.classes) c.args.class row (sym c.requires.kept.width) c.requires.class c.index.ensures in
-    let made = made_once r.layout r.blocks.cells (places r) r.notes.lists c.args.class row there (to_z w64 (of_z w64 c.args.n)) (sym c.is_made.ensures ∙ c.if-is_made.false) c.if-n-lt0.false c.if-n-gt-MOST_ENTITIES.false in
-    let fine = subst (λ (z : ℤ). IsOk (created_all (state r) c.args.class z)) (to_z-of_z w64 c.args.n c.ranges.n) (rw made refl) in
-    (c.in-Err.ensures.done, fine)
-
-pub returns-then-is_made-clause-links : goal.returns-then-is_made-clause-links
-returns-then-is_made-clause-links c = c.requires.touches
+pub returns-in-Err : goal.returns-in-Err
+returns-in-Err c =
+    record {
+      kept = c.make.ensures.kept;
+      done =
+          let r = c.args.self.now in let row = c.index.result.now in let there = slice_get_read r.permanents.items (length r.layout.classes) c.args.class row (sym c.requires.kept.width) c.requires.class c.index.ensures in
+          let made = made_once r.layout r.blocks.cells (places r) r.notes.lists c.args.class row there (to_z w64 (of_z w64 c.args.n)) (sym c.is_made.ensures ∙ c.if-is_made.false) c.if-n-lt0.false c.if-n-gt-MOST_ENTITIES.false in
+          let fine = subst (λ (z : ℤ). IsOk (created_all (state r) c.args.class z)) (to_z-of_z w64 c.args.n c.ranges.n) (rw made refl) in
+          (c.in-Err.ensures.done, fine);
+      touches = c.make.ensures.touches;
+      links = c.in-Err.ensures.links;
+    }
 
 pub returns-then-n-lt0-clause-links : goal.returns-then-n-lt0-clause-links
 returns-then-n-lt0-clause-links c = c.requires.touches
-
-pub returns-in-Ok-clause-links : goal.returns-in-Ok-clause-links
-returns-in-Ok-clause-links c =
-    c.in-Ok.ensures.links ∙ ap (λ (z : ℤ). nat_abs z * (3 * set_places c.args.self.now.layout (Class c.args.class))) (to_z-of_z w64 c.args.n c.ranges.n)
-
-pub returns-in-Err-clause-links : goal.returns-in-Err-clause-links
-returns-in-Err-clause-links c = c.in-Err.ensures.links

@@ -12,8 +12,7 @@ use Rattle.ss_records_words.specs.Kept.{Kept, state_of}
 use Rattle.ss_world.specs.State.{destroyed}
 use Rattle.ss_records_entities.specs.Parts.{places, state, uncounted}
 use Rattle.ss_records_entities.proofs.Destroys.{its_size, kept_destroyed, is_destroyed}
-use Rattle.ss_records_entities.proofs.Files.{unmoved}
-use Rattle.ss_records_entities.proofs.Still.{kept_still, as_many}
+use Rattle.ss_records_entities.proofs.Still.{kept_still, as_many, unmoved}
 use Rattle.ss_records_entities.proofs.Frees.{free_by, by_number}
 use Rattle.ss_records_entities.proofs.records.Records.destroy.Goals as goal
 
@@ -40,48 +39,29 @@ give_back-requires c =
     let size : length (words_at r.blocks.cells c.in-Ok.place.at) ≡ block_words q.layout (Class c.args.class) = its_size r.layout r.blocks.cells r.system.at (places r) r.notes.lists c.requires.kept f.index c.in-Ok.place m0 c.args.class f.class ∙ ap (λ (z : Records). block_words z.layout (Class c.args.class)) (sym whole) in
     record { size = (rw cells (size ∙ sym c.block_words-words.ensures.size), omega (arith, c.block_words-words.ensures.bound.0)) }
 
-pub returns-in-Ok-clause-kept : goal.returns-in-Ok-clause-kept
-returns-in-Ok-clause-kept c =
-    let r = c.args.self.now in let f = c.in-Ok.ensures.found.0 in let q = c.find_free.new.self in let p = c.in-Ok.place in
-    let whole : q ≡ record r { blocks = q.blocks } = c.find_free.ensures.same in
-    let cells : q.blocks.cells ≡ r.blocks.cells = c.find_free.ensures.cells in
-    let m0 = by_number r c.requires.kept c.args.class _ p f c.requires.kind in
+pub returns-in-Ok : goal.returns-in-Ok
+returns-in-Ok c =
+    let r = c.args.self.now in let f = c.in-Ok.ensures.found.0 in let q = c.find_free.new.self in let p = c.in-Ok.place in let whole : q ≡ record r { blocks = q.blocks } = c.find_free.ensures.same in
+    let cells : q.blocks.cells ≡ r.blocks.cells = c.find_free.ensures.cells in let m0 = by_number r c.requires.kept c.args.class _ p f c.requires.kind in
     let n : nat_abs (cast_signed w64 (cast_unsigned w64 c.args.r)) - 1 ≡ f.index = ap (λ z. nat_abs z - 1) f.is ∙ omega arith in
-    let k = kept_destroyed r.layout r.blocks.cells r.system.at (places r) r.notes.lists c.requires.kept f.index p m0 (free_by r.layout r.blocks.cells r.system.at (places r) r.notes.lists c.requires.kept f.index p m0 c.args.class f.class c.in-Ok.ensures.found.1 c.in-Ok.ensures.found.2) in
-    rw (c.give_back.ensures.cells, c.clear.ensures, n) (subst (λ (z : Records). Kept z.layout (without_block q.blocks.cells p.at) z.system.at (lying (slice_set z.directory.places f.index None) z.permanents.items) z.notes.lists) (sym whole) (rw cells k))
+    record {
+      kept =
+          let k = kept_destroyed r.layout r.blocks.cells r.system.at (places r) r.notes.lists c.requires.kept f.index p m0 (free_by r.layout r.blocks.cells r.system.at (places r) r.notes.lists c.requires.kept f.index p m0 c.args.class f.class c.in-Ok.ensures.found.1 c.in-Ok.ensures.found.2) in
+          rw (c.give_back.ensures.cells, c.clear.ensures, n) (subst (λ (z : Records). Kept z.layout (without_block q.blocks.cells p.at) z.system.at (lying (slice_set z.directory.places f.index None) z.permanents.items) z.notes.lists) (sym whole) (rw cells k));
+      done =
+          let fits = c.ranges.r in let h = simp to_z-of_z at c.in-Ok.ensures.found in
+          let k = is_destroyed r.layout r.blocks.cells r.system.at (places r) r.notes.lists c.requires.kept f.index p m0 c.args.class c.args.r h.0.is h.0.entity c.in-Ok.ensures.found.1 c.in-Ok.ensures.found.2 in
+          rw (c.give_back.ensures.cells, c.clear.ensures, n) (subst (λ (z : Records). destroyed (state r) c.args.class c.args.r ≡ Ok (state_of z.layout (without_block q.blocks.cells p.at) (lying (slice_set z.directory.places f.index None) z.permanents.items) z.notes.lists)) (sym whole) (rw cells k));
+      touches = let b = c.give_back.new.self in as_many r.blocks.touches r.blocks.total q.blocks.touches q.blocks.total b.touches b.total c.find_free.ensures.touches c.give_back.ensures.touches;
+      looked = subst (λ n. n ≤ set_places c.args.self.now.layout (Class c.args.class)) (sym c.give_back.ensures.touches.0) c.find_free.ensures.looked;
+    }
 
-pub returns-in-Ok-clause-done : goal.returns-in-Ok-clause-done
-returns-in-Ok-clause-done c =
-    let fits = c.ranges.r in let h = simp to_z-of_z at c.in-Ok.ensures.found in
-    let r = c.args.self.now in let f = c.in-Ok.ensures.found.0 in let q = c.find_free.new.self in let p = c.in-Ok.place in
-    let whole : q ≡ record r { blocks = q.blocks } = c.find_free.ensures.same in
-    let cells : q.blocks.cells ≡ r.blocks.cells = c.find_free.ensures.cells in
-    let m0 = by_number r c.requires.kept c.args.class _ p f c.requires.kind in
-    let n : nat_abs (cast_signed w64 (cast_unsigned w64 c.args.r)) - 1 ≡ f.index = ap (λ z. nat_abs z - 1) f.is ∙ omega arith in
-    let k = is_destroyed r.layout r.blocks.cells r.system.at (places r) r.notes.lists c.requires.kept f.index p m0 c.args.class c.args.r h.0.is h.0.entity c.in-Ok.ensures.found.1 c.in-Ok.ensures.found.2 in
-    rw (c.give_back.ensures.cells, c.clear.ensures, n) (subst (λ (z : Records). destroyed (state r) c.args.class c.args.r ≡ Ok (state_of z.layout (without_block q.blocks.cells p.at) (lying (slice_set z.directory.places f.index None) z.permanents.items) z.notes.lists)) (sym whole) (rw cells k))
-
-pub returns-in-Ok-clause-touches : goal.returns-in-Ok-clause-touches
-returns-in-Ok-clause-touches c =
-    let r = c.args.self.now in let q = c.find_free.new.self in let b = c.give_back.new.self in
-    as_many r.blocks.touches r.blocks.total q.blocks.touches q.blocks.total b.touches b.total c.find_free.ensures.touches c.give_back.ensures.touches
-
-pub returns-in-Err-clause-kept : goal.returns-in-Err-clause-kept
-returns-in-Err-clause-kept c =
+pub returns-in-Err : goal.returns-in-Err
+returns-in-Err c =
     let r = c.args.self.now in let q = c.find_free.new.self in let h1 : uncounted q ≡ uncounted r = unmoved r q c.find_free.ensures.same c.find_free.ensures.cells in
-    kept_still r q h1 c.requires.kept
-
-pub returns-in-Err-clause-done : goal.returns-in-Err-clause-done
-returns-in-Err-clause-done c =
-    let fits = c.ranges.r in let f = simp to_z-of_z at c.in-Err.ensures.found in
-    let r = c.args.self.now in let q = c.find_free.new.self in let h1 : uncounted q ≡ uncounted r = unmoved r q c.find_free.ensures.same c.find_free.ensures.cells in
-    (f, ap state h1)
-
-pub returns-in-Err-clause-touches : goal.returns-in-Err-clause-touches
-returns-in-Err-clause-touches c = c.find_free.ensures.touches
-
-pub returns-in-Ok-clause-looked : goal.returns-in-Ok-clause-looked
-returns-in-Ok-clause-looked c = subst (λ n. n ≤ set_places c.args.self.now.layout (Class c.args.class)) (sym c.give_back.ensures.touches.0) c.find_free.ensures.looked
-
-pub returns-in-Err-clause-looked : goal.returns-in-Err-clause-looked
-returns-in-Err-clause-looked c = c.find_free.ensures.looked
+    record {
+      kept = kept_still r q h1 c.requires.kept;
+      done = let fits = c.ranges.r in let f = simp to_z-of_z at c.in-Err.ensures.found in (f, ap state h1);
+      touches = c.find_free.ensures.touches;
+      looked = c.find_free.ensures.looked;
+    }

@@ -11,9 +11,8 @@ use Rattle.ss_records_entities.proofs.Files.{owner_words, member_words', after_w
 use Rattle.ss_records_entities.proofs.Cuts.{at_first}
 use Rattle.ss_records_entities.proofs.Ends.{joins_it, taken, first_in_it, none_taken}
 use Rattle.ss_records_entities.proofs.Drawn.{following, less_is, around_first}
-use Rattle.ss_records_entities.proofs.Passing.{as_before}
 use Rattle.ss_records_entities.proofs.Remembered.{numbered_entry}
-use Rattle.ss_records_entities.proofs.Still.{kept_still}
+use Rattle.ss_records_entities.proofs.Still.{kept_still, unmoved}
 use Rattle.ss_records_entities.proofs.records.Records.draw_first.Goals as goal
 
 pub look-first-requires : goal.look-first-requires
@@ -23,7 +22,7 @@ look-first-requires c = record { leads = first_leads c.args.self.now c.requires.
 pub returns-then-first-eq0-clause-kept : goal.returns-then-first-eq0-clause-kept
 returns-then-first-eq0-clause-kept c =
     let r = c.args.self.now in let b = record r { blocks = c.start_at.new.self } in
-    kept_still r b (as_before r b refl (c.start_at.ensures.cells ∙ c.look-first.ensures.cells)) c.requires.kept
+    kept_still r b (unmoved r b refl (c.start_at.ensures.cells ∙ c.look-first.ensures.cells)) c.requires.kept
 
 pub returns-then-first-eq0-clause-done : goal.returns-then-first-eq0-clause-done
 returns-then-first-eq0-clause-done c =
@@ -32,7 +31,7 @@ returns-then-first-eq0-clause-done c =
       λ o om.
           let found = sym (first_value r k c.args.s c.requires.set e own set.result set.ensures.at q c.look-first.ensures.word c.look-first.ensures.there o om) in
           none_taken (state r) c.args.s q.number o (cast_signed w64 q.number) (first_in (state r) c.args.s o) found is c.if-first-eq0.true,
-      ap state (as_before r (record r { blocks = c.start_at.new.self }) refl (c.start_at.ensures.cells ∙ c.look-first.ensures.cells)),
+      ap state (unmoved r (record r { blocks = c.start_at.new.self }) refl (c.start_at.ensures.cells ∙ c.look-first.ensures.cells)),
     )
 
 pub keep-requires-clause-entry : goal.keep-requires-clause-entry

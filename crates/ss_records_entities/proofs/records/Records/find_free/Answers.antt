@@ -10,135 +10,87 @@ use Rattle.ss_records_words.specs.Places.{class_at_place}
 use Rattle.ss_world.specs.State.{and_then, let_go, number_in, in_a_set, owns_members}
 use Rattle.ss_records_entities.specs.Parts.{places, state, uncounted}
 use Rattle.ss_records_entities.proofs.Destroys.{in_a_set_is, owns_members_is}
-use Rattle.ss_records_entities.proofs.Files.{unmoved}
-use Rattle.ss_records_entities.proofs.Still.{kept_still, start_ties, more_ties, after_ties}
+use Rattle.ss_records_entities.proofs.Still.{kept_still, start_ties, more_ties, after_ties, unmoved}
 use Rattle.ss_records_entities.proofs.Frees.{by_number}
 use Rattle.ss_records_entities.proofs.records.Records.find_free.Goals as goal
 
-pub find-requires-clause-kept : goal.find-requires-clause-kept
-find-requires-clause-kept c = c.requires.kept
+pub find-requires : goal.find-requires
+find-requires c = record { kept = c.requires.kept; class = c.requires.class }
 
-pub find-requires-clause-class : goal.find-requires-clause-class
-find-requires-clause-class c = c.requires.class
+pub in_a_set-requires : goal.in_a_set-requires
+in_a_set-requires c =
+    record {
+      kept = c.requires.kept;
+      entry = let f = c.in-Ok.ensures.found in (f.index, by_number c.args.self.now c.requires.kept c.args.class _ c.in-Ok.place f c.requires.kind, ap nat_abs f.is);
+      class = c.in-Ok.ensures.found.class;
+      touches = let r = c.args.self.now in start_ties r.blocks.touches c.requires.touches;
+    }
 
-pub in_a_set-requires-clause-kept : goal.in_a_set-requires-clause-kept
-in_a_set-requires-clause-kept c = c.requires.kept
+pub owns_members-requires : goal.owns_members-requires
+owns_members-requires c =
+    let r = c.args.self.now in let a = c.in_a_set.new.self in
+    record {
+      kept = let h1 : uncounted a ≡ uncounted r = unmoved r a c.in_a_set.ensures.same c.in_a_set.ensures.cells in kept_still r a h1 c.requires.kept;
+      entry =
+          let f = c.in-Ok.ensures.found in let first : a ≡ record r { blocks = a.blocks } = c.in_a_set.ensures.same in
+          (f.index, subst (λ (z : Records). slice_get z.directory.places f.index ≡ Some (Some c.in-Ok.place)) (sym first) (by_number r c.requires.kept c.args.class _ c.in-Ok.place f c.requires.kind), ap nat_abs f.is);
+      class = ap (λ bs. class_at_place bs c.in-Ok.place) c.in_a_set.ensures.cells ∙ c.in-Ok.ensures.found.class;
+      touches = more_ties r.blocks.touches a.blocks.touches c.requires.touches c.in_a_set.ensures.touches.0;
+    }
 
-pub in_a_set-requires-clause-entry : goal.in_a_set-requires-clause-entry
-in_a_set-requires-clause-entry c = let f = c.in-Ok.ensures.found in (f.index, by_number c.args.self.now c.requires.kept c.args.class _ c.in-Ok.place f c.requires.kind, ap nat_abs f.is)
+pub returns-then-in_a_set : goal.returns-then-in_a_set
+returns-then-in_a_set c =
+    record {
+      found =
+          let fits = c.ranges.r in let g = simp to_z-of_z at c.in-Ok.ensures.found in let r = c.args.self.now in let f = c.in-Ok.ensures.found in let p = c.in-Ok.place in
+          let m : nat_abs (cast_signed w64 (cast_unsigned w64 c.args.r)) ≡ suc f.index = ap nat_abs f.is in let m0 = by_number r c.requires.kept c.args.class _ p f c.requires.kind in
+          let it : in_a_set r.layout.sets 0 r.notes.lists c.args.class (suc f.index) ≡ true = subst (λ k. in_a_set r.layout.sets 0 r.notes.lists c.args.class k ≡ true) m (sym c.if-in_a_set.ensures.value) in
+          in_a_set_is r.layout r.blocks.cells r.system.at (places r) r.notes.lists c.requires.kept f.index p m0 c.args.class c.args.r g.is g.entity it;
+      same = c.in_a_set.ensures.same;
+      cells = c.in_a_set.ensures.cells;
+      touches = c.in_a_set.ensures.touches.1;
+      looked = omega (arith, c.in_a_set.ensures.looked, c.requires.touches);
+    }
 
-pub in_a_set-requires-clause-class : goal.in_a_set-requires-clause-class
-in_a_set-requires-clause-class c = c.in-Ok.ensures.found.class
+pub returns-then-owns_members : goal.returns-then-owns_members
+returns-then-owns_members c =
+    let r = c.args.self.now in let a = c.in_a_set.new.self in let first : a ≡ record r { blocks = a.blocks } = c.in_a_set.ensures.same in let q = c.owns_members.new.self in
+    record {
+      found =
+          let fits = c.ranges.r in let g = simp to_z-of_z at c.in-Ok.ensures.found in let f = c.in-Ok.ensures.found in let p = c.in-Ok.place in
+          let m : nat_abs (cast_signed w64 (cast_unsigned w64 c.args.r)) ≡ suc f.index = ap nat_abs f.is in let m0 = by_number r c.requires.kept c.args.class _ p f c.requires.kind in
+          let none : in_a_set r.layout.sets 0 r.notes.lists c.args.class (suc f.index) ≡ false = subst (λ k. in_a_set r.layout.sets 0 r.notes.lists c.args.class k ≡ false) m (sym c.if-in_a_set.ensures.value) in
+          let it : owns_members r.layout.sets 0 r.notes.lists c.args.class (suc f.index) ≡ true = subst (λ (z : Records). owns_members z.layout.sets 0 z.notes.lists c.args.class (suc f.index) ≡ true) first (subst (λ k. owns_members a.layout.sets 0 a.notes.lists c.args.class k ≡ true) m (sym c.if-owns_members.ensures.value)) in
+          owns_members_is r.layout r.blocks.cells r.system.at (places r) r.notes.lists c.requires.kept f.index p m0 c.args.class c.args.r g.is g.entity none it;
+      same = let second : q ≡ record a { blocks = q.blocks } = c.owns_members.ensures.same in second ∙ ap (λ (z : Records). record z { blocks = q.blocks }) first;
+      cells = c.owns_members.ensures.cells ∙ c.in_a_set.ensures.cells;
+      touches = after_ties r.blocks.touches r.blocks.total a.blocks.touches a.blocks.total q.blocks.touches q.blocks.total c.in_a_set.ensures.touches.1 c.owns_members.ensures.touches.1;
+      looked =
+          let more = subst (λ (z : Records). c.owns_members.new.self.blocks.touches ≤ a.blocks.touches + count_sets (owned_by (Class c.args.class)) z.layout.sets) first c.owns_members.ensures.looked in
+          omega (arith, more, c.in_a_set.ensures.looked, c.requires.touches);
+    }
 
-pub in_a_set-requires-clause-touches : goal.in_a_set-requires-clause-touches
-in_a_set-requires-clause-touches c = let r = c.args.self.now in start_ties r.blocks.touches c.requires.touches
-
-pub owns_members-requires-clause-kept : goal.owns_members-requires-clause-kept
-owns_members-requires-clause-kept c =
-    let r = c.args.self.now in let a = c.in_a_set.new.self in let h1 : uncounted a ≡ uncounted r = unmoved r a c.in_a_set.ensures.same c.in_a_set.ensures.cells in
-    kept_still r a h1 c.requires.kept
-
-pub owns_members-requires-clause-entry : goal.owns_members-requires-clause-entry
-owns_members-requires-clause-entry c =
-    let f = c.in-Ok.ensures.found in let r = c.args.self.now in let a = c.in_a_set.new.self in let first : a ≡ record r { blocks = a.blocks } = c.in_a_set.ensures.same in
-    (f.index, subst (λ (z : Records). slice_get z.directory.places f.index ≡ Some (Some c.in-Ok.place)) (sym first) (by_number r c.requires.kept c.args.class _ c.in-Ok.place f c.requires.kind), ap nat_abs f.is)
-
-pub owns_members-requires-clause-class : goal.owns_members-requires-clause-class
-owns_members-requires-clause-class c = ap (λ bs. class_at_place bs c.in-Ok.place) c.in_a_set.ensures.cells ∙ c.in-Ok.ensures.found.class
-
-pub owns_members-requires-clause-touches : goal.owns_members-requires-clause-touches
-owns_members-requires-clause-touches c = let r = c.args.self.now in let a = c.in_a_set.new.self in more_ties r.blocks.touches a.blocks.touches c.requires.touches c.in_a_set.ensures.touches.0
-
-pub returns-then-in_a_set-clause-found : goal.returns-then-in_a_set-clause-found
-returns-then-in_a_set-clause-found c =
-    let fits = c.ranges.r in let g = simp to_z-of_z at c.in-Ok.ensures.found in
-    let r = c.args.self.now in let f = c.in-Ok.ensures.found in let p = c.in-Ok.place in
-    let m : nat_abs (cast_signed w64 (cast_unsigned w64 c.args.r)) ≡ suc f.index = ap nat_abs f.is in
-    let m0 = by_number r c.requires.kept c.args.class _ p f c.requires.kind in
-    let it : in_a_set r.layout.sets 0 r.notes.lists c.args.class (suc f.index) ≡ true = subst (λ k. in_a_set r.layout.sets 0 r.notes.lists c.args.class k ≡ true) m (sym c.if-in_a_set.ensures.value) in
-    in_a_set_is r.layout r.blocks.cells r.system.at (places r) r.notes.lists c.requires.kept f.index p m0 c.args.class c.args.r g.is g.entity it
-
-pub returns-then-in_a_set-clause-same : goal.returns-then-in_a_set-clause-same
-returns-then-in_a_set-clause-same c = c.in_a_set.ensures.same
-
-pub returns-then-in_a_set-clause-cells : goal.returns-then-in_a_set-clause-cells
-returns-then-in_a_set-clause-cells c = c.in_a_set.ensures.cells
-
-pub returns-then-in_a_set-clause-touches : goal.returns-then-in_a_set-clause-touches
-returns-then-in_a_set-clause-touches c = c.in_a_set.ensures.touches.1
-
-pub returns-then-owns_members-clause-found : goal.returns-then-owns_members-clause-found
-returns-then-owns_members-clause-found c =
-    let fits = c.ranges.r in let g = simp to_z-of_z at c.in-Ok.ensures.found in
-    let r = c.args.self.now in let f = c.in-Ok.ensures.found in let p = c.in-Ok.place in let a = c.in_a_set.new.self in
-    let m : nat_abs (cast_signed w64 (cast_unsigned w64 c.args.r)) ≡ suc f.index = ap nat_abs f.is in
-    let m0 = by_number r c.requires.kept c.args.class _ p f c.requires.kind in
-    let first : a ≡ record r { blocks = a.blocks } = c.in_a_set.ensures.same in
-    let none : in_a_set r.layout.sets 0 r.notes.lists c.args.class (suc f.index) ≡ false = subst (λ k. in_a_set r.layout.sets 0 r.notes.lists c.args.class k ≡ false) m (sym c.if-in_a_set.ensures.value) in
-    let it : owns_members r.layout.sets 0 r.notes.lists c.args.class (suc f.index) ≡ true = subst (λ (z : Records). owns_members z.layout.sets 0 z.notes.lists c.args.class (suc f.index) ≡ true) first (subst (λ k. owns_members a.layout.sets 0 a.notes.lists c.args.class k ≡ true) m (sym c.if-owns_members.ensures.value)) in
-    owns_members_is r.layout r.blocks.cells r.system.at (places r) r.notes.lists c.requires.kept f.index p m0 c.args.class c.args.r g.is g.entity none it
-
-pub returns-then-owns_members-clause-same : goal.returns-then-owns_members-clause-same
-returns-then-owns_members-clause-same c =
-    let r = c.args.self.now in let a = c.in_a_set.new.self in let q = c.owns_members.new.self in
-    let first : a ≡ record r { blocks = a.blocks } = c.in_a_set.ensures.same in
-    let second : q ≡ record a { blocks = q.blocks } = c.owns_members.ensures.same in
-    second ∙ ap (λ (z : Records). record z { blocks = q.blocks }) first
-
-pub returns-then-owns_members-clause-cells : goal.returns-then-owns_members-clause-cells
-returns-then-owns_members-clause-cells c = c.owns_members.ensures.cells ∙ c.in_a_set.ensures.cells
-
-pub returns-then-owns_members-clause-touches : goal.returns-then-owns_members-clause-touches
-returns-then-owns_members-clause-touches c =
-    let r = c.args.self.now in let a = c.in_a_set.new.self in let q = c.owns_members.new.self in
-    after_ties r.blocks.touches r.blocks.total a.blocks.touches a.blocks.total q.blocks.touches q.blocks.total c.in_a_set.ensures.touches.1 c.owns_members.ensures.touches.1
-
-pub returns-else-owns_members-clause-found : goal.returns-else-owns_members-clause-found
-returns-else-owns_members-clause-found c =
-    let fits = c.ranges.r in let g = simp to_z-of_z at c.in-Ok.ensures.found in
-    let r = c.args.self.now in let f = c.in-Ok.ensures.found in let a = c.in_a_set.new.self in
-    let m : nat_abs (cast_signed w64 (cast_unsigned w64 c.args.r)) ≡ suc f.index = ap nat_abs f.is in
-    let first : a ≡ record r { blocks = a.blocks } = c.in_a_set.ensures.same in
-    let none : in_a_set r.layout.sets 0 r.notes.lists c.args.class (suc f.index) ≡ false = subst (λ k. in_a_set r.layout.sets 0 r.notes.lists c.args.class k ≡ false) m (sym c.if-in_a_set.ensures.value) in
-    let few : owns_members r.layout.sets 0 r.notes.lists c.args.class (suc f.index) ≡ false = subst (λ (z : Records). owns_members z.layout.sets 0 z.notes.lists c.args.class (suc f.index) ≡ false) first (subst (λ k. owns_members a.layout.sets 0 a.notes.lists c.args.class k ≡ false) m (sym c.if-owns_members.ensures.value)) in
-    (g, none, few)
-
-pub returns-else-owns_members-clause-same : goal.returns-else-owns_members-clause-same
-returns-else-owns_members-clause-same c =
-    let r = c.args.self.now in let a = c.in_a_set.new.self in let q = c.owns_members.new.self in
-    let first : a ≡ record r { blocks = a.blocks } = c.in_a_set.ensures.same in
-    let second : q ≡ record a { blocks = q.blocks } = c.owns_members.ensures.same in
-    second ∙ ap (λ (z : Records). record z { blocks = q.blocks }) first
-
-pub returns-else-owns_members-clause-cells : goal.returns-else-owns_members-clause-cells
-returns-else-owns_members-clause-cells c = c.owns_members.ensures.cells ∙ c.in_a_set.ensures.cells
-
-pub returns-else-owns_members-clause-touches : goal.returns-else-owns_members-clause-touches
-returns-else-owns_members-clause-touches c =
-    let r = c.args.self.now in let a = c.in_a_set.new.self in let q = c.owns_members.new.self in
-    after_ties r.blocks.touches r.blocks.total a.blocks.touches a.blocks.total q.blocks.touches q.blocks.total c.in_a_set.ensures.touches.1 c.owns_members.ensures.touches.1
+pub returns-else-owns_members : goal.returns-else-owns_members
+returns-else-owns_members c =
+    let r = c.args.self.now in let a = c.in_a_set.new.self in let first : a ≡ record r { blocks = a.blocks } = c.in_a_set.ensures.same in let q = c.owns_members.new.self in
+    record {
+      found =
+          let fits = c.ranges.r in let g = simp to_z-of_z at c.in-Ok.ensures.found in let f = c.in-Ok.ensures.found in let m : nat_abs (cast_signed w64 (cast_unsigned w64 c.args.r)) ≡ suc f.index = ap nat_abs f.is in
+          let none : in_a_set r.layout.sets 0 r.notes.lists c.args.class (suc f.index) ≡ false = subst (λ k. in_a_set r.layout.sets 0 r.notes.lists c.args.class k ≡ false) m (sym c.if-in_a_set.ensures.value) in
+          let few : owns_members r.layout.sets 0 r.notes.lists c.args.class (suc f.index) ≡ false = subst (λ (z : Records). owns_members z.layout.sets 0 z.notes.lists c.args.class (suc f.index) ≡ false) first (subst (λ k. owns_members a.layout.sets 0 a.notes.lists c.args.class k ≡ false) m (sym c.if-owns_members.ensures.value)) in
+          (g, none, few);
+      same = let second : q ≡ record a { blocks = q.blocks } = c.owns_members.ensures.same in second ∙ ap (λ (z : Records). record z { blocks = q.blocks }) first;
+      cells = c.owns_members.ensures.cells ∙ c.in_a_set.ensures.cells;
+      touches = after_ties r.blocks.touches r.blocks.total a.blocks.touches a.blocks.total q.blocks.touches q.blocks.total c.in_a_set.ensures.touches.1 c.owns_members.ensures.touches.1;
+      looked =
+          let more = subst (λ (z : Records). c.owns_members.new.self.blocks.touches ≤ a.blocks.touches + count_sets (owned_by (Class c.args.class)) z.layout.sets) first c.owns_members.ensures.looked in
+          omega (arith, more, c.in_a_set.ensures.looked, c.requires.touches);
+    }
 
 pub returns-in-Err-clause-found : goal.returns-in-Err-clause-found
 returns-in-Err-clause-found c =
     let fits = c.ranges.r in let f = simp to_z-of_z at c.in-Err.ensures.found in
     ap (λ z. and_then z (λ r. let_go (state c.args.self.now) c.args.class (number_in c.args.r))) f
-
-pub returns-then-in_a_set-clause-looked : goal.returns-then-in_a_set-clause-looked
-returns-then-in_a_set-clause-looked c = omega (arith, c.in_a_set.ensures.looked, c.requires.touches)
-
-pub returns-then-owns_members-clause-looked : goal.returns-then-owns_members-clause-looked
-returns-then-owns_members-clause-looked c =
-    let r = c.args.self.now in let a = c.in_a_set.new.self in
-    let first : a ≡ record r { blocks = a.blocks } = c.in_a_set.ensures.same in
-    let more = subst (λ (z : Records). c.owns_members.new.self.blocks.touches ≤ a.blocks.touches + count_sets (owned_by (Class c.args.class)) z.layout.sets) first c.owns_members.ensures.looked in
-    omega (arith, more, c.in_a_set.ensures.looked, c.requires.touches)
-
-pub returns-else-owns_members-clause-looked : goal.returns-else-owns_members-clause-looked
-returns-else-owns_members-clause-looked c =
-    let r = c.args.self.now in let a = c.in_a_set.new.self in
-    let first : a ≡ record r { blocks = a.blocks } = c.in_a_set.ensures.same in
-    let more = subst (λ (z : Records). c.owns_members.new.self.blocks.touches ≤ a.blocks.touches + count_sets (owned_by (Class c.args.class)) z.layout.sets) first c.owns_members.ensures.looked in
-    omega (arith, more, c.in_a_set.ensures.looked, c.requires.touches)
 
 pub returns-in-Err-clause-looked : goal.returns-in-Err-clause-looked
 returns-in-Err-clause-looked c = omega (arith, c.requires.touches)

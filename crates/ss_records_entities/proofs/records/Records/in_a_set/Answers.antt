@@ -42,26 +42,24 @@ follow-next-requires-clause-room c =
     let few = few_touched r.layout c.args.class c.args.number r.notes.lists c.links.k c.links.self.blocks.touches r.blocks.touches c.requires.kept.small.sets (omega (arith, c.links-test.true, c.owned_start-end.ensures.at)) c.links.invariant.touches.0 in
     omega (arith, few, c.requires.touches)
 
-pub returns-then-next-number-clause-value : goal.returns-then-next-number-clause-value
-returns-then-next-number-clause-value c =
-    let r = c.args.self.now in let e = c.requires.entry in let h = links_here (goal.at.returns-then-next-number-clause-value c).In-links in let q = c.follow-next.result in let cells = c.links.invariant.cells in
-    let w : word_at r.blocks.cells c.args.place.at c.links.k ≡ link q.place.at = (λ z. word_at (sym cells z) c.args.place.at c.links.k) ∙ c.follow-next.ensures.word in
-    let v : word_at r.blocks.cells q.place.at 1 ≡ number q.number = (λ z. word_at (sym cells z) q.place.at 1) ∙ c.follow-next.ensures.there in
-    sym (found r.layout c.args.class c.args.number r.notes.lists c.links.k h
-    (filed_there r c.requires.kept h.at h.set h.there e.0 c.args.place e.1 (c.requires.class ∙ sym h.joined) c.links.k h.base c.args.number e.2 q w v c.if-next-number.true))
-
-pub returns-then-next-number-clause-same : goal.returns-then-next-number-clause-same
-returns-then-next-number-clause-same c = ap (λ (z : Records). record z { blocks = c.follow-next.new.self }) c.links.invariant.same
-
-pub returns-then-next-number-clause-cells : goal.returns-then-next-number-clause-cells
-returns-then-next-number-clause-cells c = c.follow-next.ensures.cells ∙ c.links.invariant.cells
-
-pub returns-then-next-number-clause-touches : goal.returns-then-next-number-clause-touches
-returns-then-next-number-clause-touches c =
-    let r = c.args.self.now in let l = r.layout in let x = c.args.number in let ms = r.notes.lists in let h = links_here (goal.at.returns-then-next-number-clause-touches c).In-links in
-    let t = c.follow-next.ensures.touches in let j = c.links.invariant.touches in
-    let touches_known : 3 * c.follow-next.new.self.touches + links_start l c.args.class ≡ 3 * r.blocks.touches + (c.links.k + 3) = omega (arith, t.0, j.0) in
-    (few_touched l c.args.class x ms (c.links.k + 3) c.follow-next.new.self.touches r.blocks.touches c.requires.kept.small.sets (room l c.args.class x ms c.links.k h) touches_known, omega (arith, t.0, t.1, j.1))
+pub returns-then-next-number : goal.returns-then-next-number
+returns-then-next-number c =
+    let r = c.args.self.now in
+    record {
+      value =
+          let e = c.requires.entry in let h = links_here (goal.at.returns-then-next-number-clause-value c).In-links in let q = c.follow-next.result in let cells = c.links.invariant.cells in
+          let w : word_at r.blocks.cells c.args.place.at c.links.k ≡ link q.place.at = (λ z. word_at (sym cells z) c.args.place.at c.links.k) ∙ c.follow-next.ensures.word in
+          let v : word_at r.blocks.cells q.place.at 1 ≡ number q.number = (λ z. word_at (sym cells z) q.place.at 1) ∙ c.follow-next.ensures.there in
+          sym (found r.layout c.args.class c.args.number r.notes.lists c.links.k h
+          (filed_there r c.requires.kept h.at h.set h.there e.0 c.args.place e.1 (c.requires.class ∙ sym h.joined) c.links.k h.base c.args.number e.2 q w v c.if-next-number.true));
+      same = ap (λ (z : Records). record z { blocks = c.follow-next.new.self }) c.links.invariant.same;
+      cells = c.follow-next.ensures.cells ∙ c.links.invariant.cells;
+      touches =
+          let l = r.layout in let x = c.args.number in let ms = r.notes.lists in let h = links_here (goal.at.returns-then-next-number-clause-touches c).In-links in let t = c.follow-next.ensures.touches in
+          let j = c.links.invariant.touches in let touches_known : 3 * c.follow-next.new.self.touches + links_start l c.args.class ≡ 3 * r.blocks.touches + (c.links.k + 3) = omega (arith, t.0, j.0) in
+          (few_touched l c.args.class x ms (c.links.k + 3) c.follow-next.new.self.touches r.blocks.touches c.requires.kept.small.sets (room l c.args.class x ms c.links.k h) touches_known, omega (arith, t.0, t.1, j.1));
+      looked = let h = links_here (goal.at.returns-then-next-number-clause-looked c).In-links in omega (arith, c.follow-next.ensures.touches.0, c.links.invariant.touches.0, room r.layout c.args.class c.args.number r.notes.lists c.links.k h);
+    }
 
 pub overflow_add-k : goal.overflow_add-k
 overflow_add-k c = omega (arith, c.links-test.true, c.owned_start-end.ensures.bound)
@@ -83,24 +81,15 @@ links-preserved c =
       touches = (omega (arith, t.0, j.0), omega (arith, t.0, t.1, j.1));
     }
 
-pub returns-clause-value : goal.returns-clause-value
-returns-clause-value c = let r = c.args.self.now in sym (at_last r.layout c.args.class c.args.number r.notes.lists c.links.k c.links.invariant.left (omega (arith, c.links-test.false, c.owned_start-end.ensures.at)))
-
-pub returns-clause-same : goal.returns-clause-same
-returns-clause-same c = c.links.invariant.same
-
-pub returns-clause-cells : goal.returns-clause-cells
-returns-clause-cells c = c.links.invariant.cells
-
-pub returns-clause-touches : goal.returns-clause-touches
-returns-clause-touches c =
-    let r = c.args.self.now in let f = c.links.invariant.left in
-    (few_touched r.layout c.args.class c.args.number r.notes.lists c.links.k c.links.self.blocks.touches r.blocks.touches c.requires.kept.small.sets (omega (arith, f.1)) c.links.invariant.touches.0, c.links.invariant.touches.1)
-
-pub returns-then-next-number-clause-looked : goal.returns-then-next-number-clause-looked
-returns-then-next-number-clause-looked c =
-    let r = c.args.self.now in let h = links_here (goal.at.returns-then-next-number-clause-looked c).In-links in
-    omega (arith, c.follow-next.ensures.touches.0, c.links.invariant.touches.0, room r.layout c.args.class c.args.number r.notes.lists c.links.k h)
-
-pub returns-clause-looked : goal.returns-clause-looked
-returns-clause-looked c = omega (arith, c.links.invariant.touches.0, c.links.invariant.left.1)
+pub returns : goal.returns
+returns c =
+    let r = c.args.self.now in
+    record {
+      value = sym (at_last r.layout c.args.class c.args.number r.notes.lists c.links.k c.links.invariant.left (omega (arith, c.links-test.false, c.owned_start-end.ensures.at)));
+      same = c.links.invariant.same;
+      cells = c.links.invariant.cells;
+      touches =
+          let f = c.links.invariant.left in
+          (few_touched r.layout c.args.class c.args.number r.notes.lists c.links.k c.links.self.blocks.touches r.blocks.touches c.requires.kept.small.sets (omega (arith, f.1)) c.links.invariant.touches.0, c.links.invariant.touches.1);
+      looked = omega (arith, c.links.invariant.touches.0, c.links.invariant.left.1);
+    }

@@ -1,6 +1,7 @@
 use Rattle.std.proofs.Common.{rules, ◌≡◌, ℤ, w64, to_z, of_z, not, false, ap, ◌∙◌}
 use Rattle.std.specs.Ordering.{match_ordering, int_cmp}
 use Rattle.std.proofs.lemmas.Int.{to_z-of_z}
+use Rattle.ss_base.specs.declared.layout.Mode.TheVariants.{Integer}
 use Rattle.ss_records_entities.proofs.Still.{few_fields}
 use Rattle.ss_records_entities.proofs.Passing.{is_number, test_is}
 use Rattle.ss_records_entities.proofs.records.Records.is_past.Goals as goal
@@ -9,7 +10,7 @@ pub value_start-k-requires : goal.value_start-k-requires
 value_start-k-requires c = few_fields c.args.self.now.layout _ c.args.field _ c.requires.kept.small c.requires.mode
 
 pub whole-requires : goal.whole-requires
-whole-requires c = is_number c.args.self.now c.requires.kept c.args.s c.args.member c.requires.joins c.args.field c.value_start-k.result c.value_start-k.ensures.at c.requires.mode
+whole-requires c = is_number c.args.self.now c.requires.kept c.args.s c.args.member c.requires.joins c.args.field c.value_start-k.result c.value_start-k.ensures.at Integer c.requires.mode
 
 pub returns : goal.returns
 returns c =

@@ -7,19 +7,27 @@ pub count-count-requires-clause-word : goal.count-count-requires-clause-word
 count-count-requires-clause-word c = counts c.args.self.now c.requires.kept c.args.s c.requires.set c.args.owner c.requires.owns c.owner_base-set.result c.owner_base-set.ensures.at
 
 pub link_between-requires-clause-member : goal.link_between-requires-clause-member
-link_between-requires-clause-member c = let w = c.requires.between in rw c.count-count.ensures.cells (member_words c.args.self.now c.requires.kept c.args.s c.requires.set c.args.owner c.args.x c.requires.owns c.member_base-member.result c.owner_base-set.result c.member_base-member.ensures.at c.owner_base-set.ensures.at c.requires.joins c.requires.free)
+link_between-requires-clause-member c =
+    rw c.count-count.ensures.cells (member_words c.args.self.now c.requires.kept c.args.s c.requires.set c.args.owner c.args.x c.requires.owns c.member_base-member.result c.owner_base-set.result c.member_base-member.ensures.at c.owner_base-set.ensures.at c.requires.joins c.requires.free)
 
 pub link_between-requires-clause-owner : goal.link_between-requires-clause-owner
-link_between-requires-clause-owner c = rw c.count-count.ensures.cells (owner_words c.args.self.now c.requires.kept c.args.s c.requires.set c.args.owner c.args.x c.requires.owns c.member_base-member.result c.owner_base-set.result c.member_base-member.ensures.at c.owner_base-set.ensures.at)
+link_between-requires-clause-owner c =
+    rw c.count-count.ensures.cells (owner_words c.args.self.now c.requires.kept c.args.s c.requires.set c.args.owner c.args.x c.requires.owns c.member_base-member.result c.owner_base-set.result c.member_base-member.ensures.at c.owner_base-set.ensures.at)
 
 pub link_between-requires-clause-before : goal.link_between-requires-clause-before
-link_between-requires-clause-before c = let w = c.requires.between in λ e. rw c.count-count.ensures.cells (before_word c.args.self.now c.requires.kept c.args.s c.requires.set c.args.owner c.args.x c.requires.owns c.member_base-member.result c.owner_base-set.result c.member_base-member.ensures.at c.owner_base-set.ensures.at c.requires.joins c.requires.free c.args.before c.args.after w.0 w.1 w.2 e)
+link_between-requires-clause-before c =
+    let w = c.requires.between in
+    λ e. rw c.count-count.ensures.cells (before_word c.args.self.now c.requires.kept c.args.s c.requires.set c.args.owner c.args.x c.requires.owns c.member_base-member.result c.owner_base-set.result c.member_base-member.ensures.at c.owner_base-set.ensures.at c.requires.joins c.requires.free c.args.before c.args.after w.0 w.1 w.2 e)
 
 pub link_between-requires-clause-after : goal.link_between-requires-clause-after
-link_between-requires-clause-after c = let w = c.requires.between in λ e. rw c.count-count.ensures.cells (after_word c.args.self.now c.requires.kept c.args.s c.requires.set c.args.owner c.args.x c.requires.owns c.member_base-member.result c.owner_base-set.result c.member_base-member.ensures.at c.owner_base-set.ensures.at c.requires.joins c.requires.free c.args.before c.args.after w.0 w.1 w.2 e)
+link_between-requires-clause-after c =
+    let w = c.requires.between in
+    λ e. rw c.count-count.ensures.cells (after_word c.args.self.now c.requires.kept c.args.s c.requires.set c.args.owner c.args.x c.requires.owns c.member_base-member.result c.owner_base-set.result c.member_base-member.ensures.at c.owner_base-set.ensures.at c.requires.joins c.requires.free c.args.before c.args.after w.0 w.1 w.2 e)
 
 pub link_between-requires-clause-counts : goal.link_between-requires-clause-counts
-link_between-requires-clause-counts c = let h = how_many_small c.args.self.now c.requires.kept c.args.s c.requires.set c.args.owner c.requires.owns c.owner_base-set.result c.owner_base-set.ensures.at c.count-count.result c.count-count.ensures.word in omega (arith, h)
+link_between-requires-clause-counts c =
+    let h = how_many_small c.args.self.now c.requires.kept c.args.s c.requires.set c.args.owner c.requires.owns c.owner_base-set.result c.owner_base-set.ensures.at c.count-count.result c.count-count.ensures.word in
+    omega (arith, h)
 
 pub returns-clause-kept : goal.returns-clause-kept
 returns-clause-kept c =

@@ -27,10 +27,10 @@ returns-clause-done c =
     let laid = subst (λ us. LaidTo r.layout c.place_all.new.blocks.cells c.lay_all.new.blocks.cells r.system.at us c.args.class (length us)) c.deref.ensures.value c.lay_all.ensures.laid in
     rw c.of.ensures (state_made r.layout r.blocks.cells r.system.at (places r) r.notes.lists c.requires.kept c.args.class c.requires.kind c.requires.class c.requires.free c.place_all.new.blocks.cells c.lay_all.new.blocks.cells c.block_words-words.result ps c.in-Ok.ensures.placed.1 laid few c.args.count c.in-Ok.ensures.placed.0)
 
-pub returns-in_default-clause-links : goal.returns-in_default-clause-links
-returns-in_default-clause-links c = c.in_default.ensures.touches.0 ∙ c.requires.touches
-
 pub returns-clause-links : goal.returns-clause-links
 returns-clause-links c =
     let w = 3 * set_places c.args.self.now.layout (Class c.args.class) in
     subst (λ us. c.lay_all.new.blocks.touches ≡ length us * w) c.deref.ensures.value c.lay_all.ensures.links ∙ ap (λ n. n * w) c.in-Ok.ensures.placed.0
+
+pub returns-in_default-clause-links : goal.returns-in_default-clause-links
+returns-in_default-clause-links c = c.in_default.ensures.touches.0 ∙ c.requires.touches

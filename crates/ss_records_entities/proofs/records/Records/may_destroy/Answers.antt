@@ -5,8 +5,7 @@ use Rattle.ss_base.specs.declared.fault.FaultKind.{FaultKind}
 use Rattle.ss_world.specs.State.{State, no_value}
 use Rattle.ss_records_entities.specs.Parts.{places, state, uncounted}
 use Rattle.ss_records_entities.proofs.Destroys.{is_destroyed}
-use Rattle.ss_records_entities.proofs.Files.{unmoved}
-use Rattle.ss_records_entities.proofs.Still.{kept_still}
+use Rattle.ss_records_entities.proofs.Still.{kept_still, unmoved}
 use Rattle.ss_records_entities.proofs.Frees.{by_number}
 use Rattle.ss_records_entities.proofs.records.Records.may_destroy.Goals as goal
 
@@ -16,46 +15,26 @@ find_free-requires-clause-kept c = c.requires.kept
 pub find_free-requires-clause-class : goal.find_free-requires-clause-class
 find_free-requires-clause-class c = c.requires.class
 
-pub returns-in-Ok-clause-kept : goal.returns-in-Ok-clause-kept
-returns-in-Ok-clause-kept c =
+pub returns-in-Ok : goal.returns-in-Ok
+returns-in-Ok c =
     let r = c.args.self.now in let q = c.find_free.new.self in let h1 : uncounted q ≡ uncounted r = unmoved r q c.find_free.ensures.same c.find_free.ensures.cells in
-    kept_still r q h1 c.requires.kept
+    record {
+      kept = kept_still r q h1 c.requires.kept;
+      value =
+          let fits = c.ranges.r in let h = simp to_z-of_z at c.in-Ok.ensures.found in let f = c.in-Ok.ensures.found.0 in let m0 = by_number r c.requires.kept c.args.class _ _ f c.requires.kind in
+          sym (ap (λ (z : OkOr State FaultKind). no_value z) (is_destroyed r.layout r.blocks.cells r.system.at (places r) r.notes.lists c.requires.kept f.index _ m0 c.args.class c.args.r h.0.is h.0.entity c.in-Ok.ensures.found.1 c.in-Ok.ensures.found.2));
+      same = ap state h1;
+      touches = c.find_free.ensures.touches;
+      looked = c.find_free.ensures.looked;
+    }
 
-pub returns-in-Ok-clause-value : goal.returns-in-Ok-clause-value
-returns-in-Ok-clause-value c =
-    let fits = c.ranges.r in let h = simp to_z-of_z at c.in-Ok.ensures.found in
-    let r = c.args.self.now in let f = c.in-Ok.ensures.found.0 in
-    let m0 = by_number r c.requires.kept c.args.class _ _ f c.requires.kind in
-    sym (ap (λ (z : OkOr State FaultKind). no_value z) (is_destroyed r.layout r.blocks.cells r.system.at (places r) r.notes.lists c.requires.kept f.index _ m0 c.args.class c.args.r h.0.is h.0.entity c.in-Ok.ensures.found.1 c.in-Ok.ensures.found.2))
-
-pub returns-in-Ok-clause-same : goal.returns-in-Ok-clause-same
-returns-in-Ok-clause-same c =
+pub returns-in-Err : goal.returns-in-Err
+returns-in-Err c =
     let r = c.args.self.now in let q = c.find_free.new.self in let h1 : uncounted q ≡ uncounted r = unmoved r q c.find_free.ensures.same c.find_free.ensures.cells in
-    ap state h1
-
-pub returns-in-Ok-clause-touches : goal.returns-in-Ok-clause-touches
-returns-in-Ok-clause-touches c = c.find_free.ensures.touches
-
-pub returns-in-Err-clause-kept : goal.returns-in-Err-clause-kept
-returns-in-Err-clause-kept c =
-    let r = c.args.self.now in let q = c.find_free.new.self in let h1 : uncounted q ≡ uncounted r = unmoved r q c.find_free.ensures.same c.find_free.ensures.cells in
-    kept_still r q h1 c.requires.kept
-
-pub returns-in-Err-clause-value : goal.returns-in-Err-clause-value
-returns-in-Err-clause-value c =
-    let fits = c.ranges.r in let f = simp to_z-of_z at c.in-Err.ensures.found in
-    sym (ap (λ (z : OkOr State FaultKind). no_value z) f)
-
-pub returns-in-Err-clause-same : goal.returns-in-Err-clause-same
-returns-in-Err-clause-same c =
-    let r = c.args.self.now in let q = c.find_free.new.self in let h1 : uncounted q ≡ uncounted r = unmoved r q c.find_free.ensures.same c.find_free.ensures.cells in
-    ap state h1
-
-pub returns-in-Err-clause-touches : goal.returns-in-Err-clause-touches
-returns-in-Err-clause-touches c = c.find_free.ensures.touches
-
-pub returns-in-Ok-clause-looked : goal.returns-in-Ok-clause-looked
-returns-in-Ok-clause-looked c = c.find_free.ensures.looked
-
-pub returns-in-Err-clause-looked : goal.returns-in-Err-clause-looked
-returns-in-Err-clause-looked c = c.find_free.ensures.looked
+    record {
+      kept = kept_still r q h1 c.requires.kept;
+      value = let fits = c.ranges.r in let f = simp to_z-of_z at c.in-Err.ensures.found in sym (ap (λ (z : OkOr State FaultKind). no_value z) f);
+      same = ap state h1;
+      touches = c.find_free.ensures.touches;
+      looked = c.find_free.ensures.looked;
+    }

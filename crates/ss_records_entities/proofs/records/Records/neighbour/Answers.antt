@@ -7,9 +7,8 @@ use Rattle.ss_records_entities.proofs.Looks.{owner_leads, owner_small, owner_has
 use Rattle.ss_records_entities.proofs.Onward.{beside_leads, beside_small, beside_free, beside_filed, beside_value, in_its, in_none, its_only}
 use Rattle.ss_records_entities.specs.declared.records.Records.{Records}
 use Rattle.ss_records_words.specs.Kept.{state_of}
-use Rattle.ss_records_entities.specs.Parts.{IsKept, state, places, uncounted}
-use Rattle.ss_records_entities.proofs.Still.{kept_still, joins_still, base_room2, room_first, one_room, one_counted, two_counted}
-use Rattle.ss_records_entities.proofs.Passing.{as_before}
+use Rattle.ss_records_entities.specs.Parts.{IsKept, state, places}
+use Rattle.ss_records_entities.proofs.Still.{kept_still, joins_still, base_room2, room_first, one_room, one_counted, two_counted, unmoved, reads_only}
 use Rattle.ss_records_entities.proofs.Remembered.{beside_joins}
 use Rattle.ss_records_entities.proofs.records.Records.neighbour.Goals as goal
 
@@ -17,7 +16,7 @@ pub member_base-base-requires : goal.member_base-base-requires
 member_base-base-requires c = c.requires.set
 
 pub beside-requires : goal.beside-requires
-beside-requires c = c.member_base-base.ensures.bound
+beside-requires c = omega (arith, c.member_base-base.ensures.bound)
 
 pub follow-neighbour-requires-clause-leads : goal.follow-neighbour-requires-clause-leads
 follow-neighbour-requires-clause-leads c =
@@ -31,7 +30,7 @@ follow-neighbour-requires-clause-room c = let b = c.args.self.now.blocks in room
 pub returns-then-neighbour-member : goal.returns-then-neighbour-member
 returns-then-neighbour-member c =
     let r = c.args.self.now in let b = c.follow-neighbour.new.self in let f = c.follow-neighbour.ensures in
-    let h = as_before r (record r { blocks = b }) refl f.cells in
+    let h = unmoved r (record r { blocks = b }) refl f.cells in
     let e = c.args.member in let base = c.member_base-base in let q = c.follow-neighbour.result in
     let w = subst (λ k. word_at r.blocks.cells e.place.at k ≡ link q.place.at) c.beside.ensures f.word in
     let free = beside_free r c.requires.kept c.args.s c.requires.set e c.requires.joins base.result base.ensures.at q f.there c.args.reverse w c.if-neighbour-member.true in
@@ -46,18 +45,16 @@ returns-then-neighbour-member c =
 pub overflow_add-base : goal.overflow_add-base
 overflow_add-base c = base_room2 _ c.member_base-base.ensures.bound
 
-pub follow-owner-requires-clause-leads : goal.follow-owner-requires-clause-leads
-follow-owner-requires-clause-leads c =
-    let r = c.args.self.now in let e = c.args.member in let b = c.member_base-base in let q = c.follow-neighbour.result in
-    let w = subst (λ k. word_at r.blocks.cells e.place.at k ≡ link q.place.at) c.beside.ensures c.follow-neighbour.ensures.word in
-    let n = c.if-neighbour-member.false in
-    let filed = beside_filed r c.requires.kept c.args.s c.requires.set e c.requires.joins b.result b.ensures.at q c.follow-neighbour.ensures.there n c.args.reverse w in
-    rw c.follow-neighbour.ensures.cells (owner_leads r c.requires.kept c.args.s c.requires.set e c.requires.joins b.result b.ensures.at filed)
-
-pub follow-owner-requires-clause-room : goal.follow-owner-requires-clause-room
-follow-owner-requires-clause-room c =
-    let a = c.args.self.now.blocks in let b = c.follow-neighbour.new.self in
-    one_room a.touches a.total b.touches b.total c.requires.touches c.follow-neighbour.ensures.touches
+pub follow-owner-requires : goal.follow-owner-requires
+follow-owner-requires c =
+    record {
+      leads =
+          let r = c.args.self.now in let e = c.args.member in let b = c.member_base-base in let q = c.follow-neighbour.result in
+          let w = subst (λ k. word_at r.blocks.cells e.place.at k ≡ link q.place.at) c.beside.ensures c.follow-neighbour.ensures.word in let n = c.if-neighbour-member.false in
+          let filed = beside_filed r c.requires.kept c.args.s c.requires.set e c.requires.joins b.result b.ensures.at q c.follow-neighbour.ensures.there n c.args.reverse w in
+          rw c.follow-neighbour.ensures.cells (owner_leads r c.requires.kept c.args.s c.requires.set e c.requires.joins b.result b.ensures.at filed);
+      room = let a = c.args.self.now.blocks in let b = c.follow-neighbour.new.self in one_room a.touches a.total b.touches b.total c.requires.touches c.follow-neighbour.ensures.touches;
+    }
 
 pub overflow_cast-owner : goal.overflow_cast-owner
 overflow_cast-owner c =
@@ -74,7 +71,7 @@ overflow_cast-owner c =
 pub returns-then-owner-o : goal.returns-then-owner-o
 returns-then-owner-o c =
     let r = c.args.self.now in let b = c.follow-neighbour.new.self in let d = c.follow-owner.new.self in let f = c.follow-owner.ensures in
-    let h = as_before r (record r { blocks = d }) refl (f.cells ∙ c.follow-neighbour.ensures.cells) in
+    let h = unmoved r (record r { blocks = d }) refl (f.cells ∙ c.follow-neighbour.ensures.cells) in
     let e = c.args.member in let base = c.member_base-base in let q = c.follow-neighbour.result in
     let w = subst (λ k. word_at r.blocks.cells e.place.at k ≡ link q.place.at) c.beside.ensures c.follow-neighbour.ensures.word in
     let filed = beside_filed r c.requires.kept c.args.s c.requires.set e c.requires.joins base.result base.ensures.at q c.follow-neighbour.ensures.there c.if-neighbour-member.false c.args.reverse w in
@@ -93,18 +90,23 @@ returns-then-owner-o c =
       touches = two_counted r.blocks.touches r.blocks.total b.touches b.total c.requires.touches c.follow-neighbour.ensures.touches d.touches d.total f.touches;
     }
 
-pub pass-requires-clause-kept : goal.pass-requires-clause-kept
-pass-requires-clause-kept c =
+pub pass-requires : goal.pass-requires
+pass-requires c =
     let r = c.args.self.now in let q = record r { blocks = c.follow-owner.new.self } in
-    kept_still r q (as_before r q refl (c.follow-owner.ensures.cells ∙ c.follow-neighbour.ensures.cells)) c.requires.kept
-
-pub pass-requires-clause-set : goal.pass-requires-clause-set
-pass-requires-clause-set c = c.requires.set
-
-pub pass-requires-clause-joins : goal.pass-requires-clause-joins
-pass-requires-clause-joins c =
-    let r = c.args.self.now in let q = record r { blocks = c.follow-owner.new.self } in
-    joins_still r q (as_before r q refl (c.follow-owner.ensures.cells ∙ c.follow-neighbour.ensures.cells)) c.args.s c.args.member c.requires.joins
+    record {
+      kept = kept_still r q (unmoved r q refl (c.follow-owner.ensures.cells ∙ c.follow-neighbour.ensures.cells)) c.requires.kept;
+      set = c.requires.set;
+      joins = joins_still r q (unmoved r q refl (c.follow-owner.ensures.cells ∙ c.follow-neighbour.ensures.cells)) c.args.s c.args.member c.requires.joins;
+      next =
+          let e = c.args.member in let b = c.member_base-base in let q = c.follow-neighbour.result in let w = subst (λ k. word_at r.blocks.cells e.place.at k ≡ link q.place.at) c.beside.ensures c.follow-neighbour.ensures.word in
+          let n = c.if-neighbour-member.false in let filed = beside_filed r c.requires.kept c.args.s c.requires.set e c.requires.joins b.result b.ensures.at q c.follow-neighbour.ensures.there n c.args.reverse w in
+          let cells = c.follow-neighbour.ensures.cells in let p = c.follow-owner.result in let z = c.follow-owner.new.self in
+          let u : word_at r.blocks.cells e.place.at (b.result + 2) ≡ link p.place.at = (λ i. word_at (sym cells i) e.place.at (b.result + 2)) ∙ c.follow-owner.ensures.word in
+          let v : word_at r.blocks.cells p.place.at 1 ≡ number p.number = (λ i. word_at (sym cells i) p.place.at 1) ∙ c.follow-owner.ensures.there in
+          let has = owner_has r c.requires.kept c.args.s c.requires.set e c.requires.joins b.result b.ensures.at filed p u v in
+          let h = reads_only r z (c.follow-owner.ensures.cells ∙ cells) in
+          λ some. joins_still r (record r { blocks = z }) h c.args.s q (beside_joins r c.requires.kept c.args.s c.requires.set e c.requires.joins b.result b.ensures.at p.number has.1 q c.follow-neighbour.ensures.there some c.args.reverse w);
+    }
 
 pub overflow_cast-result : goal.overflow_cast-result
 overflow_cast-result c =
@@ -113,50 +115,26 @@ overflow_cast-result c =
     let h = beside_small r c.requires.kept c.args.s c.requires.set e c.requires.joins b.result b.ensures.at q c.follow-neighbour.ensures.there c.args.reverse w in
     omega (arith, ints, h)
 
-pub returns-clause-found : goal.returns-clause-found
-returns-clause-found c =
-    let r = c.args.self.now in let e = c.args.member in let b = c.member_base-base in let q = c.follow-neighbour.result in
-    let w = subst (λ k. word_at r.blocks.cells e.place.at k ≡ link q.place.at) c.beside.ensures c.follow-neighbour.ensures.word in
-    let n = c.if-neighbour-member.false in
-    let filed = beside_filed r c.requires.kept c.args.s c.requires.set e c.requires.joins b.result b.ensures.at q c.follow-neighbour.ensures.there n c.args.reverse w in
-    let cells = c.follow-neighbour.ensures.cells in let p = c.follow-owner.result in
-    let u : word_at r.blocks.cells e.place.at (b.result + 2) ≡ link p.place.at = (λ i. word_at (sym cells i) e.place.at (b.result + 2)) ∙ c.follow-owner.ensures.word in
-    let v : word_at r.blocks.cells p.place.at 1 ≡ number p.number = (λ i. word_at (sym cells i) p.place.at 1) ∙ c.follow-owner.ensures.there in
-    let fo = c.ranges.o in let back : to_z w64 (of_z w64 c.args.o) ≡ c.args.o = search rules in
-    let is : to_z w64 p.number ≡ c.args.o = ap (to_z w64) c.if-owner-o.false ∙ back in
-    λ x j. (
-      in_its r c.requires.kept c.args.s c.requires.set e c.requires.joins b.result b.ensures.at filed p u v c.args.o x j is,
-      beside_value r c.requires.kept c.args.s c.requires.set e c.requires.joins b.result b.ensures.at q c.follow-neighbour.ensures.there n c.args.reverse w x j,
-    )
-
-pub pass-requires-clause-next : goal.pass-requires-clause-next
-pass-requires-clause-next c =
-    let r = c.args.self.now in let e = c.args.member in let b = c.member_base-base in let q = c.follow-neighbour.result in
-    let w = subst (λ k. word_at r.blocks.cells e.place.at k ≡ link q.place.at) c.beside.ensures c.follow-neighbour.ensures.word in
-    let n = c.if-neighbour-member.false in
-    let filed = beside_filed r c.requires.kept c.args.s c.requires.set e c.requires.joins b.result b.ensures.at q c.follow-neighbour.ensures.there n c.args.reverse w in
-    let cells = c.follow-neighbour.ensures.cells in let p = c.follow-owner.result in let z = c.follow-owner.new.self in
-    let u : word_at r.blocks.cells e.place.at (b.result + 2) ≡ link p.place.at = (λ i. word_at (sym cells i) e.place.at (b.result + 2)) ∙ c.follow-owner.ensures.word in
-    let v : word_at r.blocks.cells p.place.at 1 ≡ number p.number = (λ i. word_at (sym cells i) p.place.at 1) ∙ c.follow-owner.ensures.there in
-    let has = owner_has r c.requires.kept c.args.s c.requires.set e c.requires.joins b.result b.ensures.at filed p u v in
-    let h : uncounted (record r { blocks = z }) ≡ uncounted r = λ i. record r { blocks = record { cells = (c.follow-owner.ensures.cells ∙ cells) i; touches = 0; total = 0 } } in
-    λ some. joins_still r (record r { blocks = z }) h c.args.s q (beside_joins r c.requires.kept c.args.s c.requires.set e c.requires.joins b.result b.ensures.at p.number has.1 q c.follow-neighbour.ensures.there some c.args.reverse w)
-
-pub returns-clause-kept : goal.returns-clause-kept
-returns-clause-kept c =
-    let r = c.args.self.now in let q = record r { blocks = c.follow-owner.new.self } in
-    subst IsKept (sym c.pass.ensures) (kept_still r q (as_before r q refl (c.follow-owner.ensures.cells ∙ c.follow-neighbour.ensures.cells)) c.requires.kept)
-
-pub returns-clause-same : goal.returns-clause-same
-returns-clause-same c =
+pub returns : goal.returns
+returns c =
     let r = c.args.self.now in
-    ap (λ (z : Records). state z) c.pass.ensures ∙ ap (λ bs. state_of r.layout bs (places r) r.notes.lists) (c.follow-owner.ensures.cells ∙ c.follow-neighbour.ensures.cells)
-
-pub returns-clause-touches : goal.returns-clause-touches
-returns-clause-touches c =
-    let a = c.args.self.now.blocks in let b = c.follow-neighbour.new.self in let d = c.follow-owner.new.self in
-    subst (λ (z : Records). (z.blocks.touches ≤ 2) × (z.blocks.total ≡ a.total + z.blocks.touches)) (sym c.pass.ensures)
-    (two_counted a.touches a.total b.touches b.total c.requires.touches c.follow-neighbour.ensures.touches d.touches d.total c.follow-owner.ensures.touches)
-
-pub returns-clause-gone : goal.returns-clause-gone
-returns-clause-gone c = λ zero none. absurd (none-some _ (sym none))
+    record {
+      found =
+          let e = c.args.member in let b = c.member_base-base in let q = c.follow-neighbour.result in let w = subst (λ k. word_at r.blocks.cells e.place.at k ≡ link q.place.at) c.beside.ensures c.follow-neighbour.ensures.word in
+          let n = c.if-neighbour-member.false in let filed = beside_filed r c.requires.kept c.args.s c.requires.set e c.requires.joins b.result b.ensures.at q c.follow-neighbour.ensures.there n c.args.reverse w in
+          let cells = c.follow-neighbour.ensures.cells in let p = c.follow-owner.result in
+          let u : word_at r.blocks.cells e.place.at (b.result + 2) ≡ link p.place.at = (λ i. word_at (sym cells i) e.place.at (b.result + 2)) ∙ c.follow-owner.ensures.word in
+          let v : word_at r.blocks.cells p.place.at 1 ≡ number p.number = (λ i. word_at (sym cells i) p.place.at 1) ∙ c.follow-owner.ensures.there in let fo = c.ranges.o in
+          let back : to_z w64 (of_z w64 c.args.o) ≡ c.args.o = search rules in let is : to_z w64 p.number ≡ c.args.o = ap (to_z w64) c.if-owner-o.false ∙ back in
+          λ x j. (
+            in_its r c.requires.kept c.args.s c.requires.set e c.requires.joins b.result b.ensures.at filed p u v c.args.o x j is,
+            beside_value r c.requires.kept c.args.s c.requires.set e c.requires.joins b.result b.ensures.at q c.follow-neighbour.ensures.there n c.args.reverse w x j,
+          );
+      gone = λ zero none. absurd (none-some _ (sym none));
+      kept = let q = record r { blocks = c.follow-owner.new.self } in subst IsKept (sym c.pass.ensures) (kept_still r q (unmoved r q refl (c.follow-owner.ensures.cells ∙ c.follow-neighbour.ensures.cells)) c.requires.kept);
+      same = ap (λ (z : Records). state z) c.pass.ensures ∙ ap (λ bs. state_of r.layout bs (places r) r.notes.lists) (c.follow-owner.ensures.cells ∙ c.follow-neighbour.ensures.cells);
+      touches =
+          let a = c.args.self.now.blocks in let b = c.follow-neighbour.new.self in let d = c.follow-owner.new.self in
+          subst (λ (z : Records). (z.blocks.touches ≤ 2) × (z.blocks.total ≡ a.total + z.blocks.touches)) (sym c.pass.ensures)
+          (two_counted a.touches a.total b.touches b.total c.requires.touches c.follow-neighbour.ensures.touches d.touches d.total c.follow-owner.ensures.touches);
+    }

@@ -6,8 +6,7 @@ use Rattle.ss_world.specs.State.{has_members, members_of}
 use Rattle.ss_records_words.specs.Places.{class_at_place}
 use Rattle.ss_records_blocks.proofs.Entries.{get_there}
 use Rattle.ss_records_words.proofs.Filed.{owns_here, owns_not, owns_other, class_of_owner}
-use Rattle.ss_records_entities.proofs.Passing.{as_before}
-use Rattle.ss_records_entities.proofs.Still.{kept_still, later_room, last_look}
+use Rattle.ss_records_entities.proofs.Still.{kept_still, later_room, last_look, unmoved}
 use Rattle.ss_records_entities.proofs.Setless.{owns_none, as_owner, counts_one, counts_none}
 use Rattle.ss_records_words.specs.Shape.{owned_by}
 use Rattle.ss_records_entities.proofs.records.Records.owns_members.Goals as goal
@@ -43,35 +42,29 @@ loop-s-init c = record {
 pub is_owner-requires : goal.is_owner-requires
 is_owner-requires c = subst (λ (z : Records). c.loop-s.s < length z.layout.sets) (sym c.loop-s.invariant.same) (omega (arith, c.loop-s-test.true, c.names-s-end.ensures))
 
-pub owns_in-requires-clause-kept : goal.owns_in-requires-clause-kept
-owns_in-requires-clause-kept c = let r = c.args.self.now in let m = c.loop-s in kept_still r m.self (as_before r m.self m.invariant.same m.invariant.cells) c.requires.kept
+pub owns_in-requires : goal.owns_in-requires
+owns_in-requires c =
+    record {
+      kept = let r = c.args.self.now in let m = c.loop-s in kept_still r m.self (unmoved r m.self m.invariant.same m.invariant.cells) c.requires.kept;
+      set = subst (λ (z : Records). c.loop-s.s < length z.layout.sets) (sym c.loop-s.invariant.same) (omega (arith, c.loop-s-test.true, c.names-s-end.ensures));
+      entry = let e = c.requires.entry in (e.0, subst (λ (z : Records). slice_get z.directory.places e.0 ≡ Some (Some c.args.place)) (sym c.loop-s.invariant.same) e.1, e.2);
+      class = λ t g.
+          class_of_owner t.owner c.args.class (sym (c.if-is_owner.ensures t g)) ∙ ap Class (sym c.requires.class ∙ ap (λ bs. class_at_place bs c.args.place) (sym c.loop-s.invariant.cells));
+      touches = later_room _ _ _ _ _ c.requires.touches c.loop-s.invariant.touches.0 c.loop-s-test.true c.names-s-end.ensures c.requires.kept.small.sets;
+    }
 
-pub owns_in-requires-clause-set : goal.owns_in-requires-clause-set
-owns_in-requires-clause-set c = subst (λ (z : Records). c.loop-s.s < length z.layout.sets) (sym c.loop-s.invariant.same) (omega (arith, c.loop-s-test.true, c.names-s-end.ensures))
-
-pub owns_in-requires-clause-entry : goal.owns_in-requires-clause-entry
-owns_in-requires-clause-entry c = let e = c.requires.entry in (e.0, subst (λ (z : Records). slice_get z.directory.places e.0 ≡ Some (Some c.args.place)) (sym c.loop-s.invariant.same) e.1, e.2)
-
-pub owns_in-requires-clause-class : goal.owns_in-requires-clause-class
-owns_in-requires-clause-class c = λ t g.
-    class_of_owner t.owner c.args.class (sym (c.if-is_owner.ensures t g)) ∙ ap Class (sym c.requires.class ∙ ap (λ bs. class_at_place bs c.args.place) (sym c.loop-s.invariant.cells))
-
-pub owns_in-requires-clause-touches : goal.owns_in-requires-clause-touches
-owns_in-requires-clause-touches c = later_room _ _ _ _ _ c.requires.touches c.loop-s.invariant.touches.0 c.loop-s-test.true c.names-s-end.ensures c.requires.kept.small.sets
-
-pub returns-then-owns_in-clause-value : goal.returns-then-owns_in-clause-value
-returns-then-owns_in-clause-value c =
+pub returns-then-owns_in : goal.returns-then-owns_in
+returns-then-owns_in c =
     let r = c.args.self.now in let m = c.loop-s in let ts = r.layout.sets in let s = m.s in let y = get_there ts s (omega (arith, c.loop-s-test.true, c.names-s-end.ensures)) in
-    sym (owns_here ts s c.args.class c.args.number y.0 r.notes.lists y.1 (sym (c.if-is_owner.ensures y.0 (set_in r m.self m.invariant.same s y.0 y.1))) (has_in r m.self m.invariant.same s c.args.number _ c.if-owns_in.ensures.value)) ∙ m.invariant.rest
-
-pub returns-then-owns_in-clause-same : goal.returns-then-owns_in-clause-same
-returns-then-owns_in-clause-same c = c.owns_in.ensures.same ∙ ap (λ (z : Records). record z { blocks = c.owns_in.new.self.blocks }) c.loop-s.invariant.same
-
-pub returns-then-owns_in-clause-cells : goal.returns-then-owns_in-clause-cells
-returns-then-owns_in-clause-cells c = c.owns_in.ensures.cells ∙ c.loop-s.invariant.cells
-
-pub returns-then-owns_in-clause-touches : goal.returns-then-owns_in-clause-touches
-returns-then-owns_in-clause-touches c = last_look _ _ _ _ _ _ _ _ _ c.loop-s.invariant.touches c.loop-s-test.true c.names-s-end.ensures c.requires.kept.small.sets c.owns_in.ensures.touches
+    record {
+      value = sym (owns_here ts s c.args.class c.args.number y.0 r.notes.lists y.1 (sym (c.if-is_owner.ensures y.0 (set_in r m.self m.invariant.same s y.0 y.1))) (has_in r m.self m.invariant.same s c.args.number _ c.if-owns_in.ensures.value)) ∙ m.invariant.rest;
+      same = c.owns_in.ensures.same ∙ ap (λ (z : Records). record z { blocks = c.owns_in.new.self.blocks }) c.loop-s.invariant.same;
+      cells = c.owns_in.ensures.cells ∙ c.loop-s.invariant.cells;
+      touches = last_look _ _ _ _ _ _ _ _ _ c.loop-s.invariant.touches c.loop-s-test.true c.names-s-end.ensures c.requires.kept.small.sets c.owns_in.ensures.touches;
+      looked =
+          let h = m.invariant in
+          omega (arith, h.looked, h.left, c.owns_in.ensures.touches.0, counts_one (owned_by (Class c.args.class)) ts s y.0 y.1 (sym (as_owner y.0.owner c.args.class) ∙ sym (c.if-is_owner.ensures y.0 (set_in r m.self h.same s y.0 y.1))));
+    }
 
 pub overflow_sub-left : goal.overflow_sub-left
 overflow_sub-left c =
@@ -86,6 +79,11 @@ returns-then-left-eq0-2-clause-value c =
 
 pub returns-then-left-eq0-2-clause-same : goal.returns-then-left-eq0-2-clause-same
 returns-then-left-eq0-2-clause-same c = c.owns_in.ensures.same ∙ ap (λ (z : Records). record z { blocks = c.owns_in.new.self.blocks }) c.loop-s.invariant.same
+
+pub returns-then-left-eq0-2-clause-looked : goal.returns-then-left-eq0-2-clause-looked
+returns-then-left-eq0-2-clause-looked c =
+    let r = c.args.self.now in let m = c.loop-s in let ts = r.layout.sets in let s = m.s in let h = m.invariant in let y = get_there ts s (omega (arith, c.loop-s-test.true, c.names-s-end.ensures)) in
+    omega (arith, h.looked, h.left, c.owns_in.ensures.touches.0, counts_one (owned_by (Class c.args.class)) ts s y.0 y.1 (sym (as_owner y.0.owner c.args.class) ∙ sym (c.if-is_owner.ensures y.0 (set_in r m.self h.same s y.0 y.1))))
 
 pub loop-s-preserved : goal.loop-s-preserved
 loop-s-preserved c =
@@ -112,16 +110,6 @@ loop-s-preserved c =
 
 pub returns-then-left-eq0-clause-looked : goal.returns-then-left-eq0-clause-looked
 returns-then-left-eq0-clause-looked c = omega arith
-
-pub returns-then-owns_in-clause-looked : goal.returns-then-owns_in-clause-looked
-returns-then-owns_in-clause-looked c =
-    let r = c.args.self.now in let m = c.loop-s in let ts = r.layout.sets in let s = m.s in let h = m.invariant in let y = get_there ts s (omega (arith, c.loop-s-test.true, c.names-s-end.ensures)) in
-    omega (arith, h.looked, h.left, c.owns_in.ensures.touches.0, counts_one (owned_by (Class c.args.class)) ts s y.0 y.1 (sym (as_owner y.0.owner c.args.class) ∙ sym (c.if-is_owner.ensures y.0 (set_in r m.self h.same s y.0 y.1))))
-
-pub returns-then-left-eq0-2-clause-looked : goal.returns-then-left-eq0-2-clause-looked
-returns-then-left-eq0-2-clause-looked c =
-    let r = c.args.self.now in let m = c.loop-s in let ts = r.layout.sets in let s = m.s in let h = m.invariant in let y = get_there ts s (omega (arith, c.loop-s-test.true, c.names-s-end.ensures)) in
-    omega (arith, h.looked, h.left, c.owns_in.ensures.touches.0, counts_one (owned_by (Class c.args.class)) ts s y.0 y.1 (sym (as_owner y.0.owner c.args.class) ∙ sym (c.if-is_owner.ensures y.0 (set_in r m.self h.same s y.0 y.1))))
 
 pub returns-clause-looked : goal.returns-clause-looked
 returns-clause-looked c = omega (arith, c.loop-s.invariant.looked)

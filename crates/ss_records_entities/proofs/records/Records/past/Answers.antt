@@ -10,8 +10,8 @@ use Rattle.ss_records_entities.specs.Parts.{state}
 use Rattle.ss_records_entities.specs.Passing.{ranks_past, first_where}
 use Rattle.ss_records_entities.proofs.Looks.{first_leads}
 use Rattle.ss_records_entities.proofs.Cuts.{at_first}
-use Rattle.ss_records_entities.proofs.Still.{joins_still}
-use Rattle.ss_records_entities.proofs.Passing.{as_before, at_start, room, joins, small, it_is, none_past, next_leads, next_walk}
+use Rattle.ss_records_entities.proofs.Still.{joins_still, unmoved}
+use Rattle.ss_records_entities.proofs.Passing.{at_start, room, joins, small, it_is, none_past, next_leads, next_walk}
 use Rattle.ss_records_entities.proofs.records.Records.past.Goals as goal
 
 pub follow-member-requires-clause-leads : goal.follow-member-requires-clause-leads
@@ -35,25 +35,20 @@ is_past-requires-clause-joins c =
     let r = c.args.self.now in let m = c.members in
     let v : ℤ = to_z w64 (of_z w64 c.args.own) in let e : v ≡ c.args.own = search rules in
     let t = ranks_past (state r) (member_class r.layout c.args.s) c.args.field c.args.high (Whole v) in
-    joins_still r m.self (as_before r m.self m.invariant.same m.invariant.cells) c.args.s m.member
+    joins_still r m.self (unmoved r m.self m.invariant.same m.invariant.cells) c.args.s m.member
     (joins r c.requires.kept c.args.s c.requires.set c.args.owner.number t m.member m.self.blocks.touches m.invariant.walk c.members-test.true)
 
 pub returns-then-is_past-clause-value : goal.returns-then-is_past-clause-value
 returns-then-is_past-clause-value c =
-    let r = c.args.self.now in let m = c.members in
-    let v : ℤ = to_z w64 (of_z w64 c.args.own) in let e : v ≡ c.args.own = search rules in
-    let t = ranks_past (state r) (member_class r.layout c.args.s) c.args.field c.args.high (Whole v) in
-    let fo = c.ranges.own in let h = simp to_z-of_z at c.if-is_past.ensures in
-    let test_result : true ≡ t m.member.number = h ∙ ap (λ (z : Records). ranks_past (state z) (member_class z.layout c.args.s) c.args.field c.args.high (Whole c.args.own) m.member.number) (as_before r m.self m.invariant.same m.invariant.cells)
-    ∙ ap (λ (z : ℤ). ranks_past (state r) (member_class r.layout c.args.s) c.args.field c.args.high (Whole z) m.member.number) (sym e) in
+    let r = c.args.self.now in let m = c.members in let v : ℤ = to_z w64 (of_z w64 c.args.own) in let e : v ≡ c.args.own = search rules in
+    let t = ranks_past (state r) (member_class r.layout c.args.s) c.args.field c.args.high (Whole v) in let fo = c.ranges.own in let h = simp to_z-of_z at c.if-is_past.ensures in
+    let test_result : true ≡ t m.member.number = h ∙ ap (λ (z : Records). ranks_past (state z) (member_class z.layout c.args.s) c.args.field c.args.high (Whole c.args.own) m.member.number) (unmoved r m.self m.invariant.same m.invariant.cells) ∙ ap (λ (z : ℤ). ranks_past (state r) (member_class r.layout c.args.s) c.args.field c.args.high (Whole z) m.member.number) (sym e) in
     it_is r c.requires.kept c.args.s c.requires.set c.args.owner.number t m.member m.self.blocks.touches m.invariant.walk c.members-test.true (sym test_result)
     ∙ ap (λ (z : ℤ). first_where (ranks_past (state r) (member_class r.layout c.args.s) c.args.field c.args.high (Whole z)) (members_of r.notes.lists c.args.s c.args.owner.number)) e
 
 pub returns-then-is_past-clause-small : goal.returns-then-is_past-clause-small
 returns-then-is_past-clause-small c =
-    let r = c.args.self.now in let m = c.members in
-    let v : ℤ = to_z w64 (of_z w64 c.args.own) in let e : v ≡ c.args.own = search rules in
-    let t = ranks_past (state r) (member_class r.layout c.args.s) c.args.field c.args.high (Whole v) in
+    let r = c.args.self.now in let m = c.members in let v : ℤ = to_z w64 (of_z w64 c.args.own) in let t = ranks_past (state r) (member_class r.layout c.args.s) c.args.field c.args.high (Whole v) in
     small r c.requires.kept c.args.s c.requires.set c.args.owner.number t m.member m.self.blocks.touches m.invariant.walk c.members-test.true
 
 pub follow-member-requires-in-members-clause-leads : goal.follow-member-requires-in-members-clause-leads
@@ -77,7 +72,7 @@ members-preserved c =
     let v : ℤ = to_z w64 (of_z w64 c.args.own) in let e : v ≡ c.args.own = search rules in
     let t = ranks_past (state r) (member_class r.layout c.args.s) c.args.field c.args.high (Whole v) in
     let fo = c.ranges.own in let h = simp to_z-of_z at c.if-is_past.ensures in
-    let test_result : false ≡ t m.member.number = h ∙ ap (λ (z : Records). ranks_past (state z) (member_class z.layout c.args.s) c.args.field c.args.high (Whole c.args.own) m.member.number) (as_before r m.self m.invariant.same m.invariant.cells)
+    let test_result : false ≡ t m.member.number = h ∙ ap (λ (z : Records). ranks_past (state z) (member_class z.layout c.args.s) c.args.field c.args.high (Whole c.args.own) m.member.number) (unmoved r m.self m.invariant.same m.invariant.cells)
     ∙ ap (λ (z : ℤ). ranks_past (state r) (member_class r.layout c.args.s) c.args.field c.args.high (Whole z) m.member.number) (sym e) in
     let word = (λ i. word_at (sym m.invariant.cells i) m.member.place.at c.member_base-next.result) ∙ w.ensures.word in
     let there = (λ i. word_at (sym m.invariant.cells i) w.result.place.at 1) ∙ w.ensures.there in

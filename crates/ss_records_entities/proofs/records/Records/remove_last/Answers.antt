@@ -1,21 +1,19 @@
-use Rattle.std.proofs.Common.{arith, ◌≡◌, refl, sym, ap, ◌∙◌}
+use Rattle.std.proofs.Common.{arith, ◌≡◌, ◌+◌, ◌≤◌, true, refl, sym, ap, subst, ◌∙◌}
+use Rattle.ss_records_entities.specs.declared.records.Records.{Records}
 use Rattle.std.specs.Int.{cast_signed}
 use Rattle.std.proofs.lemmas.Int.{ints, to_z-of_z}
 use mir.Syntax.{w64}
-use Rattle.ss_world.specs.State.{State, members_of}
+use Rattle.ss_world.specs.State.{members_of}
 use Rattle.ss_world.specs.Sets.{with_list_of, less, last_in}
 use Rattle.ss_records_entities.specs.Parts.{state, uncounted}
 use Rattle.ss_records_entities.proofs.Looks.{as_whole, last_leads, last_small, last_value}
 use Rattle.ss_records_entities.proofs.Cuts.{at_last}
-use Rattle.ss_records_entities.proofs.Still.{kept_still, set_still, owns_still, joins_still, room_first, one_few, owner_room}
+use Rattle.ss_records_entities.proofs.Still.{kept_still, set_still, owns_still, joins_still, listed_still, room_first, one_few, owner_room, reads_only}
 use Rattle.ss_records_entities.proofs.Ends.{joins_it, has_it, taken, last_in_it, none_taken, last_refused, untouched, one_at_most, one_and_nine}
 use Rattle.ss_records_entities.proofs.records.Records.remove_last.Goals as goal
 
-pub owner-requires-clause-kept : goal.owner-requires-clause-kept
-owner-requires-clause-kept c = c.requires.kept
-
-pub owner-requires-clause-set : goal.owner-requires-clause-set
-owner-requires-clause-set c = c.requires.set
+pub owner-requires : goal.owner-requires
+owner-requires c = record { kept = c.requires.kept; set = c.requires.set }
 
 pub owner_base-base-requires : goal.owner_base-base-requires
 owner_base-base-requires c = c.requires.set
@@ -23,71 +21,53 @@ owner_base-base-requires c = c.requires.set
 pub overflow_add-base : goal.overflow_add-base
 overflow_add-base c = owner_room c.owner_base-base.result c.owner_base-base.ensures.bound
 
-pub follow-last-requires-clause-leads : goal.follow-last-requires-clause-leads
-follow-last-requires-clause-leads c =
-    last_leads c.args.self.now c.requires.kept c.args.s c.requires.set c.in-Ok.owner c.in-Ok.ensures.found.0 c.owner_base-base.result c.owner_base-base.ensures.at
+pub follow-last-requires : goal.follow-last-requires
+follow-last-requires c =
+    record {
+      leads = last_leads c.args.self.now c.requires.kept c.args.s c.requires.set c.in-Ok.owner c.in-Ok.ensures.found.0 c.owner_base-base.result c.owner_base-base.ensures.at;
+      room = let r = c.args.self.now in room_first r.blocks.touches r.blocks.total 0 0 c.requires.touches;
+    }
 
-pub follow-last-requires-clause-room : goal.follow-last-requires-clause-room
-follow-last-requires-clause-room c =
-    let r = c.args.self.now in room_first r.blocks.touches r.blocks.total 0 0 c.requires.touches
-
-pub returns-then-last-eq0-clause-kept : goal.returns-then-last-eq0-clause-kept
-returns-then-last-eq0-clause-kept c =
+pub returns-then-last-eq0 : goal.returns-then-last-eq0
+returns-then-last-eq0 c =
     let r = c.args.self.now in let e = c.in-Ok.owner in let q = c.follow-last.result in let b = c.follow-last.new.self in let k = c.requires.kept in let own = c.in-Ok.ensures.found.0 in let at = c.owner_base-base in
-    let h : uncounted (record r { blocks = b }) ≡ uncounted r = λ i. record r { blocks = record { cells = c.follow-last.ensures.cells i; touches = 0; total = 0 } } in
-    kept_still r (record r { blocks = b }) h k
+    let h = reads_only r b c.follow-last.ensures.cells in
+    record {
+      kept = kept_still r (record r { blocks = b }) h k;
+      done =
+          let fits = c.ranges.o in let t = simp to_z-of_z at c.in-Ok.ensures.found in
+          let found = sym (last_value r k c.args.s c.requires.set e t.0 at.result at.ensures.at q c.follow-last.ensures.word c.follow-last.ensures.there c.args.o t.1) in
+          let is = as_whole q.number q.number refl (last_small r k c.args.s c.requires.set e own at.result at.ensures.at q c.follow-last.ensures.word c.follow-last.ensures.there) in
+          (none_taken (state r) c.args.s q.number c.args.o (cast_signed w64 q.number) (last_in (state r) c.args.s c.args.o) found is c.if-last-eq0.true, ap state h);
+      touches = one_at_most r.blocks.touches r.blocks.total c.requires.touches b.touches b.total c.follow-last.ensures.touches;
+    }
 
-pub returns-then-last-eq0-clause-done : goal.returns-then-last-eq0-clause-done
-returns-then-last-eq0-clause-done c =
+pub remember-requires : goal.remember-requires
+remember-requires c =
     let r = c.args.self.now in let e = c.in-Ok.owner in let q = c.follow-last.result in let b = c.follow-last.new.self in let k = c.requires.kept in let own = c.in-Ok.ensures.found.0 in let at = c.owner_base-base in
-    let h : uncounted (record r { blocks = b }) ≡ uncounted r = λ i. record r { blocks = record { cells = c.follow-last.ensures.cells i; touches = 0; total = 0 } } in
-    let fits = c.ranges.o in let t = simp to_z-of_z at c.in-Ok.ensures.found in
-    let found = sym (last_value r k c.args.s c.requires.set e t.0 at.result at.ensures.at q c.follow-last.ensures.word c.follow-last.ensures.there c.args.o t.1) in
-    let is = as_whole q.number q.number refl (last_small r k c.args.s c.requires.set e own at.result at.ensures.at q c.follow-last.ensures.word c.follow-last.ensures.there) in
-    (none_taken (state r) c.args.s q.number c.args.o (cast_signed w64 q.number) (last_in (state r) c.args.s c.args.o) found is c.if-last-eq0.true, ap state h)
-
-pub returns-then-last-eq0-clause-touches : goal.returns-then-last-eq0-clause-touches
-returns-then-last-eq0-clause-touches c =
-    let r = c.args.self.now in let e = c.in-Ok.owner in let q = c.follow-last.result in let b = c.follow-last.new.self in let k = c.requires.kept in let own = c.in-Ok.ensures.found.0 in let at = c.owner_base-base in
-    one_at_most r.blocks.touches r.blocks.total c.requires.touches b.touches b.total c.follow-last.ensures.touches
-
-pub take_out-requires-clause-kept : goal.take_out-requires-clause-kept
-take_out-requires-clause-kept c =
-    let r = c.args.self.now in let e = c.in-Ok.owner in let q = c.follow-last.result in let b = c.follow-last.new.self in let k = c.requires.kept in let own = c.in-Ok.ensures.found.0 in let at = c.owner_base-base in
-    let h : uncounted (record r { blocks = b }) ≡ uncounted r = λ i. record r { blocks = record { cells = c.follow-last.ensures.cells i; touches = 0; total = 0 } } in
-    kept_still r (record r { blocks = b }) h k
-
-pub take_out-requires-clause-set : goal.take_out-requires-clause-set
-take_out-requires-clause-set c =
-    let r = c.args.self.now in let e = c.in-Ok.owner in let q = c.follow-last.result in let b = c.follow-last.new.self in let k = c.requires.kept in let own = c.in-Ok.ensures.found.0 in let at = c.owner_base-base in
-    let h : uncounted (record r { blocks = b }) ≡ uncounted r = λ i. record r { blocks = record { cells = c.follow-last.ensures.cells i; touches = 0; total = 0 } } in
-    set_still r (record r { blocks = b }) h c.args.s c.requires.set
-
-pub take_out-requires-clause-owns : goal.take_out-requires-clause-owns
-take_out-requires-clause-owns c =
-    let r = c.args.self.now in let e = c.in-Ok.owner in let q = c.follow-last.result in let b = c.follow-last.new.self in let k = c.requires.kept in let own = c.in-Ok.ensures.found.0 in let at = c.owner_base-base in
-    let h : uncounted (record r { blocks = b }) ≡ uncounted r = λ i. record r { blocks = record { cells = c.follow-last.ensures.cells i; touches = 0; total = 0 } } in
-    owns_still r (record r { blocks = b }) h c.args.s e own
-
-pub take_out-requires-clause-joins : goal.take_out-requires-clause-joins
-take_out-requires-clause-joins c =
-    let r = c.args.self.now in let e = c.in-Ok.owner in let q = c.follow-last.result in let b = c.follow-last.new.self in let k = c.requires.kept in let own = c.in-Ok.ensures.found.0 in let at = c.owner_base-base in
-    let h : uncounted (record r { blocks = b }) ≡ uncounted r = λ i. record r { blocks = record { cells = c.follow-last.ensures.cells i; touches = 0; total = 0 } } in
+    let h = reads_only r b c.follow-last.ensures.cells in
     let between = at_last r k c.args.s c.requires.set e own at.result at.ensures.at q c.follow-last.ensures.word c.follow-last.ensures.there in
     let inn = last_in_it r c.args.s e.number q (record { place = r.system; number = 0 }) (members_of r.notes.lists c.args.s e.number) between c.if-last-eq0.false in
-    joins_still r (record r { blocks = b }) h c.args.s q (joins_it r k c.args.s c.requires.set e.number q between.before inn)
+    record {
+      kept = kept_still r (record r { blocks = b }) h k;
+      set = set_still r (record r { blocks = b }) h c.args.s c.requires.set;
+      joins = joins_still r (record r { blocks = b }) h c.args.s q (joins_it r k c.args.s c.requires.set e.number q between.before inn);
+    }
 
-pub take_out-requires-clause-there : goal.take_out-requires-clause-there
-take_out-requires-clause-there c =
+pub cut_out-requires : goal.cut_out-requires
+cut_out-requires c =
     let r = c.args.self.now in let e = c.in-Ok.owner in let q = c.follow-last.result in let b = c.follow-last.new.self in let k = c.requires.kept in let own = c.in-Ok.ensures.found.0 in let at = c.owner_base-base in
+    let looked = reads_only r b c.follow-last.ensures.cells in let p = c.remember.new.self in let h : uncounted p ≡ uncounted r = ap uncounted c.remember.ensures ∙ looked in
     let between = at_last r k c.args.s c.requires.set e own at.result at.ensures.at q c.follow-last.ensures.word c.follow-last.ensures.there in
     let inn = last_in_it r c.args.s e.number q (record { place = r.system; number = 0 }) (members_of r.notes.lists c.args.s e.number) between c.if-last-eq0.false in
-    has_it r k c.args.s c.requires.set e.number q between.before inn
-
-pub take_out-requires-clause-touches : goal.take_out-requires-clause-touches
-take_out-requires-clause-touches c =
-    let r = c.args.self.now in let e = c.in-Ok.owner in let q = c.follow-last.result in let b = c.follow-last.new.self in let k = c.requires.kept in let own = c.in-Ok.ensures.found.0 in let at = c.owner_base-base in
-    one_few r.blocks.touches r.blocks.total b.touches b.total c.requires.touches c.follow-last.ensures.touches
+    record {
+      kept = kept_still r p h k;
+      set = set_still r p h c.args.s c.requires.set;
+      owns = owns_still r p h c.args.s e own;
+      joins = joins_still r p h c.args.s q (joins_it r k c.args.s c.requires.set e.number q between.before inn);
+      there = listed_still r p h c.args.s e.number q.number true (has_it r k c.args.s c.requires.set e.number q between.before inn);
+      touches = subst (λ (z : Records). z.blocks.touches ≤ 8) (sym c.remember.ensures) (one_few r.blocks.touches r.blocks.total b.touches b.total c.requires.touches c.follow-last.ensures.touches);
+    }
 
 pub overflow_cast-result : goal.overflow_cast-result
 overflow_cast-result c =
@@ -95,35 +75,28 @@ overflow_cast-result c =
     let small = last_small r k c.args.s c.requires.set e own at.result at.ensures.at q c.follow-last.ensures.word c.follow-last.ensures.there in
     omega (arith, ints, small)
 
-pub returns-else-last-eq0-clause-kept : goal.returns-else-last-eq0-clause-kept
-returns-else-last-eq0-clause-kept c =
-    c.take_out.ensures.kept
+pub returns-else-last-eq0 : goal.returns-else-last-eq0
+returns-else-last-eq0 c =
+    let r = c.args.self.now in let e = c.in-Ok.owner in let q = c.follow-last.result in let b = c.follow-last.new.self in let k = c.requires.kept in let own = c.in-Ok.ensures.found.0 in let at = c.owner_base-base in let new = c.cut_out.new.self in
+    record {
+      kept = c.cut_out.ensures.kept;
+      done =
+          let looked = reads_only r b c.follow-last.ensures.cells in let h : uncounted c.remember.new.self ≡ uncounted r = ap uncounted c.remember.ensures ∙ looked in
+          let between = at_last r k c.args.s c.requires.set e own at.result at.ensures.at q c.follow-last.ensures.word c.follow-last.ensures.there in
+          let inn = last_in_it r c.args.s e.number q (record { place = r.system; number = 0 }) (members_of r.notes.lists c.args.s e.number) between c.if-last-eq0.false in let fits = c.ranges.o in
+          let t = simp to_z-of_z at c.in-Ok.ensures.found in let found = sym (last_value r k c.args.s c.requires.set e t.0 at.result at.ensures.at q c.follow-last.ensures.word c.follow-last.ensures.there c.args.o t.1) in
+          let is = as_whole q.number q.number refl (last_small r k c.args.s c.requires.set e own at.result at.ensures.at q c.follow-last.ensures.word c.follow-last.ensures.there) in
+          taken r k c.args.s c.requires.set e.number q between.before inn c.args.o (cast_signed w64 q.number) (state new) (last_in (state r) c.args.s c.args.o) t.1 found is
+          (c.cut_out.ensures.done ∙ ap (λ (z : Records). with_list_of (state z) c.args.s e.number (less q.number (members_of z.notes.lists c.args.s e.number))) h);
+      touches =
+          one_and_nine r.blocks.touches r.blocks.total c.requires.touches b.touches b.total c.follow-last.ensures.touches new.blocks.touches new.blocks.total
+          (subst (λ (z : Records). (new.blocks.touches ≡ z.blocks.touches + 9) × (new.blocks.total ≡ z.blocks.total + 9)) c.remember.ensures c.cut_out.ensures.touches);
+    }
 
-pub returns-else-last-eq0-clause-done : goal.returns-else-last-eq0-clause-done
-returns-else-last-eq0-clause-done c =
-    let r = c.args.self.now in let e = c.in-Ok.owner in let q = c.follow-last.result in let b = c.follow-last.new.self in let k = c.requires.kept in let own = c.in-Ok.ensures.found.0 in let at = c.owner_base-base in
-    let h : uncounted (record r { blocks = b }) ≡ uncounted r = λ i. record r { blocks = record { cells = c.follow-last.ensures.cells i; touches = 0; total = 0 } } in
-    let between = at_last r k c.args.s c.requires.set e own at.result at.ensures.at q c.follow-last.ensures.word c.follow-last.ensures.there in
-    let inn = last_in_it r c.args.s e.number q (record { place = r.system; number = 0 }) (members_of r.notes.lists c.args.s e.number) between c.if-last-eq0.false in
-    let fits = c.ranges.o in let t = simp to_z-of_z at c.in-Ok.ensures.found in
-    let found = sym (last_value r k c.args.s c.requires.set e t.0 at.result at.ensures.at q c.follow-last.ensures.word c.follow-last.ensures.there c.args.o t.1) in
-    let is = as_whole q.number q.number refl (last_small r k c.args.s c.requires.set e own at.result at.ensures.at q c.follow-last.ensures.word c.follow-last.ensures.there) in
-    taken r k c.args.s c.requires.set e.number q between.before inn c.args.o (cast_signed w64 q.number) (state c.take_out.new.self) (last_in (state r) c.args.s c.args.o) t.1 found is
-    (c.take_out.ensures.done ∙ ap (λ (y : State). with_list_of y c.args.s e.number (less q.number (members_of r.notes.lists c.args.s e.number))) (ap state h))
-
-pub returns-else-last-eq0-clause-touches : goal.returns-else-last-eq0-clause-touches
-returns-else-last-eq0-clause-touches c =
-    let r = c.args.self.now in let e = c.in-Ok.owner in let q = c.follow-last.result in let b = c.follow-last.new.self in let k = c.requires.kept in let own = c.in-Ok.ensures.found.0 in let at = c.owner_base-base in
-    let z = c.take_out.new.self in one_and_nine r.blocks.touches r.blocks.total c.requires.touches b.touches b.total c.follow-last.ensures.touches z.blocks.touches z.blocks.total c.take_out.ensures.touches
-
-pub returns-in-Err-clause-kept : goal.returns-in-Err-clause-kept
-returns-in-Err-clause-kept c =
-    c.requires.kept
-
-pub returns-in-Err-clause-done : goal.returns-in-Err-clause-done
-returns-in-Err-clause-done c =
-    let fits = c.ranges.o in let t = simp to_z-of_z at c.in-Err.ensures.found in (last_refused (state c.args.self.now) c.args.s c.args.o c.in-Err.fault t, refl)
-
-pub returns-in-Err-clause-touches : goal.returns-in-Err-clause-touches
-returns-in-Err-clause-touches c =
-    let r = c.args.self.now in untouched r.blocks.touches r.blocks.total c.requires.touches 12
+pub returns-in-Err : goal.returns-in-Err
+returns-in-Err c =
+    record {
+      kept = c.requires.kept;
+      done = let fits = c.ranges.o in let t = simp to_z-of_z at c.in-Err.ensures.found in (last_refused (state c.args.self.now) c.args.s c.args.o c.in-Err.fault t, refl);
+      touches = let r = c.args.self.now in untouched r.blocks.touches r.blocks.total c.requires.touches 12;
+    }

@@ -1,34 +1,25 @@
-use Rattle.std.proofs.Common.{inl, ◌≡◌, ap, ◌∙◌}
+use Rattle.std.proofs.Common.{◌≡◌, ap, ◌∙◌}
 use Rattle.std.specs.Int.{cast_signed}
 use Rattle.std.proofs.lemmas.Int.{to_z-of_z}
 use mir.Syntax.{w64}
-use Rattle.ss_records_entities.specs.Parts.{places}
-use Rattle.ss_records_entities.proofs.Assigns.{may_time, kept_timed, length_timed, is_set}
+use Rattle.ss_records_entities.proofs.Attributes.{notice_may, notice_kept, notice_length, notice_timed}
 use Rattle.ss_records_entities.proofs.records.Records.set_time.Goals as goal
 
 pub set_number-requires : goal.set_number-requires
 set_number-requires c =
     let r = c.args.self.now in let f = c.in-Some.ensures in let fits = c.ranges.t in let e = simp to_z-of_z at c.cast_unsigned.ensures in
     let v : cast_signed w64 c.cast_unsigned.result ≡ c.args.t = ap (cast_signed w64) e ∙ to_z-of_z w64 c.args.t fits in
-    rw c.time_word-k.ensures (may_time r.layout r.blocks.cells r.system.at (places r) r.notes.lists c.requires.kept f.index c.in-Some.place (inl f.entry) _ f.is f.notice c.cast_unsigned.result c.args.t v)
+    rw c.time_word-k.ensures (notice_may r c.requires.kept _ c.in-Some.place f c.cast_unsigned.result c.args.t v)
 
-pub returns-in-Some-clause-kept : goal.returns-in-Some-clause-kept
-returns-in-Some-clause-kept c =
+pub returns-in-Some : goal.returns-in-Some
+returns-in-Some c =
     let r = c.args.self.now in let f = c.in-Some.ensures in let fits = c.ranges.t in let e = simp to_z-of_z at c.cast_unsigned.ensures in
     let v : cast_signed w64 c.cast_unsigned.result ≡ c.args.t = ap (cast_signed w64) e ∙ to_z-of_z w64 c.args.t fits in
-    rw (c.set_number.ensures.cells, c.time_word-k.ensures) (kept_timed r.layout r.blocks.cells r.system.at (places r) r.notes.lists c.requires.kept f.index c.in-Some.place (inl f.entry) _ f.is f.notice c.cast_unsigned.result c.args.t v)
-
-pub returns-in-Some-clause-done : goal.returns-in-Some-clause-done
-returns-in-Some-clause-done c =
-    let r = c.args.self.now in let fit = c.ranges.r in let f = simp to_z-of_z at c.in-Some.ensures in let fits = c.ranges.t in let e = simp to_z-of_z at c.cast_unsigned.ensures in
-    let v : cast_signed w64 c.cast_unsigned.result ≡ c.args.t = ap (cast_signed w64) e ∙ to_z-of_z w64 c.args.t fits in
-    rw (c.set_number.ensures.cells, c.time_word-k.ensures) (is_set r.layout r.blocks.cells r.system.at (places r) r.notes.lists c.requires.kept f.index c.in-Some.place (inl f.entry) c.args.r f.is f.notice c.cast_unsigned.result c.args.t v f.entry)
-
-pub returns-in-Some-clause-blocks : goal.returns-in-Some-clause-blocks
-returns-in-Some-clause-blocks c =
-    let r = c.args.self.now in let f = c.in-Some.ensures in let fits = c.ranges.t in let e = simp to_z-of_z at c.cast_unsigned.ensures in
-    let v : cast_signed w64 c.cast_unsigned.result ≡ c.args.t = ap (cast_signed w64) e ∙ to_z-of_z w64 c.args.t fits in
-    rw (c.set_number.ensures.cells, c.time_word-k.ensures) (length_timed r.layout r.blocks.cells r.system.at (places r) r.notes.lists c.requires.kept f.index c.in-Some.place (inl f.entry) _ f.is f.notice c.cast_unsigned.result c.args.t v)
-
-pub returns-in-Some-clause-touches : goal.returns-in-Some-clause-touches
-returns-in-Some-clause-touches c = c.set_number.ensures.touches
+    record {
+      kept = rw (c.set_number.ensures.cells, c.time_word-k.ensures) (notice_kept r c.requires.kept _ c.in-Some.place f c.cast_unsigned.result c.args.t v);
+      done =
+          let fit = c.ranges.r in let f = simp to_z-of_z at c.in-Some.ensures in
+          rw (c.set_number.ensures.cells, c.time_word-k.ensures) (notice_timed r c.requires.kept c.args.r c.in-Some.place f c.cast_unsigned.result c.args.t v);
+      touches = c.set_number.ensures.touches;
+      blocks = rw (c.set_number.ensures.cells, c.time_word-k.ensures) (notice_length r c.requires.kept _ c.in-Some.place f c.cast_unsigned.result c.args.t v);
+    }

@@ -12,16 +12,14 @@ number-requires c =
     let r = c.args.self.now in let f = c.in-Ok.ensures.found in
     rw c.time_word-k.ensures (time_number r.layout r.blocks.cells r.system.at (places r) r.notes.lists c.requires.kept f.index c.in-Ok.place (inl f.entry) _ f.is f.notice)
 
-pub time_word-k-requires-clause-kept : goal.time_word-k-requires-clause-kept
-time_word-k-requires-clause-kept c = c.requires.kept
-
-pub time_word-k-requires-clause-entry : goal.time_word-k-requires-clause-entry
-time_word-k-requires-clause-entry c = let f = c.in-Ok.ensures.found in (f.index, f.entry)
-
-pub time_word-k-requires-clause-notice : goal.time_word-k-requires-clause-notice
-time_word-k-requires-clause-notice c =
-    let r = c.args.self.now in let f = c.in-Ok.ensures.found in
-    is_timed r.layout r.blocks.cells r.system.at (places r) r.notes.lists c.requires.kept f.index c.in-Ok.place (inl f.entry) _ f.is f.notice
+pub time_word-k-requires : goal.time_word-k-requires
+time_word-k-requires c =
+    let f = c.in-Ok.ensures.found in
+    record {
+      kept = c.requires.kept;
+      entry = (f.index, f.entry);
+      notice = let r = c.args.self.now in is_timed r.layout r.blocks.cells r.system.at (places r) r.notes.lists c.requires.kept f.index c.in-Ok.place (inl f.entry) _ f.is f.notice;
+    }
 
 pub returns-in-Ok : goal.returns-in-Ok
 returns-in-Ok c =

@@ -2,8 +2,7 @@ use Rattle.std.proofs.Common.{rules, ◌≡◌, ℤ, w64, to_z, of_z, sym, ap, �
 use Rattle.std.proofs.lemmas.Int.{to_z-of_z}
 use Rattle.ss_base.specs.declared.value.Value.TheVariants.{Whole}
 use Rattle.ss_base.specs.declared.layout.Mode.TheVariants.{Integer}
-use Rattle.ss_records_entities.specs.Parts.{places}
-use Rattle.ss_records_entities.proofs.Assigns.{first_number, is_value}
+use Rattle.ss_records_entities.proofs.Attributes.{found_first, found_value}
 use Rattle.ss_records_entities.proofs.Still.{few_fields}
 use Rattle.ss_records_entities.proofs.records.Records.whole.Goals as goal
 
@@ -13,11 +12,11 @@ value_start-k-requires c = let r = c.args.self.now in few_fields r.layout c.args
 pub whole-requires : goal.whole-requires
 whole-requires c =
     let r = c.args.self.now in let f = c.in-Ok.ensures.found in
-    first_number r.layout r.blocks.cells r.system.at (places r) r.notes.lists c.requires.kept f.index c.in-Ok.place f.entry c.args.class f.class _ f.is f.entity c.args.field c.value_start-k.result c.value_start-k.ensures.at Integer c.requires.mode
+    found_first r c.requires.kept c.args.class _ c.in-Ok.place f c.args.field c.value_start-k.result c.value_start-k.ensures.at Integer c.requires.mode
 
 pub returns-in-Ok : goal.returns-in-Ok
 returns-in-Ok c =
     let r = c.args.self.now in let fits = c.ranges.r in let f = simp to_z-of_z at c.in-Ok.ensures.found in
-    let v = is_value r.layout r.blocks.cells r.system.at (places r) r.notes.lists c.requires.kept f.index c.in-Ok.place f.entry c.args.class f.class c.args.r f.is f.entity c.args.field c.value_start-k.result c.value_start-k.ensures.at Integer c.requires.mode in
+    let v = found_value r c.requires.kept c.args.class c.args.r c.in-Ok.place f c.args.field c.value_start-k.result c.value_start-k.ensures.at Integer c.requires.mode in
     let w : to_z w64 (of_z w64 c.whole.result) ≡ c.whole.result = search rules in
     v ∙ ap Ok (sym c.whole.ensures) ∙ ap (λ (z : ℤ). Ok (Whole z)) (sym w)

@@ -6,23 +6,17 @@ use Rattle.ss_records_words.specs.Shape.{owned_by, block_words}
 use Rattle.ss_records_words.proofs.Planning.{few_sets, owned_reach, class_within, extent_is}
 use Rattle.ss_records_words.proofs.plan.LayoutPlan.block_words.Goals as goal
 
-pub returns-in-Class-clause-size : goal.returns-in-Class-clause-size
-returns-in-Class-clause-size c =
-    let e : c.self.inside.layout ≡ c.args.self.now = c.self.view_is in
-    let within = subst (λ (l : Layout). c.in-Class.class < length l.classes) (sym e) (c.requires c.in-Class.class c.in-Class.is) in
+pub returns-in-Class : goal.returns-in-Class
+returns-in-Class c =
+    let e : c.self.inside.layout ≡ c.args.self.now = c.self.view_is in let within = subst (λ (l : Layout). c.in-Class.class < length l.classes) (sym e) (c.requires c.in-Class.class c.in-Class.is) in
     let is = extent_is c.self.inside.layout c.self.inside.classes.items c.self.inside.sets.items c.self.inside.system_sets c.self.invariant c.in-Class.class c.index.result.now within c.index.ensures in
-    ap (λ (x : Extent). x.words) is ∙ (λ i. block_words (e i) (sym c.in-Class.is i))
-
-pub returns-in-Class-clause-bound : goal.returns-in-Class-clause-bound
-returns-in-Class-clause-bound c =
-    let e : c.self.inside.layout ≡ c.args.self.now = c.self.view_is in
-    let within = subst (λ (l : Layout). c.in-Class.class < length l.classes) (sym e) (c.requires c.in-Class.class c.in-Class.is) in
-    let is = extent_is c.self.inside.layout c.self.inside.classes.items c.self.inside.sets.items c.self.inside.system_sets c.self.invariant c.in-Class.class c.index.result.now within c.index.ensures in
-    let words = ap (λ (x : Extent). x.words) is in
-    let l = c.self.inside.layout in
-    let most = few_sets (owned_by (Class c.in-Class.class)) l.sets in
-    let reach = owned_reach l c.self.invariant.small (Class c.in-Class.class) in
-    (omega (arith, words), omega (arith, words, most, reach, c.self.invariant.small.sets))
+    record {
+      size = ap (λ (x : Extent). x.words) is ∙ (λ i. block_words (e i) (sym c.in-Class.is i));
+      bound =
+          let words = ap (λ (x : Extent). x.words) is in let l = c.self.inside.layout in let most = few_sets (owned_by (Class c.in-Class.class)) l.sets in
+          let reach = owned_reach l c.self.invariant.small (Class c.in-Class.class) in
+          (omega (arith, words), omega (arith, words, most, reach, c.self.invariant.small.sets));
+    }
 
 pub returns-in-System-clause-bound : goal.returns-in-System-clause-bound
 returns-in-System-clause-bound c =

@@ -11,18 +11,17 @@ index-requires c =
     let h = set_within c.self.inside.layout c.self.inside.classes.items c.self.inside.sets.items c.self.inside.system_sets c.self.invariant c.args.s (subst (λ (l : Layout). c.args.s < length l.sets) (sym e) c.requires) in
     search rules
 
-pub returns-clause-is : goal.returns-clause-is
-returns-clause-is c = λ t g.
-    let e : c.self.inside.layout ≡ c.args.self.now = c.self.view_is in
-    let f = subst (λ (l : Layout). slice_get l.sets c.args.s ≡ Some t) (sym e) g in
-    let are = bases_are c.self.inside.layout c.self.inside.classes.items c.self.inside.sets.items c.self.inside.system_sets c.self.invariant c.args.s t c.index.result.now f c.index.ensures in
-    ap (λ (b : Bases). b.class) are
-
-pub returns-clause-class : goal.returns-clause-class
-returns-clause-class c =
-    let e : c.self.inside.layout ≡ c.args.self.now = c.self.view_is in
-    let l = c.self.inside.layout in
-    let y = get_there l.sets c.args.s (subst (λ (l : Layout). c.args.s < length l.sets) (sym e) c.requires) in
-    let are = bases_are l c.self.inside.classes.items c.self.inside.sets.items c.self.inside.system_sets c.self.invariant c.args.s y.0 c.index.result.now y.1 c.index.ensures in
-    subst (λ (l : Layout). c.index.result.now.class < length l.classes) e
-    (subst (λ n. n < length l.classes) (sym (ap (λ (b : Bases). b.class) are)) (class_named (length l.classes) l.sets c.self.invariant.small.sound c.args.s y.0 y.1))
+pub returns : goal.returns
+returns c =
+    record {
+      is = λ t g.
+          let e : c.self.inside.layout ≡ c.args.self.now = c.self.view_is in
+          let f = subst (λ (l : Layout). slice_get l.sets c.args.s ≡ Some t) (sym e) g in
+          let are = bases_are c.self.inside.layout c.self.inside.classes.items c.self.inside.sets.items c.self.inside.system_sets c.self.invariant c.args.s t c.index.result.now f c.index.ensures in
+          ap (λ (b : Bases). b.class) are;
+      class =
+          let e : c.self.inside.layout ≡ c.args.self.now = c.self.view_is in let l = c.self.inside.layout in let y = get_there l.sets c.args.s (subst (λ (l : Layout). c.args.s < length l.sets) (sym e) c.requires) in
+          let are = bases_are l c.self.inside.classes.items c.self.inside.sets.items c.self.inside.system_sets c.self.invariant c.args.s y.0 c.index.result.now y.1 c.index.ensures in
+          subst (λ (l : Layout). c.index.result.now.class < length l.classes) e
+          (subst (λ n. n < length l.classes) (sym (ap (λ (b : Bases). b.class) are)) (class_named (length l.classes) l.sets c.self.invariant.small.sound c.args.s y.0 y.1));
+    }

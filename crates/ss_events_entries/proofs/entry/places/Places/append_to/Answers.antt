@@ -8,7 +8,8 @@ use Rattle.ss_events_entries.specs.HeapEntries.{HeadsAndFollowers, notices_of}
 use Rattle.ss_events_entries.specs.Slots.{no_slot, no_node, plain_entry, slot_at, node, heads, followers, IsTaken, AreHeld}
 use Rattle.ss_events_entries.proofs.Lists.{written}
 use Rattle.ss_events_entries.proofs.Seen.{notice-free}
-use Rattle.ss_events_entries.proofs.Joined.{joined, length-joined, never_led, free_within, held-joined, heads-joined, followers-lined_up}
+use Rattle.ss_events_entries.proofs.Pushed.{nowhere}
+use Rattle.ss_events_entries.proofs.Joined.{joined, length-joined, free_within, held-joined, heads-joined, followers-lined_up}
 use Rattle.ss_events_entries.proofs.entry.places.Places.append_to.Goals as goal
 use Rattle.ss_events_entries.proofs.entry.places.Places.append_to.Goals.{After-deref_mut, After-line_up}
 
@@ -36,7 +37,7 @@ fresh : (c : After-deref_mut) → (t : ℕ) → t < length c.self.inside.slots.i
 fresh c =
     let s = c.self.inside in
     let new = c.note_at_once.ensures.fresh c.if-not-note_at_once.false in
-    never_led s.count s.free s.slots.items s.entries.items s.nodes.items s.directory c.self.invariant (to_z w64 (of_z w64 c.args.notice)) new.0 new.1
+    nowhere s.count s.free s.slots.items s.entries.items s.nodes.items s.directory c.self.invariant (to_z w64 (of_z w64 c.args.notice)) new.0 new.1
 
 unseen : (c : After-deref_mut)
     → (list_any (int_eq c.args.notice) (notices_of c.args.self.now.heads) ≡ false) × (list_any (int_eq c.args.notice) (notices_of c.args.self.now.followers) ≡ false)

@@ -4,7 +4,8 @@ use Rattle.ss_events_entries.specs.declared.entry.Entry.{Entry}
 use Rattle.ss_events_entries.specs.HeapEntries.{HeadsAndFollowers, notices_of}
 use Rattle.ss_events_entries.specs.Slots.{slot_at, IsTaken, AreLed}
 use Rattle.ss_events_entries.proofs.Seen.{notice-without}
-use Rattle.ss_events_entries.proofs.Grown.{held-led, same_held, made_room, reached, HasSome, led_still, place_in, its_slot_in, whole_put, Pushes}
+use Rattle.ss_events_entries.proofs.Grown.{held-led, same_held, made_room, reached, HasSome}
+use Rattle.ss_events_entries.proofs.Pushed.{led_still, place_in, its_slot_in, whole_put, Pushes}
 use Rattle.ss_events_entries.proofs.entry.places.Places.push.Goals as goal
 use Rattle.ss_events_entries.proofs.entry.places.Places.push.Goals.{After-reach, After-keep}
 

@@ -3,7 +3,7 @@ use Rattle.std.specs.List.{list_any}
 use Rattle.ss_events_entries.specs.HeapEntries.{notices_of}
 use Rattle.ss_events_entries.specs.Slots.{plain_entry}
 use Rattle.ss_events_entries.proofs.Seen.{notice-free}
-use Rattle.ss_events_entries.proofs.Grown.{nowhere, plain_put, Pushes}
+use Rattle.ss_events_entries.proofs.Pushed.{nowhere, plain_put, Pushes}
 use Rattle.ss_events_entries.proofs.entry.places.Places.push_plain.Goals as goal
 use Rattle.ss_events_entries.proofs.entry.places.Places.push_plain.Goals.{After-alone}
 

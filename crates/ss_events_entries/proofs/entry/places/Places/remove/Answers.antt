@@ -10,7 +10,8 @@ use Rattle.ss_events_entries.proofs.Lists.{written}
 use Rattle.ss_events_entries.proofs.HeadsAndFollowers.{long_heads}
 use Rattle.ss_events_entries.proofs.Swapped.{length-exchanged}
 use Rattle.ss_events_entries.proofs.Seen.{node_whole}
-use Rattle.ss_events_entries.proofs.Removed.{freed, room_spare, raised, raised_long, raised_slots, raised_slots_long, advanced, advanced_nodes, advanced_long, nodes_long}
+use Rattle.ss_events_entries.proofs.Released.{freed}
+use Rattle.ss_events_entries.proofs.Advanced.{room_spare, raised, raised_long, raised_slots, raised_slots_long, advanced, advanced_nodes, advanced_long, nodes_long}
 use Rattle.ss_events_entries.proofs.Gone.{Gone, gone_like, gone-advanced, gone-dropped, lines, out_there, out_slot, out_time, out_notice, read_node, read_head, out, seen}
 use Rattle.ss_events_entries.proofs.entry.places.Places.remove.Goals as goal
 use Rattle.ss_events_entries.proofs.entry.places.Places.remove.Goals.{After-forget, then-next, else-next}

@@ -7,7 +7,8 @@ use Rattle.ss_events_entries.specs.HeapEntries.{HeadsAndFollowers, notices_of}
 use Rattle.ss_events_entries.specs.Slots.{slot_at, following, at_put, heads, followers, IsTaken, AreHeld}
 use Rattle.ss_events_entries.proofs.Lists.{written}
 use Rattle.ss_events_entries.proofs.HeadsAndFollowers.{follower}
-use Rattle.ss_events_entries.proofs.Removed.{room_of_follower, before_in, close, closed_long, freed, freed-long, left, left_long, held-left, heads-left, followers_left}
+use Rattle.ss_events_entries.proofs.Released.{room_of_follower, freed, freed-long}
+use Rattle.ss_events_entries.proofs.Removed.{before_in, close, closed_long, left, left_long, held-left, heads-left, followers_left}
 use Rattle.ss_events_entries.proofs.Gone.{read_slot, no_follower_has, follower_has}
 use Rattle.ss_events_entries.proofs.entry.places.Places.remove_follower.Goals as goal
 use Rattle.ss_events_entries.proofs.entry.places.Places.remove_follower.Goals.{After-forget}

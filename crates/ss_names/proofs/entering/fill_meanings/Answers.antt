@@ -1,0 +1,25 @@
+use Rattle.std.proofs.Common.{◌≡◌, List, None, ap, ◌∙◌}
+use Rattle.std.specs.List.{fold}
+use Rattle.ss_tree.specs.Names.{NameBytes}
+use Rattle.ss_names.specs.declared.meaning.Meaning.{Meaning}
+use Rattle.ss_names.specs.Table.{Table}
+use Rattle.ss_names.specs.View.{view_table}
+use Rattle.ss_names.specs.Filling.{Entering, all_entered, entered, meanings_pass, with_meanings}
+use Rattle.ss_names.proofs.entering.fill_meanings.Goals as goal
+
+pub returns-clause-names : goal.returns-clause-names
+returns-clause-names c =
+    let t = c.args.names.now in
+    let ds = c.args.declarations.now in
+    let all : entered c.enter_all.new.meanings c.enter_all.new.clash ≡ all_entered t ds =
+    c.in_ok-enter_all.ensures ∙ ap (λ (ms : List (NameBytes × Meaning)). fold (meanings_pass t) (entered ms None) ds) c.new-meanings.ensures in
+    (λ i. record (view_table c.names.inside) { meanings = (all i).meanings })
+    ∙ ap (λ (s : Table). with_meanings s (all_entered t ds).meanings) c.names.view_is
+
+pub returns-clause-clash : goal.returns-clause-clash
+returns-clause-clash c =
+    let t = c.args.names.now in
+    let ds = c.args.declarations.now in
+    let all : entered c.enter_all.new.meanings c.enter_all.new.clash ≡ all_entered t ds =
+    c.in_ok-enter_all.ensures ∙ ap (λ (ms : List (NameBytes × Meaning)). fold (meanings_pass t) (entered ms None) ds) c.new-meanings.ensures in
+    ap (λ (s : Entering). s.clash) all

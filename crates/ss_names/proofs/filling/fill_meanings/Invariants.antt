@@ -1,7 +1,0 @@
-use Rattle.std.proofs.Common.{◌≡◌, take}
-use Rattle.std.specs.List.{fold}
-use Rattle.ss_names.specs.Filling.{meanings_pass}
-use Rattle.ss_names.proofs.filling.fill_meanings.Given as goal
-
-abbrev pub invariant-loop-declaration : goal.invariant-loop-declaration
-invariant-loop-declaration l = l.names ≡ fold meanings_pass l.initial.names (take l.declaration-index l.declarations)
