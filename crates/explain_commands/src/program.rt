@@ -6,7 +6,7 @@ use explain_runs::{
     Kept, Parts, Shown, Subject, Unshown, Watch, add_fault, add_pause, compile_with_names,
     run_in_pieces, run_shown, watches_of,
 };
-use explain_texts::{Page, Wrong, explain_text};
+use explain_texts::{Page, Part, Wrong, explain_text};
 use simscript_order::{
     FileStore, ProgramFailure, Retrying, Streams, explain, open, read_file, report_trouble,
     write_whole,
@@ -127,7 +127,7 @@ fn refuse<O: Write>(
         return Err(ProgramFailure::Memory);
     }
     let mut page = Page::new(alloc);
-    match explain_text(alloc, &mut page, text) {
+    match explain_text(&mut page, text) {
         Ok(_wrong) => {
             send(output, Ok(page))?;
             Ok(Outcome::Refused(refusal))
@@ -139,16 +139,14 @@ fn refuse<O: Write>(
 // What is said of a text that is accepted: the word for that, and notes.
 fn accepted(alloc: Global, notes: &Page) -> Result<Page, AllocError> {
     let mut page = Page::new(alloc);
-    page.words("accepted")?;
-    page.end_line()?;
-    page.bytes(notes.text.as_slice())?;
+    page.say("accepted\n{}", &[Part::Bytes(notes.text.as_slice())])?;
     Ok(page)
 }
 
 // Explains a text. It is compiled only where nothing else is wrong with it.
 fn check<O: Write>(alloc: Global, text: &[u8], output: &mut O) -> Result<Outcome, ProgramFailure> {
     let mut page = Page::new(alloc);
-    match explain_text(alloc, &mut page, text) {
+    match explain_text(&mut page, text) {
         Err(_) => Err(ProgramFailure::Memory),
         Ok(Some(wrong)) => {
             send(output, Ok(page))?;

@@ -2,10 +2,11 @@
 
 use explain_runs::Progress;
 use explain_texts::Page;
+use explain_texts::Part::{Count, Whole};
 use std::alloc::{AllocError, Global};
 use std::io::Write;
 use std::rt::Clock;
-use std::time::{Duration, Instant};
+use std::time::Instant;
 
 /// Tells once a second how far a run is, on one line that is written anew.
 #[derive(Drop)]
@@ -41,7 +42,7 @@ impl<'a, C: Clock, E: Write> Told<'a, C, E> {
     fn passed(&self) -> u64 {
         match &self.start {
             Some(start) => match start.elapsed(self.clock) {
-                Ok(passed) => whole_seconds(passed),
+                Ok(passed) => passed.as_secs(),
                 Err(_) => 0,
             },
             None => 0,
@@ -51,17 +52,16 @@ impl<'a, C: Clock, E: Write> Told<'a, C, E> {
     // The line that says how far the run is.
     fn line(&self, used: u64, time: i64, living: u64, passed: u64) -> Result<Page, AllocError> {
         let mut page = Page::new(self.alloc);
-        page.words("\r")?;
-        page.number(used)?;
-        page.words(" ticks, time ")?;
-        page.signed(time)?;
-        page.words(", ")?;
-        page.number(living)?;
-        page.words(" entities alive, ")?;
-        page.number(used / passed.max(1))?;
-        page.words(" ticks a second, ")?;
-        page.number(self.ticks.saturating_sub(used))?;
-        page.words(" ticks left   ")?;
+        page.say(
+            "\r{} ticks, time {}, {} entities alive, {} ticks a second, {} ticks left   ",
+            &[
+                Count(used),
+                Whole(time),
+                Count(living),
+                Count(used / passed.max(1)),
+                Count(self.ticks.saturating_sub(used)),
+            ],
+        )?;
         Ok(page)
     }
 
@@ -71,11 +71,6 @@ impl<'a, C: Clock, E: Write> Told<'a, C, E> {
             let _ = self.errors.write_all(b"\n");
         }
     }
-}
-
-// The whole seconds of a span of time.
-fn whole_seconds(span: Duration) -> u64 {
-    span.as_secs()
 }
 
 impl<C: Clock, E: Write> Progress for Told<'_, C, E> {

@@ -9,22 +9,22 @@ static FAULTS: [(u32, &str, &str); 22] = [
     (
         2,
         "no entity of this number was ever created",
-        "a reference comes from CREATE, FILE, FIND or an attribute: look where this number was calculated or read.",
+        "A reference comes from CREATE, FILE, FIND or an attribute: look where this number was calculated or read.",
     ),
     (
         3,
         "the entity was destroyed before",
-        "use what is needed of an entity before its DESTROY. An event destroys its notice as it begins, unless it is SAVING it.",
+        "Use what is needed of an entity before its DESTROY. An event destroys its notice as it begins, unless it is SAVING it.",
     ),
     (
         4,
         "the entity is of another class",
-        "a reference to one class was used for another: look which variable holds it here.",
+        "A reference to one class was used for another: look which variable holds it here.",
     ),
     (
         5,
         "the number is no entity of this permanent class: they count from 1 to N. of the class",
-        "let N. of the class have its value before CREATE EVERY, and keep the number between 1 and N.",
+        "Let N. of the class have its value before CREATE EVERY, and keep the number between 1 and N.",
     ),
     (
         6,
@@ -39,7 +39,7 @@ static FAULTS: [(u32, &str, &str); 22] = [
     (
         8,
         "the set has no member",
-        "test it first, as IF QUEUE IS NOT EMPTY, before REMOVE FIRST or LAST.",
+        "Test it first, as IF QUEUE IS NOT EMPTY, before REMOVE FIRST or LAST.",
     ),
     (
         9,
@@ -69,37 +69,37 @@ static FAULTS: [(u32, &str, &str); 22] = [
     (
         14,
         "a result has more than 64 bits, or the last number was given",
-        "look for a value that grows in a loop, and keep sums smaller.",
+        "Look for a value that grows in a loop, and keep sums smaller.",
     ),
     (
         15,
         "the divisor is 0",
-        "test the divisor first, as IF N NE 0.",
+        "Test the divisor first, as IF N NE 0.",
     ),
     (
         16,
         "the member that the loop takes next left the set during a turn",
-        "in the turn remove the loop's own member alone, or take members by WHILE .. IS NOT EMPTY and REMOVE FIRST.",
+        "In the turn remove the loop's own member alone, or take members by WHILE .. IS NOT EMPTY and REMOVE FIRST.",
     ),
     (
         17,
         "the step of the loop is not above 0",
-        "write a step of 1 or more after BY. To count down, take the item from a sum, as LET J = 11 - I.",
+        "Write a step of 1 or more after BY. To count down, take the item from a sum, as LET J = 11 - I.",
     ),
     (
         18,
         "the entities of this class were created before",
-        "let N. of the class have its value, and CREATE EVERY once.",
+        "Let N. of the class have its value, and CREATE EVERY once.",
     ),
     (
         19,
         "there is no further word of data",
-        "test first, as IF DATA IS NOT ENDED, or add what is missing to the data.",
+        "Test first, as IF DATA IS NOT ENDED, or add what is missing to the data.",
     ),
     (
         20,
         "the word of the data is no value of what is read",
-        "look whether READ names its variables in the order of the data, and whether a word is missing or too many there. A variable for texts needs a DEFINE as ALPHA.",
+        "Look whether READ names its variables in the order of the data, and whether a word is missing or too many there. A variable for texts needs a DEFINE as ALPHA.",
     ),
     (
         21,
@@ -109,26 +109,16 @@ static FAULTS: [(u32, &str, &str); 22] = [
     (
         22,
         "the count is below 0 or too large",
-        "let N. of the class have a value from 0 to 16777216 before CREATE EVERY, and SKIP 0 to 1000 lines.",
+        "Let N. of the class have a value from 0 to 16777216 before CREATE EVERY, and SKIP 0 to 1000 lines.",
     ),
 ];
 
-/// What a fault means, by its number.
-pub fn meaning_of(number: u32) -> &'static str {
-    for (known, meaning, _) in &FAULTS {
+/// What a fault means, and what helps against it, by its number.
+pub fn fault_words(number: u32) -> (&'static str, &'static str) {
+    for (known, meaning, cure) in &FAULTS {
         if *known == number {
-            return meaning;
+            return (meaning, cure);
         }
     }
-    ""
-}
-
-/// What helps against a fault, by its number.
-pub fn cure_of(number: u32) -> &'static str {
-    for (known, _, cure) in &FAULTS {
-        if *known == number {
-            return cure;
-        }
-    }
-    ""
+    ("", "")
 }

@@ -5,6 +5,7 @@ mod endings;
 mod faults;
 mod guide;
 mod kept;
+mod looks;
 mod progress;
 mod references;
 mod shows;

@@ -3,12 +3,14 @@
 ghost use Rattle.std.specs.Prelude.{◌≡◌, ℕ, List};
 
 use crate::guide::Guide;
+use crate::looks::{living_count, time};
 use crate::progress::Progress;
 use crate::ticks::{add_heads, add_tick, next_tick};
 use crate::watches::{Watch, add_changes};
 use explain_texts::Page;
 use ss_base::{FaultyRead, FaultyWrite};
 use ss_engine::{Session, Stop};
+use ss_machine::Machine;
 use std::alloc::{AllocError, Global};
 use std::io::{ErrorKind, Write};
 
@@ -102,7 +104,7 @@ fn show_changes<R: FaultyRead, W: FaultyWrite, O: Write>(
         return Ok(());
     }
     let mut page = Page::new(subject.alloc);
-    add_changes(subject.alloc, &mut page, session, watches)?;
+    add_changes(&mut page, session, watches)?;
     if page.is_empty() {
         return Ok(());
     }
@@ -121,6 +123,11 @@ fn show_heads<O: Write>(
     let mut page = Page::new(subject.alloc);
     add_heads(&mut page)?;
     send(output, &page)
+}
+
+// Tells how far a run is.
+fn tell<P: Progress>(machine: &Machine, progress: &mut P) {
+    progress.report(machine.used(), time(machine), living_count(machine));
 }
 
 /// Runs a session with so many ticks, one after another, and shows what each does. It answers why the run stopped. Its report
@@ -145,7 +152,7 @@ pub fn run_shown<R: FaultyRead, W: FaultyWrite, O: Write, P: Progress>(
         stop = session.run(1);
         show_changes(subject, session, watches, output)?;
         if session.used() % 1024 == 0 {
-            progress.report(session.used(), session.time(), session.living_count());
+            tell(session.machine(), progress);
         }
     }
     Ok(stop)
@@ -166,7 +173,7 @@ pub fn run_in_pieces<R: FaultyRead, W: FaultyWrite, P: Progress>(
         let piece = left.min(PIECE);
         stop = session.run(piece);
         left -= piece;
-        progress.report(session.used(), session.time(), session.living_count());
+        tell(session.machine(), progress);
     }
     stop
 }

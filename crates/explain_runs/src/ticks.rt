@@ -1,11 +1,13 @@
 //! The tick that comes next, and how it is shown.
 
 use crate::guide::{Guide, Section, line_at, section_at};
-use explain_texts::{Page, line_bytes};
+use crate::looks::{class_of, instruction, time};
+use explain_texts::Part::Bytes;
+use explain_texts::{Page, line_bytes, unindented};
 use ss_base::{FaultyRead, FaultyWrite};
 use ss_code_instructions::instruction::Instruction;
 use ss_engine::Session;
-use std::alloc::AllocError;
+use std::alloc::{AllocError, Global};
 
 /// A tick that comes next: the time, the section and the line, and whether an event begins by it.
 #[derive(Clone, Copy, Debug, PartialEq, Eq)]
@@ -22,7 +24,7 @@ fn event_tick<R: FaultyRead, W: FaultyWrite>(
     guide: &Guide,
 ) -> Option<Tick> {
     let (time, notice) = session.upcoming()?;
-    let class = session.class_of(notice)?;
+    let class = class_of(session.machine(), notice)?;
     let rank = guide.rank_of(class)?;
     let line = guide.event_line(rank)?;
     Some(Tick {
@@ -38,9 +40,8 @@ pub fn next_tick<R: FaultyRead, W: FaultyWrite>(
     session: &mut Session<R, W>,
     guide: &Guide,
 ) -> Tick {
-    let place = session.place();
     let is_event = matches!(
-        session.code().instruction(place),
+        instruction(session.machine()),
         Some(Instruction::TakeEvent { .. })
     );
     if is_event {
@@ -48,44 +49,34 @@ pub fn next_tick<R: FaultyRead, W: FaultyWrite>(
             return tick;
         }
     }
+    let machine = session.machine();
+    let place = machine.here().place;
     Tick {
-        time: session.time(),
-        section: section_at(session.code(), place),
-        line: line_at(session.code(), place),
+        time: time(machine),
+        section: section_at(machine.code(), place),
+        line: line_at(machine.code(), place),
         is_event,
     }
 }
 
-/// Adds the name of a section, as `EVENT ARRIVAL`, and answers how many letters it has.
-pub fn add_section(page: &mut Page, guide: &Guide, section: Section) -> Result<usize, AllocError> {
+/// The name of a section, as `EVENT ARRIVAL`.
+pub fn section_page(alloc: Global, guide: &Guide, section: Section) -> Result<Page, AllocError> {
+    let mut page = Page::new(alloc);
     let word = match section {
         Section::Main => "MAIN",
         Section::Routine(_) => "ROUTINE ",
         Section::Event(_) => "EVENT ",
     };
-    page.words(word)?;
-    match guide.section_name(section) {
-        Some(name) => {
-            page.bytes(name.bytes())?;
-            Ok(word.len().saturating_add(name.bytes().len()))
-        }
-        None => Ok(word.len()),
+    page.say(word, &[])?;
+    if let Some(name) = guide.section_name(section) {
+        page.say("{}", &[Bytes(name.bytes())])?;
     }
-}
-
-// A line of the text without the blanks before it.
-fn trimmed(line: &[u8]) -> &[u8] {
-    let count = line
-        .iter()
-        .take_while(|byte| **byte == b' ' || **byte == b'\t')
-        .count();
-    &line[count.min(line.len())..]
+    Ok(page)
 }
 
 /// Adds the heads of the columns of a trace.
 pub fn add_heads(page: &mut Page) -> Result<(), AllocError> {
-    page.words("    tick      time  section                line  text")?;
-    page.end_line()
+    page.line("    tick      time  section                line  text", &[])
 }
 
 /// Adds the line of a tick: its number from 1, the time, the section, the line and its text.
@@ -96,14 +87,12 @@ pub fn add_tick(
     number: u64,
     tick: Tick,
 ) -> Result<(), AllocError> {
+    let section = section_page(page.alloc(), guide, tick.section)?;
     page.padded(number, 8)?;
     page.blanks(2)?;
     page.padded(tick.time.unsigned_abs(), 8)?;
-    page.blanks(2)?;
-    let length = add_section(page, guide, tick.section)?;
-    page.blanks(21_usize.saturating_sub(length))?;
+    page.say("  {}", &[Bytes(section.text.as_slice())])?;
+    page.blanks(21_usize.saturating_sub(section.text.len()))?;
     page.padded(u64::from(tick.line), 6)?;
-    page.blanks(2)?;
-    page.bytes(trimmed(line_bytes(text, tick.line)))?;
-    page.end_line()
+    page.line("  {}", &[Bytes(unindented(line_bytes(text, tick.line)))])
 }

@@ -1,7 +1,9 @@
 //! Values that are watched: global variables, N. of sets, statistics and attributes.
 
 use crate::guide::Guide;
+use crate::looks::{attribute, figure, mean, time, value};
 use explain_texts::Page;
+use explain_texts::Part::{self, Bytes, Count, Whole, Words};
 use ss_base::{FaultyRead, FaultyWrite, Mode, Owner, Value};
 use ss_engine::Session;
 use ss_names::{Meaning, NameId};
@@ -38,9 +40,9 @@ enum Watched {
 /// A value that is watched, with how it is written and what was shown of it last.
 #[derive(Drop)]
 pub struct Watch {
-    name: Vec<u8>,
+    name: Page,
     watched: Watched,
-    shown: Vec<u8>,
+    shown: Page,
 }
 
 // A name, and the number in parentheses after it.
@@ -123,28 +125,21 @@ fn watched_of(guide: &Guide, meaning: Meaning, number: Option<i64>) -> Option<Wa
     }
 }
 
-// The bytes in capitals.
-fn in_capitals(alloc: Global, bytes: &[u8]) -> Result<Vec<u8>, AllocError> {
-    let mut page = Page::new(alloc);
-    page.capitals(bytes)?;
-    Ok(page.text)
-}
-
 // A watch of this name, if it names what can be watched.
 fn watch_of(alloc: Global, guide: &Guide, word: &[u8]) -> Result<Option<Watch>, AllocError> {
-    let name = in_capitals(alloc, word)?;
-    let Some((spelling, number)) = split(name.as_slice()) else {
+    let mut name = Page::new(alloc);
+    name.say("{}", &[Part::Capitals(word)])?;
+    let Some((spelling, number)) = split(name.text.as_slice()) else {
         return Ok(None);
     };
-    let watched = match meaning_of(guide, spelling) {
-        Some(meaning) => watched_of(guide, meaning, number),
-        None => None,
+    let Some(meaning) = meaning_of(guide, spelling) else {
+        return Ok(None);
     };
-    match watched {
+    match watched_of(guide, meaning, number) {
         Some(watched) => Ok(Some(Watch {
             name,
             watched,
-            shown: Vec::new(alloc),
+            shown: Page::new(alloc),
         })),
         None => Ok(None),
     }
@@ -166,45 +161,24 @@ pub fn watches_of<'a>(
     Ok(Ok(watches))
 }
 
-// Adds a value.
-fn add_value(page: &mut Page, value: Option<Value>) -> Result<(), AllocError> {
-    match value {
-        Some(Value::Whole(number)) => page.signed(number),
-        Some(Value::Text(text)) => page.bytes(text.bytes()),
-        None => Ok(()),
-    }
-}
-
-// Adds a number, if there is one.
-fn add_number(page: &mut Page, number: Option<i64>) -> Result<(), AllocError> {
+// A number as a value.
+fn whole(number: Option<i64>) -> Option<Value> {
     match number {
-        Some(number) => page.signed(number),
-        None => Ok(()),
+        Some(number) => Some(Value::Whole(number)),
+        None => None,
     }
 }
 
-// Adds a mean with three decimals, cut off.
-fn add_mean(page: &mut Page, mean: Option<(i128, i64)>) -> Result<(), AllocError> {
-    let Some((sum, number)) = mean else {
-        return Ok(());
-    };
-    let divisor = u128::from(number.unsigned_abs());
-    if divisor == 0 {
-        return page.words("0.000");
-    }
-    if sum < 0 {
-        page.words("-")?;
-    }
+// Adds a mean with three decimals, the others cut off.
+fn add_mean(page: &mut Page, sum: i128, number: i64) -> Result<(), AllocError> {
+    let divisor = u128::from(number.unsigned_abs()).max(1);
     let size = sum.unsigned_abs();
-    let whole = u64::try_from(size / divisor).unwrap_or(u64::MAX);
+    let above = u64::try_from(size / divisor).unwrap_or(u64::MAX);
     let rest = (size % divisor).saturating_mul(1000) / divisor;
-    let thousandths = u64::try_from(rest).unwrap_or(0).saturating_add(1000);
-    page.number(whole)?;
-    page.words(".")?;
-    let before = page.text.len();
-    page.number(thousandths)?;
-    let _ = page.text.remove(before);
-    Ok(())
+    let rest = u64::try_from(rest).unwrap_or(0);
+    let (first, second, third) = (Count(rest / 100), Count(rest / 10 % 10), Count(rest % 10));
+    let sign = Words(if sum < 0 { "-" } else { "" });
+    page.say("{}{}.{}{}{}", &[sign, Count(above), first, second, third])
 }
 
 // The present value of what is watched, as it is written. Empty where there is none.
@@ -212,45 +186,49 @@ fn present<R: FaultyRead, W: FaultyWrite>(
     alloc: Global,
     session: &mut Session<R, W>,
     watched: Watched,
-) -> Result<Vec<u8>, AllocError> {
+) -> Result<Page, AllocError> {
     let mut page = Page::new(alloc);
-    match watched {
-        Watched::Variable { number, mode } => add_value(&mut page, session.value(number, mode))?,
-        Watched::Count { set, owner } => add_number(&mut page, session.member_count(set, owner))?,
+    let present = match watched {
+        Watched::Variable { number, mode } => value(session.machine(), number, mode),
+        Watched::Count { set, owner } => whole(session.member_count(set, owner)),
         Watched::Figure {
             fold,
             statistic,
             entity,
-        } => add_number(&mut page, session.figure(fold, statistic, entity))?,
-        Watched::Mean { statistic, entity } => {
-            add_mean(&mut page, session.mean(statistic, entity))?;
-        }
+        } => whole(figure(session.machine(), fold, statistic, entity)),
         Watched::Attribute {
             class,
             field,
             entity,
-        } => add_value(&mut page, session.attribute(class, field, entity))?,
+        } => attribute(session.machine(), class, field, entity),
+        Watched::Mean { statistic, entity } => {
+            if let Some((sum, number)) = mean(session.machine(), statistic, entity) {
+                add_mean(&mut page, sum, number)?;
+            }
+            None
+        }
+    };
+    match present {
+        Some(Value::Whole(number)) => page.say("{}", &[Whole(number)])?,
+        Some(Value::Text(text)) => page.say("{}", &[Bytes(text.bytes())])?,
+        None => {}
     }
-    Ok(page.text)
+    Ok(page)
 }
 
 /// Adds a line `time,name,value` for each watch that has another value than was shown last.
 pub fn add_changes<R: FaultyRead, W: FaultyWrite>(
-    alloc: Global,
     page: &mut Page,
     session: &mut Session<R, W>,
     watches: &mut Vec<Watch>,
 ) -> Result<(), AllocError> {
     for watch in watches.iter_mut() {
-        let value = present(alloc, session, watch.watched)?;
-        if value != watch.shown {
-            page.signed(session.time())?;
-            page.words(",")?;
-            page.bytes(watch.name.as_slice())?;
-            page.words(",")?;
-            page.bytes(value.as_slice())?;
-            page.end_line()?;
-            watch.shown = value;
+        let written = present(page.alloc(), session, watch.watched)?;
+        if written.text != watch.shown.text {
+            let name = Bytes(watch.name.text.as_slice());
+            let time = Whole(time(session.machine()));
+            page.line("{},{},{}", &[time, name, Bytes(written.text.as_slice())])?;
+            watch.shown = written;
         }
     }
     Ok(())

@@ -41,15 +41,15 @@ static OTHERS: [Candidate; 11] = [
     Candidate::Picture,
 ];
 
-// A token of a kind, with no spelling in the text.
-fn token(kind: TokenKind, line: Line) -> Token {
+// A token of a kind, with no spelling in the text and no line.
+fn token(kind: TokenKind) -> Token {
     Token {
         kind,
         span: Span {
             start: 0,
             length: 0,
         },
-        line,
+        line: Line(0),
     }
 }
 
@@ -79,12 +79,7 @@ fn copied(alloc: Global, original: &Token) -> Result<Token, AllocError> {
 }
 
 // Adds the tokens of a candidate.
-fn add(
-    alloc: Global,
-    tokens: &mut Vec<Token>,
-    candidate: Candidate,
-    line: Line,
-) -> Result<(), AllocError> {
+fn add(alloc: Global, tokens: &mut Vec<Token>, candidate: Candidate) -> Result<(), AllocError> {
     let kind = match candidate {
         Candidate::Word(word) => TokenKind::Word(word),
         Candidate::Name => any_name(),
@@ -92,36 +87,34 @@ fn add(
         Candidate::Text => TokenKind::Text(Alpha::empty()),
         Candidate::Symbol(symbol) => TokenKind::Symbol(symbol),
         Candidate::Separator => {
-            tokens.push(token(TokenKind::Symbol(Symbol::Comma), line))?;
+            tokens.push(token(TokenKind::Symbol(Symbol::Comma)))?;
             any_name()
         }
         Candidate::Picture => TokenKind::Picture(PictureLine::of(alloc, b"*")?),
         Candidate::End => return Ok(()),
     };
-    tokens.push(token(kind, line))?;
+    tokens.push(token(kind))?;
     Ok(())
 }
 
-// Whether the tokens are read to their end.
-fn is_read_whole(alloc: Global, tokens: &[Token]) -> Result<bool, AllocError> {
-    Ok(match reach_of(alloc, tokens)? {
-        Reach::Whole => true,
-        Reach::Stopped(index) | Reach::TooDeep(index) => index >= tokens.len(),
-    })
-}
-
-// Whether a candidate may come after these tokens, which are left as they were.
-fn may_come(
+// Adds a candidate to those that were found, if it may come after these tokens, which are left as they were.
+fn find(
     alloc: Global,
+    found: &mut Vec<Candidate>,
     tokens: &mut Vec<Token>,
     candidate: Candidate,
-    line: Line,
-) -> Result<bool, AllocError> {
+) -> Result<(), AllocError> {
     let before = tokens.len();
-    add(alloc, tokens, candidate, line)?;
-    let answer = is_read_whole(alloc, tokens.as_slice());
+    add(alloc, tokens, candidate)?;
+    let is_read = match reach_of(alloc, tokens.as_slice())? {
+        Reach::Whole => true,
+        Reach::Stopped(index) | Reach::TooDeep(index) => index >= tokens.len(),
+    };
     tokens.truncate(before);
-    answer
+    if is_read {
+        found.push(candidate)?;
+    }
+    Ok(())
 }
 
 // Whether a candidate is a word that is a value or begins one.
@@ -173,18 +166,9 @@ pub fn has_token(candidates: &[Candidate], token: &Token) -> bool {
     })
 }
 
-// Whether these tokens are a program.
-fn may_end(alloc: Global, tokens: &[Token]) -> Result<bool, AllocError> {
-    Ok(reach_of(alloc, tokens)? == Reach::Whole)
-}
-
 /// What may come after these tokens, each tried by reading them with it: with a candidate of the list the tokens are read
 /// further. Nothing is tried where the tokens are too many.
-pub fn candidates_after(
-    alloc: Global,
-    tokens: &[Token],
-    line: Line,
-) -> Result<Vec<Candidate>, AllocError> {
+pub fn candidates_after(alloc: Global, tokens: &[Token]) -> Result<Vec<Candidate>, AllocError> {
     let mut found = Vec::new(alloc);
     if tokens.len() > TRIED_AFTER {
         return Ok(found);
@@ -194,15 +178,10 @@ pub fn candidates_after(
         tried.push(copied(alloc, one)?)?;
     }
     for (_, word) in &WORDS {
-        let candidate = Candidate::Word(*word);
-        if may_come(alloc, &mut tried, candidate, line)? {
-            found.push(candidate)?;
-        }
+        find(alloc, &mut found, &mut tried, Candidate::Word(*word))?;
     }
     for candidate in &OTHERS {
-        if may_come(alloc, &mut tried, *candidate, line)? {
-            found.push(*candidate)?;
-        }
+        find(alloc, &mut found, &mut tried, *candidate)?;
     }
     // Where a value is due, or the one statement of a loop, the reading stops after a word that is none, so each word seems to fit.
     if found.len() > MOST_WORDS {
@@ -212,7 +191,7 @@ pub fn candidates_after(
             found.retain(|candidate| goes_on_loop(candidate));
         }
     }
-    if may_end(alloc, tried.as_slice())? {
+    if reach_of(alloc, tried.as_slice())? == Reach::Whole {
         found.push(Candidate::End)?;
     }
     Ok(found)

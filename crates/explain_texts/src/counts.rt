@@ -1,11 +1,12 @@
 //! Counts that don't fit: values that are given, and fields of a PRINT.
 
-use crate::finding::{begin_with_name, show_name};
+use crate::finding::{add_line, add_name};
 use crate::opens::{line_of, word_at};
 use crate::page::Page;
+use crate::page::Part::{self, Bytes, Count, Words};
 use crate::places::{show_line, show_marked};
 use crate::used::Read;
-use ss_base::{Line, Name};
+use ss_base::Name;
 use ss_lex::{Symbol, Token, TokenKind, Word, tokens};
 use ss_names::Meaning;
 use ss_names_uses::{CountNeed, Use, Used};
@@ -41,12 +42,7 @@ fn wanted_of(read: &Read<'_>, need: &CountNeed) -> Option<(usize, Option<Name>, 
 }
 
 /// Whether a count of values is wrong, which is then explained.
-pub fn explain_arguments(
-    alloc: Global,
-    page: &mut Page,
-    read: &Read<'_>,
-    one: &Use,
-) -> Result<bool, AllocError> {
+pub fn explain_arguments(page: &mut Page, read: &Read<'_>, one: &Use) -> Result<bool, AllocError> {
     let Used::Count { found, wanted } = &one.what else {
         return Ok(false);
     };
@@ -57,68 +53,47 @@ pub fn explain_arguments(
     if *found == count || (at_most && *found < count) {
         return Ok(false);
     }
+    let parts = [Words(words), Count(count as u64), Count(*found as u64)];
+    let words = "{}{}, and here are {}";
     match name {
-        Some(name) => begin_with_name(page, one.line.0, name.bytes())?,
-        None => {
-            page.words("line ")?;
-            page.number(u64::from(one.line.0))?;
-            page.words(": ")?;
-        }
+        Some(name) => add_name(page, read.text, one.line.0, name.bytes(), words, &parts)?,
+        None => add_line(page, read.text, one.line.0, words, &parts)?,
     }
-    page.words(words)?;
-    page.number(count as u64)?;
-    page.words(", and here are ")?;
-    page.number(*found as u64)?;
-    match name {
-        Some(name) => show_name(alloc, page, read.text, one.line.0, name.bytes())?,
-        None => {
-            page.end_line()?;
-            show_marked(page, read.text, one.line.0, None)?;
-        }
-    }
-    page.words(if at_most {
-        "Cure: Give fewer values, or give the event notice another attribute by EVERY .. HAS."
-    } else {
-        "Cure: Give as many values as it takes, with commas between, or change the head of the routine."
-    })?;
-    page.end_line()?;
+    page.cure(
+        if at_most {
+            "Give fewer values, or give the event notice another attribute by EVERY .. HAS."
+        } else {
+            "Give as many values as it takes, with commas between, or change the head of the routine."
+        },
+        &[],
+    )?;
     Ok(true)
 }
 
-// How many items a PRINT has, from the token after its WITH up to its trigger.
+// Whether a token at this depth of parentheses is a comma or an AND between items.
+fn separates(token: &Token, depth: usize) -> bool {
+    depth == 0
+        && matches!(
+            &token.kind,
+            TokenKind::Symbol(Symbol::Comma) | TokenKind::Word(Word::And)
+        )
+}
+
+// How many items a PRINT has: those after its WITH, up to what calls for its pictures.
 fn item_count(list: &[Token], print: usize) -> usize {
     let mut depth: usize = 0;
     let mut count: usize = 0;
-    let mut inside = false;
     let mut separated = false;
-    for index in print..list.len() {
-        match word_at(list, index) {
-            Some(Word::Thus | Word::Like) => return count,
-            Some(Word::As) => return count,
-            Some(Word::With) if !inside => {
-                inside = true;
-                count = 1;
-                continue;
-            }
+    for token in list.iter().skip(print) {
+        match &token.kind {
+            TokenKind::Word(Word::Thus | Word::Like | Word::As) => break,
+            TokenKind::Word(Word::With) if count == 0 => count = 1,
+            TokenKind::Symbol(Symbol::OpenParenthesis) => depth = depth.saturating_add(1),
+            TokenKind::Symbol(Symbol::CloseParenthesis) => depth = depth.saturating_sub(1),
             _ => {}
         }
-        let Some(token) = list.get(index) else {
-            return count;
-        };
-        let is_separator = match &token.kind {
-            TokenKind::Symbol(Symbol::OpenParenthesis) => {
-                depth = depth.saturating_add(1);
-                false
-            }
-            TokenKind::Symbol(Symbol::CloseParenthesis) => {
-                depth = depth.saturating_sub(1);
-                false
-            }
-            TokenKind::Symbol(Symbol::Comma) => depth == 0,
-            TokenKind::Word(Word::And) => depth == 0,
-            _ => false,
-        };
-        if inside && is_separator && !separated {
+        let is_separator = separates(token, depth);
+        if count > 0 && is_separator && !separated {
             count = count.saturating_add(1);
         }
         separated = is_separator;
@@ -126,72 +101,49 @@ fn item_count(list: &[Token], print: usize) -> usize {
     count
 }
 
+// The pictures of a PRINT: their first token, and the one after the last.
+fn pictures_of(list: &[Token], print: usize) -> (usize, usize) {
+    let mut first = list.len();
+    for index in print..list.len() {
+        let is_picture = match list.get(index) {
+            Some(token) => matches!(&token.kind, TokenKind::Picture(_)),
+            None => false,
+        };
+        if is_picture {
+            first = first.min(index);
+        } else if first < list.len() {
+            return (first, index);
+        }
+    }
+    (first, list.len())
+}
+
+// The tokens of the pictures of a PRINT.
+fn picture_tokens(list: &[Token], print: usize) -> &[Token] {
+    let (first, last) = pictures_of(list, print);
+    match list.get(first..last) {
+        Some(tokens) => tokens,
+        None => &[],
+    }
+}
+
 // How many fields the pictures of a PRINT have.
 fn field_count(alloc: Global, list: &[Token], print: usize) -> Result<usize, AllocError> {
     let mut count: usize = 0;
-    let mut begun = false;
-    for index in print..list.len() {
-        let Some(token) = list.get(index) else {
-            break;
-        };
-        match &token.kind {
-            TokenKind::Picture(line) => {
-                begun = true;
-                let picture = Picture::of(alloc, line.bytes())?;
-                count = count.saturating_add(picture.fields().len());
-            }
-            _ => {
-                if begun {
-                    break;
-                }
-            }
+    for token in picture_tokens(list, print) {
+        if let TokenKind::Picture(line) = &token.kind {
+            count = count.saturating_add(Picture::of(alloc, line.bytes())?.fields().len());
         }
     }
     Ok(count)
 }
 
-// Adds the pictures of a PRINT, each as a line of the text.
-fn show_pictures(
-    page: &mut Page,
-    text: &[u8],
-    list: &[Token],
-    print: usize,
-) -> Result<(), AllocError> {
-    let mut begun = false;
-    for index in print..list.len() {
-        let Some(token) = list.get(index) else {
-            return Ok(());
-        };
-        match &token.kind {
-            TokenKind::Picture(_) => {
-                begun = true;
-                show_line(page, text, token.line.0)?;
-            }
-            _ => {
-                if begun {
-                    return Ok(());
-                }
-            }
-        }
-    }
-    Ok(())
-}
-
 // The first field with decimals of the pictures of a PRINT, as it is written.
-fn decimal_field<'a>(list: &'a [Token], print: usize) -> Option<&'a [u8]> {
-    let mut begun = false;
-    for index in print..list.len() {
-        match &list.get(index)?.kind {
-            TokenKind::Picture(line) => {
-                begun = true;
-                if let Some(field) = decimals_in(line.bytes()) {
-                    return Some(field);
-                }
-            }
-            _ => {
-                if begun {
-                    return None;
-                }
+fn decimal_field(list: &[Token], print: usize) -> Option<&[u8]> {
+    for token in picture_tokens(list, print) {
+        if let TokenKind::Picture(line) = &token.kind {
+            if let Some(field) = decimals_in(line.bytes()) {
+                return Some(field);
             }
         }
     }
@@ -202,8 +154,10 @@ fn decimal_field<'a>(list: &'a [Token], print: usize) -> Option<&'a [u8]> {
 fn decimals_in(line: &[u8]) -> Option<&[u8]> {
     let point = line
         .windows(3)
-        .position(|three| three == b"*.*".as_slice())?;
-    let (before, after) = line.split_at(point.saturating_add(1));
+        .position(|three| three == b"*.*".as_slice())?
+        .saturating_add(1)
+        .min(line.len());
+    let (before, after) = line.split_at(point);
     let whole = before
         .iter()
         .rev()
@@ -214,101 +168,86 @@ fn decimals_in(line: &[u8]) -> Option<&[u8]> {
         .skip(1)
         .take_while(|byte| **byte == b'*')
         .count();
-    let start = before.len().saturating_sub(whole);
-    let end = before
-        .len()
-        .saturating_add(1)
-        .saturating_add(part)
-        .min(line.len());
-    Some(&line[start..end])
+    let start = point.saturating_sub(whole);
+    let end = point.saturating_add(1).saturating_add(part).min(line.len());
+    if start <= end {
+        Some(&line[start..end])
+    } else {
+        None
+    }
 }
 
-// Says that a period makes one field of two.
-fn add_period(page: &mut Page, field: &[u8]) -> Result<(), AllocError> {
-    page.words("Cure: ")?;
-    page.bytes(field)?;
-    page.words(
-        " is one field, for a MEAN alone. For two numbers write a blank or a colon between the asterisks, as **:**.",
-    )?;
-    page.end_line()
+// A word of which there are so many.
+fn plural(count: usize, one: &'static str, several: &'static str) -> Part<'static> {
+    Words(if count == 1 { one } else { several })
 }
 
 // Says how many fields and values a PRINT has.
 fn explain_print(
-    alloc: Global,
     page: &mut Page,
     text: &[u8],
     list: &[Token],
     print: usize,
 ) -> Result<(), AllocError> {
     let items = item_count(list, print);
-    let fields = field_count(alloc, list, print)?;
-    page.words("line ")?;
-    page.number(u64::from(line_of(list, print)))?;
-    page.words(", PRINT: ")?;
-    page.number(items as u64)?;
-    page.words(if items == 1 {
-        " value, and "
-    } else {
-        " values, and "
-    })?;
-    page.number(fields as u64)?;
-    page.words(if fields == 1 {
-        " field in its pictures"
-    } else {
-        " fields in its pictures"
-    })?;
-    page.end_line()?;
-    show_line(page, text, line_of(list, print))?;
-    show_pictures(page, text, list, print)?;
-    if let (true, Some(field)) = (items > fields, decimal_field(list, print)) {
-        return add_period(page, field);
+    let fields = field_count(page.alloc(), list, print)?;
+    let line = line_of(list, print);
+    page.line(
+        "line {}, PRINT: {}{}{}{}",
+        &[
+            Part::Line(line),
+            Count(items as u64),
+            plural(items, " value, and ", " values, and "),
+            Count(fields as u64),
+            plural(fields, " field in its pictures", " fields in its pictures"),
+        ],
+    )?;
+    show_line(page, text, line)?;
+    for token in picture_tokens(list, print) {
+        show_line(page, text, token.line.0)?;
     }
-    page.words(if items > fields {
-        "Cure: Write a field of asterisks for each value into the pictures, with blanks between, or leave a value out."
-    } else if items < fields {
-        "Cure: A field is a row of asterisks. Name a value for each after WITH, with commas between, or take asterisks out of the pictures."
-    } else {
-        "Cure: A field with decimals, as **.*, prints a MEAN alone: name a MEAN for it, or leave its period out."
-    })?;
-    page.end_line()
+    if let (true, Some(field)) = (items > fields, decimal_field(list, print)) {
+        return page.cure(
+            "{} is one field, for a MEAN alone. For two numbers write a blank or a colon between the asterisks, as **:**.",
+            &[Bytes(field)],
+        );
+    }
+    page.cure(
+        if items > fields {
+            "Write a field of asterisks for each value into the pictures, with blanks between, or leave a value out."
+        } else if items < fields {
+            "A field is a row of asterisks. Name a value for each after WITH, with commas between, or take asterisks out of the pictures."
+        } else {
+            "A field with decimals, as **.*, prints a MEAN alone: name a MEAN for it, or leave its period out."
+        },
+        &[],
+    )
+}
+
+// The PRINTs of a line, by their tokens, so many at most.
+fn prints_in(alloc: Global, list: &[Token], line: u32) -> Result<Vec<usize>, AllocError> {
+    let mut found = Vec::new(alloc);
+    for index in 0..list.len() {
+        let is_print = line_of(list, index) == line && word_at(list, index) == Some(Word::Print);
+        if is_print && found.len() < 100 {
+            found.push(index)?;
+        }
+    }
+    Ok(found)
 }
 
 /// Explains a PRINT whose fields don't fit its values: 77.
-pub fn explain_fields(
-    alloc: Global,
-    page: &mut Page,
-    text: &[u8],
-    line: Line,
-) -> Result<(), AllocError> {
-    let Ok(all) = tokens(alloc, text) else {
+pub fn explain_fields(page: &mut Page, text: &[u8], line: u32) -> Result<(), AllocError> {
+    let Ok(all) = tokens(page.alloc(), text) else {
         return Ok(());
     };
     let list = all.list();
-    let mut looked_at: usize = 0;
-    for index in 0..list.len() {
-        if line_of(list, index) == line.0 && word_at(list, index) == Some(Word::Print) {
-            looked_at = looked_at.saturating_add(1);
-            if looked_at > 100 {
-                break;
-            }
-            let items = item_count(list, index);
-            let fields = field_count(alloc, list, index)?;
-            let only = next_print(list, index, line).is_none();
-            if items != fields || only {
-                return explain_print(alloc, page, text, list, index);
-            }
+    let prints = prints_in(page.alloc(), list, line)?;
+    for (place, print) in prints.iter().enumerate() {
+        let fields = field_count(page.alloc(), list, *print)?;
+        if item_count(list, *print) != fields || place + 1 == prints.len() {
+            return explain_print(page, text, list, *print);
         }
     }
-    show_marked(page, text, line.0, None)
-}
-
-// The next PRINT of a line after a token.
-fn next_print(list: &[Token], after: usize, line: Line) -> Option<usize> {
-    for index in after.saturating_add(1)..list.len() {
-        if line_of(list, index) == line.0 && word_at(list, index) == Some(Word::Print) {
-            return Some(index);
-        }
-    }
-    None
+    show_marked(page, text, line, None)
 }

@@ -1,10 +1,11 @@
 //! Texts that are refused for what they declare: refusals 51 to 60.
 
-use crate::finding::{add_cure, add_nearest, begin_with_name, show_name};
+use crate::finding::{add_line, add_name, add_nearest};
 use crate::page::Page;
-use crate::places::show_marked;
-use ss_base::{Line, Name};
-use ss_names_declarations::{Declaration, Declared, declarations_of};
+use crate::page::Part::{self, Bytes, Words};
+use crate::places::show_line;
+use ss_base::Name;
+use ss_names_declarations::{Breach, Declaration, Declared, declarations_of};
 use ss_names_uses::{Used, uses_of};
 use ss_tables_rules::TableError;
 use ss_tree::expression::Designator;
@@ -12,8 +13,17 @@ use ss_tree::preamble::{ClassKind, Mode};
 use ss_tree::program::Program;
 use std::alloc::{AllocError, Global};
 
-/// The most declarations of a line that are looked at.
+/// The most declarations and uses of a line that are looked at.
 const LOOKED_AT: usize = 200;
+
+/// A text with all that its program declares, and the line of its refusal.
+#[derive(Clone, Copy)]
+struct Read<'a> {
+    text: &'a [u8],
+    program: &'a Program,
+    all: &'a [Declaration],
+    line: u32,
+}
 
 /// What a declaration makes of its name.
 #[derive(Clone, Copy, Debug, PartialEq, Eq)]
@@ -32,7 +42,7 @@ enum Slot {
     Inside(usize),
     Priority,
     Ties,
-    Other,
+    Key,
 }
 
 // What a declaration is of, and what it makes of that.
@@ -57,7 +67,7 @@ fn slot_of(what: &Declared) -> Option<(Name, Slot)> {
         Declared::Priority { class } => Some((*class, Slot::Priority)),
         Declared::Ties { class } => Some((*class, Slot::Ties)),
         Declared::RankKey { attribute, .. } | Declared::TieKey { attribute, .. } => {
-            Some((*attribute, Slot::Other))
+            Some((*attribute, Slot::Key))
         }
         Declared::Normally { .. } | Declared::PriorityOrder | Declared::Main => None,
     }
@@ -66,7 +76,7 @@ fn slot_of(what: &Declared) -> Option<(Name, Slot)> {
 // Whether a name may be both, in one program.
 fn may_be_both(left: Slot, right: Slot) -> bool {
     match (left, right) {
-        (Slot::Other, _) | (_, Slot::Other) => true,
+        (Slot::Key, _) | (_, Slot::Key) => true,
         (Slot::Subject, Slot::Subject) => false,
         (Slot::Subject, _) | (_, Slot::Subject) => true,
         (Slot::Priority, Slot::Priority) | (Slot::Ties, Slot::Ties) => false,
@@ -96,131 +106,132 @@ fn slot_words(slot: Slot) -> &'static str {
         Slot::Routine => "a routine",
         Slot::Event => "an event",
         Slot::Inside(_) => "a local variable",
-        Slot::Priority | Slot::Ties | Slot::Other => "a name",
+        Slot::Priority | Slot::Ties | Slot::Key => "a name",
     }
 }
 
-// The name in a line that an earlier declaration has, with both slots and the earlier line.
-fn repeated(all: &[Declaration], line: Line) -> Option<(Name, Slot, Slot, Line)> {
-    let mut looked_at: usize = 0;
-    for (place, one) in all.iter().enumerate() {
-        if one.line.0 != line.0 {
-            continue;
+// The declarations of the line, by their places among all.
+fn places_in_line(alloc: Global, read: &Read<'_>) -> Result<Vec<usize>, AllocError> {
+    let mut places = Vec::new(alloc);
+    for (place, one) in read.all.iter().enumerate() {
+        if one.line.0 == read.line && places.len() < LOOKED_AT {
+            places.push(place)?;
         }
-        looked_at = looked_at.saturating_add(1);
-        if looked_at > LOOKED_AT {
-            return None;
-        }
-        let Some((name, slot)) = slot_of(&one.what) else {
+    }
+    Ok(places)
+}
+
+// The name in the line that an earlier declaration has, with both slots and the earlier line.
+fn repeated(alloc: Global, read: &Read<'_>) -> Result<Option<(Name, Slot, Slot, u32)>, AllocError> {
+    for place in places_in_line(alloc, read)? {
+        let Some((name, slot)) = slot_at(read.all, place) else {
             continue;
         };
-        for earlier in all.iter().take(place) {
+        for earlier in read.all.iter().take(place) {
             if let Some((other, before)) = slot_of(&earlier.what) {
                 if other == name && !may_be_both(before, slot) {
-                    return Some((name, before, slot, earlier.line));
+                    return Ok(Some((name, before, slot, earlier.line.0)));
                 }
             }
         }
     }
-    None
+    Ok(None)
 }
 
-// Adds the line of a refusal with these words, where no name is known to be wrong.
-fn plain(page: &mut Page, text: &[u8], line: Line, words: &str) -> Result<(), AllocError> {
-    page.words("line ")?;
-    page.number(u64::from(line.0))?;
-    page.words(": ")?;
-    page.words(words)?;
-    page.end_line()?;
-    show_marked(page, text, line.0, None)
+// What the declaration at a place is of, and what it makes of that.
+fn slot_at(all: &[Declaration], place: usize) -> Option<(Name, Slot)> {
+    slot_of(&all.get(place)?.what)
 }
 
 // 51.
-fn explain_twice(
-    alloc: Global,
-    page: &mut Page,
-    text: &[u8],
-    all: &[Declaration],
-    line: Line,
-) -> Result<(), AllocError> {
-    let Some((name, before, slot, earlier)) = repeated(all, line) else {
-        plain(page, text, line, "it is said twice")?;
-        page.words("Cure: Leave the second of the two out, or use another name.")?;
-        return page.end_line();
+fn explain_twice(page: &mut Page, read: &Read<'_>) -> Result<(), AllocError> {
+    let Some((name, before, slot, earlier)) = repeated(page.alloc(), read)? else {
+        add_line(page, read.text, read.line, "it is said twice", &[])?;
+        return page.cure("Leave the second of the two out, or use another name.", &[]);
     };
-    begin_with_name(page, line.0, name.bytes())?;
-    page.words(slot_words(slot))?;
-    page.words(" here, and ")?;
-    page.words(slot_words(before))?;
-    page.words(" in line ")?;
-    page.number(u64::from(earlier.0))?;
-    show_name(alloc, page, text, line.0, name.bytes())?;
-    show_marked(page, text, earlier.0, None)?;
-    add_cure(
+    add_name(
         page,
-        "use another name for one of the two, or leave out what says the same of ",
+        read.text,
+        read.line,
         name.bytes(),
-        " again.",
+        "{} here, and {} in line {}",
+        &[
+            Words(slot_words(slot)),
+            Words(slot_words(before)),
+            Part::Line(earlier),
+        ],
+    )?;
+    show_line(page, read.text, earlier)?;
+    page.cure(
+        "Use another name for one of the two, or leave out what says the same of {} again.",
+        &[Bytes(name.bytes())],
     )
 }
 
+// The name that a declaration gives the mode REAL.
+fn real_of(what: &Declared) -> Option<Name> {
+    match what {
+        Declared::Variable {
+            variable,
+            mode: Mode::Real,
+        }
+        | Declared::Local {
+            variable,
+            mode: Mode::Real,
+            ..
+        } => Some(*variable),
+        _ => None,
+    }
+}
+
 // 52.
-fn explain_mode(
-    alloc: Global,
-    page: &mut Page,
-    text: &[u8],
-    program: &Program,
-    all: &[Declaration],
-    line: Line,
-) -> Result<(), AllocError> {
+fn explain_mode(page: &mut Page, read: &Read<'_>) -> Result<(), AllocError> {
     let mut usual = false;
-    for one in all {
-        if let Declared::Normally { .. } = &one.what {
-            usual = true;
-        }
-        let real = match &one.what {
-            Declared::Variable {
-                variable,
-                mode: Mode::Real,
-            } => Some(*variable),
-            Declared::Local {
-                variable,
-                mode: Mode::Real,
-                ..
-            } => Some(*variable),
-            _ => None,
-        };
-        if let (Some(name), true) = (real, one.line.0 == line.0) {
-            begin_with_name(page, line.0, name.bytes())?;
-            page.words("it is said to be REAL")?;
-            show_name(alloc, page, text, line.0, name.bytes())?;
-            page.words(
-                "Cure: Write INTEGER in place of REAL, and count in smaller units, as tenths; MEAN prints decimals.",
+    for one in read.all {
+        usual = usual || matches!(&one.what, Declared::Normally { .. });
+        if let (Some(name), true) = (real_of(&one.what), one.line.0 == read.line) {
+            add_name(
+                page,
+                read.text,
+                read.line,
+                name.bytes(),
+                "it is said to be REAL",
+                &[],
             )?;
-            return page.end_line();
+            return page.cure(
+                "Write INTEGER in place of REAL, and count in smaller units, as tenths; MEAN prints decimals.",
+                &[],
+            );
         }
     }
-    match name_without_mode(alloc, program, all, line)? {
+    match name_without_mode(page.alloc(), read)? {
         Some(name) => {
-            begin_with_name(page, line.0, name.bytes())?;
-            page.words("this name has no mode")?;
-            show_name(alloc, page, text, line.0, name.bytes())?;
+            add_name(
+                page,
+                read.text,
+                read.line,
+                name.bytes(),
+                "this name has no mode",
+                &[],
+            )?;
         }
-        None => plain(page, text, line, "a name here has no mode")?,
+        None => add_line(page, read.text, read.line, "a name here has no mode", &[])?,
     }
-    page.words(if usual {
-        "Cure: Write NORMALLY, MODE IS INTEGER: there is no REAL."
-    } else {
-        "Cure: Write NORMALLY, MODE IS INTEGER in the line after PREAMBLE, which gives a mode to all names, or a DEFINE for this one."
-    })?;
-    page.end_line()
+    page.cure(
+        if usual {
+            "Write NORMALLY, MODE IS INTEGER: there is no REAL."
+        } else {
+            "Write NORMALLY, MODE IS INTEGER in the line after PREAMBLE, which gives a mode to all names, or a DEFINE for this one."
+        },
+        &[],
+    )
 }
 
 // Whether a declaration gives a name a meaning or a mode in all sections.
 fn is_global(all: &[Declaration], name: &Name) -> bool {
     all.iter().any(|one| match slot_of(&one.what) {
         Some((other, slot)) => {
-            other == *name && !matches!(slot, Slot::Inside(_) | Slot::Subject | Slot::Other)
+            other == *name && !matches!(slot, Slot::Inside(_) | Slot::Subject | Slot::Key)
         }
         None => false,
     })
@@ -234,55 +245,48 @@ fn is_defined(all: &[Declaration], name: &Name) -> bool {
     })
 }
 
-// The first name of a line that has no mode.
-fn name_without_mode(
-    alloc: Global,
-    program: &Program,
-    all: &[Declaration],
-    line: Line,
-) -> Result<Option<Name>, AllocError> {
-    let mut looked_at: usize = 0;
-    for one in all {
-        if one.line.0 != line.0 {
-            continue;
+// The name that a declaration gives no mode.
+fn modeless_of(what: &Declared) -> Option<Name> {
+    match what {
+        Declared::Attribute {
+            attribute: name,
+            ..
         }
-        looked_at = looked_at.saturating_add(1);
-        if looked_at > LOOKED_AT {
-            return Ok(None);
-        }
-        match &one.what {
-            Declared::Attribute {
-                attribute: name,
-                ..
+        | Declared::Parameter {
+            parameter: name,
+            ..
+        } => Some(*name),
+        _ => None,
+    }
+}
+
+// The first name of the line that has no mode.
+fn name_without_mode(alloc: Global, read: &Read<'_>) -> Result<Option<Name>, AllocError> {
+    for place in places_in_line(alloc, read)? {
+        let name = match read.all.get(place) {
+            Some(one) => modeless_of(&one.what),
+            None => None,
+        };
+        if let Some(name) = name {
+            if !is_defined(read.all, &name) {
+                return Ok(Some(name));
             }
-            | Declared::Parameter {
-                parameter: name,
-                ..
-            } => {
-                if !is_defined(all, name) {
-                    return Ok(Some(*name));
-                }
-            }
-            _ => {}
         }
     }
-    for section in &program.sections {
+    let mut looked_at: usize = 0;
+    for section in &read.program.sections {
         for one in &uses_of(alloc, section)? {
-            if one.line.0 != line.0 {
-                continue;
-            }
-            looked_at = looked_at.saturating_add(1);
-            if looked_at > LOOKED_AT {
-                return Ok(None);
-            }
             if let Used::Place {
                 place: Designator::Name(name),
                 subscripts: 0,
                 ..
             } = &one.what
             {
-                if !is_global(all, name) && !is_defined(all, name) {
-                    return Ok(Some(*name));
+                if one.line.0 == read.line && looked_at < LOOKED_AT {
+                    looked_at += 1;
+                    if !is_global(read.all, name) && !is_defined(read.all, name) {
+                        return Ok(Some(*name));
+                    }
                 }
             }
         }
@@ -290,249 +294,183 @@ fn name_without_mode(
     Ok(None)
 }
 
-// The names of one kind.
-fn names_where<F: Fn(&Declared) -> Option<Name>>(
-    alloc: Global,
-    all: &[Declaration],
-    pick: F,
-) -> Result<Vec<Name>, AllocError> {
+// The names in one slot.
+fn names_in(alloc: Global, all: &[Declaration], wanted: Slot) -> Result<Vec<Name>, AllocError> {
     let mut found = Vec::new(alloc);
     for one in all {
-        if let Some(name) = pick(&one.what) {
-            found.push(name)?;
+        if let Some((name, slot)) = slot_of(&one.what) {
+            if slot == wanted {
+                found.push(name)?;
+            }
         }
     }
     Ok(found)
 }
 
-fn notice_of(what: &Declared) -> Option<Name> {
-    match what {
-        Declared::Class {
+// The names of the event notices.
+fn notices_in(alloc: Global, all: &[Declaration]) -> Result<Vec<Name>, AllocError> {
+    let mut found = Vec::new(alloc);
+    for one in all {
+        if let Declared::Class {
             class,
             kind: ClassKind::Notice,
-        } => Some(*class),
-        _ => None,
+        } = &one.what
+        {
+            found.push(*class)?;
+        }
     }
+    Ok(found)
 }
 
-fn owned_of(what: &Declared) -> Option<Name> {
-    match what {
-        Declared::Owner { set, .. } => Some(*set),
-        _ => None,
-    }
-}
-
-fn joined_of(what: &Declared) -> Option<Name> {
-    match what {
-        Declared::Member { set, .. } => Some(*set),
-        _ => None,
-    }
-}
-
-fn attribute_of(what: &Declared) -> Option<Name> {
-    match what {
-        Declared::Attribute { attribute, .. } => Some(*attribute),
-        _ => None,
-    }
-}
-
-// The first name of a line that is picked, and is not among the known ones.
-fn first_unknown<F: Fn(&Declared) -> Option<Name>>(
-    all: &[Declaration],
-    line: Line,
-    pick: F,
+// The first name of the line in one of these slots that is not among the known ones; where all are, the first.
+fn name_in_line(
+    alloc: Global,
+    read: &Read<'_>,
+    slots: &[Slot],
     known: &[Name],
-) -> Option<Name> {
-    let mut looked_at: usize = 0;
-    for one in all {
-        if one.line.0 == line.0 {
-            looked_at = looked_at.saturating_add(1);
-            if looked_at > LOOKED_AT {
-                return None;
-            }
-            if let Some(name) = pick(&one.what) {
+) -> Result<Option<Name>, AllocError> {
+    let mut first = None;
+    for place in places_in_line(alloc, read)? {
+        if let Some((name, slot)) = slot_at(read.all, place) {
+            if slots.contains(&slot) {
                 if !known.contains(&name) {
-                    return Some(name);
+                    return Ok(Some(name));
                 }
+                first = first.or(Some(name));
             }
         }
     }
-    None
+    Ok(first)
 }
 
-// Says that a name of the line is not among the known ones, and what helps.
+// Says that a name of the line, in one of these slots, is not among the known ones. The words say what is wrong, and what helps
+// before and after the name.
 fn explain_unknown(
-    alloc: Global,
     page: &mut Page,
-    text: &[u8],
-    line: Line,
-    name: Option<Name>,
+    read: &Read<'_>,
+    slots: &[Slot],
     known: &[Name],
     words: (&str, &str, &str),
 ) -> Result<(), AllocError> {
     let (what, before, after) = words;
-    match name {
-        Some(name) => {
-            begin_with_name(page, line.0, name.bytes())?;
-            page.words(what)?;
-            show_name(alloc, page, text, line.0, name.bytes())?;
-            if !add_nearest(alloc, page, name.bytes(), known)? {
-                add_cure(page, before, name.bytes(), after)?;
-            }
-            Ok(())
-        }
-        None => plain(page, text, line, what),
+    let Some(name) = name_in_line(page.alloc(), read, slots, known)? else {
+        return add_line(page, read.text, read.line, what, &[]);
+    };
+    add_name(page, read.text, read.line, name.bytes(), what, &[])?;
+    if add_nearest(page, name.bytes(), known)? {
+        return Ok(());
     }
+    page.cure(
+        "{}{}{}",
+        &[Words(before), Bytes(name.bytes()), Words(after)],
+    )
 }
 
 // 53.
-fn explain_class(
-    alloc: Global,
-    page: &mut Page,
-    text: &[u8],
-    all: &[Declaration],
-    line: Line,
-) -> Result<(), AllocError> {
-    let known = names_where(alloc, all, notice_of)?;
-    let pick = |what: &Declared| match what {
-        Declared::Priority { class } | Declared::Ties { class } => Some(*class),
-        _ => None,
-    };
-    let name = first_unknown(all, line, pick, known.as_slice());
+fn explain_class(page: &mut Page, read: &Read<'_>) -> Result<(), AllocError> {
+    let known = notices_in(page.alloc(), read.all)?;
     let words = (
         "no event notice has this name",
-        "write ",
+        "Write ",
         " under EVENT NOTICES, or leave it out here.",
     );
-    explain_unknown(alloc, page, text, line, name, known.as_slice(), words)
+    explain_unknown(
+        page,
+        read,
+        &[Slot::Priority, Slot::Ties],
+        known.as_slice(),
+        words,
+    )
 }
 
-// 54, 55 and 56.
+// 54, 55 and 56: a set that the line names in one slot, and nothing in another one.
 fn explain_set(
-    alloc: Global,
     page: &mut Page,
-    text: &[u8],
-    all: &[Declaration],
-    error: &TableError,
+    read: &Read<'_>,
+    slot: Slot,
+    missing: Slot,
 ) -> Result<(), AllocError> {
-    let owned = names_where(alloc, all, owned_of)?;
-    let joined = names_where(alloc, all, joined_of)?;
-    match error {
-        TableError::NoOwner(line) => {
-            let name = first_unknown(all, *line, joined_of, owned.as_slice());
-            let words = (
-                "entities may belong to it, and nobody owns it",
-                "write THE SYSTEM OWNS A ",
-                ", or OWNS it in an EVERY.",
-            );
-            explain_unknown(alloc, page, text, *line, name, owned.as_slice(), words)
-        }
-        TableError::NoMember(line) => {
-            let name = first_unknown(all, *line, owned_of, joined.as_slice());
-            let words = (
-                "it has an owner, and no class of members",
-                "write MAY BELONG TO A ",
-                " in the EVERY of its members.",
-            );
-            explain_unknown(alloc, page, text, *line, name, joined.as_slice(), words)
-        }
-        TableError::UnknownSet(line) => {
-            let pick = |what: &Declared| match what {
-                Declared::Order { set, .. } => Some(*set),
-                _ => None,
-            };
-            let name = first_unknown(all, *line, pick, owned.as_slice());
-            let words = (
-                "no set has this name",
-                "write THE SYSTEM OWNS A ",
-                ", and MAY BELONG TO it in the EVERY of its members.",
-            );
-            explain_unknown(alloc, page, text, *line, name, owned.as_slice(), words)
-        }
-        _ => Ok(()),
-    }
+    let known = names_in(page.alloc(), read.all, missing)?;
+    let words = match slot {
+        Slot::Member => (
+            "entities may belong to it, and nobody owns it",
+            "Write THE SYSTEM OWNS A ",
+            ", or OWNS it in an EVERY.",
+        ),
+        Slot::Owner => (
+            "it has an owner, and no class of members",
+            "Write MAY BELONG TO A ",
+            " in the EVERY of its members.",
+        ),
+        _ => (
+            "no set has this name",
+            "Write THE SYSTEM OWNS A ",
+            ", and MAY BELONG TO it in the EVERY of its members.",
+        ),
+    };
+    explain_unknown(page, read, &[slot], known.as_slice(), words)
 }
 
 // 57 and 60.
-fn explain_key(
-    alloc: Global,
-    page: &mut Page,
-    text: &[u8],
-    all: &[Declaration],
-    line: Line,
-    words: &str,
-) -> Result<(), AllocError> {
-    let known = names_where(alloc, all, attribute_of)?;
-    let pick = |what: &Declared| match what {
-        Declared::RankKey { attribute, .. } | Declared::TieKey { attribute, .. } => {
-            Some(*attribute)
-        }
-        _ => None,
-    };
-    let unknown = first_unknown(all, line, pick, known.as_slice());
-    let name = match unknown {
-        Some(name) => Some(name),
-        None => first_unknown(all, line, pick, &[]),
-    };
-    let said = (
-        words,
-        "give ",
+fn explain_key(page: &mut Page, read: &Read<'_>, what: &str) -> Result<(), AllocError> {
+    let known = names_in(page.alloc(), read.all, Slot::Attribute)?;
+    let words = (
+        what,
+        "Give ",
         " to the EVERY by HAS, or name an attribute that it has.",
     );
-    explain_unknown(alloc, page, text, line, name, known.as_slice(), said)
+    explain_unknown(page, read, &[Slot::Key], known.as_slice(), words)
+}
+
+// What is wrong in the line, and what helps.
+fn explain_line(
+    page: &mut Page,
+    read: &Read<'_>,
+    what: &str,
+    cure: &str,
+) -> Result<(), AllocError> {
+    add_line(page, read.text, read.line, what, &[])?;
+    page.cure(cure, &[])
 }
 
 /// Explains a text that is refused for what it declares.
 pub fn explain_declared(
-    alloc: Global,
     page: &mut Page,
     text: &[u8],
     program: &Program,
     error: &TableError,
 ) -> Result<(), AllocError> {
-    let all = declarations_of(alloc, program)?;
+    let all = declarations_of(page.alloc(), program)?;
+    let (_, line) = error.order_of();
+    let read = &Read {
+        text,
+        program,
+        all: all.as_slice(),
+        line,
+    };
     match error {
-        TableError::Twice(line) => explain_twice(alloc, page, text, all.as_slice(), *line),
-        TableError::RealMode(line) => {
-            explain_mode(alloc, page, text, program, all.as_slice(), *line)
+        TableError::Twice(_) => explain_twice(page, read),
+        TableError::RealMode(_) => explain_mode(page, read),
+        TableError::UnknownClass(_) => explain_class(page, read),
+        TableError::UnknownSet(_) => explain_set(page, read, Slot::Order, Slot::Owner),
+        TableError::NoOwner(_) => explain_set(page, read, Slot::Member, Slot::Owner),
+        TableError::NoMember(_) => explain_set(page, read, Slot::Owner, Slot::Member),
+        TableError::RankKey(_) => {
+            explain_key(page, read, "it is no attribute of the set's members")
         }
-        TableError::UnknownClass(line) => explain_class(alloc, page, text, all.as_slice(), *line),
-        TableError::UnknownSet(_) | TableError::NoOwner(_) | TableError::NoMember(_) => {
-            explain_set(alloc, page, text, all.as_slice(), error)
-        }
-        TableError::RankKey(line) => explain_key(
-            alloc,
+        TableError::TieKey(_) => explain_key(page, read, "it is no attribute of the event notice"),
+        TableError::TallyTwice(_) => explain_line(
             page,
-            text,
-            all.as_slice(),
-            *line,
-            "it is no attribute of the set's members",
+            read,
+            "this name has a TALLY or an ACCUMULATE already",
+            "Name all statistics of it in one TALLY or ACCUMULATE, or give it to a second variable by LET.",
         ),
-        TableError::TieKey(line) => explain_key(
-            alloc,
+        TableError::TooMany(_) => explain_line(
             page,
-            text,
-            all.as_slice(),
-            *line,
-            "it is no attribute of the event notice",
+            read,
+            "more than 64 of them",
+            "Use one class with an attribute in place of many classes.",
         ),
-        TableError::TallyTwice(line) => {
-            plain(
-                page,
-                text,
-                *line,
-                "this name has a TALLY or an ACCUMULATE already",
-            )?;
-            page.words(
-                "Cure: Name all statistics of it in one TALLY or ACCUMULATE, or give it to a second variable by LET.",
-            )?;
-            page.end_line()
-        }
-        TableError::TooMany(line) => {
-            plain(page, text, *line, "more than 64 of them")?;
-            page.words("Cure: Use one class with an attribute in place of many classes.")?;
-            page.end_line()
-        }
         TableError::Memory => Ok(()),
     }
 }

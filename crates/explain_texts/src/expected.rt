@@ -5,17 +5,13 @@ use crate::candidates::{
     is_grouped,
 };
 use crate::page::Page;
+use crate::page::Part::Words;
 use crate::spellings::spelling_of;
 use ss_lex::{Symbol, Word};
 use std::alloc::{AllocError, Global};
 
 // What candidates are called together, if they are there.
-fn add_groups(
-    alloc: Global,
-    all: &mut Vec<&'static str>,
-    candidates: &[Candidate],
-) -> Result<(), AllocError> {
-    let _ = alloc;
+fn add_groups(all: &mut Vec<&'static str>, candidates: &[Candidate]) -> Result<(), AllocError> {
     if has_relation(candidates) {
         all.push("a relation as =, NE, LT, GT, LE or GE")?;
     }
@@ -81,26 +77,23 @@ fn sign_of(symbol: Symbol) -> &'static str {
     }
 }
 
-// The signs that are expected where nothing else is.
-fn add_signs(all: &mut Vec<&'static str>, candidates: &[Candidate]) -> Result<(), AllocError> {
-    for candidate in candidates {
-        if let Candidate::Symbol(symbol) = candidate {
-            all.push(sign_of(*symbol))?;
-        }
-    }
-    Ok(())
-}
-
-// The signs that close or assign, which nothing else stands for.
-fn add_needed_signs(
+// The signs that are expected: all, or those that close or assign, which nothing else stands for.
+fn add_signs(
     all: &mut Vec<&'static str>,
     candidates: &[Candidate],
+    needed: bool,
 ) -> Result<(), AllocError> {
-    if candidates.contains(&Candidate::Symbol(Symbol::CloseParenthesis)) {
-        all.push(")")?;
-    }
-    if candidates.contains(&Candidate::Symbol(Symbol::Equals)) && !has_relation(candidates) {
-        all.push("=")?;
+    for candidate in candidates {
+        if let Candidate::Symbol(symbol) = candidate {
+            let is_needed = match symbol {
+                Symbol::CloseParenthesis => true,
+                Symbol::Equals => !has_relation(candidates),
+                _ => false,
+            };
+            if is_needed || !needed {
+                all.push(sign_of(*symbol))?;
+            }
+        }
     }
     Ok(())
 }
@@ -109,8 +102,8 @@ fn add_needed_signs(
 fn names_of(alloc: Global, candidates: &[Candidate]) -> Result<Vec<&'static str>, AllocError> {
     let mut all = Vec::new(alloc);
     add_words(&mut all, candidates, false)?;
-    add_needed_signs(&mut all, candidates)?;
-    add_groups(alloc, &mut all, candidates)?;
+    add_signs(&mut all, candidates, true)?;
+    add_groups(&mut all, candidates)?;
     if candidates.contains(&Candidate::End) {
         all.push("the end of the text")?;
     }
@@ -118,7 +111,7 @@ fn names_of(alloc: Global, candidates: &[Candidate]) -> Result<Vec<&'static str>
         add_words(&mut all, candidates, true)?;
     }
     if all.is_empty() {
-        add_signs(&mut all, candidates)?;
+        add_signs(&mut all, candidates, false)?;
     }
     Ok(all)
 }
@@ -126,19 +119,23 @@ fn names_of(alloc: Global, candidates: &[Candidate]) -> Result<Vec<&'static str>
 /// The most things that a message names.
 const NAMED: usize = 9;
 
-/// Adds what was expected, as `A, AN or THE`. Nothing where there is no candidate.
-pub fn add_expected(
-    alloc: Global,
-    page: &mut Page,
-    candidates: &[Candidate],
-) -> Result<(), AllocError> {
+/// What was expected, as `expected A, AN or THE`.
+pub fn expected_words(alloc: Global, candidates: &[Candidate]) -> Result<Page, AllocError> {
+    let mut page = Page::new(alloc);
+    if candidates.is_empty() {
+        page.say("it doesn't fit here", &[])?;
+        return Ok(page);
+    }
     let all = names_of(alloc, candidates)?;
     let count = all.len().min(NAMED);
+    let mut before = "expected ";
     for (place, name) in all.iter().take(count).enumerate() {
-        if place > 0 {
-            page.words(if place + 1 == count { " or " } else { ", " })?;
-        }
-        page.words(name)?;
+        page.say("{}{}", &[Words(before), Words(name)])?;
+        before = if place.saturating_add(2) == count {
+            " or "
+        } else {
+            ", "
+        };
     }
-    Ok(())
+    Ok(page)
 }

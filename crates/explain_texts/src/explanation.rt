@@ -10,11 +10,12 @@ use crate::syntax::{explain_depth, explain_syntax};
 use crate::used::{Read, explain_used};
 use ss_check_rules::{CheckError, judge};
 use ss_lex::{LexError, Tokens, tokens};
+use ss_names_declarations::Breach;
 use ss_parse::{ParseError, Reach, parse, reach_of};
 use ss_tables::{TableError, Tables};
 use ss_tree::program::Program;
 use ss_tree::release::release_tree;
-use std::alloc::{AllocError, Global};
+use std::alloc::AllocError;
 
 /// What is wrong with a text that is refused for its words or its names.
 #[derive(Clone, Copy, Debug, PartialEq, Eq)]
@@ -31,7 +32,7 @@ impl Wrong {
         match self {
             Wrong::Lexed(error) => error.number(),
             Wrong::Parsed(error) => error.number(),
-            Wrong::Declared(error) => declared_number(error),
+            Wrong::Declared(error) => error.order_of().0,
             Wrong::Used(error) => used_number(error),
         }
     }
@@ -53,89 +54,65 @@ fn used_number(error: &CheckError) -> u32 {
     }
 }
 
-// The number of a refusal for what a program declares.
-fn declared_number(error: &TableError) -> u32 {
-    match error {
-        TableError::Twice(_) => 51,
-        TableError::RealMode(_) => 52,
-        TableError::UnknownClass(_) => 53,
-        TableError::UnknownSet(_) => 54,
-        TableError::NoOwner(_) => 55,
-        TableError::NoMember(_) => 56,
-        TableError::RankKey(_) => 57,
-        TableError::TallyTwice(_) => 58,
-        TableError::TooMany(_) => 59,
-        TableError::TieKey(_) => 60,
-        TableError::Memory => 0,
-    }
-}
-
 // Explains tokens that spell no program.
-fn explain_tokens(
-    alloc: Global,
-    page: &mut Page,
-    text: &[u8],
-    all: &Tokens,
-) -> Result<(), AllocError> {
-    match reach_of(alloc, all.list())? {
+fn explain_tokens(page: &mut Page, text: &[u8], all: &Tokens) -> Result<(), AllocError> {
+    match reach_of(page.alloc(), all.list())? {
         Reach::Whole => Ok(()),
-        Reach::Stopped(at) => explain_syntax(alloc, page, text, all.list(), at),
-        Reach::TooDeep(at) => explain_depth(alloc, page, text, all.list(), at),
+        Reach::Stopped(at) => explain_syntax(page, text, all.list(), at),
+        Reach::TooDeep(at) => explain_depth(page, text, all.list(), at),
     }
 }
 
-// The rule that a program breaks by what it does with its names, explained.
+// The rule that a program breaks by what it does with its names, explained; notes where it breaks none.
 fn explain_names(
-    alloc: Global,
     page: &mut Page,
     text: &[u8],
     program: &Program,
     tables: &Tables,
 ) -> Result<Option<Wrong>, AllocError> {
-    let broken = match judge(alloc, program, tables.names()) {
+    let names = tables.names();
+    let broken = match judge(page.alloc(), program, names) {
         Ok((broken, _locals)) => broken,
         Err(_) => return Err(AllocError),
     };
-    let Some(error) = broken else {
-        return Ok(None);
-    };
-    let sections = Sections::of(alloc, program, tables.names())?;
+    let sections = Sections::of(page.alloc(), program, names)?;
     let read = Read {
         text,
         program,
-        names: tables.names(),
+        names,
         sections: &sections,
     };
-    explain_used(alloc, page, &read, &error)?;
-    Ok(Some(Wrong::Used(error)))
-}
-
-// The rule that a program breaks, explained; notes where it breaks none.
-fn explain_program(
-    alloc: Global,
-    page: &mut Page,
-    text: &[u8],
-    program: &Program,
-) -> Result<Option<Wrong>, AllocError> {
-    match Tables::of(alloc, program) {
-        Err(TableError::Memory) => Err(AllocError),
-        Err(error) => {
-            explain_declared(alloc, page, text, program, &error)?;
-            Ok(Some(Wrong::Declared(error)))
+    match broken {
+        Some(error) => {
+            explain_used(page, &read, &error)?;
+            Ok(Some(Wrong::Used(error)))
         }
-        Ok(tables) => {
-            let wrong = explain_names(alloc, page, text, program, &tables)?;
-            if wrong.is_none() {
-                add_notes(alloc, page, text, program, tables.names())?;
-            }
-            Ok(wrong)
+        None => {
+            add_notes(page, &read)?;
+            Ok(None)
         }
     }
 }
 
+// The rule that a program breaks, explained; notes where it breaks none.
+fn explain_program(
+    page: &mut Page,
+    text: &[u8],
+    program: &Program,
+) -> Result<Option<Wrong>, AllocError> {
+    match Tables::of(page.alloc(), program) {
+        Err(TableError::Memory) => Err(AllocError),
+        Err(error) => {
+            explain_declared(page, text, program, &error)?;
+            Ok(Some(Wrong::Declared(error)))
+        }
+        Ok(tables) => explain_names(page, text, program, &tables),
+    }
+}
+
 // What is wrong with a text, without its rule.
-fn explain_whole(alloc: Global, page: &mut Page, text: &[u8]) -> Result<Option<Wrong>, AllocError> {
-    let all = match tokens(alloc, text) {
+fn explain_whole(page: &mut Page, text: &[u8]) -> Result<Option<Wrong>, AllocError> {
+    let all = match tokens(page.alloc(), text) {
         Ok(all) => all,
         Err(LexError::Memory) => return Err(AllocError),
         Err(error) => {
@@ -143,15 +120,15 @@ fn explain_whole(alloc: Global, page: &mut Page, text: &[u8]) -> Result<Option<W
             return Ok(Some(Wrong::Lexed(error)));
         }
     };
-    match parse(alloc, &all) {
+    match parse(page.alloc(), &all) {
         Ok(program) => {
-            let answer = explain_program(alloc, page, text, &program);
+            let answer = explain_program(page, text, &program);
             release_tree(program);
             answer
         }
         Err(ParseError::Memory) => Err(AllocError),
         Err(error) => {
-            explain_tokens(alloc, page, text, &all)?;
+            explain_tokens(page, text, &all)?;
             Ok(Some(Wrong::Parsed(error)))
         }
     }
@@ -160,12 +137,8 @@ fn explain_whole(alloc: Global, page: &mut Page, text: &[u8]) -> Result<Option<W
 /// Explains why a text is refused: the place, what is wrong there, what helps, and the rule with the heading of the manual.
 /// It answers what is wrong. Where a text is not refused for its words or its names it answers None, and the page has
 /// notes on what is right and looks odd. The error comes where memory was refused.
-pub fn explain_text(
-    alloc: Global,
-    page: &mut Page,
-    text: &[u8],
-) -> Result<Option<Wrong>, AllocError> {
-    let wrong = explain_whole(alloc, page, text)?;
+pub fn explain_text(page: &mut Page, text: &[u8]) -> Result<Option<Wrong>, AllocError> {
+    let wrong = explain_whole(page, text)?;
     if let Some(wrong) = &wrong {
         add_rule(page, wrong.number())?;
     }

@@ -1,6 +1,6 @@
 //! Changes of a text, each tried by reading the changed text.
 
-use crate::page::Page;
+use crate::page::{Page, Part};
 use crate::places::Stretch;
 use ss_lex::{LexError, Token, tokens};
 use ss_parse::{Reach, reach_of};
@@ -9,9 +9,16 @@ use std::alloc::{AllocError, Global};
 /// A change of a text: a stretch of it gives way to other bytes. And what is said of it.
 #[derive(Drop)]
 pub struct Fix {
-    pub stretch: Stretch,
-    pub with: Vec<u8>,
+    stretch: Stretch,
+    with: Page,
     pub say: Page,
+}
+
+/// Changes that are to be tried, those first that say most.
+#[derive(Drop)]
+pub struct Fixes {
+    alloc: Global,
+    all: Vec<Fix>,
 }
 
 /// The part of a text in which changes are tried. It begins with a section, or with the text.
@@ -20,6 +27,69 @@ pub struct Window<'a> {
     pub bytes: &'a [u8],
     /// Where it begins in the text.
     pub start: usize,
+}
+
+impl Fixes {
+    /// No changes.
+    pub fn new(alloc: Global) -> Fixes {
+        Fixes {
+            alloc,
+            all: Vec::new(alloc),
+        }
+    }
+
+    /// Where their memory comes from.
+    pub fn alloc(&self) -> Global {
+        self.alloc
+    }
+
+    /// Adds a change: a stretch gives way to these parts. And what is said of it.
+    pub fn replace(
+        &mut self,
+        stretch: Stretch,
+        with: &[Part<'_>],
+        say: &str,
+        parts: &[Part<'_>],
+    ) -> Result<(), AllocError> {
+        let mut bytes = Page::new(self.alloc);
+        bytes.parts(with)?;
+        let mut said = Page::new(self.alloc);
+        said.say(say, parts)?;
+        self.all.push(Fix {
+            stretch,
+            with: bytes,
+            say: said,
+        })?;
+        Ok(())
+    }
+
+    /// Adds a change: these parts are put in at a place. And what is said of it.
+    pub fn insert(
+        &mut self,
+        at: usize,
+        with: &[Part<'_>],
+        say: &str,
+        parts: &[Part<'_>],
+    ) -> Result<(), AllocError> {
+        self.replace(Stretch { start: at, end: at }, with, say, parts)
+    }
+
+    /// The first of the changes with which the window is read furthest, where at most so many bytes of it are then left, and one
+    /// more. None where no change is so good.
+    pub fn best(&self, window: Window<'_>, most: usize) -> Result<Option<&Fix>, AllocError> {
+        let mut best = None;
+        let mut least = most;
+        for fix in &self.all {
+            let text = changed(self.alloc, window, fix)?;
+            if let Some(left) = left_after(self.alloc, text.as_slice())? {
+                if left < least || (left == least && best.is_none()) {
+                    least = left;
+                    best = Some(fix);
+                }
+            }
+        }
+        Ok(best)
+    }
 }
 
 // Where the token begins that was not read, or the end of the text. None where all is read.
@@ -60,33 +130,7 @@ fn changed(alloc: Global, window: Window<'_>, fix: &Fix) -> Result<Vec<u8>, Allo
         .min(length)
         .max(start);
     let mut text = Vec::from_slice(alloc, &window.bytes[..start])?;
-    text.extend_from_slice(fix.with.as_slice())?;
+    text.extend_from_slice(fix.with.text.as_slice())?;
     text.extend_from_slice(&window.bytes[end..])?;
     Ok(text)
-}
-
-/// The first of the changes with which the window is read furthest, where at most so many bytes of it are then left, and one
-/// more. None where no change is so good.
-pub fn best_of<'a>(
-    alloc: Global,
-    window: Window<'_>,
-    fixes: &'a [Fix],
-    most: usize,
-) -> Result<Option<&'a Fix>, AllocError> {
-    let mut best = None;
-    let mut least = most;
-    for fix in fixes {
-        let text = changed(alloc, window, fix)?;
-        if let Some(left) = left_after(alloc, text.as_slice())? {
-            let better = match best {
-                None => left <= least,
-                Some(_) => left < least,
-            };
-            if better {
-                least = left;
-                best = Some(fix);
-            }
-        }
-    }
-    Ok(best)
 }

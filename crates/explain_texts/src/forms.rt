@@ -111,9 +111,12 @@ fn begins_declaration(word: Word) -> bool {
 // Whether a form begins with this token.
 fn leads(tokens: &[Token], index: usize) -> bool {
     match word_at(tokens, index) {
-        Some(Word::For) => index == 0 || word_at(tokens, index - 1) != Some(Word::Routine),
-        Some(Word::Every) => index == 0 || word_at(tokens, index - 1) != Some(Word::For),
-        Some(Word::Event) => index == 0 || word_at(tokens, index - 1) != Some(Word::The),
+        Some(Word::For) => index == 0
+            || word_at(tokens, index.saturating_sub(1)) != Some(Word::Routine),
+        Some(Word::Every) => index == 0
+            || word_at(tokens, index.saturating_sub(1)) != Some(Word::For),
+        Some(Word::Event) => index == 0
+            || word_at(tokens, index.saturating_sub(1)) != Some(Word::The),
         Some(word) => {
             begins_statement(word) || begins_declaration(word) || head_at(tokens, index).is_some()
         }

@@ -1,95 +1,56 @@
 //! Changes for what is open too long or closed too early: IFs without ALWAYS, loops without DO or LOOP, sections without END.
 
-use crate::fixes::Fix;
-use crate::opens::{Construct, Open, head_at, is_first_of_line, line_of, word_at};
+use crate::fixes::Fixes;
+use crate::opens::{Construct, Open, is_first_of_line};
 use crate::page::Page;
-use crate::places::{Stretch, indentation, is_blank, spelled};
+use crate::page::Part::{Bytes, Capitals, Line, Words};
+use crate::places::{indentation, is_blank};
 use crate::spellings::begins_statement;
 use crate::trouble::Trouble;
-use ss_lex::{Token, TokenKind, Word};
+use ss_lex::{TokenKind, Word};
 use std::alloc::{AllocError, Global};
 
-// A change that puts words in at a place.
-fn put_in(alloc: Global, at: usize, with: &[u8], say: Page) -> Result<Fix, AllocError> {
-    Ok(Fix {
-        stretch: Stretch { start: at, end: at },
-        with: Vec::from_slice(alloc, with)?,
-        say,
-    })
-}
-
-// How many words of this kind a line has from a token on.
-fn count_in_line(tokens: &[Token], from: usize, wanted: Word) -> usize {
-    let line = line_of(tokens, from);
-    let mut count: usize = 0;
-    for index in from..tokens.len().min(from.saturating_add(LOOKED_AT)) {
-        if line_of(tokens, index) != line {
-            break;
-        }
-        if word_at(tokens, index) == Some(wanted) {
-            count = count.saturating_add(1);
-        }
-    }
-    count
-}
-
-// The most tokens of a line that are looked at.
-const LOOKED_AT: usize = 2000;
-
-// Whether an IF has a statement on its own line, and its line has no ALWAYS for it.
-fn is_short(tokens: &[Token], token: usize) -> bool {
-    let line = line_of(tokens, token);
+// Whether an IF has a statement on its own line, and the line has fewer ALWAYS than IFs from it on.
+fn is_short(trouble: &Trouble<'_>, token: usize) -> bool {
     let mut has_statement = false;
-    let end = tokens.len().min(token.saturating_add(LOOKED_AT));
-    for index in token.saturating_add(1)..end {
-        if line_of(tokens, index) != line {
-            break;
-        }
-        if let Some(word) = word_at(tokens, index) {
-            has_statement = has_statement || (begins_statement(word) && word != Word::If);
+    let mut ifs: usize = 0;
+    let mut closed: usize = 0;
+    for index in token..trouble.last_of_line(token).saturating_add(1) {
+        match trouble.word(index) {
+            Some(Word::If) => ifs = ifs.saturating_add(1),
+            Some(Word::Always) => closed = closed.saturating_add(1),
+            Some(word) => has_statement = has_statement || begins_statement(word),
+            None => {}
         }
     }
-    has_statement
-        && count_in_line(tokens, token, Word::Always) < count_in_line(tokens, token, Word::If)
-}
-
-// Whether the last token of a line calls for a picture.
-fn calls_for_picture(tokens: &[Token], last: usize) -> bool {
-    matches!(
-        word_at(tokens, last),
-        Some(Word::Thus | Word::This | Word::Follows)
-    )
+    has_statement && closed < ifs
 }
 
 // An ALWAYS at the end of the line of a short IF.
-fn short_if(alloc: Global, trouble: &Trouble<'_>, token: usize) -> Result<Option<Fix>, AllocError> {
-    if !is_short(trouble.tokens, token) {
-        return Ok(None);
-    }
+fn add_short_if(fixes: &mut Fixes, trouble: &Trouble<'_>, token: usize) -> Result<(), AllocError> {
     let last = trouble.last_of_line(token);
-    if calls_for_picture(trouble.tokens, last) {
-        return Ok(None);
+    let calls_for_picture = matches!(
+        trouble.word(last),
+        Some(Word::Thus | Word::This | Word::Follows)
+    );
+    if !is_short(trouble, token) || calls_for_picture {
+        return Ok(());
     }
-    let line = line_of(trouble.tokens, token);
-    let mut say = Page::new(alloc);
-    say.words("The IF of line ")?;
-    say.number(u64::from(line))?;
-    say.words(" has no ALWAYS: an IF on one line needs it too. Write ALWAYS at the end of line ")?;
-    say.number(u64::from(line))?;
-    say.words(".")?;
-    let end = match trouble.tokens.get(last) {
-        Some(token) => token.span.start.saturating_add(token.span.length),
-        None => trouble.text.len(),
-    };
-    Ok(Some(put_in(alloc, end, b" ALWAYS", say)?))
+    let line = Line(trouble.line_of(token));
+    fixes.insert(
+        trouble.stretch(last).end,
+        &[Words(" ALWAYS")],
+        "The IF of line {} has no ALWAYS: an IF on one line needs it too. Write ALWAYS at the end of line {}.",
+        &[line, line],
+    )
 }
 
 // The ALWAYS that closes the inner IF of an `ELSE IF` of an IF.
-fn end_of_else_if(tokens: &[Token], token: usize, at: usize) -> Option<usize> {
+fn end_of_else_if(trouble: &Trouble<'_>, token: usize) -> Option<usize> {
     let mut depth: usize = 0;
     let mut chained = false;
-    for index in token..at.min(tokens.len()) {
-        match word_at(tokens, index) {
+    for index in token..trouble.end() {
+        match trouble.word(index) {
             Some(Word::If) => depth = depth.saturating_add(1),
             Some(Word::Always) => {
                 if chained && depth == 2 {
@@ -98,7 +59,7 @@ fn end_of_else_if(tokens: &[Token], token: usize, at: usize) -> Option<usize> {
                 depth = depth.saturating_sub(1);
             }
             Some(Word::Else) => {
-                let is_if = word_at(tokens, index + 1) == Some(Word::If);
+                let is_if = trouble.word(index.saturating_add(1)) == Some(Word::If);
                 chained = chained || (depth == 1 && is_if);
             }
             _ => {}
@@ -108,50 +69,38 @@ fn end_of_else_if(tokens: &[Token], token: usize, at: usize) -> Option<usize> {
 }
 
 // A second ALWAYS after that of the inner IF of an `ELSE IF`.
-fn else_if(alloc: Global, trouble: &Trouble<'_>, token: usize) -> Result<Option<Fix>, AllocError> {
-    let Some(index) = end_of_else_if(trouble.tokens, token, trouble.at) else {
-        return Ok(None);
+fn add_else_if(fixes: &mut Fixes, trouble: &Trouble<'_>, token: usize) -> Result<(), AllocError> {
+    let Some(always) = end_of_else_if(trouble, token) else {
+        return Ok(());
     };
-    let Some(always) = trouble.tokens.get(index) else {
-        return Ok(None);
-    };
-    let mut say = Page::new(alloc);
-    say.words("The IF of line ")?;
-    say.number(u64::from(line_of(trouble.tokens, token)))?;
-    say.words(
-        " is still open: an ELSE IF is a second IF inside the first, so two ALWAYS are due. Write ALWAYS ALWAYS in line ",
-    )?;
-    say.number(u64::from(always.line.0))?;
-    say.words(".")?;
-    let end = always.span.start.saturating_add(always.span.length);
-    Ok(Some(put_in(alloc, end, b" ALWAYS", say)?))
+    fixes.insert(
+        trouble.stretch(always).end,
+        &[Words(" ALWAYS")],
+        "The IF of line {} is still open: an ELSE IF is a second IF inside the first, so two ALWAYS are due. Write ALWAYS ALWAYS in line {}.",
+        &[Line(trouble.line_of(token)), Line(trouble.line_of(always))],
+    )
 }
 
 // Whether a line is one of picture.
-fn is_picture_line(tokens: &[Token], from: usize, line: u32) -> bool {
-    for index in from..tokens.len() {
-        let here = line_of(tokens, index);
-        if here > line {
+fn is_picture_line(trouble: &Trouble<'_>, from: usize, line: u32) -> bool {
+    for token in trouble.tokens.iter().skip(from) {
+        if token.line.0 > line {
             return false;
         }
-        if here == line {
-            if let Some(token) = tokens.get(index) {
-                if let TokenKind::Picture(_) = &token.kind {
-                    return true;
-                }
-            }
+        if let (true, TokenKind::Picture(_)) = (token.line.0 == line, &token.kind) {
+            return true;
         }
     }
     false
 }
 
-// The first token of a line, from a token on.
-fn first_of(tokens: &[Token], from: usize, line: u32) -> Option<usize> {
-    for index in from..tokens.len() {
-        if line_of(tokens, index) == line {
-            return Some(index);
+// The word with which a line begins, from a token on.
+fn first_word(trouble: &Trouble<'_>, from: usize, line: u32) -> Option<Word> {
+    for index in from..trouble.tokens.len() {
+        if trouble.line_of(index) == line {
+            return trouble.word(index);
         }
-        if line_of(tokens, index) > line {
+        if trouble.line_of(index) > line {
             return None;
         }
     }
@@ -164,31 +113,25 @@ fn end_by_indentation(trouble: &Trouble<'_>, open: Open) -> Option<u32> {
     if !is_first_of_line(trouble.tokens, open.token) {
         return None;
     }
-    let first = line_of(trouble.tokens, open.token);
+    let first = trouble.line_of(open.token);
     let depth = indentation(trouble.line_bytes(first));
+    let is_if = open.construct == Construct::If;
     let mut was_deeper = false;
     for line in first.saturating_add(1)..trouble.line().saturating_add(1) {
         let bytes = trouble.line_bytes(line);
-        if is_blank(bytes) || is_picture_line(trouble.tokens, open.token, line) {
+        if is_blank(bytes) || is_picture_line(trouble, open.token, line) {
             continue;
         }
         if indentation(bytes) > depth {
             was_deeper = true;
             continue;
         }
-        let word = match first_of(trouble.tokens, open.token, line) {
-            Some(index) => word_at(trouble.tokens, index),
-            None => None,
-        };
-        let is_closer = match open.construct {
-            Construct::If => word == Some(Word::Always),
-            _ => word == Some(Word::Loop),
-        };
-        let is_else = open.construct == Construct::If && word == Some(Word::Else);
-        if indentation(bytes) == depth && is_closer {
+        let word = first_word(trouble, open.token, line);
+        let is_level = indentation(bytes) == depth;
+        if is_level && word == Some(if is_if { Word::Always } else { Word::Loop }) {
             return None;
         }
-        if was_deeper && !(indentation(bytes) == depth && is_else) {
+        if was_deeper && !(is_level && is_if && word == Some(Word::Else)) {
             return Some(line);
         }
         was_deeper = false;
@@ -208,173 +151,160 @@ fn end_before(trouble: &Trouble<'_>, line: u32) -> usize {
     trouble.line_end(before)
 }
 
-// Adds the words for a construct and its line, as `The IF of line 17`.
-fn add_construct(page: &mut Page, trouble: &Trouble<'_>, open: Open) -> Result<(), AllocError> {
-    page.words("The ")?;
-    page.words(open.construct.word())?;
-    if let Some(Construct::Routine | Construct::Event) = head_at(trouble.tokens, open.token) {
-        if let Some(name) = trouble.tokens.get(open.token + 1) {
-            page.words(" ")?;
-            page.capitals(spelled(trouble.text, name))?;
-        }
+// What is open: a construct and its line, as `The IF of line 17`, with the name of a routine or an event.
+fn opened(alloc: Global, trouble: &Trouble<'_>, open: Open) -> Result<Page, AllocError> {
+    let mut page = Page::new(alloc);
+    page.say("The {}", &[Words(open.construct.word())])?;
+    if let Construct::Routine | Construct::Event = open.construct {
+        page.say(
+            " {}",
+            &[Capitals(trouble.spelling(open.token.saturating_add(1)))],
+        )?;
     }
-    page.words(" of line ")?;
-    page.number(u64::from(line_of(trouble.tokens, open.token)))
+    page.say(" of line {}", &[Line(trouble.line_of(open.token))])?;
+    Ok(page)
 }
 
 // What closes a construct, in a line of its own after the last line that is deeper.
-fn by_indentation(
-    alloc: Global,
+fn add_by_indentation(
+    fixes: &mut Fixes,
     trouble: &Trouble<'_>,
     open: Open,
-) -> Result<Option<Fix>, AllocError> {
+) -> Result<(), AllocError> {
     let Some(line) = end_by_indentation(trouble, open) else {
-        return Ok(None);
+        return Ok(());
     };
-    let mut say = Page::new(alloc);
-    add_construct(&mut say, trouble, open)?;
-    say.words(" is still open")?;
-    if line == trouble.line() {
-        say.words(" where ")?;
-        trouble.add_found(&mut say)?;
-        say.words(" comes")?;
-    }
-    say.words(": write ")?;
-    say.words(open.construct.closer())?;
-    say.words(" before line ")?;
-    say.number(u64::from(line))?;
-    say.words(".")?;
-    let mut with = Page::new(alloc);
-    with.words("\n")?;
-    with.words(open.construct.closer())?;
+    let what = opened(fixes.alloc(), trouble, open)?;
+    let (what, closer) = (Bytes(what.text.as_slice()), Words(open.construct.closer()));
     let at = end_before(trouble, line);
-    Ok(Some(put_in(alloc, at, with.text.as_slice(), say)?))
+    if line == trouble.line() {
+        let words = "{} is still open where {} comes: write {} before line {}.";
+        let parts = [what, trouble.called(trouble.at), closer, Line(line)];
+        fixes.insert(at, &[Words("\n"), closer], words, &parts)
+    } else {
+        let words = "{} is still open: write {} before line {}.";
+        fixes.insert(
+            at,
+            &[Words("\n"), closer],
+            words,
+            &[what, closer, Line(line)],
+        )
+    }
 }
 
 // What closes a construct, directly before the place.
-fn before_place(alloc: Global, trouble: &Trouble<'_>, open: Open) -> Result<Fix, AllocError> {
-    let is_section = open.construct.closer() == "END";
-    let mut say = Page::new(alloc);
-    add_construct(&mut say, trouble, open)?;
-    say.words(if is_section {
-        " has no END: write END before "
-    } else {
-        " is still open: write "
-    })?;
-    if !is_section {
-        say.words(open.construct.closer())?;
-        say.words(" before ")?;
-    }
-    trouble.add_found(&mut say)?;
-    if trouble.found().is_some() {
-        say.in_line(trouble.line())?;
-    }
-    say.words(".")?;
-    let mut with = Page::new(alloc);
-    with.words("\n")?;
-    with.words(open.construct.closer())?;
-    with.words("\n")?;
-    put_in(alloc, trouble.stretch().start, with.text.as_slice(), say)
+fn add_before_place(
+    fixes: &mut Fixes,
+    trouble: &Trouble<'_>,
+    open: Open,
+) -> Result<(), AllocError> {
+    let what = opened(fixes.alloc(), trouble, open)?;
+    let closer = Words(open.construct.closer());
+    let is_open = match open.construct {
+        Construct::If | Construct::Loop => "is still open",
+        _ => "has no END",
+    };
+    let (in_line, line) = match trouble.found() {
+        Some(token) => (Words(" in line "), Line(token.line.0)),
+        None => (Words(""), Words("")),
+    };
+    fixes.insert(
+        trouble.stretch(trouble.at).start,
+        &[Words("\n"), closer, Words("\n")],
+        "{} {}: write {} before {}{}{}.",
+        &[
+            Bytes(what.text.as_slice()),
+            Words(is_open),
+            closer,
+            trouble.called(trouble.at),
+            in_line,
+            line,
+        ],
+    )
 }
 
 // What closes all that is open, directly before the place.
-fn all_before_place(alloc: Global, trouble: &Trouble<'_>) -> Result<Fix, AllocError> {
-    let mut say = Page::new(alloc);
-    let mut with = Page::new(alloc);
-    say.words("Still open there: ")?;
+fn add_all_before_place(fixes: &mut Fixes, trouble: &Trouble<'_>) -> Result<(), AllocError> {
+    let mut list = Page::new(fixes.alloc());
+    let mut with = Page::new(fixes.alloc());
     for (place, open) in trouble.opens.iter().rev().enumerate() {
-        if place > 0 {
-            say.words(", ")?;
-        }
-        say.words(open.construct.word())?;
-        say.words(" of line ")?;
-        say.number(u64::from(line_of(trouble.tokens, open.token)))?;
-        with.words("\n")?;
-        with.words(open.construct.closer())?;
+        let word = Words(open.construct.word());
+        let line = Line(trouble.line_of(open.token));
+        list.say(
+            "{}{} of line {}",
+            &[Words(if place > 0 { ", " } else { "" }), word, line],
+        )?;
+        with.say("\n{}", &[Words(open.construct.closer())])?;
     }
-    with.words("\n")?;
-    say.words(". Close each, the last first, by ALWAYS, LOOP and END.")?;
-    put_in(alloc, trouble.stretch().start, with.text.as_slice(), say)
+    fixes.insert(
+        trouble.stretch(trouble.at).start,
+        &[Bytes(with.text.as_slice()), Words("\n")],
+        "Still open there: {}. Close each, the last first, by ALWAYS, LOOP and END.",
+        &[Bytes(list.text.as_slice())],
+    )
 }
 
 // A DO at the end of the line of a loop's head.
-fn missing_do(alloc: Global, trouble: &Trouble<'_>, token: usize) -> Result<Fix, AllocError> {
-    let line = line_of(trouble.tokens, token);
-    let last = trouble.last_of_line(token);
-    let end = match trouble.tokens.get(last) {
-        Some(token) => token.span.start.saturating_add(token.span.length),
-        None => trouble.text.len(),
-    };
-    let mut say = Page::new(alloc);
-    say.words("A loop over more than one statement is DO .. LOOP: write DO at the end of line ")?;
-    say.number(u64::from(line))?;
-    say.words(".")?;
-    put_in(alloc, end, b" DO", say)
-}
-
-// Adds the change for one IF, if there is one of this kind.
-fn add_some(fixes: &mut Vec<Fix>, fix: Option<Fix>) -> Result<(), AllocError> {
-    if let Some(fix) = fix {
-        fixes.push(fix)?;
-    }
-    Ok(())
+fn add_do(fixes: &mut Fixes, trouble: &Trouble<'_>, token: usize) -> Result<(), AllocError> {
+    fixes.insert(
+        trouble.stretch(trouble.last_of_line(token)).end,
+        &[Words(" DO")],
+        "A loop over more than one statement is DO .. LOOP: write DO at the end of line {}.",
+        &[Line(trouble.line_of(token))],
+    )
 }
 
 // Changes for the IFs of the section, the last first.
-fn add_ifs(alloc: Global, fixes: &mut Vec<Fix>, trouble: &Trouble<'_>) -> Result<(), AllocError> {
-    for index in (trouble.section..trouble.at.min(trouble.tokens.len())).rev() {
-        if word_at(trouble.tokens, index) == Some(Word::If) {
-            add_some(fixes, short_if(alloc, trouble, index)?)?;
+fn add_ifs(fixes: &mut Fixes, trouble: &Trouble<'_>) -> Result<(), AllocError> {
+    for index in (trouble.section..trouble.end()).rev() {
+        if trouble.word(index) == Some(Word::If) {
+            add_short_if(fixes, trouble, index)?;
         }
     }
     for open in trouble.opens.iter().rev() {
         if open.construct == Construct::If {
-            add_some(fixes, else_if(alloc, trouble, open.token)?)?;
+            add_else_if(fixes, trouble, open.token)?;
         }
     }
-    for index in (trouble.section..trouble.at.min(trouble.tokens.len())).rev() {
-        if word_at(trouble.tokens, index) == Some(Word::If) {
+    for index in (trouble.section..trouble.end()).rev() {
+        if trouble.word(index) == Some(Word::If) {
             let open = Open {
                 construct: Construct::If,
                 token: index,
             };
-            add_some(fixes, by_indentation(alloc, trouble, open)?)?;
+            add_by_indentation(fixes, trouble, open)?;
         }
     }
     Ok(())
 }
 
 // Changes for the loops of the section.
-fn add_loops(alloc: Global, fixes: &mut Vec<Fix>, trouble: &Trouble<'_>) -> Result<(), AllocError> {
+fn add_loops(fixes: &mut Fixes, trouble: &Trouble<'_>) -> Result<(), AllocError> {
     for open in trouble.opens.iter().rev() {
         if open.construct == Construct::Loop {
-            add_some(fixes, by_indentation(alloc, trouble, *open)?)?;
+            add_by_indentation(fixes, trouble, *open)?;
         }
     }
-    if word_at(trouble.tokens, trouble.at) != Some(Word::Loop) {
+    if trouble.word(trouble.at) != Some(Word::Loop) {
         return Ok(());
     }
-    for index in (trouble.section..trouble.at.min(trouble.tokens.len())).rev() {
-        if let Some(Word::For | Word::While | Word::Until) = word_at(trouble.tokens, index) {
-            fixes.push(missing_do(alloc, trouble, index)?)?;
+    for index in (trouble.section..trouble.end()).rev() {
+        if let Some(Word::For | Word::While | Word::Until) = trouble.word(index) {
+            add_do(fixes, trouble, index)?;
         }
     }
     Ok(())
 }
 
 /// Adds the changes for a place where a construct is open too long, or closed too early.
-pub fn add_frames(
-    alloc: Global,
-    fixes: &mut Vec<Fix>,
-    trouble: &Trouble<'_>,
-) -> Result<(), AllocError> {
-    add_ifs(alloc, fixes, trouble)?;
-    add_loops(alloc, fixes, trouble)?;
+pub fn add_frames(fixes: &mut Fixes, trouble: &Trouble<'_>) -> Result<(), AllocError> {
+    add_ifs(fixes, trouble)?;
+    add_loops(fixes, trouble)?;
     if let Some(open) = trouble.opens.last() {
-        fixes.push(before_place(alloc, trouble, *open)?)?;
+        add_before_place(fixes, trouble, *open)?;
     }
     if trouble.opens.len() > 1 {
-        fixes.push(all_before_place(alloc, trouble)?)?;
+        add_all_before_place(fixes, trouble)?;
     }
     Ok(())
 }

@@ -1,7 +1,8 @@
 //! Texts that have no tokens: refusals 31 to 37.
 
 use crate::page::Page;
-use crate::places::{Stretch, line_at, line_bytes, show_marked};
+use crate::page::Part::{Bytes, Line, Words};
+use crate::places::{Stretch, bytes_of, line_at, line_bytes, show_marked};
 use ss_lex::{LexError, NAME_LIMIT};
 use std::alloc::AllocError;
 
@@ -25,6 +26,17 @@ struct Piece {
     start: usize,
     end: usize,
     kind: Kind,
+}
+
+impl Piece {
+    // Its bytes, as far as the line has them.
+    fn bytes<'a>(&self, line: &'a [u8]) -> &'a [u8] {
+        let stretch = Stretch {
+            start: self.start,
+            end: self.end,
+        };
+        bytes_of(line, stretch)
+    }
 }
 
 fn is_word_byte(byte: u8) -> bool {
@@ -75,7 +87,7 @@ fn piece_at(bytes: &[u8], at: usize) -> Piece {
 
 // Whether a piece is what the refusal is of.
 fn is_wrong(error: &LexError, line: &[u8], piece: Piece) -> bool {
-    let bytes = &line[piece.start.min(line.len())..piece.end.min(line.len())];
+    let bytes = piece.bytes(line);
     let letters = bytes.iter().any(|byte| byte.is_ascii_alphabetic());
     match error {
         LexError::BadNumber(_) => {
@@ -147,22 +159,34 @@ fn foreign_words(bytes: &[u8]) -> &'static str {
 // What helps against the refusal.
 fn cure_of(error: &LexError) -> &'static str {
     match error {
-        LexError::TooLong(_) => "put data into a file for READ, and leave comments out.",
+        LexError::TooLong(_) => "Put data into a file for READ, and leave comments out.",
         LexError::NotAscii(_) => {
-            "write it in plain letters and signs: e for an accented e, ' and \" for curly quotes, - for a dash."
+            "Write it in plain letters and signs: e for an accented e, ' and \" for curly quotes, - for a dash."
         }
         LexError::BadNumber(_) => {
-            "there are no decimals. Count in smaller units, as 15 tenths for 1.5, and divide by DIV.F."
+            "There are no decimals. Count in smaller units, as 15 tenths for 1.5, and divide by DIV.F."
         }
-        LexError::OpenText(_) => "write a second quote where the text ends, on the same line.",
+        LexError::OpenText(_) => "Write a second quote where the text ends, on the same line.",
         LexError::AlphaTooLong(_) => {
-            "make it 16 characters or fewer, or print the words by a picture."
+            "Make it 16 characters or fewer, or print the words by a picture."
         }
         LexError::PictureCut(_) => {
-            "write the lines of picture below it, or a smaller number after PRINT."
+            "Write the lines of picture below it, or a smaller number after PRINT."
         }
-        LexError::NameTooLong(_) => "use a shorter name, in every line.",
+        LexError::NameTooLong(_) => "Use a shorter name, in every line.",
         LexError::Memory => "",
+    }
+}
+
+// What is wrong with the piece, after its bytes.
+fn wrong_words(error: &LexError) -> &'static str {
+    match error {
+        LexError::BadNumber(_) => ": no whole number",
+        LexError::OpenText(_) => ": the text has no second quote",
+        LexError::AlphaTooLong(_) => ": a text of more than 16 characters",
+        LexError::PictureCut(_) => ": too few lines are below it",
+        LexError::NameTooLong(_) => ": a name of more than 32 characters",
+        _ => "",
     }
 }
 
@@ -174,23 +198,18 @@ fn add_found(
     piece: Option<Piece>,
 ) -> Result<(), AllocError> {
     match (error, piece) {
-        (LexError::NotAscii(_), Some(piece)) => {
-            let bytes = &line[piece.start.min(line.len())..piece.end.min(line.len())];
-            page.words(foreign_words(bytes))
-        }
+        (LexError::NotAscii(_), Some(piece)) => { page.line(foreign_words(piece.bytes(line)), &[]) }
         (_, Some(piece)) => {
-            let bytes = &line[piece.start.min(line.len())..piece.end.min(line.len())];
-            page.bytes(&bytes[..bytes.len().min(80)])?;
-            page.words(match error {
-                LexError::BadNumber(_) => ": no whole number",
-                LexError::OpenText(_) => ": the text has no second quote",
-                LexError::AlphaTooLong(_) => ": a text of more than 16 characters",
-                LexError::PictureCut(_) => ": too few lines are below it",
-                LexError::NameTooLong(_) => ": a name of more than 32 characters",
-                _ => "",
-            })
+            let bytes = piece.bytes(line);
+            page.line(
+                "{}{}",
+                &[
+                    Bytes(&bytes[..bytes.len().min(80)]),
+                    Words(wrong_words(error)),
+                ],
+            )
         }
-        _ => page.words("it doesn't fit here"),
+        _ => page.line("it doesn't fit here", &[]),
     }
 }
 
@@ -203,11 +222,8 @@ pub fn explain_lexical(page: &mut Page, text: &[u8], error: &LexError) -> Result
             LexError::NotAscii(_) => foreign_byte(line),
             _ => wrong_piece(error, line),
         };
-        page.words("line ")?;
-        page.number(u64::from(number))?;
-        page.words(", ")?;
+        page.say("line {}, ", &[Line(number)])?;
         add_found(page, error, line, piece)?;
-        page.end_line()?;
         let start = line_at(text, number).start;
         let mark = piece.map(|piece| Stretch {
             start: start.saturating_add(piece.start),
@@ -215,7 +231,5 @@ pub fn explain_lexical(page: &mut Page, text: &[u8], error: &LexError) -> Result
         });
         show_marked(page, text, number, mark)?;
     }
-    page.words("Cure: ")?;
-    page.sentence(cure_of(error))?;
-    page.end_line()
+    page.cure(cure_of(error), &[])
 }

@@ -26,9 +26,8 @@ mod used;
 mod words;
 
 pub use explanation::{Wrong, explain_text};
-pub use page::Page;
-pub use places::{line_bytes, show_line};
-pub use rules::rule_of;
+pub use page::{Page, Part};
+pub use places::{line_bytes, show_line, unindented};
 
 #[cfg(test)]
 mod tests {
@@ -40,7 +39,7 @@ mod tests {
     fn compiles(rt: HostRuntime) -> Result<(), Fail> {
         let text = b"MAIN\nSCHEDULE ARRIVAL NOW\nEND\n";
         let mut page = Page::new(rt.alloc());
-        let wrong = explain_text(rt.alloc(), &mut page, text)?;
+        let wrong = explain_text(&mut page, text)?;
         assert_eq!(rt; wrong.map(|wrong| wrong.number()), Some(41));
         Ok(())
     }

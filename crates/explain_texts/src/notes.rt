@@ -1,10 +1,11 @@
 //! Notes on a text that is accepted: names and statements that are right, and look like a mistake.
 
 use crate::page::Page;
-use crate::places::{indentation, line_from, line_starts, show_line, show_marked};
-use crate::sections::{Sections, name_of};
+use crate::page::Part::{self, Bytes, Line, Words};
+use crate::places::{indentation, line_from, line_starts, show_line};
 use crate::similar::nearest;
-use ss_base::{ClassKind, Line, Name};
+use crate::used::Read;
+use ss_base::{ClassKind, Name};
 use ss_lex::{LexError, TokenKind, Word, tokens};
 use ss_names::{Meaning, Names};
 use ss_names_scopes::Locals;
@@ -16,106 +17,65 @@ use ss_tree::program::{Program, SectionKind};
 use ss_tree::statement::Statement;
 use std::alloc::{AllocError, Global};
 
+/// The most notes of a kind, or on the names of a section; the most names that one is compared with; and the most bytes of notes
+/// after which no section more is noted.
+const NOTED: usize = 20;
+
+const COMPARED: usize = 2000;
+
+const LONGEST: usize = 20_000;
+
 /// How a local name is used in a section: the first line that assigns it, and the first that takes its value.
 #[derive(Clone, Copy)]
 struct Usage {
-    assigned: Option<Line>,
-    taken: Option<Line>,
+    assigned: Option<u32>,
+    taken: Option<u32>,
     /// Whether the head of the section or a DEFINE names it.
     is_declared: bool,
 }
 
-// The earlier of a line that is known already, and a further one.
-fn first_line(known: Option<Line>, line: Line) -> Option<Line> {
-    match known {
-        Some(known) => Some(known),
-        None => Some(line),
-    }
-}
-
-// Adds what one use says of a name.
-fn add_use(usage: &mut Usage, name: &Name, one: &Use) {
-    match &one.what {
-        Used::Parameter { name: other } | Used::Local { name: other, .. } => {
-            usage.is_declared = usage.is_declared || other == name;
-        }
-        Used::Place {
-            role,
-            place: Designator::Name(other),
-            ..
-        } => {
-            if other == name {
-                match role {
-                    Role::Target => usage.assigned = first_line(usage.assigned, one.line),
-                    Role::LoopVariable => {
-                        usage.assigned = first_line(usage.assigned, one.line);
-                        usage.taken = first_line(usage.taken, one.line);
-                    }
-                    _ => usage.taken = first_line(usage.taken, one.line),
-                }
-            }
-        }
-        _ => {}
-    }
-}
-
-// The names that may be meant in a section: its other local ones, and what is declared for all sections.
-fn names_near(
-    alloc: Global,
-    names: &Names,
-    locals: &[Name],
-    name: &Name,
-) -> Result<Vec<Name>, AllocError> {
-    let mut near = Vec::new(alloc);
-    for place in 0..names.meanings.len().min(COMPARED) {
-        let is_value = match names.meanings.values().get(place) {
-            Some(Meaning::Set { .. } | Meaning::Routine { .. }) => false,
-            Some(_) => true,
-            None => false,
-        };
-        if let (true, Some(known)) = (is_value, Name::of(names.meanings.spelling(place))) {
-            near.push(known)?;
-        }
-    }
-    for other in locals {
-        if other != name {
-            near.push(*other)?;
-        }
-    }
-    Ok(near)
-}
-
-// Adds a note on a local name.
+// Adds a note on a line, and shows the line.
 fn add_note(
-    alloc: Global,
     page: &mut Page,
     text: &[u8],
-    line: Line,
-    name: &Name,
+    line: u32,
     words: &str,
-    near: &[Name],
+    parts: &[Part<'_>],
 ) -> Result<(), AllocError> {
-    page.words("note: line ")?;
-    page.number(u64::from(line.0))?;
-    page.words(", ")?;
-    page.bytes(name.bytes())?;
-    page.words(": ")?;
-    page.words(words)?;
-    if let Some(place) = nearest(alloc, name.bytes(), near)? {
-        if let Some(found) = near.get(place) {
-            page.words(". Is it ")?;
-            page.bytes(found.bytes())?;
-            page.words("?")?;
-        }
-    }
-    page.end_line()?;
-    show_line(page, text, line.0)
+    page.say("note: line {}", &[Line(line)])?;
+    page.line(words, parts)?;
+    show_line(page, text, line)
 }
 
-/// The most notes on names of a section, and the most names that one is compared with.
-const NOTED: usize = 20;
+// The local name that a use is of, if it is of one that has a name.
+fn name_used(one: &Use) -> Option<Name> {
+    match &one.what {
+        Used::Parameter { name } | Used::Local { name, .. } => Some(*name),
+        Used::Place {
+            place: Designator::Name(name),
+            ..
+        } => Some(*name),
+        _ => None,
+    }
+}
 
-const COMPARED: usize = 2000;
+// How a name is used, with one use more.
+fn with_use(usage: Usage, one: &Use) -> Usage {
+    let line = Some(one.line.0);
+    let Used::Place { role, .. } = &one.what else {
+        return Usage {
+            is_declared: true,
+            ..usage
+        };
+    };
+    let assigns = matches!(role, Role::Target | Role::LoopVariable);
+    let takes = *role != Role::Target;
+    Usage {
+        assigned: usage.assigned.or(if assigns { line } else { None }),
+        taken: usage.taken.or(if takes { line } else { None }),
+        is_declared: usage.is_declared,
+    }
+}
 
 // How each local name of a section is used, by its number.
 fn usages_of(
@@ -128,13 +88,8 @@ fn usages_of(
         usages.push(None)?;
     }
     for one in uses {
-        let name = match &one.what {
-            Used::Parameter { name } | Used::Local { name, .. } => *name,
-            Used::Place {
-                place: Designator::Name(name),
-                ..
-            } => *name,
-            _ => continue,
+        let Some(name) = name_used(one) else {
+            continue;
         };
         let Some(number) = locals.number(&name) else {
             continue;
@@ -148,20 +103,16 @@ fn usages_of(
             },
         };
         if number < usages.len() {
-            let mut usage = known;
-            add_use(&mut usage, &name, one);
-            usages[number] = Some((name, usage));
+            usages[number] = Some((name, with_use(known, one)));
         }
     }
     Ok(usages)
 }
 
 // What is odd about how a local name is used: the line, and the words for it.
-fn oddity_of(usage: &Usage) -> Option<(Line, &'static str)> {
-    if usage.is_declared {
-        return None;
-    }
+fn oddity_of(usage: &Usage) -> Option<(u32, &'static str)> {
     match (usage.assigned, usage.taken) {
+        _ if usage.is_declared => None,
         (Some(line), None) => Some((line, "a value is put into this local name, and never used")),
         (None, Some(line)) => Some((
             line,
@@ -171,22 +122,47 @@ fn oddity_of(usage: &Usage) -> Option<(Line, &'static str)> {
     }
 }
 
+// Whether a name that means this can be meant where a value is.
+fn is_value(meaning: Option<&Meaning>) -> bool {
+    match meaning {
+        Some(Meaning::Set { .. } | Meaning::Routine { .. }) | None => false,
+        Some(_) => true,
+    }
+}
+
+// The names that may be meant in a section: its other local ones, and what is declared for all sections.
+fn names_near(
+    alloc: Global,
+    names: &Names,
+    usages: &[Option<(Name, Usage)>],
+    name: &Name,
+) -> Result<Vec<Name>, AllocError> {
+    let mut near = Vec::new(alloc);
+    for place in 0..names.meanings.len().min(COMPARED) {
+        if is_value(names.meanings.values().get(place)) {
+            if let Some(known) = Name::of(names.meanings.spelling(place)) {
+                near.push(known)?;
+            }
+        }
+    }
+    for one in usages.iter().take(COMPARED) {
+        if let Some((other, _)) = one {
+            if other != name {
+                near.push(*other)?;
+            }
+        }
+    }
+    Ok(near)
+}
+
 // Notes on the local names of a section: those that are assigned and never used, or used and never assigned.
 fn add_locals(
-    alloc: Global,
     page: &mut Page,
-    text: &[u8],
-    names: &Names,
+    read: &Read<'_>,
     locals: &Locals,
     uses: &[Use],
 ) -> Result<(), AllocError> {
-    let usages = usages_of(alloc, locals, uses)?;
-    let mut own = Vec::new(alloc);
-    for one in usages.iter().take(COMPARED) {
-        if let Some((name, _)) = one {
-            own.push(*name)?;
-        }
-    }
+    let usages = usages_of(page.alloc(), locals, uses)?;
     let mut count: usize = 0;
     for one in &usages {
         let Some((name, usage)) = one else {
@@ -199,8 +175,23 @@ fn add_locals(
             return Ok(());
         }
         count += 1;
-        let near = names_near(alloc, names, own.as_slice(), name)?;
-        add_note(alloc, page, text, line, name, words, near.as_slice())?;
+        let near = names_near(page.alloc(), read.names, usages.as_slice(), name)?;
+        let (is_it, found, end) = match nearest(page.alloc(), name.bytes(), near.as_slice())? {
+            Some(found) => (". Is it ", Some(found), "?"),
+            None => ("", None, ""),
+        };
+        let found = match &found {
+            Some(found) => found.bytes(),
+            None => &[],
+        };
+        let called = Bytes(name.bytes());
+        add_note(
+            page,
+            read.text,
+            line,
+            ", {}: {}{}{}{}",
+            &[called, Words(words), Words(is_it), Bytes(found), Words(end)],
+        )?;
     }
     Ok(())
 }
@@ -227,12 +218,10 @@ fn parts_of(statement: &Statement) -> (&[Statement], &[Statement]) {
 fn lists_of(alloc: Global, body: &[Statement]) -> Result<Vec<&[Statement]>, AllocError> {
     let mut lists = Vec::new(alloc);
     lists.push(body)?;
-    let mut next = 0;
-    for _ in 0..u64::MAX {
-        let Some(list) = lists.get(next).copied() else {
+    for next in 0..u64::MAX {
+        let Some(list) = lists.get(next as usize).copied() else {
             break;
         };
-        next += 1;
         for statement in list {
             let (first, second) = parts_of(statement);
             if !first.is_empty() {
@@ -247,18 +236,18 @@ fn lists_of(alloc: Global, body: &[Statement]) -> Result<Vec<&[Statement]>, Allo
 }
 
 // The line of the first STOP of some statements, those inside others too.
-fn stop_in(alloc: Global, body: &[Statement]) -> Result<Option<Line>, AllocError> {
+fn stop_in(alloc: Global, body: &[Statement]) -> Result<Option<u32>, AllocError> {
     for list in &lists_of(alloc, body)? {
         for statement in *list {
             if let Statement::Stop { line } = statement {
-                return Ok(Some(*line));
+                return Ok(Some(line.0));
             }
         }
     }
     Ok(None)
 }
 
-// Whether START SIMULATION is among some statements.
+// Whether START SIMULATION is among the statements of a program.
 fn has_start(alloc: Global, program: &Program) -> Result<bool, AllocError> {
     for section in &program.sections {
         for list in &lists_of(alloc, section.body.as_slice())? {
@@ -273,28 +262,24 @@ fn has_start(alloc: Global, program: &Program) -> Result<bool, AllocError> {
 }
 
 // A note on a program with events that are never started.
-fn add_start(
-    alloc: Global,
-    page: &mut Page,
-    text: &[u8],
-    program: &Program,
-) -> Result<(), AllocError> {
-    let has_events = program.sections.iter().any(|section| matches!(
+fn add_start(page: &mut Page, read: &Read<'_>) -> Result<(), AllocError> {
+    let sections = &read.program.sections;
+    let has_events = sections.iter().any(|section| matches!(
         section.kind,
         SectionKind::Event { .. }
     ));
-    if !has_events || has_start(alloc, program)? {
+    if !has_events || has_start(page.alloc(), read.program)? {
         return Ok(());
     }
-    for section in &program.sections {
+    for section in sections {
         if let SectionKind::Main = &section.kind {
-            page.words("note: line ")?;
-            page.number(u64::from(section.line.0))?;
-            page.words(
+            add_note(
+                page,
+                read.text,
+                section.line.0,
                 ", MAIN: there are events, and no START SIMULATION, so none of them comes. Write START SIMULATION in MAIN, after what it schedules",
+                &[],
             )?;
-            page.end_line()?;
-            show_line(page, text, section.line.0)?;
         }
     }
     Ok(())
@@ -306,9 +291,7 @@ fn is_statement(alloc: Global, bytes: &[u8]) -> Result<bool, AllocError> {
         return Ok(false);
     }
     let mut page = Page::new(alloc);
-    page.words("MAIN ")?;
-    page.bytes(bytes)?;
-    page.words(" END")?;
+    page.say("MAIN {} END", &[Bytes(bytes)])?;
     match tokens(alloc, page.text.as_slice()) {
         Ok(all) => {
             let has_words = all.list().len() > 2;
@@ -320,34 +303,30 @@ fn is_statement(alloc: Global, bytes: &[u8]) -> Result<bool, AllocError> {
 }
 
 // Notes on lines that are printed and look like statements.
-fn add_pictures(alloc: Global, page: &mut Page, text: &[u8]) -> Result<(), AllocError> {
-    let all = match tokens(alloc, text) {
+fn add_pictures(page: &mut Page, read: &Read<'_>) -> Result<(), AllocError> {
+    let all = match tokens(page.alloc(), read.text) {
         Ok(all) => all,
         Err(LexError::Memory) => return Err(AllocError),
         Err(_) => return Ok(()),
     };
-    let mut print = Line(0);
+    let mut print = 0;
     let mut count: usize = 0;
     for token in all.list() {
         if count >= NOTED {
             break;
         }
         match &token.kind {
-            TokenKind::Word(Word::Print) => print = token.line,
+            TokenKind::Word(Word::Print) => print = token.line.0,
             TokenKind::Picture(line) => {
-                if is_statement(alloc, line.bytes())? {
+                if is_statement(page.alloc(), line.bytes())? {
                     count += 1;
-                    page.words("note: line ")?;
-                    page.number(u64::from(token.line.0))?;
-                    page.words(
-                        ": it looks like a statement, and it is printed: the PRINT of line ",
+                    add_note(
+                        page,
+                        read.text,
+                        token.line.0,
+                        ": it looks like a statement, and it is printed: the PRINT of line {} counts it as one of its pictures. Write a smaller number of LINES there, if it is to be carried out",
+                        &[Line(print)],
                     )?;
-                    page.number(u64::from(print.0))?;
-                    page.words(
-                        " counts it as one of its pictures. Write a smaller number of LINES there, if it is to be carried out",
-                    )?;
-                    page.end_line()?;
-                    show_line(page, text, token.line.0)?;
                 }
             }
             _ => {}
@@ -357,7 +336,7 @@ fn add_pictures(alloc: Global, page: &mut Page, text: &[u8]) -> Result<(), Alloc
 }
 
 // The line of a statement.
-fn line_of(statement: &Statement) -> Line {
+fn line_of(statement: &Statement) -> u32 {
     match statement {
         Statement::Let { line, .. }
         | Statement::Add { line, .. }
@@ -382,13 +361,13 @@ fn line_of(statement: &Statement) -> Line {
         | Statement::Cancel { line, .. }
         | Statement::Reset { line, .. }
         | Statement::Print { line, .. }
-        | Statement::Skip { line, .. } => *line,
+        | Statement::Skip { line, .. } => line.0,
     }
 }
 
 // How deep a line is indented.
-fn depth(text: &[u8], starts: &[usize], line: Line) -> usize {
-    indentation(line_from(text, starts, line.0))
+fn depth(text: &[u8], starts: &[usize], line: u32) -> usize {
+    indentation(line_from(text, starts, line))
 }
 
 // Whether a loop has one statement in a further line, and the statement after the loop is indented as if it belonged to it.
@@ -400,37 +379,28 @@ fn looks_longer(text: &[u8], starts: &[usize], one: &Statement, next: &Statement
         return false;
     };
     let (inner, after) = (line_of(only), line_of(next));
-    inner.0 > line.0
-        && after.0 > inner.0
-        && depth(text, starts, inner) > depth(text, starts, *line)
+    inner > line.0
+        && after > inner
+        && depth(text, starts, inner) > depth(text, starts, line.0)
         && depth(text, starts, after) == depth(text, starts, inner)
 }
 
 // Notes on loops without DO that look as if they had more than one statement.
-fn add_loops(
-    alloc: Global,
-    page: &mut Page,
-    text: &[u8],
-    program: &Program,
-) -> Result<(), AllocError> {
-    let starts = line_starts(alloc, text)?;
+fn add_loops(page: &mut Page, read: &Read<'_>) -> Result<(), AllocError> {
+    let starts = line_starts(page.alloc(), read.text)?;
     let mut count: usize = 0;
-    for section in &program.sections {
-        for list in &lists_of(alloc, section.body.as_slice())? {
+    for section in &read.program.sections {
+        for list in &lists_of(page.alloc(), section.body.as_slice())? {
             for (one, next) in list.iter().zip(list.iter().skip(1)) {
-                if count < NOTED && looks_longer(text, starts.as_slice(), one, next) {
+                if count < NOTED && looks_longer(read.text, starts.as_slice(), one, next) {
                     count += 1;
-                    page.words("note: line ")?;
-                    page.number(u64::from(line_of(one).0))?;
-                    page.words(
-                        ", FOR or WHILE without DO: only the statement of the next line belongs to the loop, and line ",
+                    add_note(
+                        page,
+                        read.text,
+                        line_of(one),
+                        ", FOR or WHILE without DO: only the statement of the next line belongs to the loop, and line {} is indented as if it did too. Write DO at the end of the head, and LOOP after the last statement",
+                        &[Line(line_of(next))],
                     )?;
-                    page.number(u64::from(line_of(next).0))?;
-                    page.words(
-                        " is indented as if it did too. Write DO at the end of the head, and LOOP after the last statement",
-                    )?;
-                    page.end_line()?;
-                    show_line(page, text, line_of(one).0)?;
                 }
             }
         }
@@ -439,31 +409,23 @@ fn add_loops(
 }
 
 // Notes on statistics of an attribute that a DEFINE as a variable names.
-fn add_subjects(
-    page: &mut Page,
-    text: &[u8],
-    program: &Program,
-    names: &Names,
-) -> Result<(), AllocError> {
-    for statement in &program.preamble {
+fn add_subjects(page: &mut Page, read: &Read<'_>) -> Result<(), AllocError> {
+    for statement in &read.program.preamble {
         let PreambleStatement::Statistics { line, subject, .. } = statement else {
             continue;
         };
-        let Some(Meaning::Attribute { class, .. }) = names.meaning(subject) else {
+        let Some(Meaning::Attribute { class, .. }) = read.names.meaning(subject) else {
             continue;
         };
-        if !is_defined(program, subject) || !is_passing(names, class) {
-            continue;
+        if is_defined(read.program, subject) && is_passing(read.names, class) {
+            add_note(
+                page,
+                read.text,
+                line.0,
+                ", {}: it is an attribute, so each entity has figures of its own, which go with it. A DEFINE of an attribute gives its mode and makes no variable. For figures of all take another name for the variable",
+                &[Bytes(subject.bytes())],
+            )?;
         }
-        page.words("note: line ")?;
-        page.number(u64::from(line.0))?;
-        page.words(", ")?;
-        page.bytes(subject.bytes())?;
-        page.words(
-            ": it is an attribute, so each entity has figures of its own, which go with it. A DEFINE of an attribute gives its mode and makes no variable. For figures of all take another name for the variable",
-        )?;
-        page.end_line()?;
-        show_line(page, text, line.0)?;
     }
     Ok(())
 }
@@ -512,7 +474,7 @@ fn sets_class(uses: &[Use], class: &Name) -> bool {
     })
 }
 
-// The class of the permanent entities whose attribute a place is, where no entity is named.
+// The attribute of permanent entities that a place is, and their class, where no entity is named.
 fn implied_class(names: &Names, locals: &Locals, one: &Use) -> Option<(Name, Name)> {
     let Used::Place {
         place: Designator::Name(name),
@@ -522,13 +484,10 @@ fn implied_class(names: &Names, locals: &Locals, one: &Use) -> Option<(Name, Nam
     else {
         return None;
     };
-    if locals.number(name).is_some() {
-        return None;
-    }
     let Some(Meaning::Attribute { class, .. }) = names.meaning(name) else {
         return None;
     };
-    if is_passing(names, class) {
+    if locals.number(name).is_some() || is_passing(names, class) {
         return None;
     }
     let class = names.classes.keys().get(class).copied()?;
@@ -538,8 +497,7 @@ fn implied_class(names: &Names, locals: &Locals, one: &Use) -> Option<(Name, Nam
 // A note on an attribute without its subscript in an event that is given something else.
 fn add_implied(
     page: &mut Page,
-    text: &[u8],
-    names: &Names,
+    read: &Read<'_>,
     locals: &Locals,
     uses: &[Use],
 ) -> Result<(), AllocError> {
@@ -547,27 +505,20 @@ fn add_implied(
         return Ok(());
     };
     for one in uses {
-        let Some((name, class)) = implied_class(names, locals, one) else {
+        let Some((name, class)) = implied_class(read.names, locals, one) else {
             continue;
         };
         if sets_class(uses, &class) {
             continue;
         }
-        page.words("note: line ")?;
-        page.number(u64::from(one.line.0))?;
-        page.words(", ")?;
-        page.bytes(name.bytes())?;
-        page.words(": without a subscript it is that of the ")?;
-        page.bytes(class.bytes())?;
-        page.words(" in the variable ")?;
-        page.bytes(class.bytes())?;
-        page.words(", which this event does not set. Is it ")?;
-        page.bytes(name.bytes())?;
-        page.words("(")?;
-        page.bytes(parameter.bytes())?;
-        page.words(")?")?;
-        page.end_line()?;
-        return show_line(page, text, one.line.0);
+        let (name, class) = (Bytes(name.bytes()), Bytes(class.bytes()));
+        return add_note(
+            page,
+            read.text,
+            one.line.0,
+            ", {}: without a subscript it is that of the {} in the variable {}, which this event does not set. Is it {}({})?",
+            &[name, class, class, name, Bytes(parameter.bytes())],
+        );
     }
     Ok(())
 }
@@ -596,62 +547,44 @@ fn reports_after_start(program: &Program) -> bool {
     false
 }
 
-// A note on a STOP in an event or a routine.
-fn add_stops(
-    alloc: Global,
-    page: &mut Page,
-    text: &[u8],
-    program: &Program,
-) -> Result<(), AllocError> {
-    if !reports_after_start(program) {
+// Notes on STOPs in events, where MAIN has something to do after them.
+fn add_stops(page: &mut Page, read: &Read<'_>) -> Result<(), AllocError> {
+    if !reports_after_start(read.program) {
         return Ok(());
     }
-    for section in program.sections.iter().take(COMPARED) {
-        if let SectionKind::Event { .. } = &section.kind {
-            if let Some(line) = stop_in(alloc, section.body.as_slice())? {
-                page.words("note: line ")?;
-                page.number(u64::from(line.0))?;
-                page.words(", STOP: it ends the whole run in EVENT ")?;
-                if let Some(name) = name_of(section) {
-                    page.bytes(name.bytes())?;
-                }
-                page.words(
-                    ", so what MAIN does after START SIMULATION is left out. RETURN ends the event alone; without further notices MAIN goes on.",
-                )?;
-                page.end_line()?;
-                show_marked(page, text, line.0, None)?;
-            }
+    for section in read.program.sections.iter().take(COMPARED) {
+        let SectionKind::Event { name, .. } = &section.kind else {
+            continue;
+        };
+        if let Some(line) = stop_in(page.alloc(), section.body.as_slice())? {
+            add_note(
+                page,
+                read.text,
+                line,
+                ", STOP: it ends the whole run in EVENT {}, so what MAIN does after START SIMULATION is left out. RETURN ends the event alone; without further notices MAIN goes on.",
+                &[Bytes(name.bytes())],
+            )?;
         }
     }
     Ok(())
 }
 
-/// The most bytes of notes after which no section more is noted.
-const LONGEST: usize = 20_000;
-
 /// Adds notes on a program that breaks no rule. There are none where nothing looks like a mistake.
-pub fn add_notes(
-    alloc: Global,
-    page: &mut Page,
-    text: &[u8],
-    program: &Program,
-    names: &Names,
-) -> Result<(), AllocError> {
-    let sections = Sections::of(alloc, program, names)?;
-    for (number, uses) in sections.uses.iter().enumerate() {
+pub fn add_notes(page: &mut Page, read: &Read<'_>) -> Result<(), AllocError> {
+    for (number, uses) in read.sections.uses.iter().enumerate() {
         if page.text.len() > LONGEST {
             return Ok(());
         }
-        if let Some(locals) = sections.locals.get(number) {
-            add_locals(alloc, page, text, names, locals, uses.as_slice())?;
-            if is_event(program, number) {
-                add_implied(page, text, names, locals, uses.as_slice())?;
+        if let Some(locals) = read.sections.locals.get(number) {
+            add_locals(page, read, locals, uses.as_slice())?;
+            if is_event(read.program, number) {
+                add_implied(page, read, locals, uses.as_slice())?;
             }
         }
     }
-    add_stops(alloc, page, text, program)?;
-    add_start(alloc, page, text, program)?;
-    add_pictures(alloc, page, text)?;
-    add_loops(alloc, page, text, program)?;
-    add_subjects(page, text, program, names)
+    add_stops(page, read)?;
+    add_start(page, read)?;
+    add_pictures(page, read)?;
+    add_loops(page, read)?;
+    add_subjects(page, read)
 }

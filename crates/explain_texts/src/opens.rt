@@ -1,7 +1,5 @@
 //! Constructs that are open at a place of a text: sections, IFs and loops that begin before it and end after it.
 
-ghost use Rattle.std.specs.Prelude.{◌≤◌, length, IsTrue, ◌↔◌};
-
 use crate::spellings::begins_statement;
 use ss_lex::{Token, TokenKind, Word};
 use std::alloc::{AllocError, Global};
@@ -74,7 +72,7 @@ pub fn is_first_of_line(tokens: &[Token], index: usize) -> bool {
     if index == 0 {
         return true;
     }
-    match (tokens.get(index - 1), tokens.get(index)) {
+    match (tokens.get(index.saturating_sub(1)), tokens.get(index)) {
         (Some(before), Some(token)) => before.line.0 != token.line.0,
         _ => true,
     }
@@ -82,14 +80,14 @@ pub fn is_first_of_line(tokens: &[Token], index: usize) -> bool {
 
 /// What a section that begins with this token is; None where none does.
 pub fn head_at(tokens: &[Token], index: usize) -> Option<Construct> {
-    let after_end = index > 0 && word_at(tokens, index - 1) == Some(Word::End);
+    let after_end = index > 0 && word_at(tokens, index.saturating_sub(1)) == Some(Word::End);
     if !is_first_of_line(tokens, index) && !after_end {
         return None;
     }
     match word_at(tokens, index) {
         Some(Word::Main) => Some(Construct::Main),
         Some(Word::Routine) => Some(Construct::Routine),
-        Some(Word::Event) => match word_at(tokens, index + 1) {
+        Some(Word::Event) => match word_at(tokens, index.saturating_add(1)) {
             Some(Word::Notices | Word::Notice) => None,
             _ => Some(Construct::Event),
         },
@@ -98,9 +96,7 @@ pub fn head_at(tokens: &[Token], index: usize) -> Option<Construct> {
 }
 
 /// The index of the token with which the section begins that a place is in; 0 in a preamble.
-pub fn section_before(tokens: &[Token], at: usize) -> usize
-    ensures { result ≤ at }
-{
+pub fn section_before(tokens: &[Token], at: usize) -> usize {
     let mut found = 0;
     let mut in_preamble = word_at(tokens, 0) == Some(Word::Preamble);
     for index in 0..at.min(tokens.len()) {

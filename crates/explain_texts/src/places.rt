@@ -1,7 +1,5 @@
 //! Places in a text: its lines, and the spellings of tokens.
 
-ghost use Rattle.std.specs.Prelude.{◌≤◌, ◌×◌, length};
-
 use crate::page::Page;
 use ss_lex::Token;
 use std::alloc::{AllocError, Global};
@@ -21,30 +19,21 @@ pub fn bytes_of(text: &[u8], stretch: Stretch) -> &[u8] {
 }
 
 /// The stretch of a line, without its end. Lines count from 1; an empty one at the end of the text where there are fewer.
-pub fn line_at(text: &[u8], line: u32) -> Stretch
-    ensures { (result.start ≤ result.end) × (result.end ≤ length text.now) }
-{
+pub fn line_at(text: &[u8], line: u32) -> Stretch {
     let mut start = 0;
-    let mut number = 1;
+    let mut number: u32 = 1;
     for (at, byte) in text.iter().enumerate() {
         if *byte == b'\n' {
             if number == line {
                 return Stretch { start, end: at };
             }
-            number += 1;
+            number = number.saturating_add(1);
             start = at + 1;
         }
     }
-    if number == line {
-        Stretch {
-            start,
-            end: text.len(),
-        }
-    } else {
-        Stretch {
-            start: text.len(),
-            end: text.len(),
-        }
+    Stretch {
+        start: if number == line { start } else { text.len() },
+        end: text.len(),
     }
 }
 
@@ -89,18 +78,20 @@ pub fn line_bytes(text: &[u8], line: u32) -> &[u8] {
 }
 
 /// How many blanks and tabs a line begins with.
-pub fn indentation(line: &[u8]) -> usize
-    ensures { result ≤ length line.now }
-{
+pub fn indentation(line: &[u8]) -> usize {
     line.iter()
         .take_while(|byte| **byte == b' ' || **byte == b'\t')
         .count()
 }
 
+/// A line without the blanks and tabs with which it begins.
+pub fn unindented(line: &[u8]) -> &[u8] {
+    &line[indentation(line).min(line.len())..]
+}
+
 /// Whether a line has nothing but blanks, or nothing but a comment.
 pub fn is_blank(line: &[u8]) -> bool {
-    let rest = &line[indentation(line)..];
-    match rest {
+    match unindented(line) {
         [] => true,
         [b'\r'] => true,
         [b'\'', b'\'', ..] => true,
@@ -131,14 +122,12 @@ fn show_part(page: &mut Page, bytes: &[u8], line: u32, from: usize) -> Result<()
     page.padded(u64::from(line), 5)?;
     page.blanks(2)?;
     for byte in bytes.iter().skip(from).take(SHOWN) {
-        let shown = if *byte < 32 || *byte > 126 {
-            b' '
-        } else {
-            *byte
-        };
-        page.bytes(&[shown])?;
+        page.text.push(match *byte {
+            32..=126 => *byte,
+            _ => b' ',
+        })?;
     }
-    page.end_line()
+    page.line("", &[])
 }
 
 // The first column of a line that is shown, where what is marked begins at this one.
@@ -173,9 +162,9 @@ pub fn show_marked(
                 .max(1);
             page.blanks(before.saturating_sub(from).saturating_add(7))?;
             for _ in 0..count {
-                page.bytes(b"^")?;
+                page.text.push(b'^')?;
             }
-            page.end_line()
+            page.line("", &[])
         }
         _ => show_part(page, bytes, line, 0),
     }

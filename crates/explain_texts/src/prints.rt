@@ -1,9 +1,9 @@
 //! Changes of PRINT: its THUS, and its number of lines.
 
-use crate::fixes::Fix;
-use crate::opens::{head_at, is_frame_word, line_of, word_at};
+use crate::fixes::Fixes;
+use crate::opens::{head_at, is_frame_word, word_at};
 use crate::page::Page;
-use crate::places::Stretch;
+use crate::page::Part::{Bytes, Count, Line, Words};
 use crate::spellings::begins_statement;
 use crate::trouble::Trouble;
 use ss_lex::{TokenKind, Word, tokens};
@@ -12,113 +12,86 @@ use std::alloc::{AllocError, Global};
 // The last PRINT before the place.
 fn print_before(trouble: &Trouble<'_>) -> Option<usize> {
     let mut found = None;
-    for index in trouble.section..trouble.at.min(trouble.tokens.len()) {
-        if word_at(trouble.tokens, index) == Some(Word::Print) {
+    for index in trouble.section..trouble.end() {
+        if trouble.word(index) == Some(Word::Print) {
             found = Some(index);
         }
     }
     found
 }
 
-// Whether a word that calls for pictures is between two tokens.
-fn has_trigger(trouble: &Trouble<'_>, from: usize, to: usize) -> bool {
-    for index in from..to.min(trouble.tokens.len()) {
-        if let Some(Word::Thus | Word::This | Word::Follows) = word_at(trouble.tokens, index) {
-            return true;
+// The first word from a token on, and before the place, that calls for pictures.
+fn trigger_after(trouble: &Trouble<'_>, from: usize) -> Option<usize> {
+    for index in from..trouble.end() {
+        if let Some(Word::Thus | Word::This | Word::Follows) = trouble.word(index) {
+            return Some(index);
         }
     }
-    false
+    None
 }
 
 // A THUS at the end of the line of a PRINT that has none.
-fn add_thus(
-    alloc: Global,
-    fixes: &mut Vec<Fix>,
-    trouble: &Trouble<'_>,
-    print: usize,
-) -> Result<(), AllocError> {
-    if has_trigger(trouble, print, trouble.at) {
+fn add_thus(fixes: &mut Fixes, trouble: &Trouble<'_>, print: usize) -> Result<(), AllocError> {
+    if trigger_after(trouble, print).is_some() {
         return Ok(());
     }
     let last = trouble.last_of_line(print);
-    let Some(token) = trouble.tokens.get(last) else {
-        return Ok(());
-    };
-    let mut say = Page::new(alloc);
-    say.words("The PRINT of line ")?;
-    say.number(u64::from(line_of(trouble.tokens, print)))?;
-    say.words(" has no THUS: write THUS at the end of line ")?;
-    say.number(u64::from(token.line.0))?;
-    say.words(". Without it the next line is no picture, but words of the model.")?;
-    let end = token.span.start.saturating_add(token.span.length);
-    fixes.push(Fix {
-        stretch: Stretch { start: end, end },
-        with: Vec::from_slice(alloc, b" THUS")?,
-        say,
-    })?;
-    Ok(())
+    let line = Line(trouble.line_of(print));
+    fixes.insert(
+        trouble.stretch(last).end,
+        &[Words(" THUS")],
+        "The PRINT of line {} has no THUS: write THUS at the end of line {}. Without it the next line is no picture, but words of the model.",
+        &[line, line],
+    )
 }
 
-// The number of lines of a PRINT, by the index of its token.
-fn count_of(trouble: &Trouble<'_>, print: usize) -> Option<(usize, u64)> {
-    let index = print.saturating_add(1);
-    match trouble.tokens.get(index) {
+// The number of lines of a PRINT.
+fn count_of(trouble: &Trouble<'_>, print: usize) -> Option<u64> {
+    match trouble.tokens.get(print.saturating_add(1)) {
         Some(token) => match &token.kind {
-            TokenKind::Number(number) => Some((index, number.unsigned_abs())),
+            TokenKind::Number(number) => Some(number.unsigned_abs()),
             _ => None,
         },
         None => None,
     }
 }
 
-// The number of lines of a PRINT is changed.
-fn with_count(
-    alloc: Global,
+// The number of lines of a PRINT is changed, for a reason.
+fn add_count(
+    fixes: &mut Fixes,
     trouble: &Trouble<'_>,
-    index: usize,
+    print: usize,
     count: u64,
-    why: Page,
-) -> Result<Option<Fix>, AllocError> {
-    let Some(token) = trouble.tokens.get(index) else {
-        return Ok(None);
-    };
-    let mut say = why;
-    say.words(": write PRINT ")?;
-    say.number(count)?;
-    say.words(if count == 1 { " LINE" } else { " LINES" })?;
-    say.in_line(token.line.0)?;
-    say.words(".")?;
-    let mut with = Page::new(alloc);
-    with.number(count)?;
-    Ok(Some(Fix {
-        stretch: Stretch {
-            start: token.span.start,
-            end: token.span.start.saturating_add(token.span.length),
-        },
-        with: with.text,
-        say,
-    }))
+    why: &Page,
+) -> Result<(), AllocError> {
+    let index = print.saturating_add(1);
+    let lines = if count == 1 { "LINE" } else { "LINES" };
+    let (why, line) = (Bytes(why.text.as_slice()), Line(trouble.line_of(index)));
+    fixes.replace(
+        trouble.stretch(index),
+        &[Count(count)],
+        "{}: write PRINT {} {} in line {}.",
+        &[why, Count(count), Words(lines), line],
+    )
 }
 
-// One line of picture more, or two, where the place is right after the pictures.
+// One line of picture more, or two, or three, where the place is right after the pictures.
 fn add_more_lines(
-    alloc: Global,
-    fixes: &mut Vec<Fix>,
+    fixes: &mut Fixes,
     trouble: &Trouble<'_>,
     print: usize,
 ) -> Result<(), AllocError> {
-    let Some((index, count)) = count_of(trouble, print) else {
+    let Some(count) = count_of(trouble, print) else {
         return Ok(());
     };
+    let mut why = Page::new(fixes.alloc());
+    let line = Line(trouble.line());
+    why.say(
+        "Line {} is no statement; it looks like a line of picture",
+        &[line],
+    )?;
     for more in 1..4 {
-        let mut why = Page::new(alloc);
-        why.words("Line ")?;
-        why.number(u64::from(trouble.line()))?;
-        why.words(" is no statement; it looks like a line of picture")?;
-        let wanted = count.saturating_add(more);
-        if let Some(fix) = with_count(alloc, trouble, index, wanted, why)? {
-            fixes.push(fix)?;
-        }
+        add_count(fixes, trouble, print, count.saturating_add(more), &why)?;
     }
     Ok(())
 }
@@ -143,97 +116,75 @@ fn looks_like_statement(alloc: Global, bytes: &[u8]) -> Result<bool, AllocError>
     }
 }
 
-// A picture that looks like a statement is taken for one: there is a line fewer, or an empty line before it.
-fn add_swallowed(
+// The first line of so many below this one that looks like a statement: how far below, and the line.
+fn swallowed(
     alloc: Global,
-    fixes: &mut Vec<Fix>,
     trouble: &Trouble<'_>,
-    print: usize,
-) -> Result<(), AllocError> {
-    let Some((index, count)) = count_of(trouble, print) else {
-        return Ok(());
-    };
-    let mut trigger = None;
-    for next in print..trouble.at.min(trouble.tokens.len()) {
-        if has_trigger(trouble, next, next.saturating_add(1)) {
-            trigger = Some(line_of(trouble.tokens, next));
-            break;
-        }
-    }
-    let Some(trigger) = trigger else {
-        return Ok(());
-    };
-    if count == 0 || count > 100 {
-        return Ok(());
-    }
+    above: u32,
+    count: u64,
+) -> Result<Option<(u64, u32)>, AllocError> {
+    let mut line = above;
     for place in 1..count.saturating_add(1) {
-        let line = trigger.saturating_add(u32::try_from(place).unwrap_or(0));
-        if !looks_like_statement(alloc, trouble.line_bytes(line))? {
-            continue;
+        line = line.saturating_add(1);
+        if looks_like_statement(alloc, trouble.line_bytes(line))? {
+            return Ok(Some((place, line)));
         }
-        let mut why = Page::new(alloc);
-        why.words("Line ")?;
-        why.number(u64::from(line))?;
-        why.words(" was taken as a picture of the PRINT of line ")?;
-        why.number(u64::from(line_of(trouble.tokens, print)))?;
-        if place > 1 {
-            if let Some(fix) = with_count(alloc, trouble, index, place - 1, why)? {
-                fixes.push(fix)?;
-            }
-        } else {
-            let mut say = why;
-            say.words(": write its picture between them.")?;
-            let start = trouble.line_start(line);
-            fixes.push(Fix {
-                stretch: Stretch { start, end: start },
-                with: Vec::from_slice(alloc, b"\n")?,
-                say,
-            })?;
-        }
-        break;
     }
-    Ok(())
+    Ok(None)
+}
+
+// A picture that looks like a statement is taken for one: there is a line fewer, or an empty line before it.
+fn add_swallowed(fixes: &mut Fixes, trouble: &Trouble<'_>, print: usize) -> Result<(), AllocError> {
+    let (Some(count), Some(trigger)) = (count_of(trouble, print), trigger_after(trouble, print))
+    else {
+        return Ok(());
+    };
+    if count > 100 {
+        return Ok(());
+    }
+    let above = trouble.line_of(trigger);
+    let Some((place, line)) = swallowed(fixes.alloc(), trouble, above, count)? else {
+        return Ok(());
+    };
+    let mut why = Page::new(fixes.alloc());
+    let lines = [Line(line), Line(trouble.line_of(print))];
+    why.say(
+        "Line {} was taken as a picture of the PRINT of line {}",
+        &lines,
+    )?;
+    if place > 1 {
+        return add_count(fixes, trouble, print, place - 1, &why);
+    }
+    fixes.insert(
+        trouble.line_start(line),
+        &[Words("\n")],
+        "{}: write its picture between them.",
+        &[Bytes(why.text.as_slice())],
+    )
 }
 
 // The line ends after THUS, where a picture goes on there.
-fn add_line_end(
-    alloc: Global,
-    fixes: &mut Vec<Fix>,
-    trouble: &Trouble<'_>,
-) -> Result<(), AllocError> {
-    let is_trigger = trouble.at > 0 && has_trigger(trouble, trouble.at - 1, trouble.at);
-    if !is_trigger || trouble.begins_line() {
+fn add_line_end(fixes: &mut Fixes, trouble: &Trouble<'_>) -> Result<(), AllocError> {
+    if trouble.begins_line() || trigger_after(trouble, trouble.at.saturating_sub(1)).is_none() {
         return Ok(());
     }
-    let start = trouble.stretch().start;
-    let mut say = Page::new(alloc);
-    say.words("A picture is a line of its own: end line ")?;
-    say.number(u64::from(trouble.line()))?;
-    say.words(" after THUS, and write the picture into the next line.")?;
-    fixes.push(Fix {
-        stretch: Stretch { start, end: start },
-        with: Vec::from_slice(alloc, b"\n")?,
-        say,
-    })?;
-    Ok(())
-}
-
-// The last line of picture of a PRINT before the place.
-fn last_picture(trouble: &Trouble<'_>, print: usize) -> Option<u32> {
-    let mut found = None;
-    for index in print..trouble.at.min(trouble.tokens.len()) {
-        if let Some(token) = trouble.tokens.get(index) {
-            if let TokenKind::Picture(_) = &token.kind {
-                found = Some(token.line.0);
-            }
-        }
-    }
-    found
+    fixes.insert(
+        trouble.stretch(trouble.at).start,
+        &[Words("\n")],
+        "A picture is a line of its own: end line {} after THUS, and write the picture into the next line.",
+        &[Line(trouble.line())],
+    )
 }
 
 // Whether the line of the place comes directly after the pictures of a PRINT.
 fn is_after_pictures(trouble: &Trouble<'_>, print: usize) -> bool {
-    match last_picture(trouble, print) {
+    let mut last = None;
+    for token in trouble.tokens.iter().take(trouble.end()).skip(print) {
+        if let TokenKind::Picture(_) = &token.kind {
+            last = Some(token.line.0);
+        }
+    }
+    match last {
         Some(line) => {
             trouble.line() == line.saturating_add(1) && !is_frame_word(trouble.tokens, trouble.at)
         }
@@ -242,37 +193,27 @@ fn is_after_pictures(trouble: &Trouble<'_>, print: usize) -> bool {
 }
 
 /// Adds the changes of PRINTs before the place.
-pub fn add_prints(
-    alloc: Global,
-    fixes: &mut Vec<Fix>,
-    trouble: &Trouble<'_>,
-) -> Result<(), AllocError> {
-    for index in trouble.section..trouble.at.min(trouble.tokens.len()) {
-        if word_at(trouble.tokens, index) == Some(Word::Print) {
-            add_swallowed(alloc, fixes, trouble, index)?;
+pub fn add_prints(fixes: &mut Fixes, trouble: &Trouble<'_>) -> Result<(), AllocError> {
+    for index in trouble.section..trouble.end() {
+        if trouble.word(index) == Some(Word::Print) {
+            add_swallowed(fixes, trouble, index)?;
         }
     }
     let Some(print) = print_before(trouble) else {
         return Ok(());
     };
-    add_thus(alloc, fixes, trouble, print)?;
-    add_line_end(alloc, fixes, trouble)?;
+    add_thus(fixes, trouble, print)?;
+    add_line_end(fixes, trouble)?;
     if is_after_pictures(trouble, print) && has_field(trouble.line_bytes(trouble.line())) {
-        add_more_lines(alloc, fixes, trouble, print)?;
+        add_more_lines(fixes, trouble, print)?;
     }
     Ok(())
 }
 
 /// Adds a larger number of lines for the PRINT before the place, where the line has no field.
-pub fn add_further_lines(
-    alloc: Global,
-    fixes: &mut Vec<Fix>,
-    trouble: &Trouble<'_>,
-) -> Result<(), AllocError> {
+pub fn add_further_lines(fixes: &mut Fixes, trouble: &Trouble<'_>) -> Result<(), AllocError> {
     match print_before(trouble) {
-        Some(print) if is_after_pictures(trouble, print) => {
-            add_more_lines(alloc, fixes, trouble, print)
-        }
+        Some(print) if is_after_pictures(trouble, print) => add_more_lines(fixes, trouble, print),
         _ => Ok(()),
     }
 }

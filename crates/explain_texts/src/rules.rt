@@ -1,6 +1,7 @@
 //! The rules of refusals, in words.
 
 use crate::page::Page;
+use crate::page::Part::{Count, Words};
 use std::alloc::AllocError;
 
 static RULES: [(u32, &str, &str); 29] = [
@@ -115,29 +116,13 @@ static RULES: [(u32, &str, &str); 29] = [
     ),
 ];
 
-/// The rule of a refusal, by its number.
-pub fn rule_of(number: u32) -> Option<&'static str> {
-    for (known, _, rule) in &RULES {
-        if *known == number {
-            return Some(rule);
-        }
-    }
-    None
-}
-
 /// Adds the rule of a refusal, and where the manual explains it.
 pub fn add_rule(page: &mut Page, number: u32) -> Result<(), AllocError> {
     for (known, name, rule) in &RULES {
         if *known == number {
-            page.words("Rule: ")?;
-            page.words(rule)?;
-            page.words(".")?;
-            page.end_line()?;
-            page.words("Read: docs/LANGUAGE.md, ")?;
-            page.number(u64::from(number))?;
-            page.words(" ")?;
-            page.words(name)?;
-            return page.end_line();
+            page.line("Rule: {}.", &[Words(rule)])?;
+            let number = Count(u64::from(number));
+            return page.line("Read: docs/LANGUAGE.md, {} {}", &[number, Words(name)]);
         }
     }
     Ok(())

@@ -1,11 +1,11 @@
 //! The sections of a program with what they use, and what names mean there.
 
-use ss_base::{ClassKind, Mode, Name, Owner};
+use ss_base::{ClassKind, Mode, Owner};
 use ss_names::{Meaning, Names};
 use ss_names_scopes::{Locals, Scope, all_locals, mode_of};
 use ss_names_uses::{ModeOf, Use, uses_of};
 use ss_tree::expression::Designator;
-use ss_tree::program::{Program, Section, SectionKind};
+use ss_tree::program::Program;
 use std::alloc::{AllocError, Global};
 
 /// The uses of each section, and its local variables.
@@ -36,15 +36,6 @@ impl Sections {
             }),
             None => None,
         }
-    }
-}
-
-/// The name of a section; None for MAIN.
-pub fn name_of(section: &Section) -> Option<Name> {
-    match &section.kind {
-        SectionKind::Main => None,
-        SectionKind::Routine { name, .. } => Some(*name),
-        SectionKind::Event { name, .. } => Some(*name),
     }
 }
 

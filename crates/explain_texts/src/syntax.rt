@@ -1,38 +1,38 @@
 //! Texts that are no programs: refusals 41 and 42.
 
 use crate::candidates::{Candidate, candidates_after, has_statement, has_token};
-use crate::expected::add_expected;
-use crate::fixes::{Fix, Window, best_of, left_after};
+use crate::expected::expected_words;
+use crate::fixes::{Fixes, Window, left_after};
 use crate::forms::{form_of, leader_before};
 use crate::frames::add_frames;
-use crate::opens::{Construct, is_frame_word, line_of, opens_at, section_before, word_at};
+use crate::opens::{Construct, is_frame_word, line_of, opens_at, section_before};
 use crate::page::Page;
+use crate::page::Part::{Bytes, Count, Line, Words};
 use crate::places::{line_starts, show_line, show_marked};
 use crate::prints::{add_further_lines, add_prints};
 use crate::trouble::Trouble;
 use crate::words::{add_likely, add_missing, add_unlikely};
-use ss_base::Line;
 use ss_lex::Token;
 use std::alloc::{AllocError, Global};
 
 /// How many kinds of changes there are, the likeliest first.
 const KINDS: usize = 3;
 
-// The changes of a kind that are worth a trial, those first that say most.
-fn fixes_of(alloc: Global, trouble: &Trouble<'_>, kind: usize) -> Result<Vec<Fix>, AllocError> {
-    let mut fixes = Vec::new(alloc);
+// The changes of a kind that are worth a trial.
+fn fixes_of(alloc: Global, trouble: &Trouble<'_>, kind: usize) -> Result<Fixes, AllocError> {
+    let mut fixes = Fixes::new(alloc);
     match kind {
-        0 => add_likely(alloc, &mut fixes, trouble)?,
+        0 => add_likely(&mut fixes, trouble)?,
         1 => {
-            add_prints(alloc, &mut fixes, trouble)?;
+            add_prints(&mut fixes, trouble)?;
             if is_frame_word(trouble.tokens, trouble.at) {
-                add_frames(alloc, &mut fixes, trouble)?;
+                add_frames(&mut fixes, trouble)?;
             }
-            add_missing(alloc, &mut fixes, trouble)?;
+            add_missing(&mut fixes, trouble)?;
         }
         _ => {
-            add_unlikely(alloc, &mut fixes, trouble)?;
-            add_further_lines(alloc, &mut fixes, trouble)?;
+            add_unlikely(&mut fixes, trouble)?;
+            add_further_lines(&mut fixes, trouble)?;
         }
     }
     Ok(fixes)
@@ -49,20 +49,18 @@ fn good_enough(trouble: &Trouble<'_>, window: Window<'_>, left: usize) -> usize 
 }
 
 // Adds the cure that was found by trial, and says whether there is one.
-fn add_cure(alloc: Global, page: &mut Page, trouble: &Trouble<'_>) -> Result<bool, AllocError> {
+fn add_cure(page: &mut Page, trouble: &Trouble<'_>) -> Result<bool, AllocError> {
     let Some(window) = trouble.window() else {
         return Ok(false);
     };
-    let Some(left) = left_after(alloc, window.bytes)? else {
+    let Some(left) = left_after(page.alloc(), window.bytes)? else {
         return Ok(false);
     };
     let most = good_enough(trouble, window, left);
     for kind in 0..KINDS {
-        let fixes = fixes_of(alloc, trouble, kind)?;
-        if let Some(fix) = best_of(alloc, window, fixes.as_slice(), most)? {
-            page.words("Cure: ")?;
-            page.bytes(fix.say.text.as_slice())?;
-            page.end_line()?;
+        let fixes = fixes_of(page.alloc(), trouble, kind)?;
+        if let Some(fix) = fixes.best(window, most)? {
+            page.cure("{}", &[Bytes(fix.say.text.as_slice())])?;
             return Ok(true);
         }
     }
@@ -71,26 +69,23 @@ fn add_cure(alloc: Global, page: &mut Page, trouble: &Trouble<'_>) -> Result<boo
 
 // Adds the form of the statement or the declaration in which the place is.
 fn add_form(page: &mut Page, trouble: &Trouble<'_>) -> Result<(), AllocError> {
-    if has_statement(trouble.candidates) && trouble.begins_line() {
-        page.words(
-            "Form: a statement begins with LET, ADD, SUBTRACT, READ, PRINT, SKIP, IF, FOR, WHILE, UNTIL, CALL, RETURN, STOP, START, CREATE, DESTROY, FILE, REMOVE, SCHEDULE, CANCEL or RESET",
-        )?;
-        return page.end_line();
-    }
-    let Some(leader) = leader_before(trouble.tokens, trouble.section, trouble.at) else {
-        return Ok(());
+    let form = if has_statement(trouble.candidates) && trouble.begins_line() {
+        Some(
+            "a statement begins with LET, ADD, SUBTRACT, READ, PRINT, SKIP, IF, FOR, WHILE, UNTIL, CALL, RETURN, STOP, START, CREATE, DESTROY, FILE, REMOVE, SCHEDULE, CANCEL or RESET",
+        )
+    } else {
+        form_at(trouble)
     };
-    let Some(word) = word_at(trouble.tokens, leader) else {
-        return Ok(());
-    };
-    match form_of(word) {
-        Some(form) => {
-            page.words("Form: ")?;
-            page.words(form)?;
-            page.end_line()
-        }
+    match form {
+        Some(form) => page.line("Form: {}", &[Words(form)]),
         None => Ok(()),
     }
+}
+
+// The form of what begins last before the place.
+fn form_at(trouble: &Trouble<'_>) -> Option<&'static str> {
+    let leader = leader_before(trouble.tokens, trouble.section, trouble.at)?;
+    form_of(trouble.word(leader)?)
 }
 
 // Adds the constructs that are open at the place, each with its line, the last first.
@@ -99,39 +94,35 @@ fn add_opens(page: &mut Page, trouble: &Trouble<'_>) -> Result<(), AllocError> {
     if !is_frame_word(trouble.tokens, trouble.at) || trouble.opens.is_empty() || !is_between {
         return Ok(());
     }
-    page.words("Open there, the last first:")?;
-    page.end_line()?;
+    page.line("Open there, the last first:", &[])?;
     for open in trouble.opens.iter().rev() {
-        show_line(page, trouble.text, line_of(trouble.tokens, open.token))?;
+        show_line(page, trouble.text, trouble.line_of(open.token))?;
     }
     Ok(())
 }
 
 // Adds the place and what was expected there.
-fn add_place(alloc: Global, page: &mut Page, trouble: &Trouble<'_>) -> Result<(), AllocError> {
-    page.words("line ")?;
-    page.number(u64::from(trouble.line()))?;
-    page.words(", ")?;
-    trouble.add_found(page)?;
-    page.words(": ")?;
-    if trouble.candidates.is_empty() {
-        page.words("it doesn't fit here")?;
-    } else {
-        page.words("expected ")?;
-        add_expected(alloc, page, trouble.candidates)?;
-    }
-    page.end_line()?;
-    show_marked(page, trouble.text, trouble.line(), Some(trouble.stretch()))
+fn add_place(page: &mut Page, trouble: &Trouble<'_>) -> Result<(), AllocError> {
+    let expected = expected_words(page.alloc(), trouble.candidates)?;
+    let line = trouble.line();
+    page.line(
+        "line {}, {}: {}",
+        &[
+            Line(line),
+            trouble.called(trouble.at),
+            Bytes(expected.text.as_slice()),
+        ],
+    )?;
+    show_marked(page, trouble.text, line, Some(trouble.stretch(trouble.at)))
 }
 
 // What may come at a token, in the section that it is in.
 fn candidates_at(alloc: Global, tokens: &[Token], at: usize) -> Result<Vec<Candidate>, AllocError> {
-    let section = section_before(tokens, at);
-    let before = match tokens.get(section..at) {
+    let before = match tokens.get(section_before(tokens, at)..at) {
         Some(before) => before,
         None => &[],
     };
-    candidates_after(alloc, before, Line(line_of(tokens, at)))
+    candidates_after(alloc, before)
 }
 
 // The place that does not fit, and what may come there. Where reading stopped after a word that fits nowhere, that is the word.
@@ -155,16 +146,15 @@ fn place_of(
 
 /// Explains a text whose tokens are read no further than to one of them.
 pub fn explain_syntax(
-    alloc: Global,
     page: &mut Page,
     text: &[u8],
     tokens: &[Token],
     at: usize,
 ) -> Result<(), AllocError> {
-    let (at, candidates) = place_of(alloc, tokens, at)?;
+    let (at, candidates) = place_of(page.alloc(), tokens, at)?;
     let section = section_before(tokens, at);
-    let opens = opens_at(alloc, tokens, section, at)?;
-    let starts = line_starts(alloc, text)?;
+    let opens = opens_at(page.alloc(), tokens, section, at)?;
+    let starts = line_starts(page.alloc(), text)?;
     let trouble = Trouble {
         text,
         starts: starts.as_slice(),
@@ -174,10 +164,9 @@ pub fn explain_syntax(
         candidates: candidates.as_slice(),
         opens: opens.as_slice(),
     };
-    add_place(alloc, page, &trouble)?;
+    add_place(page, &trouble)?;
     add_opens(page, &trouble)?;
-    let cured = add_cure(alloc, page, &trouble)?;
-    if !cured {
+    if !add_cure(page, &trouble)? {
         add_form(page, &trouble)?;
     }
     Ok(())
@@ -185,27 +174,22 @@ pub fn explain_syntax(
 
 /// Explains a text in which more levels of nesting are open than may be.
 pub fn explain_depth(
-    alloc: Global,
     page: &mut Page,
     text: &[u8],
     tokens: &[Token],
     at: usize,
 ) -> Result<(), AllocError> {
     let line = line_of(tokens, at);
-    page.words("line ")?;
-    page.number(u64::from(line))?;
-    page.words(": more than 64 parentheses, IFs and loops are open")?;
-    page.end_line()?;
+    let words = ": more than 64 parentheses, IFs and loops are open";
+    page.line("line {}{}", &[Line(line), Words(words)])?;
     show_line(page, text, line)?;
-    let opens = opens_at(alloc, tokens, section_before(tokens, at), at)?;
-    let mut ifs: u64 = 0;
-    for open in &opens {
-        if open.construct == Construct::If {
-            ifs = ifs.saturating_add(1);
-        }
-    }
-    page.words("Cure: Put the inner statements into a ROUTINE, or close what is open: ")?;
-    page.number(ifs)?;
-    page.words(" IFs have no ALWAYS yet.")?;
-    page.end_line()
+    let opens = opens_at(page.alloc(), tokens, section_before(tokens, at), at)?;
+    let ifs = opens
+        .iter()
+        .filter(|open| open.construct == Construct::If)
+        .count();
+    page.cure(
+        "Put the inner statements into a ROUTINE, or close what is open: {} IFs have no ALWAYS yet.",
+        &[Count(ifs as u64)],
+    )
 }

@@ -2,11 +2,10 @@
 
 use crate::candidates::Candidate;
 use crate::fixes::Window;
-use crate::opens::{Open, line_of};
-use crate::page::Page;
-use crate::places::{Stretch, line_from, spelled, stretch_of};
-use ss_lex::Token;
-use std::alloc::AllocError;
+use crate::opens::{Open, line_of, word_at};
+use crate::page::Part::{self, Capitals, Words};
+use crate::places::{Stretch, bytes_of, line_from, spelled, stretch_of};
+use ss_lex::{Symbol, Token, TokenKind, Word};
 
 /// The place at which a text is not read further, and what is known of it.
 #[derive(Clone, Copy)]
@@ -31,30 +30,6 @@ impl<'a> Trouble<'a> {
         self.tokens.get(self.at)
     }
 
-    /// Its spelling; empty at the end of the text.
-    pub fn found_spelling(&self) -> &'a [u8] {
-        match self.found() {
-            Some(token) => spelled(self.text, token),
-            None => &[],
-        }
-    }
-
-    /// Its line.
-    pub fn line(&self) -> u32 {
-        line_of(self.tokens, self.at)
-    }
-
-    /// Its stretch.
-    pub fn stretch(&self) -> Stretch {
-        match self.found() {
-            Some(token) => stretch_of(token),
-            None => Stretch {
-                start: self.text.len(),
-                end: self.text.len(),
-            },
-        }
-    }
-
     /// The token before it.
     pub fn before(&self) -> Option<&'a Token> {
         match self.at {
@@ -63,7 +38,78 @@ impl<'a> Trouble<'a> {
         }
     }
 
-    /// Whether the token before it is in another line.
+    /// The place after the tokens of the section that come before it.
+    pub fn end(&self) -> usize {
+        self.at.min(self.tokens.len())
+    }
+
+    /// How a token is spelled; empty at the end of the text.
+    pub fn spelling(&self, index: usize) -> &'a [u8] {
+        match self.tokens.get(index) {
+            Some(token) => spelled(self.text, token),
+            None => &[],
+        }
+    }
+
+    /// What a token is called: its spelling in capitals, or words for the end of the text.
+    pub fn called(&self, index: usize) -> Part<'a> {
+        match self.tokens.get(index) {
+            Some(token) => Capitals(spelled(self.text, token)),
+            None => Words("the end of the text"),
+        }
+    }
+
+    /// The stretch of a token.
+    pub fn stretch(&self, index: usize) -> Stretch {
+        match self.tokens.get(index) {
+            Some(token) => stretch_of(token),
+            None => Stretch {
+                start: self.text.len(),
+                end: self.text.len(),
+            },
+        }
+    }
+
+    /// The stretch from one token to another.
+    pub fn between(&self, first: usize, last: usize) -> Stretch {
+        Stretch {
+            start: self.stretch(first).start,
+            end: self.stretch(last).end,
+        }
+    }
+
+    /// The bytes of a stretch.
+    pub fn bytes(&self, stretch: Stretch) -> &'a [u8] {
+        bytes_of(self.text, stretch)
+    }
+
+    /// The line of the place.
+    pub fn line(&self) -> u32 {
+        self.line_of(self.at)
+    }
+
+    /// The line of a token.
+    pub fn line_of(&self, index: usize) -> u32 {
+        line_of(self.tokens, index)
+    }
+
+    /// The reserved word that a token is.
+    pub fn word(&self, index: usize) -> Option<Word> {
+        word_at(self.tokens, index)
+    }
+
+    /// Whether a token is this symbol.
+    pub fn is_symbol(&self, index: usize, wanted: Symbol) -> bool {
+        match self.tokens.get(index) {
+            Some(token) => match &token.kind {
+                TokenKind::Symbol(symbol) => *symbol == wanted,
+                _ => false,
+            },
+            None => false,
+        }
+    }
+
+    /// Whether the token before the place is in another line.
     pub fn begins_line(&self) -> bool {
         match (self.before(), self.found()) {
             (Some(before), Some(found)) => before.line.0 != found.line.0,
@@ -71,20 +117,12 @@ impl<'a> Trouble<'a> {
         }
     }
 
-    /// Adds the name of the place: the spelling of the token in capitals, or words for the end of the text.
-    pub fn add_found(&self, page: &mut Page) -> Result<(), AllocError> {
-        match self.found() {
-            Some(_) => page.capitals(self.found_spelling()),
-            None => page.words("the end of the text"),
-        }
-    }
-
     /// The last token of a line, by its index, from this token on.
     pub fn last_of_line(&self, index: usize) -> usize {
-        let line = line_of(self.tokens, index);
+        let line = self.line_of(index);
         let mut last = index;
         for next in index..self.tokens.len().min(index.saturating_add(2000)) {
-            if line_of(self.tokens, next) != line {
+            if self.line_of(next) != line {
                 break;
             }
             last = next;
@@ -100,30 +138,25 @@ impl<'a> Trouble<'a> {
         } else {
             20_000
         };
-        let start = match self.tokens.get(self.section) {
-            Some(token) if self.section > 0 => token.span.start.min(self.text.len()),
-            _ => 0,
+        let start = match self.section {
+            0 => 0,
+            section => self.stretch(section).start.min(self.text.len()),
         };
-        let place = self.stretch().start;
-        if place.saturating_sub(start) > most {
-            return None;
-        }
-        let wanted = place.saturating_add(most).min(self.text.len());
-        let end = self.end_of_line(wanted);
-        if end < start {
+        let place = self.stretch(self.at).start;
+        let end = self.end_of_line(place.saturating_add(most));
+        if place.saturating_sub(start) > most || end < start {
             return None;
         }
         Some(Window {
-            bytes: &self.text[start..end],
+            bytes: self.bytes(Stretch { start, end }),
             start,
         })
     }
 
     // The end of the line that this byte is in.
     fn end_of_line(&self, at: usize) -> usize {
-        let at = at.min(self.text.len());
-        match self.text[at..].iter().position(|byte| *byte == b'\n') {
-            Some(count) => at.saturating_add(count).min(self.text.len()),
+        match self.text.iter().skip(at).position(|byte| *byte == b'\n') {
+            Some(count) => at.saturating_add(count),
             None => self.text.len(),
         }
     }

@@ -1,16 +1,17 @@
 //! Changes of single words: one is put in, left out, or gives way to another.
 
 use crate::candidates::{Candidate, has_word, is_value_word};
-use crate::fixes::Fix;
+use crate::fixes::Fixes;
 use crate::forms::leader_before;
-use crate::opens::{Construct, head_at, is_first_of_line, line_of, word_at};
+use crate::opens::{Construct, head_at, is_first_of_line};
 use crate::page::Page;
-use crate::places::{Stretch, bytes_of, spelled};
+use crate::page::Part::{Bytes, Capitals, Line, Words};
+use crate::places::Stretch;
 use crate::similar::is_like;
 use crate::spellings::{WORDS, begins_statement, spelling_of};
 use crate::trouble::Trouble;
 use ss_lex::{Symbol, Token, TokenKind, Word};
-use std::alloc::{AllocError, Global};
+use std::alloc::AllocError;
 
 /// Words of other languages, and what this one has for them.
 static CONFUSIONS: [(&[&str], &str); 54] = [
@@ -70,81 +71,92 @@ static CONFUSIONS: [(&[&str], &str); 54] = [
     (&["STRING"], "ALPHA"),
 ];
 
-// Whether a token is spelled so, in capitals.
-fn is_spelled(text: &[u8], token: &Token, wanted: &str) -> bool {
-    spelled(text, token).eq_ignore_ascii_case(wanted.as_bytes())
-}
-
 // Whether the tokens from this one on are spelled so.
 fn are_spelled(trouble: &Trouble<'_>, from: usize, wanted: &[&str]) -> bool {
     for (place, word) in wanted.iter().enumerate() {
-        match trouble.tokens.get(from.saturating_add(place)) {
-            Some(token) if is_spelled(trouble.text, token, word) => {}
-            _ => return false,
+        let spelling = trouble.spelling(from.saturating_add(place));
+        if !spelling.eq_ignore_ascii_case(word.as_bytes()) {
+            return false;
         }
     }
     true
 }
 
-// The stretch from one token to another.
-fn stretch_between(trouble: &Trouble<'_>, first: usize, last: usize) -> Stretch {
-    let start = match trouble.tokens.get(first) {
-        Some(token) => token.span.start,
-        None => trouble.text.len(),
-    };
-    let end = match trouble.tokens.get(last) {
-        Some(token) => token.span.start.saturating_add(token.span.length),
-        None => trouble.text.len(),
-    };
-    Stretch { start, end }
-}
-
-// Bytes with a blank on each side.
-fn with_blanks(alloc: Global, words: &[u8]) -> Result<Vec<u8>, AllocError> {
-    let mut with = Vec::from_slice(alloc, b" ")?;
-    with.extend_from_slice(words)?;
-    with.extend_from_slice(b" ")?;
-    Ok(with)
-}
-
-// Tokens give way to words.
-fn in_place(
-    alloc: Global,
+// Tokens give way to a word.
+fn put_in_place(
+    fixes: &mut Fixes,
     trouble: &Trouble<'_>,
     first: usize,
     last: usize,
-    word: &[u8],
-) -> Result<Fix, AllocError> {
-    let stretch = stretch_between(trouble, first, last);
-    let mut say = Page::new(alloc);
-    say.words("Write ")?;
-    say.bytes(word)?;
-    say.words(" in place of ")?;
-    say.capitals(bytes_of(trouble.text, stretch))?;
-    say.in_line(line_of(trouble.tokens, first))?;
-    say.words(".")?;
-    Ok(Fix {
+    word: &str,
+) -> Result<(), AllocError> {
+    let stretch = trouble.between(first, last);
+    fixes.replace(
         stretch,
-        with: with_blanks(alloc, word)?,
-        say,
-    })
+        &[Words(" "), Words(word), Words(" ")],
+        "Write {} in place of {} in line {}.",
+        &[
+            Words(word),
+            Capitals(trouble.bytes(stretch)),
+            Line(trouble.line_of(first)),
+        ],
+    )
+}
+
+// A word is put in before a token.
+fn put_before(
+    fixes: &mut Fixes,
+    trouble: &Trouble<'_>,
+    index: usize,
+    called: &str,
+    with: &str,
+    after: &str,
+) -> Result<(), AllocError> {
+    fixes.insert(
+        trouble.stretch(index).start,
+        &[Words(" "), Words(with), Words(" ")],
+        "Write {} before {} in line {}{}",
+        &[
+            Words(called),
+            trouble.called(index),
+            Line(trouble.line_of(index)),
+            Words(after),
+        ],
+    )
+}
+
+// Words are put in before the place; after the token before it, where that is in another line and the words begin nothing.
+fn put_in(
+    fixes: &mut Fixes,
+    trouble: &Trouble<'_>,
+    called: &str,
+    with: &str,
+    begins: bool,
+) -> Result<(), AllocError> {
+    if trouble.at == 0 || begins || !trouble.begins_line() {
+        return put_before(fixes, trouble, trouble.at, called, with, ".");
+    }
+    let before = trouble.at.saturating_sub(1);
+    fixes.insert(
+        trouble.stretch(before).end,
+        &[Words(" "), Words(with), Words(" ")],
+        "Write {} after {} at the end of line {}.",
+        &[
+            Words(called),
+            trouble.called(before),
+            Line(trouble.line_of(before)),
+        ],
+    )
 }
 
 // Words of other languages that begin at the place or just before it.
-fn add_confusions(
-    alloc: Global,
-    fixes: &mut Vec<Fix>,
-    trouble: &Trouble<'_>,
-) -> Result<(), AllocError> {
-    for back in 0..4 {
-        if back > trouble.at {
-            break;
-        }
-        let first = trouble.at - back;
+fn add_confusions(fixes: &mut Fixes, trouble: &Trouble<'_>) -> Result<(), AllocError> {
+    for back in 0..trouble.at.min(3).saturating_add(1) {
+        let first = trouble.at.saturating_sub(back);
         for (wrong, right) in &CONFUSIONS {
             let last = first.saturating_add(wrong.len()).saturating_sub(1);
             if last >= trouble.at.saturating_sub(1) && are_spelled(trouble, first, wrong) {
-                fixes.push(in_place(alloc, trouble, first, last, right.as_bytes())?)?;
+                put_in_place(fixes, trouble, first, last, right)?;
             }
         }
     }
@@ -168,22 +180,23 @@ fn is_shared(trouble: &Trouble<'_>, name: &[u8]) -> bool {
     in_preamble && in_section
 }
 
-// The token that does not fit, or the one before it, gives way to a word that is spelled alike.
-fn add_misspelled(
-    alloc: Global,
-    fixes: &mut Vec<Fix>,
-    trouble: &Trouble<'_>,
-) -> Result<(), AllocError> {
-    let last = if is_symbol(trouble.tokens, trouble.at, Symbol::Comma) {
+// Whether a token is a name.
+fn is_name(token: Option<&Token>) -> bool {
+    match token {
+        Some(token) => matches!(&token.kind, TokenKind::Name(_)),
+        None => false,
+    }
+}
+
+// The token that does not fit, or one of the two before it, gives way to a word that is spelled alike.
+fn add_misspelled(fixes: &mut Fixes, trouble: &Trouble<'_>) -> Result<(), AllocError> {
+    let last = if trouble.is_symbol(trouble.at, Symbol::Comma) {
         trouble.at.saturating_add(1)
     } else {
         trouble.at
     };
-    for back in 0..3 {
-        if back > last {
-            break;
-        }
-        let index = last - back;
+    for back in 0..last.min(2).saturating_add(1) {
+        let index = last.saturating_sub(back);
         let Some(token) = trouble.tokens.get(index) else {
             continue;
         };
@@ -194,8 +207,8 @@ fn add_misspelled(
             continue;
         }
         for (spelling, _) in &WORDS {
-            if is_like(alloc, name.bytes(), spelling.as_bytes())? {
-                fixes.push(in_place(alloc, trouble, index, index, spelling.as_bytes())?)?;
+            if is_like(fixes.alloc(), name.bytes(), spelling.as_bytes())? {
+                put_in_place(fixes, trouble, index, index, spelling)?;
             }
         }
     }
@@ -204,7 +217,7 @@ fn add_misspelled(
 
 // Whether a token is a reserved word that may be meant as a name: no word of the frame of statements, and no small one.
 fn may_be_name(trouble: &Trouble<'_>, index: usize) -> bool {
-    let Some(word) = word_at(trouble.tokens, index) else {
+    let Some(word) = trouble.word(index) else {
         return false;
     };
     let is_small = matches!(
@@ -249,33 +262,17 @@ fn may_be_name(trouble: &Trouble<'_>, index: usize) -> bool {
 }
 
 // A reserved word that is used as a name gives way to a name.
-fn add_renamed(
-    alloc: Global,
-    fixes: &mut Vec<Fix>,
-    trouble: &Trouble<'_>,
-    index: usize,
-) -> Result<(), AllocError> {
-    let Some(token) = trouble.tokens.get(index) else {
-        return Ok(());
-    };
+fn add_renamed(fixes: &mut Fixes, trouble: &Trouble<'_>, index: usize) -> Result<(), AllocError> {
     if !may_be_name(trouble, index) || head_at(trouble.tokens, index).is_some() {
         return Ok(());
     }
-    let spelling = spelled(trouble.text, token);
-    let mut with = Page::new(alloc);
-    with.capitals(spelling)?;
-    with.words(".1")?;
-    let mut say = Page::new(alloc);
-    say.capitals(spelling)?;
-    say.words(" is a word of the language and no name: use another name, as ")?;
-    say.bytes(with.text.as_slice())?;
-    say.words(", in every line.")?;
-    fixes.push(Fix {
-        stretch: stretch_between(trouble, index, index),
-        with: with_blanks(alloc, with.text.as_slice())?,
-        say,
-    })?;
-    Ok(())
+    let spelling = trouble.called(index);
+    fixes.replace(
+        trouble.stretch(index),
+        &[Words(" "), spelling, Words(".1 ")],
+        "{} is a word of the language and no name: use another name, as {}.1, in every line.",
+        &[spelling, spelling],
+    )
 }
 
 // Whether a spelling begins with a vowel.
@@ -288,46 +285,12 @@ fn begins_with_vowel(spelling: &[u8]) -> bool {
 
 // Whether an article is the wrong one of A and AN for what follows.
 fn is_wrong_article(trouble: &Trouble<'_>, word: Word) -> bool {
-    let vowel = begins_with_vowel(trouble.found_spelling());
+    let vowel = begins_with_vowel(trouble.spelling(trouble.at));
     match word {
         Word::A => vowel && has_word(trouble.candidates, Word::An),
         Word::An => !vowel && has_word(trouble.candidates, Word::A),
         _ => false,
     }
-}
-
-// Words are put in before the place; after the token before it, where that is in another line and the words begin nothing.
-fn put_in(
-    alloc: Global,
-    trouble: &Trouble<'_>,
-    called: &str,
-    with: &str,
-    begins: bool,
-) -> Result<Fix, AllocError> {
-    let mut say = Page::new(alloc);
-    say.words("Write ")?;
-    say.words(called)?;
-    let at = match trouble.before() {
-        Some(before) if trouble.begins_line() && !begins => {
-            say.words(" after ")?;
-            say.capitals(spelled(trouble.text, before))?;
-            say.words(" at the end of line ")?;
-            say.number(u64::from(before.line.0))?;
-            before.span.start.saturating_add(before.span.length)
-        }
-        _ => {
-            say.words(" before ")?;
-            trouble.add_found(&mut say)?;
-            say.in_line(trouble.line())?;
-            trouble.stretch().start
-        }
-    };
-    say.words(".")?;
-    Ok(Fix {
-        stretch: Stretch { start: at, end: at },
-        with: with_blanks(alloc, with.as_bytes())?,
-        say,
-    })
 }
 
 // Whether a statement, a declaration or a section begins with the word.
@@ -347,86 +310,50 @@ fn begins_something(word: Word) -> bool {
         )
 }
 
-// Each expected word is put in.
-fn add_put_in(
-    alloc: Global,
-    fixes: &mut Vec<Fix>,
+// Each expected word is put in, or takes the place of what is there.
+fn add_expected(
+    fixes: &mut Fixes,
     trouble: &Trouble<'_>,
+    replaces: bool,
 ) -> Result<(), AllocError> {
     for candidate in trouble.candidates {
-        if let Candidate::Word(word) = candidate {
-            if !is_wrong_article(trouble, *word) && !is_value_word(*word) {
-                let spelling = spelling_of(*word);
-                let begins = begins_something(*word);
-                fixes.push(put_in(alloc, trouble, spelling, spelling, begins)?)?;
-            }
+        let Candidate::Word(word) = candidate else {
+            continue;
+        };
+        if is_wrong_article(trouble, *word) || is_value_word(*word) {
+            continue;
         }
-    }
-    Ok(())
-}
-
-// Each expected word takes the place of what is there.
-fn add_in_place(
-    alloc: Global,
-    fixes: &mut Vec<Fix>,
-    trouble: &Trouble<'_>,
-) -> Result<(), AllocError> {
-    if trouble.found().is_none() {
-        return Ok(());
-    }
-    for candidate in trouble.candidates {
-        if let Candidate::Word(word) = candidate {
-            if !is_wrong_article(trouble, *word) && !is_value_word(*word) {
-                let spelling = spelling_of(*word).as_bytes();
-                fixes.push(in_place(alloc, trouble, trouble.at, trouble.at, spelling)?)?;
-            }
+        let spelling = spelling_of(*word);
+        if replaces {
+            put_in_place(fixes, trouble, trouble.at, trouble.at, spelling)?;
+        } else {
+            put_in(fixes, trouble, spelling, spelling, begins_something(*word))?;
         }
     }
     Ok(())
 }
 
 // What is there is left out.
-fn add_left_out(
-    alloc: Global,
-    fixes: &mut Vec<Fix>,
-    trouble: &Trouble<'_>,
-    index: usize,
-) -> Result<(), AllocError> {
-    let Some(token) = trouble.tokens.get(index) else {
-        return Ok(());
-    };
-    let mut say = Page::new(alloc);
-    say.words("Leave ")?;
-    say.capitals(spelled(trouble.text, token))?;
-    say.words(" out")?;
-    say.in_line(token.line.0)?;
-    say.words(".")?;
-    fixes.push(Fix {
-        stretch: stretch_between(trouble, index, index),
-        with: with_blanks(alloc, b"")?,
-        say,
-    })?;
-    Ok(())
+fn add_left_out(fixes: &mut Fixes, trouble: &Trouble<'_>) -> Result<(), AllocError> {
+    fixes.replace(
+        trouble.stretch(trouble.at),
+        &[Words("  ")],
+        "Leave {} out in line {}.",
+        &[trouble.called(trouble.at), Line(trouble.line())],
+    )
 }
 
 // A sign is put in.
-fn add_signs(alloc: Global, fixes: &mut Vec<Fix>, trouble: &Trouble<'_>) -> Result<(), AllocError> {
+fn add_signs(fixes: &mut Fixes, trouble: &Trouble<'_>) -> Result<(), AllocError> {
     for candidate in trouble.candidates {
-        match candidate {
-            Candidate::Symbol(Symbol::CloseParenthesis) => {
-                fixes.push(put_in(alloc, trouble, ")", ")", false)?)?;
-            }
-            Candidate::Symbol(Symbol::OpenParenthesis) => {
-                fixes.push(put_in(alloc, trouble, "(", "(", false)?)?;
-            }
-            Candidate::Symbol(Symbol::Equals) => {
-                fixes.push(put_in(alloc, trouble, "=", "=", false)?)?;
-            }
-            Candidate::Separator => {
-                fixes.push(put_in(alloc, trouble, "a comma", ",", false)?)?;
-            }
-            _ => {}
-        }
+        let (called, with) = match candidate {
+            Candidate::Symbol(Symbol::CloseParenthesis) => (")", ")"),
+            Candidate::Symbol(Symbol::OpenParenthesis) => ("(", "("),
+            Candidate::Symbol(Symbol::Equals) => ("=", "="),
+            Candidate::Separator => ("a comma", ","),
+            _ => continue,
+        };
+        put_in(fixes, trouble, called, with, false)?;
     }
     Ok(())
 }
@@ -435,25 +362,25 @@ fn add_signs(alloc: Global, fixes: &mut Vec<Fix>, trouble: &Trouble<'_>) -> Resu
 fn product_before(trouble: &Trouble<'_>) -> usize {
     let mut depth: usize = 0;
     let mut first = trouble.at;
-    for index in (trouble.section..trouble.at).rev() {
-        let Some(token) = trouble.tokens.get(index) else {
-            break;
+    for index in (trouble.section..trouble.end()).rev() {
+        let was_inside = depth > 0;
+        if trouble.is_symbol(index, Symbol::CloseParenthesis) {
+            depth = depth.saturating_add(1);
+        }
+        if trouble.is_symbol(index, Symbol::OpenParenthesis) {
+            depth = depth.saturating_sub(1);
+        }
+        let is_factor = match trouble.tokens.get(index) {
+            Some(token) => matches!(
+                &token.kind,
+                TokenKind::Symbol(Symbol::CloseParenthesis | Symbol::Star)
+                    | TokenKind::Number(_)
+                    | TokenKind::Name(_)
+                    | TokenKind::Word(Word::TimeV | Word::TimeA)
+            ),
+            None => false,
         };
-        let goes_on = match &token.kind {
-            TokenKind::Symbol(Symbol::CloseParenthesis) => {
-                depth = depth.saturating_add(1);
-                true
-            }
-            TokenKind::Symbol(Symbol::OpenParenthesis) => {
-                let inside = depth > 0;
-                depth = depth.saturating_sub(1);
-                inside
-            }
-            TokenKind::Symbol(Symbol::Star) | TokenKind::Number(_) | TokenKind::Name(_) => true,
-            TokenKind::Word(word) => depth > 0 || matches!(word, Word::TimeV | Word::TimeA),
-            _ => depth > 0,
-        };
-        if !goes_on {
+        if !was_inside && !is_factor {
             break;
         }
         first = index;
@@ -464,15 +391,12 @@ fn product_before(trouble: &Trouble<'_>) -> usize {
 // The last token of the factor after the place, with its parentheses.
 fn factor_after(trouble: &Trouble<'_>) -> usize {
     let mut depth: usize = 0;
-    let mut last = trouble.at.saturating_add(1);
-    for index in last..trouble.tokens.len() {
-        let Some(token) = trouble.tokens.get(index) else {
-            break;
-        };
-        let opens = matches!(&token.kind, TokenKind::Symbol(Symbol::OpenParenthesis));
-        let closes = matches!(&token.kind, TokenKind::Symbol(Symbol::CloseParenthesis));
-        let is_first = index == trouble.at.saturating_add(1);
-        if !is_first && depth == 0 && !opens {
+    let first = trouble.at.saturating_add(1);
+    let mut last = first;
+    for index in first..trouble.tokens.len() {
+        let opens = trouble.is_symbol(index, Symbol::OpenParenthesis);
+        let closes = trouble.is_symbol(index, Symbol::CloseParenthesis);
+        if index > first && depth == 0 && !opens {
             break;
         }
         if opens {
@@ -490,128 +414,96 @@ fn factor_after(trouble: &Trouble<'_>) -> usize {
 }
 
 // A stroke gives way to DIV.F.
-fn add_division(
-    alloc: Global,
-    fixes: &mut Vec<Fix>,
-    trouble: &Trouble<'_>,
-) -> Result<(), AllocError> {
-    if trouble.found_spelling() != b"/".as_slice() || trouble.at == 0 {
+fn add_division(fixes: &mut Fixes, trouble: &Trouble<'_>) -> Result<(), AllocError> {
+    if trouble.spelling(trouble.at) != b"/".as_slice() || trouble.at == 0 {
         return Ok(());
     }
-    let first = product_before(trouble);
-    let last = factor_after(trouble);
-    let left = stretch_between(trouble, first, trouble.at - 1);
-    let right = stretch_between(trouble, trouble.at.saturating_add(1), last);
-    let mut with = Page::new(alloc);
-    with.words("DIV.F(")?;
-    with.bytes(bytes_of(trouble.text, left))?;
-    with.words(", ")?;
-    with.bytes(bytes_of(trouble.text, right))?;
-    with.words(")")?;
-    let mut say = Page::new(alloc);
-    say.words("There is no sign for a division: write ")?;
-    say.capitals(with.text.as_slice())?;
-    say.in_line(trouble.line())?;
-    say.words(", which drops what is left over.")?;
-    fixes.push(Fix {
-        stretch: Stretch {
-            start: left.start,
-            end: right.end,
-        },
-        with: with.text,
-        say,
-    })?;
-    Ok(())
+    let left = trouble.between(product_before(trouble), trouble.at.saturating_sub(1));
+    let right = trouble.between(trouble.at.saturating_add(1), factor_after(trouble));
+    let mut with = Page::new(fixes.alloc());
+    let (dividend, divisor) = (Bytes(trouble.bytes(left)), Bytes(trouble.bytes(right)));
+    with.say("DIV.F({}, {})", &[dividend, divisor])?;
+    let whole = Stretch {
+        start: left.start,
+        end: right.end,
+    };
+    fixes.replace(
+        whole,
+        &[Bytes(with.text.as_slice())],
+        "There is no sign for a division: write {} in line {}, which drops what is left over.",
+        &[Capitals(with.text.as_slice()), Line(trouble.line())],
+    )
 }
 
-// What is given comes before the time of a SCHEDULE.
-fn add_given_first(
-    alloc: Global,
-    fixes: &mut Vec<Fix>,
-    trouble: &Trouble<'_>,
-) -> Result<(), AllocError> {
-    let is_given = matches!(
-        word_at(trouble.tokens, trouble.at),
-        Some(Word::Given | Word::Giving | Word::Called)
-    );
-    let leader = leader_before(trouble.tokens, trouble.section, trouble.at);
-    let Some(leader) = leader else {
-        return Ok(());
-    };
-    if !is_given || word_at(trouble.tokens, leader) != Some(Word::Schedule) {
-        return Ok(());
-    }
+// The last word from a token on, and before the place, with which a time begins.
+fn time_after(trouble: &Trouble<'_>, from: usize) -> Option<usize> {
     let mut time = None;
-    for index in leader..trouble.at {
-        if let Some(Word::At | Word::In | Word::Now) = word_at(trouble.tokens, index) {
+    for index in from..trouble.at {
+        if let Some(Word::At | Word::In | Word::Now) = trouble.word(index) {
             time = Some(index);
         }
     }
-    let Some(time) = time else {
+    time
+}
+
+// What is given comes before the time of a SCHEDULE.
+fn add_given_first(fixes: &mut Fixes, trouble: &Trouble<'_>) -> Result<(), AllocError> {
+    let Some(Word::Given | Word::Giving | Word::Called) = trouble.word(trouble.at) else {
         return Ok(());
     };
-    let last = trouble.last_of_line(trouble.at);
-    let late = stretch_between(trouble, trouble.at, last);
-    let early = stretch_between(trouble, time, trouble.at.saturating_sub(1));
-    let mut with = Page::new(alloc);
-    with.bytes(bytes_of(trouble.text, late))?;
-    with.words(" ")?;
-    with.bytes(bytes_of(trouble.text, early))?;
-    let mut say = Page::new(alloc);
-    say.words("The time comes last: write ")?;
-    say.capitals(with.text.as_slice())?;
-    say.in_line(trouble.line())?;
-    say.words(".")?;
-    fixes.push(Fix {
-        stretch: Stretch {
+    let Some(leader) = leader_before(trouble.tokens, trouble.section, trouble.at) else {
+        return Ok(());
+    };
+    let (Some(time), Some(Word::Schedule)) = (time_after(trouble, leader), trouble.word(leader))
+    else {
+        return Ok(());
+    };
+    let late = trouble.between(trouble.at, trouble.last_of_line(trouble.at));
+    let early = trouble.between(time, trouble.at.saturating_sub(1));
+    let (given, at) = (trouble.bytes(late), trouble.bytes(early));
+    fixes.replace(
+        Stretch {
             start: early.start,
             end: late.end,
         },
-        with: with.text,
-        say,
-    })?;
-    Ok(())
+        &[Bytes(given), Words(" "), Bytes(at)],
+        "The time comes last: write {} {} in line {}.",
+        &[Capitals(given), Capitals(at), Line(trouble.line())],
+    )
 }
 
 // A DEFINE after statements moves up to where its section begins.
-fn add_define_first(
-    alloc: Global,
-    fixes: &mut Vec<Fix>,
-    trouble: &Trouble<'_>,
-) -> Result<(), AllocError> {
-    if word_at(trouble.tokens, trouble.at) != Some(Word::Define) || trouble.opens.is_empty() {
+fn add_define_first(fixes: &mut Fixes, trouble: &Trouble<'_>) -> Result<(), AllocError> {
+    if trouble.word(trouble.at) != Some(Word::Define)
+        || trouble.opens.is_empty()
+        || head_at(trouble.tokens, trouble.section).is_none()
+        || !trouble.begins_line()
+    {
         return Ok(());
     }
-    if head_at(trouble.tokens, trouble.section).is_none() || !trouble.begins_line() {
-        return Ok(());
-    }
-    let head = line_of(trouble.tokens, trouble.section);
+    let head = trouble.line_of(trouble.section);
     let line = trouble.line();
     let start = trouble.line_end(head);
     let before = trouble.line_start(line);
     let end = trouble.line_end(line);
-    let mut with = Page::new(alloc);
-    with.words("\n")?;
-    with.bytes(bytes_of(trouble.text, Stretch { start: before, end }))?;
-    with.bytes(bytes_of(trouble.text, Stretch { start, end: before }))?;
-    let mut say = Page::new(alloc);
-    say.words("A DEFINE comes before the statements of its section: move line ")?;
-    say.number(u64::from(line))?;
-    say.words(" up, directly after line ")?;
-    say.number(u64::from(head))?;
-    say.words(".")?;
-    fixes.push(Fix {
-        stretch: Stretch { start, end },
-        with: with.text,
-        say,
-    })?;
-    Ok(())
+    let moved = Stretch { start: before, end };
+    let passed = Stretch { start, end: before };
+    fixes.replace(
+        Stretch { start, end },
+        &[
+            Words("\n"),
+            Bytes(trouble.bytes(moved)),
+            Bytes(trouble.bytes(passed)),
+        ],
+        "A DEFINE comes before the statements of its section: move line {} up, directly after line {}.",
+        &[Line(line), Line(head)],
+    )
 }
 
 // Whether a condition begins after this token.
-fn begins_condition(tokens: &[Token], index: usize) -> bool {
+fn begins_condition(trouble: &Trouble<'_>, index: usize) -> bool {
     matches!(
-        word_at(tokens, index),
+        trouble.word(index),
         Some(
             Word::If
                 | Word::And
@@ -625,141 +517,77 @@ fn begins_condition(tokens: &[Token], index: usize) -> bool {
     )
 }
 
-// Whether a token is this symbol.
-fn is_symbol(tokens: &[Token], index: usize, wanted: Symbol) -> bool {
-    match tokens.get(index) {
-        Some(token) => match &token.kind {
-            TokenKind::Symbol(symbol) => *symbol == wanted,
-            _ => false,
-        },
-        None => false,
+// The first token of the line of the place that opens a parenthesis round a condition.
+fn first_round(trouble: &Trouble<'_>) -> Option<usize> {
+    for index in trouble.section.max(1)..trouble.tokens.len() {
+        if trouble.line_of(index) == trouble.line()
+            && trouble.is_symbol(index, Symbol::OpenParenthesis)
+            && begins_condition(trouble, index.saturating_sub(1))
+        {
+            return Some(index);
+        }
     }
+    None
 }
 
 // The parentheses round conditions in the line of the place are left out.
-fn add_bare_conditions(
-    alloc: Global,
-    fixes: &mut Vec<Fix>,
-    trouble: &Trouble<'_>,
-) -> Result<(), AllocError> {
-    let line = trouble.line();
-    let mut first = None;
-    let mut last = 0;
-    let mut depth: usize = 0;
-    let mut dropped: usize = 0;
-    let mut with = Page::new(alloc);
-    for index in trouble.section..trouble.tokens.len() {
-        if line_of(trouble.tokens, index) != line {
-            continue;
-        }
-        let opens = is_symbol(trouble.tokens, index, Symbol::OpenParenthesis);
-        let closes = is_symbol(trouble.tokens, index, Symbol::CloseParenthesis);
-        let is_round = opens && index > 0 && begins_condition(trouble.tokens, index - 1);
-        if is_round && dropped == 0 && first.is_none() {
-            first = Some(index);
-        }
-        if first.is_none() {
-            continue;
-        }
-        last = index;
-        if is_round && depth == 0 {
-            dropped = dropped.saturating_add(1);
-            continue;
-        }
-        if opens {
-            depth = depth.saturating_add(1);
-        }
-        if closes && depth == 0 {
-            continue;
-        }
-        if closes {
-            depth = depth.saturating_sub(1);
-        }
-        if let Some(token) = trouble.tokens.get(index) {
-            with.bytes(spelled(trouble.text, token))?;
-            with.words(" ")?;
-        }
-    }
-    let Some(first) = first else {
+fn add_bare_conditions(fixes: &mut Fixes, trouble: &Trouble<'_>) -> Result<(), AllocError> {
+    let Some(first) = first_round(trouble) else {
         return Ok(());
     };
-    let mut say = Page::new(alloc);
-    say.words("Conditions have no parentheses: leave them out")?;
-    say.in_line(line)?;
-    say.words(". AND binds more tightly than OR.")?;
-    fixes.push(Fix {
-        stretch: stretch_between(trouble, first, last),
-        with: with.text,
-        say,
-    })?;
-    Ok(())
+    let last = trouble.last_of_line(first);
+    let mut depth: usize = 0;
+    let mut with = Page::new(fixes.alloc());
+    for index in first..last.saturating_add(1) {
+        let is_outer = depth == 0;
+        if trouble.is_symbol(index, Symbol::OpenParenthesis) {
+            if is_outer && index > 0 && begins_condition(trouble, index.saturating_sub(1)) {
+                continue;
+            }
+            depth = depth.saturating_add(1);
+        }
+        if trouble.is_symbol(index, Symbol::CloseParenthesis) {
+            if is_outer {
+                continue;
+            }
+            depth = depth.saturating_sub(1);
+        }
+        with.say("{} ", &[Bytes(trouble.spelling(index))])?;
+    }
+    fixes.replace(
+        trouble.between(first, last),
+        &[Bytes(with.text.as_slice())],
+        "Conditions have no parentheses: leave them out in line {}. AND binds more tightly than OR.",
+        &[Line(trouble.line())],
+    )
 }
 
 // The group that an EVERY is in has no head.
-fn add_group(alloc: Global, fixes: &mut Vec<Fix>, trouble: &Trouble<'_>) -> Result<(), AllocError> {
-    for back in 0..2 {
-        if back > trouble.at || word_at(trouble.tokens, trouble.at - back) != Some(Word::Every) {
-            continue;
+fn add_group(fixes: &mut Fixes, trouble: &Trouble<'_>) -> Result<(), AllocError> {
+    for back in 0..trouble.at.min(1).saturating_add(1) {
+        let index = trouble.at.saturating_sub(back);
+        if trouble.word(index) == Some(Word::Every) {
+            fixes.insert(
+                trouble.stretch(index).start,
+                &[Words(" TEMPORARY ENTITIES ")],
+                "Say first what kind of entities come: write TEMPORARY ENTITIES, or PERMANENT ENTITIES or EVENT NOTICES, before EVERY in line {}.",
+                &[Line(trouble.line_of(index))],
+            )?;
         }
-        let index = trouble.at - back;
-        let start = stretch_between(trouble, index, index).start;
-        let mut say = Page::new(alloc);
-        say.words(
-            "Say first what kind of entities come: write TEMPORARY ENTITIES, or PERMANENT ENTITIES or EVENT NOTICES, before EVERY",
-        )?;
-        say.in_line(line_of(trouble.tokens, index))?;
-        say.words(".")?;
-        fixes.push(Fix {
-            stretch: Stretch { start, end: start },
-            with: Vec::from_slice(alloc, b" TEMPORARY ENTITIES ")?,
-            say,
-        })?;
     }
     Ok(())
 }
 
 // A word is missing before one of the last tokens before the place.
-fn add_earlier(
-    alloc: Global,
-    fixes: &mut Vec<Fix>,
-    trouble: &Trouble<'_>,
-) -> Result<(), AllocError> {
-    let most = if trouble.candidates.is_empty() { 4 } else { 2 };
-    for back in 1..most {
-        if back > trouble.at {
-            break;
-        }
-        let index = trouble.at - back;
-        let Some(token) = trouble.tokens.get(index) else {
-            continue;
-        };
-        let start = token.span.start;
-        let mut say = Page::new(alloc);
-        say.words("Write a value before ")?;
-        say.capitals(spelled(trouble.text, token))?;
-        say.in_line(token.line.0)?;
-        say.words(".")?;
-        fixes.push(Fix {
-            stretch: Stretch { start, end: start },
-            with: with_blanks(alloc, b"A.NAME")?,
-            say,
-        })?;
+fn add_earlier(fixes: &mut Fixes, trouble: &Trouble<'_>) -> Result<(), AllocError> {
+    let most = if trouble.candidates.is_empty() { 3 } else { 1 };
+    for back in 1..trouble.at.min(most).saturating_add(1) {
+        let index = trouble.at.saturating_sub(back);
+        put_before(fixes, trouble, index, "a value", "A.NAME", ".")?;
         for (spelling, word) in &WORDS {
-            if is_value_word(*word) || *word == Word::All {
-                continue;
+            if !is_value_word(*word) && *word != Word::All {
+                put_before(fixes, trouble, index, spelling, spelling, ".")?;
             }
-            let mut say = Page::new(alloc);
-            say.words("Write ")?;
-            say.words(spelling)?;
-            say.words(" before ")?;
-            say.capitals(spelled(trouble.text, token))?;
-            say.in_line(token.line.0)?;
-            say.words(".")?;
-            fixes.push(Fix {
-                stretch: Stretch { start, end: start },
-                with: with_blanks(alloc, spelling.as_bytes())?,
-                say,
-            })?;
         }
     }
     Ok(())
@@ -799,41 +627,29 @@ fn is_noun(word: Word) -> bool {
 // Whether a section ROUTINE of this name is in the text.
 fn is_routine(trouble: &Trouble<'_>, name: &[u8]) -> bool {
     for index in 1..trouble.tokens.len() {
-        if word_at(trouble.tokens, index - 1) == Some(Word::Routine) {
-            if let Some(token) = trouble.tokens.get(index) {
-                if spelled(trouble.text, token).eq_ignore_ascii_case(name) {
-                    return true;
-                }
-            }
+        if trouble.word(index.saturating_sub(1)) == Some(Word::Routine)
+            && trouble.spelling(index).eq_ignore_ascii_case(name)
+        {
+            return true;
         }
     }
     false
 }
 
 // The first word of a statement that begins with a name.
-fn add_first_word(
-    alloc: Global,
-    fixes: &mut Vec<Fix>,
-    trouble: &Trouble<'_>,
-) -> Result<(), AllocError> {
-    let is_name = match trouble.found() {
-        Some(token) => matches!(&token.kind, TokenKind::Name(_)),
-        None => false,
-    };
-    if !is_name || !has_word(trouble.candidates, Word::Let) {
+fn add_first_word(fixes: &mut Fixes, trouble: &Trouble<'_>) -> Result<(), AllocError> {
+    if !is_name(trouble.found()) || !has_word(trouble.candidates, Word::Let) {
         return Ok(());
     }
-    if is_symbol(trouble.tokens, trouble.at.saturating_add(1), Symbol::Equals) {
-        fixes.push(put_in(alloc, trouble, "LET", "LET", true)?)?;
-        return Ok(());
+    if trouble.is_symbol(trouble.at.saturating_add(1), Symbol::Equals) {
+        return put_in(fixes, trouble, "LET", "LET", true);
     }
-    let called = if is_routine(trouble, trouble.found_spelling()) {
+    let called = if is_routine(trouble, trouble.spelling(trouble.at)) {
         "CALL"
     } else {
         "the word with which the statement begins, as READ or CALL,"
     };
-    fixes.push(put_in(alloc, trouble, called, "CALL", true)?)?;
-    Ok(())
+    put_in(fixes, trouble, called, "CALL", true)
 }
 
 // Words that are put in where any of several would do.
@@ -871,211 +687,145 @@ static CHOICES: [(&[Word], &str, &[&str]); 7] = [
     ),
 ];
 
-// Whether all these words may come.
-fn has_all(trouble: &Trouble<'_>, words: &[Word]) -> bool {
-    words.iter().all(|word| has_word(trouble.candidates, *word))
-}
-
 // Words are put in where any of several would do.
-fn add_choices(
-    alloc: Global,
-    fixes: &mut Vec<Fix>,
-    trouble: &Trouble<'_>,
-) -> Result<(), AllocError> {
+fn add_choices(fixes: &mut Fixes, trouble: &Trouble<'_>) -> Result<(), AllocError> {
     for (needed, called, tried) in &CHOICES {
-        if !has_all(trouble, needed) {
-            continue;
-        }
-        let begins = needed.contains(&Word::Let);
-        for word in *tried {
-            fixes.push(put_in(alloc, trouble, called, word, begins)?)?;
+        if needed
+            .iter()
+            .all(|word| has_word(trouble.candidates, *word))
+        {
+            let begins = needed.contains(&Word::Let);
+            for word in *tried {
+                put_in(fixes, trouble, called, word, begins)?;
+            }
         }
     }
-    if has_word(trouble.candidates, Word::Temporary)
-        && word_at(trouble.tokens, trouble.at) == Some(Word::Entities)
-    {
-        let called = "TEMPORARY or PERMANENT";
-        fixes.push(put_in(alloc, trouble, called, "TEMPORARY", true)?)?;
+    let is_headless = has_word(trouble.candidates, Word::Temporary)
+        && trouble.word(trouble.at) == Some(Word::Entities);
+    if is_headless {
+        put_in(fixes, trouble, "TEMPORARY or PERMANENT", "TEMPORARY", true)?;
     }
     Ok(())
 }
 
 // The preamble has no END before the EVENT of a section.
-fn add_end_of_preamble(
-    alloc: Global,
-    fixes: &mut Vec<Fix>,
-    trouble: &Trouble<'_>,
-) -> Result<(), AllocError> {
+fn add_end_of_preamble(fixes: &mut Fixes, trouble: &Trouble<'_>) -> Result<(), AllocError> {
     let in_preamble = match trouble.opens.last() {
         Some(open) => open.construct == Construct::Preamble,
         None => false,
     };
-    if !in_preamble || trouble.at == 0 {
+    let index = trouble.at.saturating_sub(1);
+    if !in_preamble || trouble.word(index) != Some(Word::Event) {
         return Ok(());
     }
-    let index = trouble.at - 1;
-    if word_at(trouble.tokens, index) != Some(Word::Event) {
-        return Ok(());
-    }
-    let start = stretch_between(trouble, index, index).start;
-    let mut say = Page::new(alloc);
-    say.words("The PREAMBLE has no END: write END before EVENT")?;
-    say.in_line(line_of(trouble.tokens, index))?;
-    say.words(".")?;
-    fixes.push(Fix {
-        stretch: Stretch { start, end: start },
-        with: Vec::from_slice(alloc, b" END\n")?,
-        say,
-    })?;
-    Ok(())
-}
-
-// Whether a token is a value or ends one.
-fn ends_value(token: &Token) -> bool {
-    matches!(
-        &token.kind,
-        TokenKind::Name(_) | TokenKind::Number(_) | TokenKind::Symbol(Symbol::CloseParenthesis)
+    fixes.insert(
+        trouble.stretch(index).start,
+        &[Words(" END\n")],
+        "The PREAMBLE has no END: write END before EVENT in line {}.",
+        &[Line(trouble.line_of(index))],
     )
 }
 
-// Whether a token is a value or begins one.
-fn begins_value(token: &Token) -> bool {
-    matches!(
-        &token.kind,
-        TokenKind::Name(_) | TokenKind::Number(_) | TokenKind::Symbol(Symbol::OpenParenthesis)
-    )
+// Whether a token is a value or part of one: with a parenthesis that ends it, or one that begins it.
+fn is_value(token: &Token, parenthesis: Symbol) -> bool {
+    match &token.kind {
+        TokenKind::Name(_) | TokenKind::Number(_) => true,
+        TokenKind::Symbol(symbol) => *symbol == parenthesis,
+        _ => false,
+    }
 }
 
-// A sign between two values in one line.
-fn add_operator(
-    alloc: Global,
-    fixes: &mut Vec<Fix>,
-    trouble: &Trouble<'_>,
-) -> Result<(), AllocError> {
+// What is missing between two values, or two names, in one line: a comma, or a sign.
+fn add_between(fixes: &mut Fixes, trouble: &Trouble<'_>) -> Result<(), AllocError> {
+    let (Some(before), Some(found)) = (trouble.before(), trouble.found()) else {
+        return Ok(());
+    };
+    if before.line.0 != found.line.0 {
+        return Ok(());
+    }
+    if is_name(Some(before)) && is_name(Some(found)) {
+        put_in(fixes, trouble, "a comma", ",", false)?;
+    }
     let may_multiply = trouble
         .candidates
         .contains(&Candidate::Symbol(Symbol::Star));
-    match (trouble.before(), trouble.found()) {
-        (Some(before), Some(found))
-            if may_multiply
-                && before.line.0 == found.line.0
-                && ends_value(before)
-                && begins_value(found) => {
-            fixes.push(put_in(alloc, trouble, "a sign, as + or *,", "+", false)?)?;
-        }
-        _ => {}
+    if may_multiply
+        && is_value(before, Symbol::CloseParenthesis)
+        && is_value(found, Symbol::OpenParenthesis)
+    {
+        put_in(fixes, trouble, "a sign, as + or *,", "+", false)?;
     }
     Ok(())
 }
 
 // A name is missing after a separator, at which the reading stopped.
-fn add_later_names(
-    alloc: Global,
-    fixes: &mut Vec<Fix>,
-    trouble: &Trouble<'_>,
-) -> Result<(), AllocError> {
-    let is_separator = is_symbol(trouble.tokens, trouble.at, Symbol::Comma)
-        || word_at(trouble.tokens, trouble.at) == Some(Word::And);
+fn add_later_names(fixes: &mut Fixes, trouble: &Trouble<'_>) -> Result<(), AllocError> {
+    let is_separator = trouble.is_symbol(trouble.at, Symbol::Comma)
+        || trouble.word(trouble.at) == Some(Word::And);
     if !is_separator {
         return Ok(());
     }
-    for ahead in 1..4 {
-        let index = trouble.at.saturating_add(ahead);
-        let Some(token) = trouble.tokens.get(index) else {
-            return Ok(());
-        };
-        let start = token.span.start;
-        let mut say = Page::new(alloc);
-        say.words("Write a name or a value before ")?;
-        say.capitals(spelled(trouble.text, token))?;
-        say.in_line(token.line.0)?;
-        say.words(", where one is missing after the comma, or leave the comma out.")?;
-        fixes.push(Fix {
-            stretch: Stretch { start, end: start },
-            with: with_blanks(alloc, b"A.NAME")?,
-            say,
-        })?;
+    let first = trouble.at.saturating_add(1);
+    for index in first..trouble.tokens.len().min(first.saturating_add(3)) {
+        let after = ", where one is missing after the comma, or leave the comma out.";
+        put_before(fixes, trouble, index, "a name or a value", "A.NAME", after)?;
     }
     Ok(())
-}
-
-// Whether the token at the place and the one before it are names in one line.
-fn are_names(trouble: &Trouble<'_>) -> bool {
-    match (trouble.before(), trouble.found()) {
-        (Some(before), Some(found)) => {
-            matches!(&before.kind, TokenKind::Name(_))
-                && matches!(&found.kind, TokenKind::Name(_))
-                && before.line.0 == found.line.0
-        }
-        _ => false,
-    }
 }
 
 // A name, a value or a number is put in.
-fn add_nouns(alloc: Global, fixes: &mut Vec<Fix>, trouble: &Trouble<'_>) -> Result<(), AllocError> {
+fn add_nouns(fixes: &mut Fixes, trouble: &Trouble<'_>) -> Result<(), AllocError> {
     let has_name = trouble.candidates.contains(&Candidate::Name);
     let has_number = trouble.candidates.contains(&Candidate::Number);
-    if has_name && has_number {
-        fixes.push(put_in(alloc, trouble, "a value", "A.NAME", false)?)?;
-    } else if has_name {
-        fixes.push(put_in(alloc, trouble, "a name", "A.NAME", false)?)?;
-    } else if has_number {
-        fixes.push(put_in(alloc, trouble, "a number", "1", false)?)?;
+    match (has_name, has_number) {
+        (true, true) => put_in(fixes, trouble, "a value", "A.NAME", false),
+        (true, false) => put_in(fixes, trouble, "a name", "A.NAME", false),
+        (false, true) => put_in(fixes, trouble, "a number", "1", false),
+        (false, false) => Ok(()),
     }
-    Ok(())
 }
 
 /// Adds the changes that say most: words of other languages, words that are spelled wrongly, a stroke.
-pub fn add_likely(
-    alloc: Global,
-    fixes: &mut Vec<Fix>,
-    trouble: &Trouble<'_>,
-) -> Result<(), AllocError> {
-    add_division(alloc, fixes, trouble)?;
-    add_confusions(alloc, fixes, trouble)?;
-    add_misspelled(alloc, fixes, trouble)
+pub fn add_likely(fixes: &mut Fixes, trouble: &Trouble<'_>) -> Result<(), AllocError> {
+    add_division(fixes, trouble)?;
+    add_confusions(fixes, trouble)?;
+    add_misspelled(fixes, trouble)
 }
 
 /// Adds the changes by which something is moved or put in.
-pub fn add_missing(
-    alloc: Global,
-    fixes: &mut Vec<Fix>,
-    trouble: &Trouble<'_>,
-) -> Result<(), AllocError> {
-    add_given_first(alloc, fixes, trouble)?;
-    add_define_first(alloc, fixes, trouble)?;
-    add_bare_conditions(alloc, fixes, trouble)?;
-    add_group(alloc, fixes, trouble)?;
+pub fn add_missing(fixes: &mut Fixes, trouble: &Trouble<'_>) -> Result<(), AllocError> {
+    add_given_first(fixes, trouble)?;
+    add_define_first(fixes, trouble)?;
+    add_bare_conditions(fixes, trouble)?;
+    add_group(fixes, trouble)?;
     if trouble.candidates.contains(&Candidate::Name) {
-        add_renamed(alloc, fixes, trouble, trouble.at)?;
+        add_renamed(fixes, trouble, trouble.at)?;
     }
-    if are_names(trouble) {
-        fixes.push(put_in(alloc, trouble, "a comma", ",", false)?)?;
-    }
-    add_operator(alloc, fixes, trouble)?;
-    add_first_word(alloc, fixes, trouble)?;
-    add_end_of_preamble(alloc, fixes, trouble)?;
-    add_choices(alloc, fixes, trouble)?;
-    add_put_in(alloc, fixes, trouble)?;
-    add_signs(alloc, fixes, trouble)?;
-    add_nouns(alloc, fixes, trouble)?;
-    add_later_names(alloc, fixes, trouble)
+    add_between(fixes, trouble)?;
+    add_first_word(fixes, trouble)?;
+    add_end_of_preamble(fixes, trouble)?;
+    add_choices(fixes, trouble)?;
+    add_expected(fixes, trouble, false)?;
+    add_signs(fixes, trouble)?;
+    add_nouns(fixes, trouble)?;
+    add_later_names(fixes, trouble)
 }
 
 /// Adds the changes that are tried where no other helps: words that give way to others, or are left out.
-pub fn add_unlikely(
-    alloc: Global,
-    fixes: &mut Vec<Fix>,
-    trouble: &Trouble<'_>,
-) -> Result<(), AllocError> {
-    add_in_place(alloc, fixes, trouble)?;
+pub fn add_unlikely(fixes: &mut Fixes, trouble: &Trouble<'_>) -> Result<(), AllocError> {
+    if trouble.found().is_some() {
+        add_expected(fixes, trouble, true)?;
+    }
     if trouble.at > 0 {
-        if let Some(word) = word_at(trouble.tokens, trouble.at - 1) {
+        if let Some(word) = trouble.word(trouble.at.saturating_sub(1)) {
             if is_noun(word) {
-                add_renamed(alloc, fixes, trouble, trouble.at - 1)?;
+                add_renamed(fixes, trouble, trouble.at.saturating_sub(1))?;
             }
         }
     }
-    add_earlier(alloc, fixes, trouble)?;
-    add_left_out(alloc, fixes, trouble, trouble.at)
+    add_earlier(fixes, trouble)?;
+    if trouble.found().is_some() {
+        add_left_out(fixes, trouble)?;
+    }
+    Ok(())
 }

@@ -1,11 +1,10 @@
 //! Sessions.
 
-ghost use Rattle.std.specs.Prelude.{◌≡◌, ℕ, ◌+◌, ◌-◌, ◌^◌, ◌≤◌, List, [], ◌∷◌, ◌++◌, length, min, slice_get, IfOk, IfSome, Some};
+ghost use Rattle.std.specs.Prelude.{◌≡◌, ℕ, ◌+◌, ◌-◌, ◌^◌, ◌≤◌, List, [], ◌∷◌, ◌++◌, length, min, IfOk, Some};
 ghost use Rattle.ss_base.specs.Failures.{HasRisen, HasRisenBy};
 ghost use Rattle.ss_input.specs.Blocks.{KnowsEnd};
 ghost use Rattle.ss_input.specs.Inputs.{source_block};
 ghost use Rattle.ss_code.specs.Running.{Compiled as Generated};
-ghost use Rattle.ss_machine_frames.specs.Rows.{ValueAt, place_at};
 ghost use Rattle.ss_machine.specs.Held.{answer_again, kept_after};
 ghost use Rattle.ss_machine.specs.Runs.{Ran};
 ghost use Rattle.ss_engine.specs.Accepting.{Compiles};
@@ -13,14 +12,11 @@ ghost use Rattle.ss_engine.specs.Headline.{Simulated};
 ghost use Rattle.ss_engine.specs.Sessions.{Begins, GoesOn, HasRun, last_stop, session_machine, session_reader, session_source, session_writer};
 
 use crate::session_laws::sessions_are_meant;
-use ss_base::{FaultyRead, FaultyWrite, Mode, Value};
-use ss_code::code::Code;
+use ss_base::{FaultyRead, FaultyWrite};
 use ss_code::model::Model;
-use ss_code_instructions::address::Address;
 use ss_code_instructions::laws::laws_of_pieces;
 use ss_machine::{Machine, Source, Stop};
 use ss_picture::Sink;
-use ss_program::expression::Fold;
 use std::alloc::Global;
 
 /// A model under way, the reader of its input and the writer of its report.
@@ -94,39 +90,11 @@ impl<R: FaultyRead, W: FaultyWrite> Session<R, W> {
         self.machine.used()
     }
 
-    /// The code of the model.
-    pub fn code(&self) -> &Code
-        ensures { result.now ≡ (session_machine self.now).code }
+    /// Its machine, as the last run left it.
+    pub fn machine(&self) -> &Machine
+        ensures { result.now ≡ session_machine self.now }
     {
-        self.machine.code()
-    }
-
-    /// The place in that code of the instruction at which it is: the first one, or the one at which the last run rested.
-    pub fn place(&self) -> usize
-        ensures { result ≡ (session_machine self.now).at.here.place }
-    {
-        self.machine.place()
-    }
-
-    /// TIME.V.
-    pub fn time(&self) -> i64
-        ensures { result ≡ (session_machine self.now).at.state.scene.time }
-    {
-        self.machine.time()
-    }
-
-    /// The value of a global variable, by its number and its mode. None where there are not so many.
-    pub fn value(&self, variable: usize, mode: Mode) -> Option<Value>
-        ensures { IfSome result (ValueAt (session_machine self.now).at.state.rows variable) }
-    {
-        self.machine.value(variable, mode)
-    }
-
-    /// The whole number at an address of the present frame. None where there are not so many places.
-    pub fn number(&self, address: &Address) -> Option<i64>
-        ensures { result ≡ slice_get (session_machine self.now).at.state.rows.numbers (place_at (session_machine self.now).at.here.frame address.now) }
-    {
-        self.machine.number(address)
+        &self.machine
     }
 
     /// N. of the set of an owner, 0 for THE SYSTEM. None where there is no such set or owner. Nothing changes.
@@ -136,37 +104,11 @@ impl<R: FaultyRead, W: FaultyWrite> Session<R, W> {
         self.machine.member_count(set, owner)
     }
 
-    /// An attribute of an entity. None where there is no such class, attribute or entity.
-    pub fn attribute(&self, class: usize, field: usize, entity: i64) -> Option<Value> {
-        self.machine.attribute(class, field, entity)
-    }
-
-    /// NUMBER, SUM, MAXIMUM or MINIMUM of a statistic of an entity, 0 where it has none. None where there is no such history, or
-    /// where the sum is an OVERFLOW.
-    pub fn figure(&self, fold: Fold, statistic: usize, entity: i64) -> Option<i64> {
-        self.machine.figure(fold, statistic, entity)
-    }
-
-    /// The exact sum and the number of which a statistic is the mean, of an entity. None where there is no such history.
-    pub fn mean(&self, statistic: usize, entity: i64) -> Option<(i128, i64)> {
-        self.machine.mean(statistic, entity)
-    }
-
     /// The time and the number of the notice that comes next, if one is pending. Nothing changes.
     pub fn upcoming(&mut self) -> Option<(i64, i64)>
         ensures { self.new ≡ self.old }
     {
         self.machine.upcoming()
-    }
-
-    /// The class of a temporary entity or a notice. None where none of that number is living.
-    pub fn class_of(&self, entity: i64) -> Option<usize> {
-        self.machine.class_of(entity)
-    }
-
-    /// How many entities are living, permanent ones and notices among them.
-    pub fn living_count(&self) -> u64 {
-        self.machine.living_count()
     }
 
     /// The reader of the input, as it is now.

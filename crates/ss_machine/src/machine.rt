@@ -1,14 +1,11 @@
 //! The machine that runs.
 
-ghost use Rattle.std.specs.Prelude.{◌≡◌, ◌+◌, ◌-◌, ◌*◌, ◌^◌, ◌≤◌, ◌↔◌, min, length, slice_get, IfOk, IfSome, IsNone, Ok, Some, None};
+ghost use Rattle.std.specs.Prelude.{◌≡◌, ◌+◌, ◌-◌, ◌*◌, ◌^◌, ◌≤◌, min, length, IfOk, IfSome, Ok, Some, None};
 ghost use Rattle.ss_base.specs.Failures.{HasRisen, HasRisenBy};
 ghost use Rattle.ss_input.specs.Blocks.{KnowsEnd};
 ghost use Rattle.ss_input.specs.Inputs.{source_block, source_missed, source_reader};
-ghost use Rattle.ss_meaning.specs.Fitting.{living};
 ghost use Rattle.ss_world.specs.PendingList.{next};
 ghost use Rattle.ss_world.specs.Sets.{count_in};
-ghost use Rattle.ss_world.specs.State.{living_records, value_in};
-ghost use Rattle.ss_machine_frames.specs.Rows.{ValueAt, place_at};
 ghost use Rattle.ss_machine.specs.Situations.{IsSituated};
 ghost use Rattle.ss_machine.specs.Runs.{Ran};
 ghost use Rattle.ss_machine.specs.Held.{IsFirst, answer_again, kept_after};
@@ -17,16 +14,13 @@ use crate::first::{first_place, first_state, release_state, stands_first};
 use crate::running::run;
 use crate::showing::Buffers;
 use crate::stop::Stop;
-use ss_base::{FaultyRead, FaultyWrite, Mode, Value};
+use ss_base::{FaultyRead, FaultyWrite};
 use ss_code::code::Code;
-use ss_code_instructions::address::Address;
 use ss_code_instructions::laws::laws_of_code;
 use ss_input::Source;
-use ss_machine_frames::rows::place_of;
 use ss_machine_instructions::flow::Here;
 use ss_machine_instructions::state::State;
 use ss_picture::Sink;
-use ss_program::expression::Fold;
 use std::alloc::{AllocError, Global};
 use std::marker::Model;
 
@@ -193,41 +187,21 @@ impl Machine {
         &self.code
     }
 
-    /// The place in its code of the instruction at which it is: the first one, or the one at which the last run rested.
-    pub fn place(&self) -> usize
-        ensures { result ≡ self.now.at.here.place }
+    /// Where it is: before its first instruction, or at the one at which the last run rested.
+    pub fn here(&self) -> Here
+        ensures { result ≡ self.now.at.here }
     {
-        self.place
-    }
-
-    /// TIME.V.
-    pub fn time(&self) -> i64
-        ensures { result ≡ self.now.at.state.scene.time }
-    {
-        self.state.scene.timeline.time()
-    }
-
-    /// The value of this mode at a place of the rows: the global variables lie in the first places, by their numbers. None where
-    /// there are not so many places.
-    pub fn value(&self, place: usize, mode: Mode) -> Option<Value>
-        ensures value { IfSome result (ValueAt self.now.at.state.rows place) }
-        ensures none { IsNone result ↔ (length self.now.at.state.rows.numbers ≤ place) }
-    {
-        if place < self.state.rows.len() {
-            Some(self.state.rows.value_at(place, mode))
-        } else {
-            None
+        Here {
+            place: self.place,
+            frame: self.frame,
         }
     }
 
-    /// The whole number at an address of the present frame. None where there are not so many places.
-    pub fn number(&self, address: &Address) -> Option<i64>
-        ensures { result ≡ slice_get self.now.at.state.rows.numbers (place_at self.now.at.here.frame address.now) }
+    /// What it works on, as the last run left it.
+    pub fn state(&self) -> &State
+        ensures { result.now ≡ self.now.at.state }
     {
-        match self.value(place_of(self.frame, address), Mode::Integer) {
-            Some(Value::Whole(number)) => Some(number),
-            _ => None,
-        }
+        &self.state
     }
 
     /// N. of the set of an owner, 0 for THE SYSTEM. None where there is no such set or owner. Nothing changes.
@@ -243,53 +217,12 @@ impl Machine {
         }
     }
 
-    /// An attribute of an entity. None where there is no such class, attribute or entity.
-    pub fn attribute(&self, class: usize, field: usize, entity: i64) -> Option<Value>
-        ensures { IfSome result (λ value. value_in self.now.at.state.scene.heap class field entity ≡ Ok value) }
-    {
-        let population = &self.state.scene.population;
-        let known = population.layout().classes.get(class)?;
-        if field < known.fields.len() {
-            population.value(class, field, entity).ok()
-        } else {
-            None
-        }
-    }
-
-    /// NUMBER, SUM, MAXIMUM or MINIMUM of a statistic of an entity, 0 where it has none. None where there is no such history, or
-    /// where the sum is an OVERFLOW.
-    pub fn figure(&self, fold: Fold, statistic: usize, entity: i64) -> Option<i64> {
-        match self.state.scene.timeline.figure(fold, statistic, entity) {
-            Some(Ok(figure)) => Some(figure),
-            _ => None,
-        }
-    }
-
-    /// The exact sum and the number of which a statistic is the mean, of an entity. None where there is no such history.
-    pub fn mean(&self, statistic: usize, entity: i64) -> Option<(i128, i64)> {
-        self.state.scene.timeline.mean(statistic, entity)
-    }
-
-    /// The time and the number of the notice that comes next, if one is pending. Nothing changes but the counts of work.
+    /// The time and the number of the notice that comes next, if one is pending. Nothing changes.
     pub fn upcoming(&mut self) -> Option<(i64, i64)>
         ensures next { result ≡ next self.old.at.state.scene.pending }
         ensures same { self.new ≡ self.old }
     {
         self.state.scene.timeline.upcoming()
-    }
-
-    /// The class of a temporary entity or a notice. None where none of that number is living.
-    pub fn class_of(&self, entity: i64) -> Option<usize>
-        ensures { result ≡ living self.now.at.state.scene.heap entity }
-    {
-        self.state.scene.population.class_of(entity)
-    }
-
-    /// How many entities are living, permanent ones and notices among them.
-    pub fn living_count(&self) -> u64
-        ensures { result ≡ living_records self.now.at.state.scene.heap }
-    {
-        self.state.scene.population.living_count()
     }
 
     /// Why the last run stopped; None where a further run goes on.
