@@ -13,9 +13,8 @@ mod ticks;
 mod watches;
 
 pub use endings::{add_fault, add_pause};
-pub use guide::{Guide, Section, compile_with_names, line_at, section_at};
-pub use kept::{DataWord, Kept};
-pub use progress::{Progress, Silent};
+pub use guide::{Guide, compile_with_names};
+pub use kept::Kept;
+pub use progress::Progress;
 pub use shows::{Parts, Shown, Subject, Unshown, run_in_pieces, run_shown};
-pub use ticks::{Tick, next_tick};
 pub use watches::{Watch, watches_of};

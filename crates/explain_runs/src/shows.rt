@@ -1,6 +1,6 @@
 //! Runs, one tick at a time, with what is shown of them.
 
-ghost use Rattle.std.specs.Prelude.{◌≡◌, ℕ, List};
+ghost use Rattle.std.specs.Prelude.{◌≡◌};
 
 use crate::guide::Guide;
 use crate::looks::{living_count, time};

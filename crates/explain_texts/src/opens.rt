@@ -129,7 +129,7 @@ fn close(opens: &mut Vec<Open>, construct: Construct) {
 }
 
 // Opens a construct.
-fn open(opens: &mut Vec<Open>, construct: Construct, token: usize) -> Result<(), AllocError> {
+fn add_open(opens: &mut Vec<Open>, construct: Construct, token: usize) -> Result<(), AllocError> {
     opens.push(Open { construct, token })?;
     Ok(())
 }
@@ -143,18 +143,18 @@ fn pass(walk: &mut Walk, tokens: &[Token], index: usize, word: Word) -> Result<(
     if let Some(section) = head_at(tokens, index) {
         if !(in_preamble && section == Construct::Event) {
             walk.opens.clear();
-            return open(&mut walk.opens, section, index);
+            return add_open(&mut walk.opens, section, index);
         }
     }
     match word {
-        Word::Preamble => open(&mut walk.opens, Construct::Preamble, index),
+        Word::Preamble => add_open(&mut walk.opens, Construct::Preamble, index),
         Word::End => {
             walk.opens.clear();
             Ok(())
         }
         Word::If => {
             walk.head = None;
-            open(&mut walk.opens, Construct::If, index)
+            add_open(&mut walk.opens, Construct::If, index)
         }
         Word::Always => {
             close(&mut walk.opens, Construct::If);
@@ -163,7 +163,7 @@ fn pass(walk: &mut Walk, tokens: &[Token], index: usize, word: Word) -> Result<(
         Word::Do => {
             let head = walk.head.unwrap_or(index);
             walk.head = None;
-            open(&mut walk.opens, Construct::Loop, head)
+            add_open(&mut walk.opens, Construct::Loop, head)
         }
         Word::Loop => {
             close(&mut walk.opens, Construct::Loop);
