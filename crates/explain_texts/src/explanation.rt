@@ -1,13 +1,19 @@
 //! The explanation of a refusal.
 
-use crate::declared::explain_declared;
-use crate::lexical::explain_lexical;
-use crate::notes::add_notes;
-use crate::page::Page;
-use crate::rules::add_rule;
-use crate::sections::Sections;
-use crate::syntax::{explain_depth, explain_syntax};
-use crate::used::{Read, explain_used};
+ghost use Rattle.std.specs.Prelude.{◌≡◌, IfOk, None};
+ghost use Rattle.ss_tree.specs.View.{view_program};
+ghost use Rattle.ss_tables.specs.Tables.{AreTablesOf};
+ghost use Rattle.ss_check_rules.specs.Refusal.{refusal_of_uses};
+ghost use Rattle.explain_texts.specs.Judged.{IsWrong, first_wrong, wrong_in};
+
+use explain_cures::syntax::{explain_depth, explain_syntax};
+use explain_names::declared::explain_declared;
+use explain_names::notes::add_notes;
+use explain_names::sections::Sections;
+use explain_names::used::{Read, explain_used};
+use explain_pages::lexical::explain_lexical;
+use explain_pages::page::Page;
+use explain_pages::rules::add_rule;
 use ss_check_rules::{CheckError, judge};
 use ss_lex::{LexError, Tokens, tokens};
 use ss_names_declarations::Breach;
@@ -69,7 +75,10 @@ fn explain_names(
     text: &[u8],
     program: &Program,
     tables: &Tables,
-) -> Result<Option<Wrong>, AllocError> {
+) -> Result<Option<Wrong>, AllocError>
+    requires { AreTablesOf (view_program program.now) tables.now }
+    ensures { IfOk result (λ wrong. wrong ≡ first_wrong None (refusal_of_uses (view_program program.now))) }
+{
     let names = tables.names();
     let broken = match judge(page.alloc(), program, names) {
         Ok((broken, _locals)) => broken,
@@ -99,7 +108,9 @@ fn explain_program(
     page: &mut Page,
     text: &[u8],
     program: &Program,
-) -> Result<Option<Wrong>, AllocError> {
+) -> Result<Option<Wrong>, AllocError>
+    ensures { IfOk result (λ wrong. wrong ≡ wrong_in (view_program program.now)) }
+{
     match Tables::of(page.alloc(), program) {
         Err(TableError::Memory) => Err(AllocError),
         Err(error) => {
@@ -111,7 +122,10 @@ fn explain_program(
 }
 
 // What is wrong with a text, without its rule.
-fn explain_whole(page: &mut Page, text: &[u8]) -> Result<Option<Wrong>, AllocError> {
+#[tactic(auto, using(crate::proofs::Wrongs::spelled_wrong))]
+fn explain_whole(page: &mut Page, text: &[u8]) -> Result<Option<Wrong>, AllocError>
+    ensures { IfOk result (IsWrong text.now) }
+{
     let all = match tokens(page.alloc(), text) {
         Ok(all) => all,
         Err(LexError::Memory) => return Err(AllocError),
@@ -137,7 +151,9 @@ fn explain_whole(page: &mut Page, text: &[u8]) -> Result<Option<Wrong>, AllocErr
 /// Explains why a text is refused: the place, what is wrong there, what helps, and the rule with the heading of the manual.
 /// It answers what is wrong. Where a text is not refused for its words or its names it answers None, and the page has
 /// notes on what is right and looks odd. The error comes where memory was refused.
-pub fn explain_text(page: &mut Page, text: &[u8]) -> Result<Option<Wrong>, AllocError> {
+pub fn explain_text(page: &mut Page, text: &[u8]) -> Result<Option<Wrong>, AllocError>
+    ensures { IfOk result (IsWrong text.now) }
+{
     let wrong = explain_whole(page, text)?;
     if let Some(wrong) = &wrong {
         add_rule(page, wrong.number())?;

@@ -1,11 +1,11 @@
 //! Counts that don't fit: values that are given, and fields of a PRINT.
 
-use crate::finding::{add_line, add_name};
-use crate::opens::{line_of, word_at};
-use crate::page::Page;
-use crate::page::Part::{self, Bytes, Count, Words};
-use crate::places::{show_line, show_marked};
 use crate::used::Read;
+use explain_pages::finding::{add_line, add_name};
+use explain_pages::page::Page;
+use explain_pages::page::Part::{self, Bytes, Count, Words};
+use explain_pages::places::{show_line, show_marked};
+use explain_pages::tokens::{line_of, word_at};
 use ss_base::Name;
 use ss_lex::{Symbol, Token, TokenKind, Word, tokens};
 use ss_names::Meaning;

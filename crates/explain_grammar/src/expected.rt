@@ -4,9 +4,9 @@ use crate::candidates::{
     Candidate, has_declaration, has_phrase, has_relation, has_statement, has_value, has_word,
     is_grouped,
 };
-use crate::page::Page;
-use crate::page::Part::Words;
 use crate::spellings::spelling_of;
+use explain_pages::page::Page;
+use explain_pages::page::Part::Words;
 use ss_lex::{Symbol, Word};
 use std::alloc::{AllocError, Global};
 

@@ -1,17 +1,18 @@
 //! Texts that are no programs: refusals 41 and 42.
 
-use crate::candidates::{Candidate, candidates_after, has_statement, has_token};
-use crate::expected::expected_words;
 use crate::fixes::{Fixes, Window, left_after};
-use crate::forms::{form_of, leader_before};
 use crate::frames::add_frames;
-use crate::opens::{Construct, is_frame_word, line_of, opens_at, section_before};
-use crate::page::Page;
-use crate::page::Part::{Bytes, Count, Line, Words};
-use crate::places::{line_starts, show_line, show_marked};
 use crate::prints::{add_further_lines, add_prints};
 use crate::trouble::Trouble;
 use crate::words::{add_likely, add_missing, add_unlikely};
+use explain_grammar::candidates::{Candidate, candidates_after, has_statement, has_token};
+use explain_grammar::expected::expected_words;
+use explain_grammar::forms::{form_of, leader_before};
+use explain_grammar::opens::{Construct, is_frame_word, opens_at, section_before};
+use explain_pages::page::Page;
+use explain_pages::page::Part::{Bytes, Count, Line, Words};
+use explain_pages::places::{line_starts, show_line, show_marked};
+use explain_pages::tokens::line_of;
 use ss_lex::Token;
 use std::alloc::{AllocError, Global};
 

@@ -1,15 +1,16 @@
 //! Changes of single words: one is put in, left out, or gives way to another.
 
-use crate::candidates::{Candidate, has_word, is_value_word};
 use crate::fixes::Fixes;
-use crate::forms::leader_before;
-use crate::opens::{Construct, head_at, is_first_of_line};
-use crate::page::Page;
-use crate::page::Part::{Bytes, Capitals, Line, Words};
-use crate::places::Stretch;
-use crate::similar::is_like;
-use crate::spellings::{WORDS, begins_statement, spelling_of};
 use crate::trouble::Trouble;
+use explain_grammar::candidates::{Candidate, has_word, is_value_word};
+use explain_grammar::forms::leader_before;
+use explain_grammar::opens::{Construct, head_at};
+use explain_grammar::spellings::{WORDS, begins_statement, spelling_of};
+use explain_pages::page::Page;
+use explain_pages::page::Part::{Bytes, Capitals, Line, Words};
+use explain_pages::places::Stretch;
+use explain_pages::similar::is_like;
+use explain_pages::tokens::is_first_of_line;
 use ss_lex::{Symbol, Token, TokenKind, Word};
 use std::alloc::AllocError;
 

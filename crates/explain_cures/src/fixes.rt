@@ -1,7 +1,7 @@
 //! Changes of a text, each tried by reading the changed text.
 
-use crate::page::{Page, Part};
-use crate::places::Stretch;
+use explain_pages::page::{Page, Part};
+use explain_pages::places::Stretch;
 use ss_lex::{LexError, Token, tokens};
 use ss_parse::{Reach, reach_of};
 use std::alloc::{AllocError, Global};

@@ -1,10 +1,10 @@
 //! Notes on a text that is accepted: names and statements that are right, and look like a mistake.
 
-use crate::page::Page;
-use crate::page::Part::{self, Bytes, Line, Words};
-use crate::places::{indentation, line_from, line_starts, show_line};
-use crate::similar::nearest;
 use crate::used::Read;
+use explain_pages::page::Page;
+use explain_pages::page::Part::{self, Bytes, Line, Words};
+use explain_pages::places::{indentation, line_from, line_starts, show_line};
+use explain_pages::similar::nearest;
 use ss_base::{ClassKind, Name};
 use ss_lex::{LexError, TokenKind, Word, tokens};
 use ss_names::{Meaning, Names};

@@ -1,9 +1,9 @@
 //! Texts that are refused for what they declare: refusals 51 to 60.
 
-use crate::finding::{add_line, add_name, add_nearest};
-use crate::page::Page;
-use crate::page::Part::{self, Bytes, Words};
-use crate::places::show_line;
+use explain_pages::finding::{add_line, add_name, add_nearest};
+use explain_pages::page::Page;
+use explain_pages::page::Part::{self, Bytes, Words};
+use explain_pages::places::show_line;
 use ss_base::Name;
 use ss_names_declarations::{Breach, Declaration, Declared, declarations_of};
 use ss_names_uses::{Used, uses_of};

@@ -1,7 +1,8 @@
 //! The forms of statements and declarations, in words.
 
-use crate::opens::{head_at, word_at};
+use crate::opens::head_at;
 use crate::spellings::begins_statement;
+use explain_pages::tokens::word_at;
 use ss_lex::{Token, Word};
 
 static FORMS: [(Word, &str); 32] = [

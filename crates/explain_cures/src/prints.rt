@@ -1,11 +1,12 @@
 //! Changes of PRINT: its THUS, and its number of lines.
 
 use crate::fixes::Fixes;
-use crate::opens::{head_at, is_frame_word, word_at};
-use crate::page::Page;
-use crate::page::Part::{Bytes, Count, Line, Words};
-use crate::spellings::begins_statement;
 use crate::trouble::Trouble;
+use explain_grammar::opens::{head_at, is_frame_word};
+use explain_grammar::spellings::begins_statement;
+use explain_pages::page::Page;
+use explain_pages::page::Part::{Bytes, Count, Line, Words};
+use explain_pages::tokens::word_at;
 use ss_lex::{TokenKind, Word, tokens};
 use std::alloc::{AllocError, Global};
 

@@ -1,12 +1,13 @@
 //! Changes for what is open too long or closed too early: IFs without ALWAYS, loops without DO or LOOP, sections without END.
 
 use crate::fixes::Fixes;
-use crate::opens::{Construct, Open, is_first_of_line};
-use crate::page::Page;
-use crate::page::Part::{Bytes, Capitals, Line, Words};
-use crate::places::{indentation, is_blank};
-use crate::spellings::begins_statement;
 use crate::trouble::Trouble;
+use explain_grammar::opens::{Construct, Open};
+use explain_grammar::spellings::begins_statement;
+use explain_pages::page::Page;
+use explain_pages::page::Part::{Bytes, Capitals, Line, Words};
+use explain_pages::places::{indentation, is_blank};
+use explain_pages::tokens::is_first_of_line;
 use ss_lex::{TokenKind, Word};
 use std::alloc::{AllocError, Global};
 

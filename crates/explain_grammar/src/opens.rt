@@ -1,7 +1,8 @@
 //! Constructs that are open at a place of a text: sections, IFs and loops that begin before it and end after it.
 
 use crate::spellings::begins_statement;
-use ss_lex::{Token, TokenKind, Word};
+use explain_pages::tokens::{is_first_of_line, word_at};
+use ss_lex::{Token, Word};
 use std::alloc::{AllocError, Global};
 
 /// What can be open.
@@ -42,39 +43,6 @@ impl Construct {
             Construct::Loop => "LOOP",
             _ => "END",
         }
-    }
-}
-
-/// The reserved word that a token is.
-pub fn word_at(tokens: &[Token], index: usize) -> Option<Word> {
-    match tokens.get(index) {
-        Some(token) => match &token.kind {
-            TokenKind::Word(word) => Some(*word),
-            _ => None,
-        },
-        None => None,
-    }
-}
-
-/// The line of a token, or of the last one where there are not so many; 0 where there is none.
-pub fn line_of(tokens: &[Token], index: usize) -> u32 {
-    match tokens.get(index) {
-        Some(token) => token.line.0,
-        None => match tokens.last() {
-            Some(token) => token.line.0,
-            None => 0,
-        },
-    }
-}
-
-/// Whether a token is the first of its line.
-pub fn is_first_of_line(tokens: &[Token], index: usize) -> bool {
-    if index == 0 {
-        return true;
-    }
-    match (tokens.get(index.saturating_sub(1)), tokens.get(index)) {
-        (Some(before), Some(token)) => before.line.0 != token.line.0,
-        _ => true,
     }
 }
 

@@ -1,10 +1,11 @@
 //! The place at which a text is not read further, and what is known of it.
 
-use crate::candidates::Candidate;
 use crate::fixes::Window;
-use crate::opens::{Open, line_of, word_at};
-use crate::page::Part::{self, Capitals, Words};
-use crate::places::{Stretch, bytes_of, line_from, spelled, stretch_of};
+use explain_grammar::candidates::Candidate;
+use explain_grammar::opens::Open;
+use explain_pages::page::Part::{self, Capitals, Words};
+use explain_pages::places::{Stretch, bytes_of, line_from, spelled, stretch_of};
+use explain_pages::tokens::{line_of, word_at};
 use ss_lex::{Symbol, Token, TokenKind, Word};
 
 /// The place at which a text is not read further, and what is known of it.

@@ -1,11 +1,11 @@
 //! Texts that are refused for what they do with their names: refusals 71 to 79.
 
 use crate::counts::{explain_arguments, explain_fields};
-use crate::finding::{add_line, add_name, add_nearest};
-use crate::page::Page;
-use crate::page::Part::{self, Bytes, Words};
 use crate::sections::{Sections, is_of_system, meaning_words, mode_in, spelling_of_place};
-use crate::similar::nearest;
+use explain_pages::finding::{add_line, add_name, add_nearest};
+use explain_pages::page::Page;
+use explain_pages::page::Part::{self, Bytes, Words};
+use explain_pages::similar::nearest;
 use ss_base::{ClassKind, Mode, Name};
 use ss_check_rules::CheckError;
 use ss_names::{Meaning, Names};
