@@ -38,7 +38,7 @@ impl Wrong {
         match self {
             Wrong::Lexed(error) => error.number(),
             Wrong::Parsed(error) => error.number(),
-            Wrong::Declared(error) => error.order_of().0,
+            Wrong::Declared(error) => Breach::order_of(error).0,
             Wrong::Used(error) => used_number(error),
         }
     }
