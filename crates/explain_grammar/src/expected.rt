@@ -6,33 +6,50 @@ use crate::candidates::{
 };
 use crate::spellings::spelling_of;
 use explain_pages::page::Page;
-use explain_pages::page::Part::Words;
+use explain_pages::page::Part::{Bytes, Words};
 use ss_lex::{Symbol, Word};
 use std::alloc::{AllocError, Global};
 
+/// The names of what is expected.
+#[derive(Drop)]
+struct Expected {
+    alloc: Global,
+    names: Vec<Page>,
+}
+
+impl Expected {
+    // Adds a name.
+    fn add(&mut self, name: &str) -> Result<(), AllocError> {
+        let mut page = Page::new(self.alloc);
+        page.say(name, &[])?;
+        self.names.push(page)?;
+        Ok(())
+    }
+}
+
 // What candidates are called together, if they are there.
-fn add_groups(all: &mut Vec<&'static str>, candidates: &[Candidate]) -> Result<(), AllocError> {
+fn add_groups(all: &mut Expected, candidates: &[Candidate]) -> Result<(), AllocError> {
     if has_relation(candidates) {
-        all.push("a relation as =, NE, LT, GT, LE or GE")?;
+        all.add("a relation as =, NE, LT, GT, LE or GE")?;
     }
     if has_value(candidates) {
-        all.push("a value")?;
+        all.add("a value")?;
     } else if candidates.contains(&Candidate::Name) {
-        all.push("a name")?;
+        all.add("a name")?;
     } else if candidates.contains(&Candidate::Number) {
-        all.push("a number")?;
+        all.add("a number")?;
     }
     if has_statement(candidates) {
-        all.push("a statement")?;
+        all.add("a statement")?;
     }
     if has_declaration(candidates) {
-        all.push("a declaration as EVERY, DEFINE or TALLY")?;
+        all.add("a declaration as EVERY, DEFINE or TALLY")?;
     }
     if has_phrase(candidates) && !has_statement(candidates) {
-        all.push("a phrase as WITH or WHILE")?;
+        all.add("a phrase as WITH or WHILE")?;
     }
     if candidates.contains(&Candidate::Picture) {
-        all.push("a line of picture")?;
+        all.add("a line of picture")?;
     }
     Ok(())
 }
@@ -47,7 +64,7 @@ fn is_optional(word: Word) -> bool {
 
 // The words that are expected and have no name together.
 fn add_words(
-    all: &mut Vec<&'static str>,
+    all: &mut Expected,
     candidates: &[Candidate],
     optional: bool,
 ) -> Result<(), AllocError> {
@@ -56,7 +73,7 @@ fn add_words(
             let is_bare_test = matches!(word, Word::Empty | Word::In)
                 && has_word(candidates, Word::Is);
             if !is_grouped(candidates, *word) && is_optional(*word) == optional && !is_bare_test {
-                all.push(spelling_of(*word))?;
+                all.add(spelling_of(*word))?;
             }
         }
     }
@@ -78,11 +95,7 @@ fn sign_of(symbol: Symbol) -> &'static str {
 }
 
 // The signs that are expected: all, or those that close or assign, which nothing else stands for.
-fn add_signs(
-    all: &mut Vec<&'static str>,
-    candidates: &[Candidate],
-    needed: bool,
-) -> Result<(), AllocError> {
+fn add_signs(all: &mut Expected, candidates: &[Candidate], needed: bool) -> Result<(), AllocError> {
     for candidate in candidates {
         if let Candidate::Symbol(symbol) = candidate {
             let is_needed = match symbol {
@@ -91,7 +104,7 @@ fn add_signs(
                 _ => false,
             };
             if is_needed || !needed {
-                all.push(sign_of(*symbol))?;
+                all.add(sign_of(*symbol))?;
             }
         }
     }
@@ -99,18 +112,21 @@ fn add_signs(
 }
 
 // What is expected, by its names: words first, then what they are called together, then what may also go on.
-fn names_of(alloc: Global, candidates: &[Candidate]) -> Result<Vec<&'static str>, AllocError> {
-    let mut all = Vec::new(alloc);
+fn names_of(alloc: Global, candidates: &[Candidate]) -> Result<Expected, AllocError> {
+    let mut all = Expected {
+        alloc,
+        names: Vec::new(alloc),
+    };
     add_words(&mut all, candidates, false)?;
     add_signs(&mut all, candidates, true)?;
     add_groups(&mut all, candidates)?;
     if candidates.contains(&Candidate::End) {
-        all.push("the end of the text")?;
+        all.add("the end of the text")?;
     }
-    if all.is_empty() {
+    if all.names.is_empty() {
         add_words(&mut all, candidates, true)?;
     }
-    if all.is_empty() {
+    if all.names.is_empty() {
         add_signs(&mut all, candidates, false)?;
     }
     Ok(all)
@@ -118,6 +134,17 @@ fn names_of(alloc: Global, candidates: &[Candidate]) -> Result<Vec<&'static str>
 
 /// The most things that a message names.
 const NAMED: usize = 9;
+
+// What comes before the name in this place, of so many.
+fn words_before(place: usize, count: usize) -> &'static str {
+    if place == 0 {
+        "expected "
+    } else if place.saturating_add(1) == count {
+        " or "
+    } else {
+        ", "
+    }
+}
 
 /// What was expected, as `expected A, AN or THE`.
 pub fn expected_words(alloc: Global, candidates: &[Candidate]) -> Result<Page, AllocError> {
@@ -127,15 +154,10 @@ pub fn expected_words(alloc: Global, candidates: &[Candidate]) -> Result<Page, A
         return Ok(page);
     }
     let all = names_of(alloc, candidates)?;
-    let count = all.len().min(NAMED);
-    let mut before = "expected ";
-    for (place, name) in all.iter().take(count).enumerate() {
-        page.say("{}{}", &[Words(before), Words(name)])?;
-        before = if place.saturating_add(2) == count {
-            " or "
-        } else {
-            ", "
-        };
+    let count = all.names.len().min(NAMED);
+    for (place, name) in all.names.iter().take(count).enumerate() {
+        let before = Words(words_before(place, count));
+        page.say("{}{}", &[before, Bytes(name.text.as_slice())])?;
     }
     Ok(page)
 }
