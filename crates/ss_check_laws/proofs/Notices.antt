@@ -18,7 +18,7 @@ use Rattle.ss_names_uses.specs.declared.used.Role.TheVariants as roles
 use Rattle.ss_names_uses.specs.Uses as uses
 use Rattle.ss_names.specs.declared.meaning.Meaning.TheVariants as meanings
 use Rattle.ss_names.specs.Table.{Table, field_mode}
-use Rattle.ss_names_scopes.specs.Scopes.{Scope}
+use Rattle.ss_names_scopes.specs.Scopes.{Scope, is_kind}
 use Rattle.ss_check_rules.specs.declared.error.CheckError.TheVariants as errors
 use Rattle.ss_check_rules.specs.Modes.{attribute_mode}
 use Rattle.ss_program.specs.Program.{Expression, Now, When, Restart, Statement, ScheduleNew, Schedule}

@@ -19,7 +19,7 @@ use Rattle.ss_tables_rules.specs.Broken.{refusal_of_declarations as declaration_
 use Rattle.ss_engine.specs.declared.refusal.Refusal.{Refusal}
 use Rattle.ss_engine.specs.declared.refusal.Refusal.TheVariants.{Lexed, Parsed, Declared, Used, CodeTooLong, Memory}
 use Rattle.ss_engine.specs.Accepting.{IsTreeOf, IsProgramOf, IsRefusedWith}
-use Rattle.ss_engine.specs.Laws.{OneProgram, OneMeaning, EachHasOne, ProgramsAreTyped, NeverGoesWrong, ReportsGrow, TextEndingsStay, RefusedIsIllFormed, AcceptedIsWellFormed}
+use Rattle.ss_engine.specs.Laws.{OneProgram, OneMeaning, EachHasOne, ProgramsAreTyped, NeverGoesWrong, ReportsGrow, TextEndingsStay, RefusedIsIllFormed}
 
 same_program : (p q : Program) → Some p ≡ Some q → p ≡ q
 same_program p q e = cc
@@ -57,9 +57,6 @@ refused_is_ill_formed one_list answers one_tree text (Used e) r memory long (tre
     none_is_no_some (use_refusal r.tree) e (ap use_refusal same ∙ keeps.kept) r.broken
 refused_is_ill_formed one_list answers one_tree text CodeTooLong r memory long well = long refl
 refused_is_ill_formed one_list answers one_tree text Memory r memory long well = memory refl
-
-pub accepted_is_well_formed : AcceptedIsWellFormed
-accepted_is_well_formed text p m = (m.tree, m.keeps)
 
 pub one_meaning : OneProgram → OneMeaning
 one_meaning one text input n run other a b =

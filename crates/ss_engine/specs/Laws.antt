@@ -40,7 +40,3 @@ TextEndingsStay = (text input : List ℕ) (n more : ℕ) (run : Run) → IsMeani
 -- a text that is refused is not well formed, but where memory was refused or its code is too long
 abbrev pub RefusedIsIllFormed : Type 0
 RefusedIsIllFormed = (text : List ℕ) (cause : Refusal) → IsRefusedWith text cause → cause ≢ Memory → cause ≢ CodeTooLong → IsWellFormed text → ⊥
-
--- and a text that has a program is well formed
-abbrev pub AcceptedIsWellFormed : Type 0
-AcceptedIsWellFormed = (text : List ℕ) (p : Program) → IsProgramOf text p → IsWellFormed text

@@ -1,6 +1,6 @@
 //! Laws of what a text means.
 
-ghost use Rattle.ss_engine.specs.Laws.{AcceptedIsWellFormed, EachHasOne, TextEndingsStay, NeverGoesWrong, OneMeaning, OneProgram, ProgramsAreTyped, RefusedIsIllFormed, ReportsGrow};
+ghost use Rattle.ss_engine.specs.Laws.{EachHasOne, TextEndingsStay, NeverGoesWrong, OneMeaning, OneProgram, ProgramsAreTyped, RefusedIsIllFormed, ReportsGrow};
 
 use ss_check::programs_resolve;
 use ss_code_instructions::laws::laws_of_pieces;
@@ -23,11 +23,9 @@ pub fn laws()
     laws_of_types();
 }
 
-/// A text that is refused is not well formed, but where memory was refused or its code is too long. A text that has a program is
-/// well formed.
+/// A text that is refused is not well formed, but where memory was refused or its code is too long.
 pub fn refusals_are_due()
     ensures refused { RefusedIsIllFormed }
-    ensures accepted { AcceptedIsWellFormed }
 {
     one_list();
     one_answer();

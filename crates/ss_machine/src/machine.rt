@@ -194,7 +194,8 @@ impl Machine {
 
     /// The steps made since the start: each instruction that was carried out, the one that ended the
     /// program and the one that came to a fault among them. A pause is no step, nor is an instruction
-    /// that ran out of memory or failed at its reader or writer. The count is exact at every stop.
+    /// that ran out of memory or failed at its reader or writer. The count is exact at an end, a fault and a
+    /// pause.
     ///
     /// After u ticks there are at least u, and at most 3u + 4 times as many as there are instructions.
     pub fn steps(&self) -> u128

@@ -1,6 +1,6 @@
 //! TIME.V, the notices that are pending, and the histories.
 
-ghost use Rattle.std.specs.Prelude.{◌≡◌, ◌≤ℤ◌, map, pos, false, Ok, Err, is_some, MatchResult, IfOk, IfSome, OnOk};
+ghost use Rattle.std.specs.Prelude.{◌≡◌, ◌≤ℤ◌, [], map, pos, false, Ok, Err, is_some, MatchResult, IfOk, IfSome, OnOk};
 ghost use Rattle.std.specs.Ordering.{int_eq};
 ghost use Rattle.ss_base.specs.declared.layout.Owner.TheVariants.{System, Class};
 ghost use Rattle.ss_world.specs.PendingList.{none_pending, is_pending, cancelled, next};

@@ -7,12 +7,12 @@ use Rattle.std.specs.declared.cmp.Ordering.{Ordering}
 use Rattle.std.specs.Ordering.{match_ordering}
 use Rattle.ss_base.specs.Order.{value_cmp}
 use Rattle.ss_base.specs.declared.value.Value.{Value}
-use Rattle.ss_world.specs.State.{State, and_then, members_of, number_in, modes_of}
+use Rattle.ss_world.specs.State.{State, and_then, members_of, number_in, value_in, modes_of}
 use Rattle.ss_world.specs.Lists.{head0, In, NotIn, Distinct}
 use Rattle.ss_world.specs.Sets.{joiner, owner, member_class, follower, members_by, companions, first_in, next_in, Apart}
 use Rattle.std.proofs.lemmas.List.Elements.{All-head, All-tail}
 use Rattle.ss_base.specs.declared.layout.Layout.{Layout}
-use Rattle.ss_world.specs.Disciplines.{AreFields, value_of, ranks_after, members_passed, members_owned_by, owned}
+use Rattle.ss_world.specs.Disciplines.{AreFields, value_of, value_or_zero, ranks_after, members_passed, members_owned_by, owned}
 use Rattle.ss_sets.specs.Walks.{first_after, as_member}
 use Rattle.ss_sets.proofs.Same.{same, differs, by_same}
 use Rattle.ss_sets.proofs.Members.{stopped}
@@ -142,13 +142,14 @@ pub as_ranked : (b : Bool) (s st : State) (n class : ℕ) (ks : List RankKey) (v
 as_ranked b s st n class ks v w x h a d e = sym (h ∙ ap (λ (t : State). ranks_after t n ks v x) a ∙ ap (λ k. ranks_after st k ks v x) d ∙ ap (λ (u : ℤ). ranks_after st class ks u x) e)
 
 -- a rank by the value of a first key, in the state before the call
-pub as_ranked_by : (b : Bool) (t s st : State) (set n : ℕ) (k : RankKey) (ks : List RankKey) (v w x : ℤ) (o : Ordering) (own : Value) → b ≡ match_ordering o k.high (ranks_after t n ks v x) (not k.high) → o ≡ value_cmp (value_of s (member_class s.layout set) k.field v) own → own ≡ value_of st n k.field x → t ≡ s → s ≡ st → n ≡ member_class st.layout set → v ≡ w → ranks_after st (member_class st.layout set) (k ∷ ks) w x ≡ b
-as_ranked_by b t s st set n k ks v w x o own h order own_is a a2 d e =
-    let class = member_class st.layout set in let its = value_of s (member_class s.layout set) k.field v in
-    let first : its ≡ value_of st class k.field w = ap (λ (u : State). value_of u (member_class u.layout set) k.field v) a2 ∙ ap (λ (u : ℤ). value_of st class k.field u) e in
+pub as_ranked_by : (b : Bool) (t s st : State) (set n : ℕ) (k : RankKey) (ks : List RankKey) (v w x : ℤ) (o : Ordering) (its own : Value) → b ≡ match_ordering o k.high (ranks_after t n ks v x) (not k.high) → o ≡ value_cmp its own → value_in s (member_class s.layout set) k.field v ≡ Ok its → own ≡ value_of st n k.field x → t ≡ s → s ≡ st → n ≡ member_class st.layout set → v ≡ w → ranks_after st (member_class st.layout set) (k ∷ ks) w x ≡ b
+as_ranked_by b t s st set n k ks v w x o its own h order its_is own_is a a2 d e =
+    let class = member_class st.layout set in
+    let there : value_in st class k.field v ≡ Ok its = subst (λ (u : State). value_in u (member_class u.layout set) k.field v ≡ Ok its) a2 its_is in
+    let first : value_of st class k.field w ≡ its = ap (λ (u : ℤ). value_of st class k.field u) (sym e) ∙ ap value_or_zero there in
     let second : value_of st class k.field x ≡ own = sym (own_is ∙ ap (λ m. value_of st m k.field x) d) in
     let others : ranks_after st class ks w x ≡ ranks_after t n ks v x = as_ranked _ t st n class ks v w x refl (a ∙ a2) d e in
-    ap (λ (u : Value). match_ordering (value_cmp u (value_of st class k.field x)) k.high (ranks_after st class ks w x) (not k.high)) (sym first)
+    ap (λ (u : Value). match_ordering (value_cmp u (value_of st class k.field x)) k.high (ranks_after st class ks w x) (not k.high)) first
     ∙ ap (λ (u : Value). match_ordering (value_cmp its u) k.high (ranks_after st class ks w x) (not k.high)) second
     ∙ ap (λ r. match_ordering (value_cmp its own) k.high r (not k.high)) others
     ∙ ap (λ (q : Ordering). match_ordering q k.high (ranks_after t n ks v x) (not k.high)) (sym order)
@@ -188,9 +189,9 @@ pub record Looked (st : State) (set : ℕ) (o x : ℤ) (ks : List RankKey) (memb
   pub ranks : ranks_after st (member_class st.layout set) ks (pos z) x ≡ b
 
 pub looked : (st : State) (A : Apart st) (set : ℕ) (inside : set < length st.layout.sets) (o x : ℤ) (k : RankKey) (ks : List RankKey) (member : Option ℤ) (y v : ℤ) → member ≡ Some y → member ≡ leader (onward member (owned st set o)) → v ≡ y
-    → (s t : State) → s ≡ st → t ≡ s → (n : ℕ) → n ≡ member_class st.layout set → (own : Value) (next : ℤ) → next_in s set v ≡ Ok next → own ≡ value_of st n k.field x
-    → (order : Ordering) (b : Bool) → order ≡ value_cmp (value_of s (member_class s.layout set) k.field v) own → b ≡ match_ordering order k.high (ranks_after t n ks v x) (not k.high) → Looked st set o x (k ∷ ks) member y next b
-looked st A set inside o x k ks member y v is here hand s t same kept n class own next following own_is order b ordered ordered_so =
+    → (s t : State) → s ≡ st → t ≡ s → (n : ℕ) → n ≡ member_class st.layout set → (its own : Value) (next : ℤ) → value_in s (member_class s.layout set) k.field v ≡ Ok its → next_in s set v ≡ Ok next → own ≡ value_of st n k.field x
+    → (order : Ordering) (b : Bool) → order ≡ value_cmp its own → b ≡ match_ordering order k.high (ranks_after t n ks v x) (not k.high) → Looked st set o x (k ∷ ks) member y next b
+looked st A set inside o x k ks member y v is here hand s t same kept n class its own next value following own_is order b ordered ordered_so =
     let a = reached_member (owned st set o) member y is here in
     let it = next_is st A set inside o a.0 a.1 a.4 in
     let number = next_number s st set v (pos a.0) next (pos (head0 a.1)) following same (hand ∙ a.3) it in
@@ -202,5 +203,5 @@ looked st A set inside o x k ks member y v is here hand s t same kept n class ow
       is = a.3;
       leads = leads;
       following = ap (λ m. onward m (owned st set o)) leads ∙ rest_is st A set inside o a.0 a.1 a.4;
-      ranks = as_ranked_by b t s st set n k ks v (pos a.0) x order own ordered_so ordered own_is kept same class (hand ∙ a.3);
+      ranks = as_ranked_by b t s st set n k ks v (pos a.0) x order its own ordered_so ordered value own_is kept same class (hand ∙ a.3);
     }

@@ -2,13 +2,9 @@
 use Rattle.std.specs.Prelude.{ℕ, zero, suc, cond, List, [], ◌∷◌, ℤ, pos, negsuc, Option, Some, None, Result}
 use Rattle.ss_base.specs.declared.fault.FaultKind.{FaultKind}
 use Rattle.ss_base.specs.declared.layout.RankKey.{RankKey}
-use Rattle.ss_base.specs.declared.value.Value.{Value}
-use Rattle.ss_base.specs.declared.value.Value.TheVariants.{Whole}
 use Rattle.ss_world.specs.State.{State}
 use Rattle.ss_world.specs.Sets.{filed_before, filed_last}
 use Rattle.ss_world.specs.Disciplines.{ranks_after}
-use Rattle.ss_sets.specs.declared.ranking.OwnValue.{OwnValue}
-use Rattle.ss_sets.specs.declared.ranking.OwnValue.TheVariants as own
 
 -- a member, or none, which calls answer as 0
 abbrev pub as_member : ℤ → Option ℤ
@@ -25,8 +21,3 @@ first_after st c ks x (y ∷ ys) = cond (ranks_after st c ks (pos y) x) (Some (p
 abbrev pub filed_at : State → ℕ → ℤ → ℤ → Option ℤ → Result State FaultKind
 filed_at st s o x None = filed_last st s o x
 filed_at st s o x (Some y) = filed_before st s o x y
-
--- the value that the members of a set are compared to
-abbrev pub value_own : OwnValue → Value
-value_own (own.Whole n) = Whole n
-value_own (own.Any v) = v

@@ -4,35 +4,13 @@ ghost use Rattle.std.specs.Ordering.{match_ordering, int_cmp, nat_cmp};
 ghost use Rattle.std.specs.Cmp.Lexicographic.{slice_cmp};
 ghost use Rattle.ss_base.specs.Order.{value_cmp};
 ghost use Rattle.ss_world.specs.State.{and_then, modes_of};
-ghost use Rattle.ss_world.specs.Sets.{owner, member_class, first_in, next_in};
+ghost use Rattle.ss_world.specs.Sets.{owner, member_class, first_in};
 ghost use Rattle.ss_world.specs.Disciplines.{value_of, ranks_after, members_passed, passed_by, owned, filed_ranked, filed, AreFields, FitsMembers};
-ghost use Rattle.ss_sets.specs.Walks.{first_after, as_member, filed_at, value_own};
+ghost use Rattle.ss_sets.specs.Walks.{first_after, as_member, filed_at};
 
 use ss_base::{Alpha, Discipline, FaultKind, Mode, RankKey, Value};
 use ss_records::Heap;
 use std::cmp::Ordering;
-
-// What the members of a set are compared to by an attribute. Where it is known to be a whole number, so are their values.
-#[derive(Drop)]
-enum OwnValue {
-    Whole(i64),
-    Any(Value),
-}
-
-// How a member ranks to a value, and the member that follows it, 0 where there is none.
-#[derive(Clone, Copy)]
-struct Ranked {
-    order: Ordering,
-    next: i64,
-}
-
-// Two entities of a class, of which the first may rank after the second.
-#[derive(Clone, Copy)]
-struct Pair {
-    class: usize,
-    first: i64,
-    second: i64,
-}
 
 /// Files x in the set of an owner: last for FIFO, first for LIFO, and for RANKED directly before the first member
 /// that ranks strictly after it by the values that they have now, last where there is none. Values that change later
@@ -138,9 +116,9 @@ fn first_after_by(
     match whole_of(heap, class, key.field, x) {
         Some(own) => match others {
             [] => first_after_number(heap, key, set, o, x, own),
-            _ => first_after_key(heap, key, others, set, o, x),
+            _ => first_after_whole(heap, key, others, set, o, x, own),
         },
-        None => first_after_key(heap, key, others, set, o, x),
+        None => first_after_value(heap, key, others, set, o, x),
     }
 }
 
@@ -167,9 +145,47 @@ fn first_after_number(
     }
 }
 
-// The first member that ranks after x, by a key that counts most and the others. The value of x is read once, and that of each
-// member together with the next member.
-fn first_after_key(
+// The first member that ranks after x, where the key that counts most is of whole numbers, and x has this value. The value of
+// each member is read together with the next member.
+fn first_after_whole(
+    heap: &mut Heap,
+    key: RankKey,
+    others: &[RankKey],
+    set: usize,
+    o: i64,
+    x: i64,
+    own: i64,
+) -> Result<Option<i64>, FaultKind>
+    requires set { set < length heap.old.state.layout.sets }
+    requires keys { AreFields heap.old.state.layout (member_class heap.old.state.layout set) (key ∷ others.now) }
+    requires mode { slice_get (modes_of heap.old.state.layout (member_class heap.old.state.layout set)) key.field ≡ Some Mode.Integer }
+    requires own { value_of heap.old.state (member_class heap.old.state.layout set) key.field x ≡ Value.Whole own }
+    ensures found { MatchResult result (λ y. IsOk (owner heap.old.state set o) × (y ≡ first_after heap.old.state (member_class heap.old.state.layout set) (key ∷ others.now) x (owned heap.old.state set o))) (λ e. owner heap.old.state set o ≡ Err e) }
+    ensures same { heap.new.state ≡ heap.old.state }
+    ensures touches { (heap.old.total ≤ heap.new.total) × (heap.new.total ≤ heap.old.total + 2 + members_passed heap.old.state (member_class heap.old.state.layout set) (key ∷ others.now) x (owned heap.old.state set o)) }
+{
+    heap.sets_are_apart();
+    let class = class_of(heap, set);
+    let mut member = match first_member(heap, set, o) {
+        Ok(first) => first,
+        Err(fault) => return Err(fault),
+    };
+    while let Some(y) = member {
+        let its = match heap.whole_member(set, key.field, y) {
+            Ok(its) => its,
+            Err(fault) => return Err(fault),
+        };
+        if ranks_after_whole(heap, its.value, own, key.high, others, class, y, x) {
+            return Ok(Some(y));
+        }
+        member = as_member(its.next);
+    }
+    Ok(None)
+}
+
+// The first member that ranks after x, by a key of any mode. The value of x is read once, and that of each member together with
+// the next member.
+fn first_after_value(
     heap: &mut Heap,
     key: RankKey,
     others: &[RankKey],
@@ -185,61 +201,23 @@ fn first_after_key(
 {
     heap.sets_are_apart();
     let class = class_of(heap, set);
-    let own = own_value(heap, class, key.field, x);
+    let own = value(heap, class, key.field, x);
     let mut member = match first_member(heap, set, o) {
         Ok(first) => first,
         Err(fault) => return Err(fault),
     };
     while let Some(y) = member {
-        let its = match read_ranked(heap, set, key.field, &own, y) {
+        let its = match heap.member(set, key.field, y) {
             Ok(its) => its,
             Err(fault) => return Err(fault),
         };
-        let pair = Pair {
-            class,
-            first: y,
-            second: x,
-        };
-        if ranks_after_by(heap, its.order, key.high, others, pair) {
+        let order = order_of(&its.value, &own);
+        if ranks_after_by(heap, order, key.high, others, class, y, x) {
             return Ok(Some(y));
         }
         member = as_member(its.next);
     }
     Ok(None)
-}
-
-// How a member ranks by an attribute to a value, and the member that follows it.
-#[inline(always)]
-fn read_ranked(
-    heap: &mut Heap,
-    set: usize,
-    field: usize,
-    own: &OwnValue,
-    y: i64,
-) -> Result<Ranked, FaultKind>
-    requires set { set < length heap.old.state.layout.sets }
-    requires field { field < length (modes_of heap.old.state.layout (member_class heap.old.state.layout set)) }
-    requires whole { (n : ℤ) → own.now ≡ OwnValue.Whole n → slice_get (modes_of heap.old.state.layout (member_class heap.old.state.layout set)) field ≡ Some Mode.Integer }
-    ensures found { MatchResult result (λ m. (m.order ≡ value_cmp (value_of heap.old.state (member_class heap.old.state.layout set) field y) (value_own own.now)) × (next_in heap.old.state set y ≡ Ok m.next)) (λ e. next_in heap.old.state set y ≡ Err e) }
-    ensures same { heap.new.state ≡ heap.old.state }
-    ensures touches { (heap.new.touches ≤ 1) × (heap.new.total ≡ heap.old.total + heap.new.touches) }
-{
-    match own {
-        OwnValue::Whole(own) => match heap.whole_member(set, field, y) {
-            Ok(its) => Ok(Ranked {
-                order: order_of_numbers(its.value, *own),
-                next: its.next,
-            }),
-            Err(fault) => Err(fault),
-        },
-        OwnValue::Any(own) => match heap.member(set, field, y) {
-            Ok(its) => Ok(Ranked {
-                order: order_of(&its.value, own),
-                next: its.next,
-            }),
-            Err(fault) => Err(fault),
-        },
-    }
 }
 
 // The class of the members of a set.
@@ -306,32 +284,67 @@ fn order_of_texts(s: Alpha, t: Alpha) -> Ordering
     s.cmp(&t)
 }
 
-// Whether the first of two ranks strictly after the second: by their order in a key, high or low, and where they tie in it by
-// the first of the others in which they differ.
+// Whether y ranks strictly after x: by the order of the two in a key, high or low, and where they tie in it by the first
+// of the others in which they differ.
 #[inline(always)]
-fn ranks_after_by(heap: &Heap, order: Ordering, high: bool, others: &[RankKey], pair: Pair) -> bool
-    requires keys { AreFields heap.now.state.layout pair.class others.now }
-    ensures { result ≡ match_ordering order high (ranks_after heap.now.state pair.class others.now pair.first pair.second) (not high) }
+fn ranks_after_by(
+    heap: &Heap,
+    order: Ordering,
+    high: bool,
+    others: &[RankKey],
+    class: usize,
+    y: i64,
+    x: i64,
+) -> bool
+    requires keys { AreFields heap.now.state.layout class others.now }
+    ensures { result ≡ match_ordering order high (ranks_after heap.now.state class others.now y x) (not high) }
 {
     match order {
         Ordering::Less => high,
         Ordering::Greater => !high,
         Ordering::Equal => match others {
             [] => false,
-            _ => ranks_after(heap, others, pair),
+            _ => ranks_after(heap, others, class, y, x),
         },
     }
 }
 
-// Whether the first of two ranks strictly after the second: by the first key in which they differ.
+// Whether one entity ranks after another, by a key of whole numbers that comes first, and then by the other keys.
+#[inline(always)]
+fn ranks_after_whole(
+    heap: &Heap,
+    its: i64,
+    own: i64,
+    high: bool,
+    others: &[RankKey],
+    class: usize,
+    y: i64,
+    x: i64,
+) -> bool
+    requires keys { AreFields heap.now.state.layout class others.now }
+    ensures { result ≡ match_ordering (int_cmp its own) high (ranks_after heap.now.state class others.now y x) (not high) }
+{
+    if its < own {
+        return high;
+    }
+    if own < its {
+        return !high;
+    }
+    match others {
+        [] => false,
+        _ => ranks_after(heap, others, class, y, x),
+    }
+}
+
+// Whether y ranks strictly after x: by the first key in which they differ.
 #[inline(never)]
-fn ranks_after(heap: &Heap, keys: &[RankKey], pair: Pair) -> bool
-    requires keys { AreFields heap.now.state.layout pair.class keys.now }
-    ensures { result ≡ ranks_after heap.now.state pair.class keys.now pair.first pair.second }
+fn ranks_after(heap: &Heap, keys: &[RankKey], class: usize, y: i64, x: i64) -> bool
+    requires keys { AreFields heap.now.state.layout class keys.now }
+    ensures { result ≡ ranks_after heap.now.state class keys.now y x }
 {
     for key in keys {
-        let first = value(heap, pair.class, key.field, pair.first);
-        let second = value(heap, pair.class, key.field, pair.second);
+        let first = value(heap, class, key.field, y);
+        let second = value(heap, class, key.field, x);
         match first.cmp(&second) {
             Ordering::Less => return key.high,
             Ordering::Greater => return !key.high,
@@ -339,18 +352,6 @@ fn ranks_after(heap: &Heap, keys: &[RankKey], pair: Pair) -> bool
         }
     }
     false
-}
-
-// The value of an attribute of x, to which those of the members of a set are compared.
-fn own_value(heap: &Heap, class: usize, field: usize, x: i64) -> OwnValue
-    requires field { field < length (modes_of heap.now.state.layout class) }
-    ensures is { value_own result ≡ value_of heap.now.state class field x }
-    ensures whole { (n : ℤ) → result ≡ OwnValue.Whole n → slice_get (modes_of heap.now.state.layout class) field ≡ Some Mode.Integer }
-{
-    match whole_of(heap, class, field, x) {
-        Some(own) => OwnValue::Whole(own),
-        None => OwnValue::Any(value(heap, class, field, x)),
-    }
 }
 
 // The value of an attribute of an entity, where it is one of whole numbers.

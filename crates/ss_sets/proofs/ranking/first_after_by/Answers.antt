@@ -1,9 +1,12 @@
-use Rattle.std.proofs.Common.{◌≡◌, ◌+◌, ◌≤◌, List, ◌∷◌, Err, sym, subst, arith}
-use Rattle.std.specs.Prelude.{MatchResult, IsOk}
+use Rattle.std.proofs.Common.{rules, ◌≡◌, ◌+◌, ◌≤◌, ℤ, List, ◌∷◌, Some, Err, sym, ap, subst, ◌∙◌, arith, w64, to_z, of_z}
+use Rattle.std.specs.Prelude.{slice_get, MatchResult, IsOk}
 use Rattle.std.proofs.lemmas.Int.{to_z-of_z}
+use Rattle.ss_base.specs.declared.value.Value.TheVariants.{Whole}
+use Rattle.ss_base.specs.declared.layout.Mode.TheVariants.{Integer}
 use Rattle.ss_base.specs.declared.layout.RankKey.{RankKey}
+use Rattle.ss_world.specs.State.{modes_of}
 use Rattle.ss_world.specs.Sets.{member_class, owner}
-use Rattle.ss_world.specs.Disciplines.{members_passed, owned}
+use Rattle.ss_world.specs.Disciplines.{value_of, members_passed, owned}
 use Rattle.ss_sets.specs.Walks.{first_after}
 use Rattle.ss_sets.proofs.Past.{none_below}
 use Rattle.ss_sets.proofs.Walking.{first_field}
@@ -12,17 +15,26 @@ use Rattle.ss_sets.proofs.ranking.first_after_by.Goals as goal
 pub whole_of-requires : goal.whole_of-requires
 whole_of-requires c = record { field = first_field c.args.heap.now.state.layout c.args.set c.class_of-class.result c.args.key c.args.others.now c.class_of-class.ensures c.requires.keys }
 
+pub first_after_whole-requires-clause-mode : goal.first_after_whole-requires-clause-mode
+first_after_whole-requires-clause-mode c =
+    subst (λ n. slice_get (modes_of c.args.heap.now.state.layout n) c.args.key.field ≡ Some Integer) c.class_of-class.ensures (c.whole_of.ensures c.in-Some.own c.in-Some.is).0
+
+pub first_after_whole-requires-clause-own : goal.first_after_whole-requires-clause-own
+first_after_whole-requires-clause-own c =
+    let st = c.args.heap.now.state in let e : to_z w64 (of_z w64 c.in-Some.own) ≡ c.in-Some.own = search rules in
+    ap (λ n. value_of st n c.args.key.field (to_z w64 (of_z w64 c.args.x))) (sym c.class_of-class.ensures) ∙ (c.whole_of.ensures c.in-Some.own c.in-Some.is).1 ∙ ap (λ (z : ℤ). Whole z) (sym e)
+
 pub returns-in_default-clause-found : goal.returns-in_default-clause-found
-returns-in_default-clause-found c = let fo = c.ranges.o in let fx = c.ranges.x in simp to_z-of_z at c.first_after_key.ensures.found
+returns-in_default-clause-found c = let fo = c.ranges.o in let fx = c.ranges.x in simp to_z-of_z at c.first_after_whole.ensures.found
 
 pub returns-in_default-clause-touches : goal.returns-in_default-clause-touches
-returns-in_default-clause-touches c = let fo = c.ranges.o in let fx = c.ranges.x in simp to_z-of_z at c.first_after_key.ensures.touches
+returns-in_default-clause-touches c = let fo = c.ranges.o in let fx = c.ranges.x in simp to_z-of_z at c.first_after_whole.ensures.touches
 
 pub returns-in-None-clause-found : goal.returns-in-None-clause-found
-returns-in-None-clause-found c = let fo = c.ranges.o in let fx = c.ranges.x in simp to_z-of_z at c.first_after_key-in-None.ensures.found
+returns-in-None-clause-found c = let fo = c.ranges.o in let fx = c.ranges.x in simp to_z-of_z at c.first_after_value.ensures.found
 
 pub returns-in-None-clause-touches : goal.returns-in-None-clause-touches
-returns-in-None-clause-touches c = let fo = c.ranges.o in let fx = c.ranges.x in simp to_z-of_z at c.first_after_key-in-None.ensures.touches
+returns-in-None-clause-touches c = let fo = c.ranges.o in let fx = c.ranges.x in simp to_z-of_z at c.first_after_value.ensures.touches
 
 pub returns-in-empty-clause-found : goal.returns-in-empty-clause-found
 returns-in-empty-clause-found c =

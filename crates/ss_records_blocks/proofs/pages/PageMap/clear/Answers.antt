@@ -44,8 +44,8 @@ pub returns-in-Some-clause-empty : goal.returns-in-Some-clause-empty
 returns-in-Some-clause-empty c page was = c.clear_in.ensures.empty page (ap (λ x. x.1) (read c page was))
 
 pub returns-in-None : goal.returns-in-None
-returns-in-None c page was =
+returns-in-None c =
     record {
-      cleared = absurd (none_is page (sym (no_page c.self.inside.spots.items c.self.invariant.0 c.args.number (ap (λ (x : Spots). under x c.args.number) (sym c.deref.ensures.value) ∙ c.in-None.ensures)) ∙ ap (λ (ps : Pages). page_of ps c.args.number) c.self.view_is ∙ was));
-      empty = absurd (none_is page (sym (no_page c.self.inside.spots.items c.self.invariant.0 c.args.number (ap (λ (x : Spots). under x c.args.number) (sym c.deref.ensures.value) ∙ c.in-None.ensures)) ∙ ap (λ (ps : Pages). page_of ps c.args.number) c.self.view_is ∙ was));
+      cleared = λ page was. absurd (none_is page (sym (no_page c.self.inside.spots.items c.self.invariant.0 c.args.number (ap (λ (x : Spots). under x c.args.number) (sym c.deref.ensures.value) ∙ c.in-None.ensures)) ∙ ap (λ (ps : Pages). page_of ps c.args.number) c.self.view_is ∙ was));
+      empty = λ page was. absurd (none_is page (sym (no_page c.self.inside.spots.items c.self.invariant.0 c.args.number (ap (λ (x : Spots). under x c.args.number) (sym c.deref.ensures.value) ∙ c.in-None.ensures)) ∙ ap (λ (ps : Pages). page_of ps c.args.number) c.self.view_is ∙ was));
     }

@@ -47,7 +47,7 @@ returns-then-next-number c =
     let r = c.args.self.now in
     record {
       value =
-          let e = c.requires.entry in let h = links_here (goal.at.returns-then-next-number-clause-value c).In-links in let q = c.follow-next.result in let cells = c.links.invariant.cells in
+          let e = c.requires.entry in let h = links_here (goal.at.returns-then-next-number c).In-links in let q = c.follow-next.result in let cells = c.links.invariant.cells in
           let w : word_at r.blocks.cells c.args.place.at c.links.k ≡ link q.place.at = (λ z. word_at (sym cells z) c.args.place.at c.links.k) ∙ c.follow-next.ensures.word in
           let v : word_at r.blocks.cells q.place.at 1 ≡ number q.number = (λ z. word_at (sym cells z) q.place.at 1) ∙ c.follow-next.ensures.there in
           sym (found r.layout c.args.class c.args.number r.notes.lists c.links.k h
@@ -55,10 +55,10 @@ returns-then-next-number c =
       same = ap (λ (z : Records). record z { blocks = c.follow-next.new.self }) c.links.invariant.same;
       cells = c.follow-next.ensures.cells ∙ c.links.invariant.cells;
       touches =
-          let l = r.layout in let x = c.args.number in let ms = r.notes.lists in let h = links_here (goal.at.returns-then-next-number-clause-touches c).In-links in let t = c.follow-next.ensures.touches in
+          let l = r.layout in let x = c.args.number in let ms = r.notes.lists in let h = links_here (goal.at.returns-then-next-number c).In-links in let t = c.follow-next.ensures.touches in
           let j = c.links.invariant.touches in let touches_known : 3 * c.follow-next.new.self.touches + links_start l c.args.class ≡ 3 * r.blocks.touches + (c.links.k + 3) = omega (arith, t.0, j.0) in
           (few_touched l c.args.class x ms (c.links.k + 3) c.follow-next.new.self.touches r.blocks.touches c.requires.kept.small.sets (room l c.args.class x ms c.links.k h) touches_known, omega (arith, t.0, t.1, j.1));
-      looked = let h = links_here (goal.at.returns-then-next-number-clause-looked c).In-links in omega (arith, c.follow-next.ensures.touches.0, c.links.invariant.touches.0, room r.layout c.args.class c.args.number r.notes.lists c.links.k h);
+      looked = let h = links_here (goal.at.returns-then-next-number c).In-links in omega (arith, c.follow-next.ensures.touches.0, c.links.invariant.touches.0, room r.layout c.args.class c.args.number r.notes.lists c.links.k h);
     }
 
 pub overflow_add-k : goal.overflow_add-k

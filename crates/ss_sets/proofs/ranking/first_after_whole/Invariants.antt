@@ -3,7 +3,7 @@ use Rattle.ss_world.specs.Sets.{member_class}
 use Rattle.ss_world.specs.Disciplines.{members_passed, owned}
 use Rattle.ss_sets.specs.Walks.{first_after}
 use Rattle.ss_sets.proofs.Walking.{onward, leader}
-use Rattle.ss_sets.proofs.ranking.first_after_key.Given as goal
+use Rattle.ss_sets.proofs.ranking.first_after_whole.Given as goal
 
 -- x passes the members before this one
 abbrev pub invariant-loop-member : goal.invariant-loop-member

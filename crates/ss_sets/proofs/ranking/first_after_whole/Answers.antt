@@ -1,0 +1,112 @@
+use Rattle.std.proofs.Common.{rules, ◌≡◌, ◌<◌, ℕ, List, ◌∷◌, length, Some, Ok, Err, true, false, sym, ap, subst, ◌∙◌, arith, w64, to_z, of_z, ℤ, pos}
+use Rattle.std.specs.Prelude.{IsOk, slice_get}
+use Rattle.std.specs.Ordering.{int_cmp}
+use Rattle.ss_base.specs.Order.{value_cmp}
+use Rattle.ss_base.specs.declared.value.Value.TheVariants.{Whole}
+use Rattle.ss_base.specs.declared.layout.Mode.TheVariants.{Integer}
+use Rattle.ss_base.specs.declared.layout.RankKey.{RankKey}
+use Rattle.ss_base.specs.declared.layout.Layout.{Layout}
+use Rattle.ss_world.specs.State.{State, and_then, modes_of}
+use Rattle.ss_world.specs.Lists.{head0}
+use Rattle.ss_world.specs.Sets.{owner, first_in, member_class}
+use Rattle.ss_world.specs.Disciplines.{value_of, members_passed, owned, AreFields}
+use Rattle.ss_sets.specs.Walks.{first_after, as_member}
+use Rattle.ss_sets.proofs.Walking.{onward, leader, onward_all, first_leads, reached_member, next_is, stops, passes, found_first, not_found, Looked, looked, never_lost, other_fields}
+use Rattle.ss_sets.proofs.ranking.first_after_whole.Goals as goal
+
+pub returns-in-Err-clause-found : goal.returns-in-Err-clause-found
+returns-in-Err-clause-found c =
+    let e : to_z w64 (of_z w64 c.args.o) ≡ c.args.o = search rules in
+    not_found c.args.heap.now.state c.args.set c.args.o c.in-Err.fault (subst (λ (o : ℤ). Err c.in-Err.fault ≡ and_then (first_in c.args.heap.now.state c.args.set o) (λ y. Ok (as_member y))) e c.in-Err.ensures.first)
+
+pub loop-member-init : goal.loop-member-init
+loop-member-init c =
+    let st = c.args.heap.now.state in let o : ℤ = to_z w64 (of_z w64 c.args.o) in let x : ℤ = to_z w64 (of_z w64 c.args.x) in
+    let all : List ℕ = owned st c.args.set o in let class = member_class st.layout c.args.set in let ks : List RankKey = c.args.key ∷ c.args.others.now in
+    let leads : c.in-Ok.first ≡ leader all = (found_first st c.args.set c.in-Ok.first o c.in-Ok.ensures.first).1 ∙ first_leads st c.sets_are_apart.ensures c.args.set c.requires.set o in
+    let whole : onward c.in-Ok.first all ≡ all = ap (λ m. onward m all) leads ∙ onward_all all in
+    let same = ap (members_passed st class ks x) whole in
+    record {
+      same = c.first_member.ensures.same;
+      here = leads ∙ ap leader (sym whole);
+      found = ap (first_after st class ks x) whole;
+      touches = (c.first_member.ensures.touches.0, omega (arith, same, c.first_member.ensures.touches.1));
+    }
+
+pub whole_member-requires-clause-set : goal.whole_member-requires-clause-set
+whole_member-requires-clause-set c = subst (λ (s : State). c.args.set < length s.layout.sets) (sym c.loop-member.invariant.same) c.requires.set
+
+pub whole_member-requires-clause-mode : goal.whole_member-requires-clause-mode
+whole_member-requires-clause-mode c =
+    subst (λ (s : State). slice_get (modes_of s.layout (member_class s.layout c.args.set)) c.args.key.field ≡ Some Integer) (sym c.loop-member.invariant.same) c.requires.mode
+
+pub ranks_after_whole-requires : goal.ranks_after_whole-requires
+ranks_after_whole-requires c = record {
+  keys = subst (λ (l : Layout). AreFields l c.class_of-class.result c.args.others.now) (ap (λ (t : State). t.layout) (sym (c.in-Ok-whole_member.ensures.same ∙ c.loop-member.invariant.same)))
+      (other_fields c.args.heap.now.state.layout c.args.set c.class_of-class.result c.args.key c.args.others.now c.class_of-class.ensures c.requires.keys);
+}
+
+pub returns-then-ranks_after_whole-clause-found : goal.returns-then-ranks_after_whole-clause-found
+returns-then-ranks_after_whole-clause-found c =
+    let st = c.args.heap.now.state in let o : ℤ = to_z w64 (of_z w64 c.args.o) in let x : ℤ = to_z w64 (of_z w64 c.args.x) in let y : ℤ = to_z w64 (of_z w64 c.in-Some.y) in
+    let own : o ≡ c.args.o = search rules in let its : x ≡ c.args.x = search rules in let hand : y ≡ c.in-Some.y = search rules in
+    let all : List ℕ = owned st c.args.set o in let class = member_class st.layout c.args.set in let ks : List RankKey = c.args.key ∷ c.args.others.now in let h = c.loop-member.invariant in
+    let its_own : to_z w64 (of_z w64 c.args.x) ≡ c.args.x = search rules in
+    let own_is : Whole c.args.own ≡ value_of st c.class_of-class.result c.args.key.field x = sym (ap (λ n. value_of st n c.args.key.field x) c.class_of-class.ensures ∙ ap (λ (z : ℤ). value_of st (member_class st.layout c.args.set) c.args.key.field z) its_own ∙ c.requires.own) in
+    let a : to_z w64 (of_z w64 c.in-Ok-whole_member.its.value) ≡ c.in-Ok-whole_member.its.value = search rules in let b : to_z w64 (of_z w64 c.args.own) ≡ c.args.own = search rules in
+    let order = int_cmp (to_z w64 (of_z w64 c.in-Ok-whole_member.its.value)) (to_z w64 (of_z w64 c.args.own)) in
+    let ordered_so : order ≡ value_cmp (Whole c.in-Ok-whole_member.its.value) (Whole c.args.own) = ap (λ (z : ℤ). int_cmp z (to_z w64 (of_z w64 c.args.own))) a ∙ ap (λ (z : ℤ). int_cmp c.in-Ok-whole_member.its.value z) b in
+    let p = looked st c.sets_are_apart.ensures c.args.set c.requires.set o x c.args.key c.args.others.now c.loop-member.member c.in-Some.y y c.in-Some.is h.here hand c.loop-member.heap.state c.whole_member.new.self.state h.same c.in-Ok-whole_member.ensures.same c.class_of-class.result c.class_of-class.ensures (Whole c.in-Ok-whole_member.its.value) (Whole c.args.own) c.in-Ok-whole_member.its.next c.in-Ok-whole_member.ensures.found.0 c.in-Ok-whole_member.ensures.found.1 own_is order true ordered_so c.if-ranks_after_whole.ensures in (
+      subst (λ (n : ℤ). IsOk (owner st c.args.set n)) own (found_first st c.args.set c.in-Ok.first o c.in-Ok.ensures.first).0,
+      ap Some (hand ∙ p.is) ∙ sym (stops st class ks x p.z p.zs p.ranks).0 ∙ sym (ap (first_after st class ks x) p.rest) ∙ h.found
+          ∙ ap (λ (n : ℤ). first_after st class ks n all) its ∙ ap (λ (n : ℤ). first_after st class ks c.args.x (owned st c.args.set n)) own,
+    )
+
+-- a member is there
+impossible : (c : goal.In-Err-whole_member) → ⊥
+impossible c =
+    let st = c.args.heap.now.state in let o : ℤ = to_z w64 (of_z w64 c.args.o) in let y : ℤ = to_z w64 (of_z w64 c.in-Some.y) in
+    let hand : y ≡ c.in-Some.y = search rules in
+    let all : List ℕ = owned st c.args.set o in let h = c.loop-member.invariant in
+    let a = reached_member all c.loop-member.member c.in-Some.y c.in-Some.is h.here in
+    let n = next_is st c.sets_are_apart.ensures c.args.set c.requires.set o a.0 a.1 a.4 in
+    never_lost c.loop-member.heap.state st c.args.set y (pos a.0) (pos (head0 a.1)) c.in-Err-whole_member.fault c.in-Err-whole_member.ensures.found h.same (hand ∙ a.3) n
+
+pub returns-in-Err-whole_member-clause-found : goal.returns-in-Err-whole_member-clause-found
+returns-in-Err-whole_member-clause-found c = absurd (impossible c)
+
+pub returns-in-Err-whole_member-clause-touches : goal.returns-in-Err-whole_member-clause-touches
+returns-in-Err-whole_member-clause-touches c = absurd (impossible c)
+
+-- x passes this member
+passed_one : (c : goal.After-as_member-member) → Looked c.args.heap.now.state c.args.set (to_z w64 (of_z w64 c.args.o)) (to_z w64 (of_z w64 c.args.x)) (c.args.key ∷ c.args.others.now) c.loop-member.member c.in-Some.y c.in-Ok-whole_member.its.next false
+passed_one c =
+    let st = c.args.heap.now.state in let o : ℤ = to_z w64 (of_z w64 c.args.o) in let x : ℤ = to_z w64 (of_z w64 c.args.x) in let y : ℤ = to_z w64 (of_z w64 c.in-Some.y) in
+    let hand : y ≡ c.in-Some.y = search rules in let h = c.loop-member.invariant in
+    let its_own : to_z w64 (of_z w64 c.args.x) ≡ c.args.x = search rules in
+    let own_is : Whole c.args.own ≡ value_of st c.class_of-class.result c.args.key.field x = sym (ap (λ n. value_of st n c.args.key.field x) c.class_of-class.ensures ∙ ap (λ (z : ℤ). value_of st (member_class st.layout c.args.set) c.args.key.field z) its_own ∙ c.requires.own) in
+    let a : to_z w64 (of_z w64 c.in-Ok-whole_member.its.value) ≡ c.in-Ok-whole_member.its.value = search rules in let b : to_z w64 (of_z w64 c.args.own) ≡ c.args.own = search rules in
+    let order = int_cmp (to_z w64 (of_z w64 c.in-Ok-whole_member.its.value)) (to_z w64 (of_z w64 c.args.own)) in
+    let ordered_so : order ≡ value_cmp (Whole c.in-Ok-whole_member.its.value) (Whole c.args.own) = ap (λ (z : ℤ). int_cmp z (to_z w64 (of_z w64 c.args.own))) a ∙ ap (λ (z : ℤ). int_cmp c.in-Ok-whole_member.its.value z) b in
+    looked st c.sets_are_apart.ensures c.args.set c.requires.set o x c.args.key c.args.others.now c.loop-member.member c.in-Some.y y c.in-Some.is h.here hand c.loop-member.heap.state c.whole_member.new.self.state h.same c.in-Ok-whole_member.ensures.same c.class_of-class.result c.class_of-class.ensures (Whole c.in-Ok-whole_member.its.value) (Whole c.args.own) c.in-Ok-whole_member.its.next c.in-Ok-whole_member.ensures.found.0 c.in-Ok-whole_member.ensures.found.1 own_is order false ordered_so c.if-ranks_after_whole.ensures
+
+-- the member that is next
+next_one : (c : goal.After-as_member-member) → c.as_member-member.result ≡ as_member c.in-Ok-whole_member.its.next
+next_one c = let e : to_z w64 (of_z w64 c.in-Ok-whole_member.its.next) ≡ c.in-Ok-whole_member.its.next = search rules in c.as_member-member.ensures ∙ ap as_member e
+
+pub loop-member-smaller : goal.loop-member-smaller
+loop-member-smaller c =
+    let p = passed_one c in let all : List ℕ = owned c.args.heap.now.state c.args.set (to_z w64 (of_z w64 c.args.o)) in
+    let shorter : length (onward c.as_member-member.result all) < length (onward c.loop-member.member all) = omega (arith, ap (λ m. length (onward m all)) (next_one c), ap length p.following, ap length p.rest) in shorter
+
+pub loop-member-preserved : goal.loop-member-preserved
+loop-member-preserved c =
+    let st = c.args.heap.now.state in let o : ℤ = to_z w64 (of_z w64 c.args.o) in let x : ℤ = to_z w64 (of_z w64 c.args.x) in let class = member_class st.layout c.args.set in let ks : List RankKey = c.args.key ∷ c.args.others.now in
+    let p = passed_one c in let h = c.loop-member.invariant in let q = passes st class ks x p.z p.zs p.ranks in
+    let rest = ap (λ m. onward m (owned st c.args.set o)) (next_one c) ∙ p.following in
+    record {
+      same = c.in-Ok-whole_member.ensures.same ∙ h.same;
+      here = next_one c ∙ p.leads ∙ ap leader (sym rest);
+      found = ap (first_after st class ks x) rest ∙ sym q.0 ∙ ap (first_after st class ks x) (sym p.rest) ∙ h.found;
+      touches = (omega (arith, c.in-Ok-whole_member.ensures.touches.2, h.touches.0), omega (arith, ap (members_passed st class ks x) rest, q.1, ap (members_passed st class ks x) p.rest, c.in-Ok-whole_member.ensures.touches.0, c.in-Ok-whole_member.ensures.touches.2, h.touches.1));
+    }
