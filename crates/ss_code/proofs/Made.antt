@@ -167,10 +167,28 @@ module _ (g0 g1 g2 g3 : Generator) (c0 c1 c2 c3 : Lined) (p0 p1 p2 p3 : List Run
 -- ## The same, said of the program that was handed in
 
 -- the most cells of a frame, once one has room for them
-pub few_cells : (depth : ℕ) (old new : Entry) → Deepened depth old new → depth < 2 ^ 32
+few_cells : (depth : ℕ) (old new : Entry) → Deepened depth old new → depth < 2 ^ 32
 few_cells depth old new d = omega (arith, d.small, ap (λ (x : Entry). x.room) d.same)
 
-module _ (g0 g1 g2 g3 : Generator) (c0 c1 c2 c3 : Lined) (p0 p1 p2 p3 : List RunningLines) (main : Entry) (routines events : List Entry) (a : All g0 g1 g2 g3 c0 c1 c2 c3 p0 p1 p2 p3 main routines events) (held : Held) (same : g0.program.now ≡ held) (typed : WellTyped (view_program held)) where
+-- all of it, by what each call ensured
+pub all_made : {g0 g1 g2 g3 : Generator} {c0 c1 c2 c3 : Lined} {p0 p1 p2 p3 : List RunningLines} {main deep : Entry} {routines events : List Entry}
+    → PutsSection g0 g1 c0 c1 p0 p1 (record { place = length c0.instructions; given = []; yielding = 0; others = g0.program.now.locals.items }) (view_body g0.program.now.main.items) main
+    → PutsRoutines g1 g2 c1 c2 p1 p2 (map view_routine g1.program.now.routines.items) routines
+    → PutsEvents g2 g3 c2 c3 p2 p3 (map view_event g2.program.now.events.items) events
+    → Deepened g3.deepest main deep
+    → g0.constants.items ≡ Whole (pos 0) ∷ (Whole (pos 1) ∷ []) → c0 ≡ nothing → p0 ≡ []
+    → All g0 g1 g2 g3 c0 c1 c2 c3 p0 p1 p2 p3 main routines events
+all_made {g3 = g3} {main = main} {deep = deep} puts_main puts_routines puts_events deepened constants code prints = record {
+  constants = constants;
+  code = code;
+  prints = prints;
+  puts_main = puts_main;
+  puts_routines = puts_routines;
+  puts_events = puts_events;
+  small = few_cells g3.deepest main deep deepened;
+}
+
+module _ {g0 g1 g2 g3 : Generator} {c0 c1 c2 c3 : Lined} {p0 p1 p2 p3 : List RunningLines} {main : Entry} {routines events : List Entry} (a : All g0 g1 g2 g3 c0 c1 c2 c3 p0 p1 p2 p3 main routines events) (held : Held) (same : g0.program.now ≡ held) (typed : WellTyped (view_program held)) where
   typed_here : WellTyped (view_program g0.program.now)
   typed_here = subst (λ (h : Held). WellTyped (view_program h)) (sym same) typed
 

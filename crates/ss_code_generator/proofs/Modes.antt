@@ -18,6 +18,7 @@ use Rattle.ss_code_instructions.specs.Instructions as i
 use Rattle.ss_code_instructions.specs.States.{cell_at}
 use Rattle.ss_code_instructions.specs.Translation.{Site, height, place, operand, after, above, or_integer, expression_mode, code_of}
 use Rattle.ss_code_instructions.specs.Carried.{mode_here, HasField}
+use Rattle.ss_code_instructions.proofs.Shaping.{mode_so}
 use Rattle.ss_code_generator.specs.declared.generator.Generator.{Generator}
 use Rattle.ss_code_generator.specs.declared.generator.Site.{Site as Here}
 use Rattle.ss_code_pieces.specs.Preamble.{scope_of}
@@ -27,22 +28,6 @@ use Rattle.ss_code_generator.specs.Emitted.{Final, Around, Grows, IsLocated}
 
 pub same_some : {A : Type 0} {a b : A} → Some a ≡ Some b → a ≡ b
 same_some e = cc
-
--- the mode of an expression is the one that it has
-pub mode_is : (s : Scope) (e : Expression) (m : Mode) → HasMode s e m → expression_mode s e ≡ m
-mode_is s (Constant v) m h = h
-mode_is s (Fetch x) m h = ap or_integer h
-mode_is s (Attribute class field e) m h = ap or_integer h.0
-mode_is s (OfSystemSet query set) m h = sym h.0
-mode_is s (OfSet query set e) m h = sym h.0
-mode_is s (OfMember query set e) m h = sym h.0
-mode_is s Clock m h = sym h
-mode_is s (TimeOf e) m h = sym h.0
-mode_is s (Figure fold k) m h = sym h.0
-mode_is s (FigureOf fold k e) m h = sym h.0
-mode_is s (Signed sign e) m h = sym h.0
-mode_is s (Unary op e) m h = sym h.0
-mode_is s (Calculate op a b) m h = sym h.0
 
 -- an attribute is one of the layout, as the code has it
 fields_agree : (o : Option ClassLayout) (field : ℕ) (m : Mode) → option_and_then (λ (modes : List Mode). slice_get modes field) (option_map (λ (c : ClassLayout). c.fields) o) ≡ Some m → slice_get (modes_in o) field ≡ Some m
@@ -64,7 +49,7 @@ mode_by s p locals _ q l = refl
 pub mode_found : (f : Final) (old new : Generator) (here : Here) (t : Site) (e : Expression) (n m : Mode) → Grows old new → m ≡ expression_mode (scope_of old.program.now old.locals.items) e → Around f new → IsLocated f new here t → HasMode t.scope e n → n ≡ m
 mode_found f old new here t e n m g is around located h =
     let program : t.scope.program ≡ view_program old.program.now = located.program ∙ sym around.program ∙ ap view_program g.program in
-    sym (mode_is t.scope e n h) ∙ mode_by t.scope (view_program old.program.now) old.locals.items e program (located.locals ∙ g.locals) ∙ sym is
+    sym (mode_so t.scope e n h) ∙ mode_by t.scope (view_program old.program.now) old.locals.items e program (located.locals ∙ g.locals) ∙ sym is
 
 -- ## Cells
 
@@ -99,17 +84,17 @@ module _ (f : Final) where
   pub operand_mode : (t : Site) (e : Expression) (m : Mode) (make : Instruction) → t.scope.program ≡ f.program → HasMode t.scope e m → mode_here (code_of f.program) f.constants (place (after t e) make) (operand t e) ≡ Some m
   operand_mode t (Constant v) m make p h = ap Some h
   operand_mode t (Fetch x) m make p h = held_mode t x m make p h
-  operand_mode t (Attribute class field e) m make p h = on_top (height t) _ t.cells refl ∙ ap Some (mode_is t.scope (Attribute class field e) m h)
-  operand_mode t (OfSystemSet query set) m make p h = on_top (height t) _ t.cells refl ∙ ap Some (mode_is t.scope (OfSystemSet query set) m h)
-  operand_mode t (OfSet query set e) m make p h = on_top (height t) _ t.cells refl ∙ ap Some (mode_is t.scope (OfSet query set e) m h)
-  operand_mode t (OfMember query set e) m make p h = on_top (height t) _ t.cells refl ∙ ap Some (mode_is t.scope (OfMember query set e) m h)
-  operand_mode t Clock m make p h = on_top (height t) _ t.cells refl ∙ ap Some (mode_is t.scope Clock m h)
-  operand_mode t (TimeOf e) m make p h = on_top (height t) _ t.cells refl ∙ ap Some (mode_is t.scope (TimeOf e) m h)
-  operand_mode t (Figure fold k) m make p h = on_top (height t) _ t.cells refl ∙ ap Some (mode_is t.scope (Figure fold k) m h)
-  operand_mode t (FigureOf fold k e) m make p h = on_top (height t) _ t.cells refl ∙ ap Some (mode_is t.scope (FigureOf fold k e) m h)
-  operand_mode t (Signed sign e) m make p h = on_top (height t) _ t.cells refl ∙ ap Some (mode_is t.scope (Signed sign e) m h)
-  operand_mode t (Unary op e) m make p h = on_top (height t) _ t.cells refl ∙ ap Some (mode_is t.scope (Unary op e) m h)
-  operand_mode t (Calculate op a b) m make p h = on_top (height t) _ t.cells refl ∙ ap Some (mode_is t.scope (Calculate op a b) m h)
+  operand_mode t (Attribute class field e) m make p h = on_top (height t) _ t.cells refl ∙ ap Some (mode_so t.scope (Attribute class field e) m h)
+  operand_mode t (OfSystemSet query set) m make p h = on_top (height t) _ t.cells refl ∙ ap Some (mode_so t.scope (OfSystemSet query set) m h)
+  operand_mode t (OfSet query set e) m make p h = on_top (height t) _ t.cells refl ∙ ap Some (mode_so t.scope (OfSet query set e) m h)
+  operand_mode t (OfMember query set e) m make p h = on_top (height t) _ t.cells refl ∙ ap Some (mode_so t.scope (OfMember query set e) m h)
+  operand_mode t Clock m make p h = on_top (height t) _ t.cells refl ∙ ap Some (mode_so t.scope Clock m h)
+  operand_mode t (TimeOf e) m make p h = on_top (height t) _ t.cells refl ∙ ap Some (mode_so t.scope (TimeOf e) m h)
+  operand_mode t (Figure fold k) m make p h = on_top (height t) _ t.cells refl ∙ ap Some (mode_so t.scope (Figure fold k) m h)
+  operand_mode t (FigureOf fold k e) m make p h = on_top (height t) _ t.cells refl ∙ ap Some (mode_so t.scope (FigureOf fold k e) m h)
+  operand_mode t (Signed sign e) m make p h = on_top (height t) _ t.cells refl ∙ ap Some (mode_so t.scope (Signed sign e) m h)
+  operand_mode t (Unary op e) m make p h = on_top (height t) _ t.cells refl ∙ ap Some (mode_so t.scope (Unary op e) m h)
+  operand_mode t (Calculate op a b) m make p h = on_top (height t) _ t.cells refl ∙ ap Some (mode_so t.scope (Calculate op a b) m h)
 
   -- it has that mode under a further cell too
   pub mode_under : (u : Site) (y : Operand) (m n : Mode) (make other : Instruction) → mode_here (code_of f.program) f.constants (place u make) y ≡ Some m → mode_here (code_of f.program) f.constants (place (above u n) other) y ≡ Some m

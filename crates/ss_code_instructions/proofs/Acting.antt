@@ -1,5 +1,5 @@
--- No instruction changes what the program says once and for all, and none but a READ the input.
-use Rattle.std.proofs.Common.{ℕ, ◌==◌, Bool, true, false, List, [], ◌∷◌, length, Option, Some, None, Ok, Err, ℤ, refl, sym, ap, ◌∙◌}
+-- No instruction changes what the program says once and for all, or that each member of a set lives, and none but a READ the input.
+use Rattle.std.proofs.Common.{ℕ, ◌==◌, Bool, true, false, List, [], ◌∷◌, length, Option, Some, None, Ok, Err, ℤ, sym, ap, ◌∙◌}
 use Rattle.std.specs.Prelude.{Result, ◌+ℤ◌, slice_get}
 use Rattle.ss_base.specs.declared.fault.FaultKind.{FaultKind}
 use Rattle.ss_base.specs.declared.layout.Mode.{Mode}
@@ -21,10 +21,10 @@ use Rattle.ss_code_instructions.specs.Instructions as i
 use Rattle.ss_code_instructions.specs.States.{Called, ARoutine, AnEvent, Frame, Core, Moved, did, back_if, cell_at, take_off, Written, put_to, deliver_with, onward}
 use Rattle.ss_code_instructions.specs.Machine.{Code, changed_attribute, assignable_count, Walk, walk_at, walk_cells, unsigned, has_next, next_item, walk_further, values_shown, cells_of_kinds, enter, leave, take_event, take_next, act}
 use Rattle.ss_code_instructions.specs.Reached.{read_mode, TakesIf, TakesBy, input_of}
-use Rattle.ss_code_instructions.proofs.Keeping.{Only, Where, Says, Same, says_so, SameWith, TakesWord, ComingSame, BeginningSame, each, then_only, made, made_from, variable_same, attribute_same, changed_same, made_one_same, made_all_same, without_same, filed_same, removed_same, end_same, notice_same, pending_same, again_same, cancelled_same, read_takes, reset_same, event_same, begun_same}
+use Rattle.ss_code_instructions.proofs.Keeping.{Only, Where, Lasts, lasts_then, lasts_so, Same, same_here, same_then, SameWith, TakesWord, ComingSame, BeginningSame, each, then_only, made, made_from, variable_same, attribute_same, changed_same, made_one_same, made_all_same, without_same, filed_same, removed_same, end_same, notice_same, pending_same, again_same, cancelled_same, read_takes, reset_same, event_same, begun_same}
 use Rattle.ss_code_instructions.proofs.Moving.{Every, every_so, did_only, did_any, fit_any, if_every, high, block, number, value, values, bearer, position, three, walk}
 
--- in a state that an instruction leads to the program says the same
+-- in a state that an instruction leads to all of it is the same
 abbrev pub Saying : Store → Core → Type 0
 Saying s c = Same s c.store
 
@@ -49,11 +49,11 @@ module _ (P : Store → Type 0) (on : (t u : Store) → P t → Same t u → P u
       did_only (λ (d : Core). P d.store) IsWritten l (if_ok r (λ b. put_to to b.0 cells b.1)) (λ w. onward w.cells c w.store) (then_only IsWritten (λ (b : Value × Store). P b.1) r (λ b. put_to to b.0 cells b.1) q (λ b p. put_to_so to b.0 cells b.1 p)) (λ w p. p)
 
 delivers : (s : Store) (l : Line) (to : Target) (r : Result (Value × Store) Trouble) (cells : List Value) (c : Core) → Only (SameWith s) r → Keeps s (deliver_with l to r cells c)
-delivers s l to r cells c q = delivers_so (Same s) (λ t u p q. q ∙ p) l to r cells c q
+delivers s l to r cells c q = delivers_so (Same s) (λ t u p q. same_then s t u p q) l to r cells c q
 
 -- what computes a value leaves the store
 computes : (l : Line) (to : Target) (r : Result Value Trouble) (cells : List Value) (c : Core) → Keeps c.store (deliver_with l to (turned (λ v. (v, c.store)) r) cells c)
-computes l to r cells c = delivers c.store l to (turned (λ v. (v, c.store)) r) cells c (made (SameWith c.store) (λ v. (v, c.store)) r (λ v. refl))
+computes l to r cells c = delivers c.store l to (turned (λ v. (v, c.store)) r) cells c (made (SameWith c.store) (λ v. (v, c.store)) r (λ v. same_here c.store))
 
 -- what changes the store
 changes : (l : Line) (r : Result Store Trouble) (cells : List Value) (c : Core) → Only (Same c.store) r → Keeps c.store (did l r (λ t. onward cells c t))
@@ -64,14 +64,14 @@ entering e called given below c t p = fit_any (Saying c.store) (opened e.given e
 
 leaving : (fs : List Frame) (c : Core) → Keeps c.store (leave fs c)
 leaving [] c = tt
-leaving (f ∷ fs) c = fit_any (Saying c.store) (yielded f.first f.count c.store.locals) _ (λ vs. refl)
+leaving (f ∷ fs) c = fit_any (Saying c.store) (yielded f.first f.count c.store.locals) _ (λ vs. same_here c.store)
 
 next_keeps : (back : ℕ) (item limit step : ℤ) (below : List Value) (c : Core) → Keeps c.store (next_item back item limit step below c)
 next_keeps back item limit step below c =
-    if_every (Saying c.store) (has_next item limit step) (back_if back true (Whole step ∷ Whole limit ∷ Whole (item +ℤ unsigned step) ∷ below) c) (back_if back false (Whole step ∷ Whole limit ∷ Whole item ∷ below) c) refl refl
+    if_every (Saying c.store) (has_next item limit step) (back_if back true (Whole step ∷ Whole limit ∷ Whole (item +ℤ unsigned step) ∷ below) c) (back_if back false (Whole step ∷ Whole limit ∷ Whole item ∷ below) c) (same_here c.store) (same_here c.store)
 
 further_keeps : (back : ℕ) (old new : Walk) (below : List Value) (c : Core) → Keeps c.store (walk_further back old new below c)
-further_keeps back old new below c = if_every (Saying c.store) (is_none new.member) (back_if back false (walk_cells old below) c) (back_if back true (walk_cells new below) c) refl refl
+further_keeps back old new below c = if_every (Saying c.store) (is_none new.member) (back_if back false (walk_cells old below) c) (back_if back true (walk_cells new below) c) (same_here c.store) (same_here c.store)
 
 taking : (code : Code) (h : ℕ) (n : Coming) (c : Core) → Same c.store n.store → Keeps c.store (take_event code h n c)
 taking code h n c p =
@@ -79,11 +79,11 @@ taking code h n c p =
     fit_any (Saying c.store) (slice_get code.events b.rank) _ (λ e. high (Saying c.store) h c.cells _ (entering e (AnEvent b.rank) b.given c.cells c b.store q)))
   where
     weaken : (r : Result Beginning Trouble) → Only (BeginningSame n.store) r → Only (BeginningSame c.store) r
-    weaken (Ok b) q = q ∙ p
+    weaken (Ok b) q = same_then c.store n.store b.store p q
     weaken (Err t) q = tt
 
 taking_next : (code : Code) (h : ℕ) (o : Option Coming) (c : Core) → Where (ComingSame c.store) o → Keeps c.store (take_next code h o c)
-taking_next code h None c p = refl
+taking_next code h None c p = same_here c.store
 taking_next code h (Some n) c p = taking code h n c p
 
 -- a word of a mode is taken, or all is as it was
@@ -102,37 +102,37 @@ act_keeps code l (i.Attribute class field x to) c = value (Saying c.store) x c.s
 act_keeps code l (i.OfSet query set owner to) c = bearer (Saying c.store) owner c.store c.cells _ (λ o below. computes l to (of_set query set o c.store) below c)
 act_keeps code l (i.OfMember query set x to) c = value (Saying c.store) x c.store c.cells _ (λ x below. computes l to (of_member query set x c.store) below c)
 act_keeps code l (i.Figure fold j x to) c = bearer (Saying c.store) x c.store c.cells _ (λ x below. computes l to (figure fold j x c.store) below c)
-act_keeps code l (i.LookEntity class x) c = value (Saying c.store) x c.store c.cells _ (λ x below. did_any (Saying c.store) l (entity class x c.store) _ (λ n. refl))
-act_keeps code l (i.LookMember set x) c = value (Saying c.store) x c.store c.cells _ (λ x below. did_any (Saying c.store) l (member set x c.store) _ (λ n. refl))
-act_keeps code l (i.LookOwner set owner) c = bearer (Saying c.store) owner c.store c.cells _ (λ o below. did_any (Saying c.store) l (known_owner set o c.store) _ (λ n. refl))
-act_keeps code l (i.LookMean j x) c = bearer (Saying c.store) x c.store c.cells _ (λ x below. did_any (Saying c.store) l (mean j x c.store) _ (λ n. refl))
-act_keeps code l (i.LookCount class) c = did_any (Saying c.store) l (assignable_count class c.store) _ (λ n. refl)
+act_keeps code l (i.LookEntity class x) c = value (Saying c.store) x c.store c.cells _ (λ x below. did_any (Saying c.store) l (entity class x c.store) _ (λ n. same_here c.store))
+act_keeps code l (i.LookMember set x) c = value (Saying c.store) x c.store c.cells _ (λ x below. did_any (Saying c.store) l (member set x c.store) _ (λ n. same_here c.store))
+act_keeps code l (i.LookOwner set owner) c = bearer (Saying c.store) owner c.store c.cells _ (λ o below. did_any (Saying c.store) l (known_owner set o c.store) _ (λ n. same_here c.store))
+act_keeps code l (i.LookMean j x) c = bearer (Saying c.store) x c.store c.cells _ (λ x below. did_any (Saying c.store) l (mean j x c.store) _ (λ n. same_here c.store))
+act_keeps code l (i.LookCount class) c = did_any (Saying c.store) l (assignable_count class c.store) _ (λ n. same_here c.store)
 act_keeps code l (i.SetAttribute class field x from) c =
     values (Saying c.store) x from c.store c.cells _ (λ x v below. changes l (assigned_attribute class field x v c.store) below c (attribute_same class field x v c.store))
 act_keeps code l (i.ChangeAttribute sign class field x by) c =
     values (Saying c.store) x by c.store c.cells _ (λ x y below. changes l (changed_attribute sign class field x y c.store) below c (changed_same sign class field x y c.store))
 act_keeps code l (i.Reset j x) c = bearer (Saying c.store) x c.store c.cells _ (λ x below. changes l (reset j x c.store) below c (reset_same j x c.store))
-act_keeps code l (i.Jump skip) c = refl
-act_keeps code l (i.Unless relation left right skip) c = values (Saying c.store) left right c.store c.cells _ (λ x y below. fit_any (Saying c.store) (related relation x y) _ (λ b. refl))
-act_keeps code l (i.UnlessEnded negated skip) c = did_any (Saying c.store) l (due (is_ended c.store.scene.input)) _ (λ b. refl)
-act_keeps code l (i.UnlessEmpty negated set owner skip) c = bearer (Saying c.store) owner c.store c.cells _ (λ o below. did_any (Saying c.store) l (is_empty set o c.store) _ (λ b. refl))
+act_keeps code l (i.Jump skip) c = same_here c.store
+act_keeps code l (i.Unless relation left right skip) c = values (Saying c.store) left right c.store c.cells _ (λ x y below. fit_any (Saying c.store) (related relation x y) _ (λ b. same_here c.store))
+act_keeps code l (i.UnlessEnded negated skip) c = did_any (Saying c.store) l (due (is_ended c.store.scene.input)) _ (λ b. same_here c.store)
+act_keeps code l (i.UnlessEmpty negated set owner skip) c = bearer (Saying c.store) owner c.store c.cells _ (λ o below. did_any (Saying c.store) l (is_empty set o c.store) _ (λ b. same_here c.store))
 act_keeps code l (i.UnlessMember negated set x owner skip) c =
-    bearer (Saying c.store) owner c.store c.cells _ (λ o above. value (Saying c.store) x c.store above _ (λ x below. did_any (Saying c.store) l (is_in set x o c.store) _ (λ b. refl)))
-act_keeps code l i.Turn c = refl
-act_keeps code l (i.Repeat back) c = refl
-act_keeps code l (i.Begin h skip) c = three (Saying c.store) h c.cells _ (λ item limit step below. did_any (Saying c.store) l (range_of (Whole item) (Whole limit) (Some (Whole step))) _ (λ r. refl))
-act_keeps code l (i.BeginClass class h skip) c = high (Saying c.store) h c.cells _ (did_any (Saying c.store) l (indices class c.store) _ (λ r. refl))
+    bearer (Saying c.store) owner c.store c.cells _ (λ o above. value (Saying c.store) x c.store above _ (λ x below. did_any (Saying c.store) l (is_in set x o c.store) _ (λ b. same_here c.store)))
+act_keeps code l i.Turn c = same_here c.store
+act_keeps code l (i.Repeat back) c = same_here c.store
+act_keeps code l (i.Begin h skip) c = three (Saying c.store) h c.cells _ (λ item limit step below. did_any (Saying c.store) l (range_of (Whole item) (Whole limit) (Some (Whole step))) _ (λ r. same_here c.store))
+act_keeps code l (i.BeginClass class h skip) c = high (Saying c.store) h c.cells _ (did_any (Saying c.store) l (indices class c.store) _ (λ r. same_here c.store))
 act_keeps code l (i.Take h x) c = fit_any (Saying c.store) (cell_at h c.cells) _ (λ v. changes l (assigned_variable x v c.store) c.cells c (variable_same x v c.store))
 act_keeps code l (i.Next h back) c = three (Saying c.store) h c.cells _ (λ item limit step below. next_keeps back item limit step below c)
 act_keeps code l (i.BeginSet reverse set owner h skip) c =
-    bearer (Saying c.store) owner c.store c.cells _ (λ o below. high (Saying c.store) h below _ (did_any (Saying c.store) l (if_ok (begun reverse set o c.store) (λ x. walk_at reverse set x c.store)) _ (λ k. refl)))
+    bearer (Saying c.store) owner c.store c.cells _ (λ o below. high (Saying c.store) h below _ (did_any (Saying c.store) l (if_ok (begun reverse set o c.store) (λ x. walk_at reverse set x c.store)) _ (λ k. same_here c.store)))
 act_keeps code l (i.BeginAt reverse after set owner h skip) c =
-    value (Saying c.store) (Taken h) c.store c.cells _ (λ y above. bearer (Saying c.store) owner c.store above _ (λ o below. did_any (Saying c.store) l (if_ok (begun_at reverse after set y o c.store) (λ x. walk_at reverse set x c.store)) _ (λ k. refl)))
+    value (Saying c.store) (Taken h) c.store c.cells _ (λ y above. bearer (Saying c.store) owner c.store above _ (λ o below. did_any (Saying c.store) l (if_ok (begun_at reverse after set y o c.store) (λ x. walk_at reverse set x c.store)) _ (λ k. same_here c.store)))
 act_keeps code l (i.NextMember reverse set owner h back) c =
     walk (Saying c.store) h c.cells _ (λ k above. bearer (Saying c.store) owner c.store above _ (λ o below. did_any (Saying c.store) l (if_ok (goes_on set k.next o c.store) (λ _. walk_at reverse set k.next c.store)) _ (λ k'. further_keeps back k k' below c)))
-act_keeps code l (i.Forget count) c = fit_any (Saying c.store) (take_off count c.cells []) _ (λ b. refl)
+act_keeps code l (i.Forget count) c = fit_any (Saying c.store) (take_off count c.cells []) _ (λ b. same_here c.store)
 act_keeps code l (i.Call routine h) c =
-    fit_any (Saying c.store) (slice_get code.routines routine) _ (λ e. block (Saying c.store) (length e.given) h c.cells _ (λ vs below. entering e (ARoutine routine) vs below c c.store refl))
+    fit_any (Saying c.store) (slice_get code.routines routine) _ (λ e. block (Saying c.store) (length e.given) h c.cells _ (λ vs below. entering e (ARoutine routine) vs below c c.store (same_here c.store)))
 act_keeps code l i.Leave c = leaving c.frames c
 act_keeps code l i.Halt c = tt
 act_keeps code l (i.Create class to) c = delivers c.store l to (made_one class c.store) c.cells c (made_one_same class c.store)
@@ -155,21 +155,24 @@ act_keeps code l (i.Reschedule class x h given) c =
     number (Saying c.store) c.cells _ (λ time over. block (Saying c.store) given h over _ (λ vs above. value (Saying c.store) x c.store above _ (λ x below.
     changes l (rescheduled class x vs time c.store) below c (again_same class x vs time c.store))))
 act_keeps code l (i.Cancel class x) c = value (Saying c.store) x c.store c.cells _ (λ x below. changes l (unscheduled class x c.store) below c (cancelled_same class x c.store))
-act_keeps code l (i.Await skip) c = refl
+act_keeps code l (i.Await skip) c = same_here c.store
 act_keeps code l (i.TakeEvent h) c = taking_next code h (next_event c.store) c (event_same c.store)
-act_keeps code l (i.NextEvent back) c = refl
+act_keeps code l (i.NextEvent back) c = same_here c.store
 act_keeps code l (i.Read mode to) c =
-    delivers_so (TakesWord mode c.store) (λ t u p q. (says_so t u q ∙ p.0, (p.1.0, p.1.1 ∙ ap (λ (b : Setting × List ℕ). (let g : Result (Given Value) FaultKind = Ok (record { value = p.1.0; rest = b.1 }) in g)) (sym q)))) l to (read_value mode c.store) c.cells c (read_takes mode c.store)
+    delivers_so (TakesWord mode c.store) (λ t u p q. (lasts_then c.store t u p.0 (lasts_so t u q), (p.1.0, p.1.1 ∙ ap (λ (b : Setting × List ℕ). (let g : Result (Given Value) FaultKind = Ok (record { value = p.1.0; rest = b.1 }) in g)) (sym q.0)))) l to (read_value mode c.store) c.cells c (read_takes mode c.store)
 act_keeps code l (i.Print lines h) c =
-    fit_any (Saying c.store) (slice_get code.prints lines) _ (λ p. block (Saying c.store) (cells_of_kinds p.items) h c.cells _ (λ vs below. fit_any (Saying c.store) (values_shown p.items vs c.store) _ (λ items. fit_any (Saying c.store) (printed p.pictures items) _ (λ bytes. refl))))
-act_keeps code l (i.Skip count) c = value (Saying c.store) count c.store c.cells _ (λ v below. did_any (Saying c.store) l (empty_lines v) _ (λ bytes. refl))
+    fit_any (Saying c.store) (slice_get code.prints lines) _ (λ p. block (Saying c.store) (cells_of_kinds p.items) h c.cells _ (λ vs below. fit_any (Saying c.store) (values_shown p.items vs c.store) _ (λ items. fit_any (Saying c.store) (printed p.pictures items) _ (λ bytes. same_here c.store))))
+act_keeps code l (i.Skip count) c = value (Saying c.store) count c.store c.cells _ (λ v below. did_any (Saying c.store) l (empty_lines v) _ (λ bytes. same_here c.store))
 
--- so the program says the same
-pub act_says : (code : Code) (l : Line) (x : Instruction) (c : Core) → Every (λ (d : Core). Says c.store d.store) (act code l x c)
-act_says code l x c = every_so (Leaves (read_mode x) c.store) (λ (d : Core). Says c.store d.store) (act code l x c) (by (read_mode x)) (act_keeps code l x c)
+-- so it says the same, and each member of a set lives
+abbrev pub Endures : Store → Moved → Type 0
+Endures s m = Every (λ (c : Core). Lasts s c.store) m
+
+pub act_lasts : (code : Code) (l : Line) (x : Instruction) (c : Core) → Endures c.store (act code l x c)
+act_lasts code l x c = every_so (Leaves (read_mode x) c.store) (λ (d : Core). Lasts c.store d.store) (act code l x c) (by (read_mode x)) (act_keeps code l x c)
   where
-    by : (o : Option Mode) (d : Core) → Leaves o c.store d → Says c.store d.store
-    by None d h = says_so c.store d.store h
+    by : (o : Option Mode) (d : Core) → Leaves o c.store d → Lasts c.store d.store
+    by None d h = lasts_so c.store d.store h
     by (Some mode) d h = h.0
 
 -- and a READ takes a word from the input, and no other instruction takes anything
@@ -177,5 +180,5 @@ pub act_takes : (code : Code) (l : Line) (x : Instruction) (c : Core) → Every 
 act_takes code l x c = every_so (Leaves (read_mode x) c.store) (λ (d : Core). TakesBy x (input_of c) (input_of d)) (act code l x c) (by (read_mode x)) (act_keeps code l x c)
   where
     by : (o : Option Mode) (d : Core) → Leaves o c.store d → TakesIf o (input_of c) (input_of d)
-    by None d h = ap (λ (b : Setting × List ℕ). b.1) h
+    by None d h = ap (λ (b : Setting × List ℕ). b.1) h.0
     by (Some mode) d h = h.1

@@ -16,8 +16,7 @@ use Rattle.ss_code_instructions.specs.Instructions as i
 use Rattle.ss_code_instructions.specs.States.{Called, ARoutine, AnEvent, Frame, Core, MachineState, Moved, core_at, fit, at_height, with_block}
 use Rattle.ss_code_instructions.specs.Machine.{Code, act, enter_with, enter, take_event, take_next}
 use Rattle.ss_code_instructions.specs.Translation.{Site, place, block_prints, block_code, section_code, first_site, routine_scope, event_scope, routine_entry, event_entry}
-use Rattle.ss_code_instructions.proofs.Keeping.{Only, Where, says_so, ComingSame, BeginningSame, event_same, begun_same}
-use Rattle.ss_code_instructions.proofs.Staying.{ComingStays, event_stays, BeginningStays, begun_stays, Lasts, lasts_then}
+use Rattle.ss_code_instructions.proofs.Keeping.{Only, Where, Lasts, lasts_then, lasts_so, ComingSame, BeginningSame, event_same, begun_same}
 use Rattle.ss_code_instructions.proofs.Steps.{HasAt, has_front, has_back, Reaches, reaches_on, at, arrive, landed}
 use Rattle.ss_code_instructions.proofs.Parts.{Within, Leads, onwards, whatever, ticked, tick_run, out_run, did_leads, at_the_height, onto}
 use Rattle.ss_code_instructions.proofs.Placing.{Sited}
@@ -154,9 +153,7 @@ module _ (code : Code) where
     begun_within n w c b e f in_ =
         let came : ComingSame w.store c = subst (Where (ComingSame w.store)) e (event_same w.store) in
         let began : BeginningSame c.store b = subst (Only (BeginningSame c.store)) f (begun_same c) in
-        let came_stays : ComingStays w.store c = subst (Where (ComingStays w.store)) e (event_stays w.store) in
-        let began_stays : BeginningStays c.store b = subst (Only (BeginningStays c.store)) f (begun_stays c) in
-        within_store {w = w} {s = b.store} in_ (lasts_then w.store c.store b.store (says_so w.store c.store came, came_stays) (says_so c.store b.store began, began_stays))
+        within_store {w = w} {s = b.store} in_ (lasts_then w.store c.store b.store (lasts_so w.store c.store came) (lasts_so c.store b.store began))
 
     -- where no notice is pending the program would go wrong
     next_leads : {B : Type 0} (cell : ℕ) (core : Core) (o : Option Coming) (w : World) (k : B → World → MachineState) (frames : List Frame) (f : Coming → Part B) → ((c : Coming) → o ≡ Some c → Leads code w (take_event code cell c core) (arrive k frames (f c w))) → Leads code w (take_next code cell o core) (arrive k frames (outcome_then (needed o w) f))

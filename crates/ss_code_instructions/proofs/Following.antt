@@ -6,7 +6,7 @@ use Rattle.ss_meaning.specs.Parts.{World, Outcome, WentOn, Left, Part, outcome_t
 use Rattle.ss_code_instructions.specs.Instructions.{Placed}
 use Rattle.ss_code_instructions.specs.States.{Frame, MachineState, Moved, fit}
 use Rattle.ss_code_instructions.specs.Machine.{Code}
-use Rattle.ss_code_instructions.proofs.Staying.{Lasts, suits_on}
+use Rattle.ss_code_instructions.proofs.Keeping.{Lasts, suits_on}
 use Rattle.ss_code_instructions.proofs.Steps.{has_front, has_back, Reaches, Kept, at, arrive, join_known}
 use Rattle.ss_code_instructions.proofs.Parts.{Within, within_on, Leads, whatever, ticked, Lands, Runs}
 

@@ -2,7 +2,6 @@ mod Keeping
 mod Moving
 mod Acting
 pub mod Joining
-pub mod Staying
 pub mod Calling
 pub mod Steps
 pub mod Parts
@@ -59,6 +58,5 @@ pub mod ShapingStatements
 pub mod ShapingPrograms
 pub mod Valued
 pub mod ShapeKept
-pub mod OwnersStay
 pub mod Arriving
 pub mod Inputs

@@ -6,7 +6,8 @@ use Rattle.ss_meaning.specs.Parts.{World, Outcome, WentOn, Left, Part, outcome_t
 use Rattle.ss_code_instructions.specs.Instructions.{Placed}
 use Rattle.ss_code_instructions.specs.States.{Frame, MachineState, Moved, core_at}
 use Rattle.ss_code_instructions.specs.Machine.{Code, act, is_due}
-use Rattle.ss_code_instructions.proofs.Staying.{Lasts, Endures, act_lasts, lasts_then, Suits, suits_on}
+use Rattle.ss_code_instructions.proofs.Keeping.{Lasts, lasts_then, Suits, suits_on}
+use Rattle.ss_code_instructions.proofs.Acting.{Endures, act_lasts}
 use Rattle.ss_code_instructions.proofs.Steps.{Goal, Comes, Reaches, here, reaches_on, Kept, kept, at, arrive}
 use Rattle.ss_code_instructions.proofs.Parts.{Within, Leads, onwards, writes, with_core, ticked, tick_run, out_run}
 

@@ -12,7 +12,7 @@ use Rattle.ss_meaning.specs.Meaning.{Ended, Fault, Paused, run_at}
 use Rattle.ss_code_instructions.specs.Instructions.{Placed}
 use Rattle.ss_code_instructions.specs.States.{Frame, Core, MachineState, Done, Breaks, Moved, To, Sends, Rest, Stuck, did, fit, at_height, core_at}
 use Rattle.ss_code_instructions.specs.Machine.{Code, act, is_due, with_rest, when_due, step_at}
-use Rattle.ss_code_instructions.proofs.Staying.{Suits, suits_on}
+use Rattle.ss_code_instructions.proofs.Keeping.{Suits, suits_on}
 use Rattle.ss_code_instructions.proofs.Steps.{HasAt, has_front, has_back, Goal, Comes, Finishes, Free, Reaches, here, over, free, more, Kept, at, arrive, join}
 
 -- a world with at most n ticks, in which the program says what its code says, and each member of a set lives

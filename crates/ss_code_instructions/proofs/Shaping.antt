@@ -54,7 +54,8 @@ set_there s set (Entity e) g = owned_set s.program set (Class g.0.0) g.0.1
 
 -- ## Modes
 
-mode_so : (s : Scope) (e : Expression) (m : Mode) → HasMode s e m → expression_mode s e ≡ m
+-- the mode of an expression is the one that it has
+pub mode_so : (s : Scope) (e : Expression) (m : Mode) → HasMode s e m → expression_mode s e ≡ m
 mode_so s (Constant v) m h = h
 mode_so s (Fetch x) m h = ap or_integer h
 mode_so s (Attribute class field e) m h = ap or_integer h.0

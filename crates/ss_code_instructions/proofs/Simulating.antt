@@ -11,7 +11,7 @@ use Rattle.ss_code_instructions.specs.Instructions as i
 use Rattle.ss_code_instructions.specs.States.{Frame, To, fit, core_at, past, backwards}
 use Rattle.ss_code_instructions.specs.Machine.{Code, act}
 use Rattle.ss_code_instructions.specs.Translation.{Site, height, place}
-use Rattle.ss_code_instructions.proofs.Staying.{act_lasts}
+use Rattle.ss_code_instructions.proofs.Acting.{act_lasts}
 use Rattle.ss_code_instructions.proofs.Steps.{HasAt, Reaches, here, at, left_to, landed, arrive}
 use Rattle.ss_code_instructions.proofs.Parts.{Within, Leads, onwards, ends, whatever, step_leads, out_run, Runs, same, done}
 use Rattle.ss_code_instructions.proofs.Loops.{leads_join, turned, Turns, loop_run}

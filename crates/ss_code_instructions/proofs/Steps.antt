@@ -11,7 +11,8 @@ use Rattle.ss_code_instructions.specs.Instructions.{Placed}
 use Rattle.ss_code_instructions.specs.States.{Frame, MachineState, Done, Breaks, Moved, To, Sends, Rest, Stuck, core_at}
 use Rattle.ss_code_instructions.specs.Machine.{Code, act, is_due, Goes, Over, with_rest, when_due, step_at, step}
 use Rattle.ss_code_instructions.specs.Running.{Result, Underway, Ends, IsStuck, ended_at, after_one_step, steps}
-use Rattle.ss_code_instructions.proofs.Staying.{Lasts, Endures, act_lasts, lasts_then}
+use Rattle.ss_code_instructions.proofs.Keeping.{Lasts, lasts_then}
+use Rattle.ss_code_instructions.proofs.Acting.{Endures, act_lasts}
 
 -- the items lie in the list at this place
 abbrev pub HasAt : {A : Type 0} → List A → ℕ → List A → Type 0

@@ -13,8 +13,7 @@ use Rattle.ss_code_instructions.specs.Instructions as i
 use Rattle.ss_code_instructions.specs.States.{Frame, MachineState, Moved, did, fit, cell_at, core_at, onward}
 use Rattle.ss_code_instructions.specs.Machine.{Code}
 use Rattle.ss_code_instructions.specs.Translation.{Site, place, is_kept, take_code}
-use Rattle.ss_code_instructions.proofs.Keeping.{Only, Same, says_so, variable_same}
-use Rattle.ss_code_instructions.proofs.Staying.{Stays as StaysJoined, variable_stays, suits_on}
+use Rattle.ss_code_instructions.proofs.Keeping.{Only, Same, lasts_so, suits_on, variable_same}
 use Rattle.ss_code_instructions.proofs.Steps.{HasAt, Reaches, at, arrive}
 use Rattle.ss_code_instructions.proofs.Parts.{Within, Leads, onwards, step_leads, ticked, tick_run, out_run, then_then}
 use Rattle.ss_code_instructions.proofs.Assigning.{change_leads}
@@ -32,8 +31,7 @@ module _ (code : Code) (n : ℕ) where
       within t s e q =
           let few : t ≤ n = omega (arith, e, in_.ticks) in
           let keeps : Same w.store s = subst (Only (Same w.store)) q (variable_same x (Whole item) w.store) in
-          let stays : StaysJoined w.store s = subst (Only (StaysJoined w.store)) q (variable_stays x (Whole item) w.store) in
-          record { ticks = few; says = suits_on code w.store s (says_so w.store s keeps, stays) in_.says }
+          record { ticks = few; says = suits_on code w.store s (lasts_so w.store s keeps) in_.says }
 
       -- the assignment at a place, and what follows at the next
       assigned : (t p q : ℕ) (mv : Moved) → w.ticks ≡ suc t → p + 1 ≡ q → mv ≡ did u.line (assigned_variable x (Whole item) w.store) (λ s. onward cells (core_at p cells frames w.store) s) → ((w' : World) → suc w'.ticks ≡ w.ticks → Within code n w' → Reaches code (at q cells frames w') (arrive k frames (outcome_then (m w') g))) → Leads code (ticked t w) mv (arrive k frames (f (ticked t w)))

@@ -235,6 +235,24 @@ impl<R: FaultyRead> Source<R> {
         answer
     }
 
+    // The next word as a value of a mode; what was missed is remembered.
+    fn next_value<V: WordValue>(&mut self) -> Result<V, Missed>
+        requires { source_missed self.old ≡ None }
+        ensures read { (value : V) → result ≡ Ok value → Reads R.remaining self.old self.new (λ input rest. value_given V.mode input ≡ if_read (V.values (Some value)) rest) }
+        ensures fault { (kind : FaultSeen) → result ≡ Err (Missed.Fault kind) → Finds R.remaining self.old self.new (λ input. value_given V.mode input ≡ Err kind) }
+        ensures input { result ≡ Err Missed.Input → HasRisen (R.faults (source_reader self.old)) (R.faults (source_reader self.new)) }
+        ensures lost { result ≡ Err Missed.Input → Finds R.remaining self.old self.new (λ input. Unit {0}) }
+        ensures lacks { result ≡ Err Missed.Input → Lacks R.remaining (source_block self.old) (source_block self.new) }
+        ensures missed { source_missed self.new ≡ missed_of result }
+        ensures counted { R.faults (source_reader self.new) ≡ failures_after result (R.faults (source_reader self.old)) }
+        ensures never_falls { HasRisenBy 0 (R.faults (source_reader self.old)) (R.faults (source_reader self.new)) }
+        ensures unasked { HasWord (source_block self.old) → source_reader self.new ≡ source_reader self.old }
+        ensures end { KnowsEnd R.remaining (source_block self.old) → KnowsEnd R.remaining (source_block self.new) }
+    {
+        let answer = self.read_value::<V>();
+        self.remember(answer)
+    }
+
     /// The whole number that the next word is: an optional sign and digits, within 64 bits.
     ///
     /// `Missed::Fault` with END OF DATA where no word is left, and with BAD DATA for any other word, one
@@ -261,8 +279,7 @@ impl<R: FaultyRead> Source<R> {
             self.pass_number(number);
             return Ok(number.value as i64);
         }
-        let answer = self.read_value::<i64>();
-        self.remember(answer)
+        self.next_value()
     }
 
     /// The text that the next word is: 1 to 16 bytes from 33 to 126. Its errors are those of `integer`, and it reads as that does.
@@ -282,8 +299,7 @@ impl<R: FaultyRead> Source<R> {
         if let Some(missed) = self.missed {
             return Err(missed);
         }
-        let answer = self.read_value::<Alpha>();
-        self.remember(answer)
+        self.next_value()
     }
 
     // Whether no word is left.

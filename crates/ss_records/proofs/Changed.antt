@@ -7,7 +7,7 @@ use Rattle.ss_world.specs.State.{State, Members, members_of, with_members, and_t
 use Rattle.ss_world.specs.Sets.{owner, joiner, with_list_of, put_in, put_beside, taken_out, put_before, put_after, less, filed_first, filed_last, filed_before, filed_after, removed}
 use Rattle.ss_records.specs.Commands.{ChangesMembers, ChangesBeside, KeepsRecords}
 use Rattle.ss_records.proofs.Same.{same}
-use Rattle.ss_records.proofs.Lists.{members_with}
+use Rattle.ss_records_entities.proofs.Listed.{members_with}
 use Rattle.ss_records.proofs.Relisted.{Relists, both_ok, else_ok, then_ok, ok_is, put_in_relists, put_beside_relists, removed_relists}
 
 own_list : (ms : List Members) (s o : ℕ) (l : List ℕ) → members_of (with_members ms s o l) s o ≡ l

@@ -1,5 +1,4 @@
-pub mod Same
-pub mod Lists
+pub use Rattle.ss_records_entities.proofs.Same
 pub mod Relisted
 pub mod Changed
 pub mod OtherSets

@@ -10,7 +10,7 @@ use Rattle.ss_world.specs.State.{State, Record, members_of, with_members, and_th
 use Rattle.ss_world.specs.Sets.{owner, joiner, with_list_of, put_in, put_beside, taken_out, put_before, put_after, less, filed_first, filed_last, filed_before, filed_after, removed}
 use Rattle.ss_records.specs.Commands.{LeavesOthers, KeepsLists}
 use Rattle.ss_records.proofs.Same.{differs, by_same}
-use Rattle.ss_records.proofs.Lists.{members_with, members_other}
+use Rattle.ss_records_entities.proofs.Listed.{members_with, members_other}
 
 err_is_not_ok : {A : Type 0} {e : FaultKind} {a : A} → Err e ≡ Ok a → ⊥
 err_is_not_ok h = cc

@@ -1,5 +1,5 @@
 -- A word is taken out of the store, and put back. Assumes `Logic`.
-use Rattle.std.proofs.Common.{◌≡◌, ℕ, zero, suc, ◌+◌, ◌*◌, ◌^◌, ◌<◌, true, false, cond, List, [], ◌∷◌, length, refl, sym, ap, subst, arith, lit<}
+use Rattle.std.proofs.Common.{◌≡◌, ℕ, zero, suc, ◌+◌, ◌*◌, ◌^◌, ◌<◌, Bool, true, false, cond, List, [], ◌∷◌, length, refl, sym, ap, subst, arith, lit<}
 use seplogic.Ra.Ura.{Ura}
 use base.Logic.{SProp, ent, sep, wand, via, apply∗, fst∗, snd∗, id⊢, never, guard_i}
 use base.Fml.{Fml, fsep, fat, froom, feq}
@@ -9,7 +9,7 @@ use mir.Val.{Val, vint}
 use types.Logic.{Logic, sem}
 use types.Kit.{Item, Goal, Seq, some, given, pick, learn, ‵, raw, ◌⊛◌, ◌$◌, ◌∵◌, !, qed, by, move, drop, use1, use2, split, frame, assume, fsplit, fjoin, feq_i, feq_l, rewrite, done, flt_l}
 use contract.Monad.{fact, fact_i, fact_use}
-use denote.Plain.{uint_out}
+use denote.Plain.{uint_in, uint_out}
 use borrow.Table.OneValue.{part_in, part_out}
 use denote.Steps.{only}
 use denote.RawPtr.{Ptr, RawPtr, block_ptr, null_ptr, ptr_val, ◌+ₚ◌}
@@ -98,6 +98,11 @@ module _ {M : Type 1} {𝓤 : Ura M} (𝓛 : Logic 𝓤) where
       use1 𝓛 (some (λ (v : Val). ‵ (fat full_share ty_ptr b o v) ⊛ ‵ (RawPtr.own_val q (v ∷ [])))) (part_out 𝓛 RawPtr refl full_share q b o) $ pick ! (λ v. split ! $ move ! (1 ∷ []) $ drop ! $
       use1 𝓛 (‵ (froom ty_ptr b o)) (𝓛.laws.at_room ty_ptr b o v) $
       use1 𝓛 (‵ (froom (ty_int w64) b o) ⊛ raw (wand 𝓤 ⟦ froom (ty_int w64) b o ⟧ ⟦ froom ty_ptr b o ⟧)) (𝓛.laws.room_as ty_ptr (ty_int w64) b o refl tt) $ split ! $ move ! (1 ∷ []) $ drop ! $ done !)
+
+  -- a number in memory is a word, be it a number or a count
+  pub value_in : (counts : Bool) (x b o : ℕ) → ent 𝓤 ⟦ fat full_share (ty_int w64) b o (vint w64 x) ⟧ ⟦ word_owns (block_ptr b o) (cond counts (counter x) (number x)) ⟧
+  value_in true x b o = uint_in 𝓛 full_share w64 x b o
+  value_in false x b o = uint_in 𝓛 full_share w64 x b o
 
   pub link_out : (q : Ptr) (b o : ℕ) → ent 𝓤 ⟦ word_owns (block_ptr b o) (link q) ⟧ ⟦ fat full_share ty_ptr b o (ptr_val q) ⟧
   link_out q b o =

@@ -1,5 +1,5 @@
 // The functions with a pointer, and the blocks as all others see them.
-ghost use Rattle.std.specs.Prelude.{◌≡◌, ℕ, ◌+◌, ◌*◌, ◌^◌, ◌<◌, List, [], ◌∷◌, length, MatchResult, IfOk};
+ghost use Rattle.std.specs.Prelude.{◌≡◌, ℕ, ◌+◌, ◌*◌, ◌^◌, ◌<◌, Bool, cond, List, [], ◌∷◌, length, MatchResult, IfOk};
 ghost use Rattle.ss_records_blocks.specs.Cells.{Word, blank, number, counter, link, Cells, words_at, word_at, put_word, without_block, blanks, IsNumber, IsCounter, IsLink, MayBeNumber, MayBeCounter, MayBeLink};
 ghost use Rattle.ss_records_blocks.specs.Ownership.{store_owns, store_lent};
 
@@ -72,9 +72,11 @@ impl Store {
         }
     }
 
-    fn set_number(&mut self, place: Address, k: usize, value: u64)
-        requires { (k < length (words_at self.old.cells place.at)) × MayBeNumber (word_at self.old.cells place.at k) }
-        ensures { (self.new.cells ≡ put_word self.old.cells place.at k (number value)) × (self.new.total ≡ self.old.total) }
+    /// A number, or one that counts as a touch.
+    fn set_value(&mut self, place: Address, k: usize, value: u64)
+        ghost counts: { Bool }
+        requires { k < length (words_at self.old.cells place.at) }
+        ensures { (self.new.cells ≡ put_word self.old.cells place.at k (cond counts (counter value) (number value))) × (self.new.total ≡ cond counts (self.old.total + 1) self.old.total) }
     {
         let at = place.at;
         unsafe {
@@ -88,17 +90,6 @@ impl Store {
     {
         let at = place.at;
         unsafe { *at.add(k) }
-    }
-
-    /// A number that counts as a touch.
-    fn set_count(&mut self, place: Address, k: usize, value: u64)
-        requires { (k < length (words_at self.old.cells place.at)) × MayBeCounter (word_at self.old.cells place.at k) }
-        ensures { (self.new.cells ≡ put_word self.old.cells place.at k (counter value)) × (self.new.total ≡ self.old.total + 1) }
-    {
-        let at = place.at;
-        unsafe {
-            *at.add(k) = value;
-        }
     }
 
     fn count(&mut self, place: Address, k: usize) -> u64
@@ -274,7 +265,7 @@ impl Blocks {
         ensures cells { self.new.cells ≡ put_word self.old.cells place.at k (number value) }
         ensures touches { (self.new.touches ≡ self.old.touches) × (self.new.total ≡ self.old.total) }
     {
-        self.store.set_number(place, k, value);
+        self.store.set_value(place, k, value);
     }
 
     /// The count of members in the word k of a block: one touch.
@@ -296,7 +287,7 @@ impl Blocks {
         ensures cells { self.new.cells ≡ put_word self.old.cells place.at k (counter value) }
         ensures touches { (self.new.touches ≡ self.old.touches) × (self.new.total ≡ self.old.total + 1) }
     {
-        self.store.set_count(place, k, value);
+        self.store.set_value(place, k, value);
     }
 
     /// Where the link in the word k of a block leads: one touch.

@@ -9,6 +9,7 @@ pub mod Drawn
 pub mod Ends
 pub mod Files
 pub mod Frees
+pub mod Hooks
 pub mod Indexing
 pub mod Issuing
 pub mod Keeps
@@ -32,6 +33,7 @@ pub mod ReadKind
 pub mod ReadWords
 pub mod Relinked
 pub mod Remembered
+pub use Rattle.ss_records_blocks.proofs.Same
 pub mod Setless
 pub mod Skims
 pub mod Spared

@@ -1,5 +1,4 @@
 pub mod Members
-pub mod Same
 pub mod Walking
 pub mod Past
 pub mod Ranked

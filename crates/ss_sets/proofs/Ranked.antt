@@ -11,7 +11,7 @@ use Rattle.ss_world.specs.Lists.{In}
 use Rattle.ss_world.specs.Sets.{joiner, owner, member_class, as_number, owner_of_member, put_before, put_in, put_beside, with_list_of, filed_last, filed_before, Apart}
 use Rattle.ss_world.specs.Disciplines.{ranks_after, put_ranked, members_owned_by, owned, filed_ranked}
 use Rattle.ss_sets.specs.Walks.{first_after, filed_at}
-use Rattle.ss_sets.proofs.Same.{same, differs, false_is_not_true}
+use Rattle.ss_records.proofs.Same.{same, differs, false_is_not_true}
 use Rattle.ss_sets.proofs.Members.{went_on, stopped}
 use Rattle.ss_sets.proofs.Walking.{member_by}
 

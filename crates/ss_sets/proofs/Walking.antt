@@ -14,7 +14,7 @@ use Rattle.std.proofs.lemmas.List.Elements.{All-head, All-tail}
 use Rattle.ss_base.specs.declared.layout.Layout.{Layout}
 use Rattle.ss_world.specs.Disciplines.{AreFields, value_of, value_or_zero, ranks_after, members_passed, members_owned_by, owned}
 use Rattle.ss_sets.specs.Walks.{first_after, as_member}
-use Rattle.ss_sets.proofs.Same.{same, differs, by_same}
+use Rattle.ss_records.proofs.Same.{same, differs, by_same}
 use Rattle.ss_sets.proofs.Members.{stopped}
 
 abbrev pub from_number : ℕ → List ℕ → List ℕ

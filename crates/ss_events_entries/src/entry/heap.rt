@@ -15,7 +15,7 @@ ghost use Rattle.ss_events_entries.specs.declared.entry.slots.HeapNode.{HeapNode
 use super::counter::WorkCounter;
 use super::order::comes_before;
 use super::places::Places;
-use super::slots::HeapNode;
+use super::slots::{HeapNode, NO_SLOT};
 use super::{Entry, Key, Mark, NOT_PLAIN, PLAIN_NUMBERS};
 use std::alloc::{AllocError, Global};
 use std::marker::Model;
@@ -222,7 +222,12 @@ impl EntryHeap {
         ensures tried { result ≡ false → ComparesOnce (call_work_of self.old) (call_work_of self.new) }
     {
         let mark = plain_mark(time, rank, number);
-        self.entries.append_plain(mark, notice, &mut self.counter)
+        let before = self.entries.hint(mark);
+        if before == NO_SLOT {
+            return false;
+        }
+        self.entries
+            .append_to(before, mark, notice, &mut self.counter)
     }
 
     /// Takes the entry out of a place, into which the next of its line moves, or else the last head, and answers its time and its

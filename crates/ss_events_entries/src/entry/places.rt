@@ -248,37 +248,17 @@ impl Places {
         true
     }
 
-    /// Puts a plain entry after the last of a line of its time, if a line is found that ends before it, there is room for it, and its
-    /// notice is found to be new at once; and says whether it did. If not, no entry has changed. Counts a comparison where there is room
-    /// and the last of a line is found, and a move where it did.
+    /// The slot in which to look for the last of a line that a plain entry may join, or `NO_SLOT`. It is a guess.
     #[inline(always)]
-    pub(crate) fn append_plain(
-        &mut self,
-        mark: Mark,
-        notice: i64,
-        counter: &mut WorkCounter,
-    ) -> bool
-        requires plain { mark.order < plain_ranks * plain_numbers }
-        requires comparable { counter.old.comparisons + 1 < 2 ^ 64 }
-        requires countable { counter.old.moves + 1 < 2 ^ 64 }
-        ensures heads { self.new.heads ≡ self.old.heads }
-        ensures done { result ≡ true → IsPermutation (plain_entry mark notice ∷ self.old.followers) self.new.followers }
-        ensures apart { result ≡ true → list_any (int_eq notice) (notices_of self.old.heads) ≡ false }
-        ensures fresh { result ≡ true → list_any (int_eq notice) (notices_of self.old.followers) ≡ false }
-        ensures kept { result ≡ false → self.new ≡ self.old }
-        ensures counted { result ≡ true → counter.new ≡ record counter.old { comparisons = counter.old.comparisons + 1; moves = counter.old.moves + 1 } }
-        ensures tried { result ≡ false → ComparesOnce counter.old counter.new }
-    {
-        let before = hinted(&self.hints, mark);
-        if before == NO_SLOT {
-            return false;
-        }
-        self.append_to(before, mark, notice, counter)
+    pub(crate) fn hint(&self, mark: Mark) -> usize {
+        hinted(&self.hints, mark)
     }
 
-    // Puts a plain entry after the entry of a slot, if that is the last of such a line.
+    /// Puts a plain entry after the entry of a slot, if that is the last of a line of its time which comes before it, there is room for
+    /// it, and its notice is found to be new at once; and says whether it did. If not, no entry has changed. Counts a comparison where
+    /// there is room and the last of a line is in that slot, and a move where it did.
     #[inline(never)]
-    fn append_to(
+    pub(crate) fn append_to(
         &mut self,
         before: usize,
         mark: Mark,

@@ -2,73 +2,41 @@ use Rattle.std.proofs.Common.{◌≡◌, ◌+◌, ◌≤◌, length, sym, ap, �
 use Rattle.ss_program.specs.View.{view_program}
 use Rattle.ss_code.specs.Running.{Compiled, IsFor}
 use Rattle.ss_code.proofs.Alike.{all_alike_long}
-use Rattle.ss_code.proofs.Made.{All, few_cells, code_long, never_long, made_for}
+use Rattle.ss_code.proofs.Made.{all_made, code_long, never_long, made_for}
 use Rattle.ss_code.proofs.generating.made.Goals as goal
 
 pub returns-then-len-instruction_limit-clause-too_long : goal.returns-then-len-instruction_limit-clause-too_long
 returns-then-len-instruction_limit-clause-too_long c = λ q.
-    let all : All c.in_ok-generator.generator c.put_main.new.generator c.put_routines.new.generator c.put_events.new.generator c.new-code.result c.put_main.new.code c.put_routines.new.code c.put_events.new.code c.new-prints.result.items c.put_main.new.prints.items c.put_routines.new.prints.items c.put_events.new.prints.items c.in_ok-main.main c.in_ok-routines.routines.items c.in_ok-events.events.items = record {
-      constants = c.in_ok-generator.ensures.constants;
-      code = c.new-code.ensures;
-      prints = c.new-prints.ensures.items;
-      puts_main = c.in_ok-main.ensures;
-      puts_routines = c.in_ok-routines.ensures;
-      puts_events = c.in_ok-events.ensures;
-      small = few_cells c.put_events.new.generator.deepest c.in_ok-main.main c.in_ok-sections.sections.main c.in_ok-sections.ensures.main;
-    } in
-    let long = code_long c.in_ok-generator.generator c.put_main.new.generator c.put_routines.new.generator c.put_events.new.generator c.new-code.result c.put_main.new.code c.put_routines.new.code c.put_events.new.code c.new-prints.result.items c.put_main.new.prints.items c.put_routines.new.prints.items c.put_events.new.prints.items c.in_ok-main.main c.in_ok-routines.routines.items c.in_ok-events.events.items all c.args.program.now c.in_ok-generator.ensures.program c.requires.typed in
+    let all = all_made c.in_ok-main.ensures c.in_ok-routines.ensures c.in_ok-events.ensures c.in_ok-sections.ensures.main c.in_ok-generator.ensures.constants c.new-code.ensures c.new-prints.ensures.items in
+    let long = code_long all c.args.program.now c.in_ok-generator.ensures.program c.requires.typed in
     omega (arith, long, c.if-len-instruction_limit.true, c.len.ensures.value, c.instruction_limit.ensures)
 
 pub returns-then-len-instruction_limit-clause-small : goal.returns-then-len-instruction_limit-clause-small
 returns-then-len-instruction_limit-clause-small c = λ few q.
-    let all : All c.in_ok-generator.generator c.put_main.new.generator c.put_routines.new.generator c.put_events.new.generator c.new-code.result c.put_main.new.code c.put_routines.new.code c.put_events.new.code c.new-prints.result.items c.put_main.new.prints.items c.put_routines.new.prints.items c.put_events.new.prints.items c.in_ok-main.main c.in_ok-routines.routines.items c.in_ok-events.events.items = record {
-      constants = c.in_ok-generator.ensures.constants;
-      code = c.new-code.ensures;
-      prints = c.new-prints.ensures.items;
-      puts_main = c.in_ok-main.ensures;
-      puts_routines = c.in_ok-routines.ensures;
-      puts_events = c.in_ok-events.ensures;
-      small = few_cells c.put_events.new.generator.deepest c.in_ok-main.main c.in_ok-sections.sections.main c.in_ok-sections.ensures.main;
-    } in
-    let short = never_long c.in_ok-generator.generator c.put_main.new.generator c.put_routines.new.generator c.put_events.new.generator c.new-code.result c.put_main.new.code c.put_routines.new.code c.put_events.new.code c.new-prints.result.items c.put_main.new.prints.items c.put_routines.new.prints.items c.put_events.new.prints.items c.in_ok-main.main c.in_ok-routines.routines.items c.in_ok-events.events.items all c.args.program.now c.in_ok-generator.ensures.program c.requires.typed c.laws_of_code.ensures.has_size few in
+    let all = all_made c.in_ok-main.ensures c.in_ok-routines.ensures c.in_ok-events.ensures c.in_ok-sections.ensures.main c.in_ok-generator.ensures.constants c.new-code.ensures c.new-prints.ensures.items in
+    let short = never_long all c.args.program.now c.in_ok-generator.ensures.program c.requires.typed c.laws_of_code.ensures.has_size few in
     omega (arith, short, c.if-len-instruction_limit.true, c.len.ensures.value, c.instruction_limit.ensures)
 
 pub new-requires-2 : goal.new-requires-2
 new-requires-2 c =
-    let all : All c.in_ok-generator.generator c.put_main.new.generator c.put_routines.new.generator c.put_events.new.generator c.new-code.result c.put_main.new.code c.put_routines.new.code c.put_events.new.code c.new-prints.result.items c.put_main.new.prints.items c.put_routines.new.prints.items c.put_events.new.prints.items c.in_ok-main.main c.in_ok-routines.routines.items c.in_ok-events.events.items = record {
-      constants = c.in_ok-generator.ensures.constants;
-      code = c.new-code.ensures;
-      prints = c.new-prints.ensures.items;
-      puts_main = c.in_ok-main.ensures;
-      puts_routines = c.in_ok-routines.ensures;
-      puts_events = c.in_ok-events.ensures;
-      small = few_cells c.put_events.new.generator.deepest c.in_ok-main.main c.in_ok-sections.sections.main c.in_ok-sections.ensures.main;
-    } in
+    let all = all_made c.in_ok-main.ensures c.in_ok-routines.ensures c.in_ok-events.ensures c.in_ok-sections.ensures.main c.in_ok-generator.ensures.constants c.new-code.ensures c.new-prints.ensures.items in
     let p = c.args.program.now in
     let made = c.sift_walks.new.code.items in
     let sections = c.in_ok-sections.sections in
     let low : c.len-2.result + c.len-3.result ≡ length c.in_ok-globals.globals.items + length c.put_events.new.generator.constants.items = omega (arith, c.len-2.ensures, c.len-3.ensures, c.in_ok-globals.globals.ok, c.put_events.new.generator.constants.ok) in
     let short : length c.put_events.new.code.instructions ≤ 1048576 = omega (arith, c.if-len-instruction_limit.false, c.len.ensures.value, c.instruction_limit.ensures) in
-    let for_it = made_for c.in_ok-generator.generator c.put_main.new.generator c.put_routines.new.generator c.put_events.new.generator c.new-code.result c.put_main.new.code c.put_routines.new.code c.put_events.new.code c.new-prints.result.items c.put_main.new.prints.items c.put_routines.new.prints.items c.put_events.new.prints.items c.in_ok-main.main c.in_ok-routines.routines.items c.in_ok-events.events.items all p c.in_ok-generator.ensures.program c.requires.typed c.into_parts-instructions.result.0.items made c.into_parts-instructions.result.1.items sections.depth sections.main sections.routines.items sections.events.items c.in_ok-said.said c.in_ok-globals.globals.items (c.len-2.result + c.len-3.result) c.into_parts-instructions.ensures.instructions c.into_parts-instructions.ensures.lines c.in_ok-sections.ensures.depth c.sift_walks.ensures.alike c.sift_walks.ensures.sifts low (c.laws_of_code.ensures.jumps_land (view_program p)) short c.in_ok-sections.ensures.main c.in_ok-sections.ensures.routines c.in_ok-sections.ensures.events c.in_ok-said.ensures (c.in_ok-globals.ensures.items ∙ c.deref.ensures.value) in
+    let for_it = made_for all p c.in_ok-generator.ensures.program c.requires.typed c.into_parts-instructions.result.0.items made c.into_parts-instructions.result.1.items sections.depth sections.main sections.routines.items sections.events.items c.in_ok-said.said c.in_ok-globals.globals.items (c.len-2.result + c.len-3.result) c.into_parts-instructions.ensures.instructions c.into_parts-instructions.ensures.lines c.in_ok-sections.ensures.depth c.sift_walks.ensures.alike c.sift_walks.ensures.sifts low (c.laws_of_code.ensures.jumps_land (view_program p)) short c.in_ok-sections.ensures.main c.in_ok-sections.ensures.routines c.in_ok-sections.ensures.events c.in_ok-said.ensures (c.in_ok-globals.ensures.items ∙ c.deref.ensures.value) in
     (view_program p, c.requires.typed, for_it)
 
 pub returns-clause-code : goal.returns-clause-code
 returns-clause-code c =
-    let all : All c.in_ok-generator.generator c.put_main.new.generator c.put_routines.new.generator c.put_events.new.generator c.new-code.result c.put_main.new.code c.put_routines.new.code c.put_events.new.code c.new-prints.result.items c.put_main.new.prints.items c.put_routines.new.prints.items c.put_events.new.prints.items c.in_ok-main.main c.in_ok-routines.routines.items c.in_ok-events.events.items = record {
-      constants = c.in_ok-generator.ensures.constants;
-      code = c.new-code.ensures;
-      prints = c.new-prints.ensures.items;
-      puts_main = c.in_ok-main.ensures;
-      puts_routines = c.in_ok-routines.ensures;
-      puts_events = c.in_ok-events.ensures;
-      small = few_cells c.put_events.new.generator.deepest c.in_ok-main.main c.in_ok-sections.sections.main c.in_ok-sections.ensures.main;
-    } in
+    let all = all_made c.in_ok-main.ensures c.in_ok-routines.ensures c.in_ok-events.ensures c.in_ok-sections.ensures.main c.in_ok-generator.ensures.constants c.new-code.ensures c.new-prints.ensures.items in
     let p = c.args.program.now in
     let made = c.sift_walks.new.code.items in
     let sections = c.in_ok-sections.sections in
     let low : c.len-2.result + c.len-3.result ≡ length c.in_ok-globals.globals.items + length c.put_events.new.generator.constants.items = omega (arith, c.len-2.ensures, c.len-3.ensures, c.in_ok-globals.globals.ok, c.put_events.new.generator.constants.ok) in
     let short : length c.put_events.new.code.instructions ≤ 1048576 = omega (arith, c.if-len-instruction_limit.false, c.len.ensures.value, c.instruction_limit.ensures) in
-    let for_it = made_for c.in_ok-generator.generator c.put_main.new.generator c.put_routines.new.generator c.put_events.new.generator c.new-code.result c.put_main.new.code c.put_routines.new.code c.put_events.new.code c.new-prints.result.items c.put_main.new.prints.items c.put_routines.new.prints.items c.put_events.new.prints.items c.in_ok-main.main c.in_ok-routines.routines.items c.in_ok-events.events.items all p c.in_ok-generator.ensures.program c.requires.typed c.into_parts-instructions.result.0.items made c.into_parts-instructions.result.1.items sections.depth sections.main sections.routines.items sections.events.items c.in_ok-said.said c.in_ok-globals.globals.items (c.len-2.result + c.len-3.result) c.into_parts-instructions.ensures.instructions c.into_parts-instructions.ensures.lines c.in_ok-sections.ensures.depth c.sift_walks.ensures.alike c.sift_walks.ensures.sifts low (c.laws_of_code.ensures.jumps_land (view_program p)) short c.in_ok-sections.ensures.main c.in_ok-sections.ensures.routines c.in_ok-sections.ensures.events c.in_ok-said.ensures (c.in_ok-globals.ensures.items ∙ c.deref.ensures.value) in
+    let for_it = made_for all p c.in_ok-generator.ensures.program c.requires.typed c.into_parts-instructions.result.0.items made c.into_parts-instructions.result.1.items sections.depth sections.main sections.routines.items sections.events.items c.in_ok-said.said c.in_ok-globals.globals.items (c.len-2.result + c.len-3.result) c.into_parts-instructions.ensures.instructions c.into_parts-instructions.ensures.lines c.in_ok-sections.ensures.depth c.sift_walks.ensures.alike c.sift_walks.ensures.sifts low (c.laws_of_code.ensures.jumps_land (view_program p)) short c.in_ok-sections.ensures.main c.in_ok-sections.ensures.routines c.in_ok-sections.ensures.events c.in_ok-said.ensures (c.in_ok-globals.ensures.items ∙ c.deref.ensures.value) in
     subst (λ (k : Compiled). IsFor (view_program p) k) (sym c.new-2.ensures) for_it
 
 pub returns-clause-behaves : goal.returns-clause-behaves

@@ -43,8 +43,7 @@ link_spec 𝓤 𝓛 𝓜 𝓡 wired =
     let H = 𝓛.H in
     let c = clauses 𝓛 𝓜.mem 𝓡.returns in
     let fn : Fn = compiled.function in
-    let C = (tables 𝓤 H 𝓜 𝓡 𝓡.env).C in
-    let Λ = (tables 𝓤 H 𝓜 𝓡 𝓡.env).Λ in
+    let t = tables 𝓤 H 𝓜 𝓡 𝓡.env in
     proved_at 𝓛 ended stayed c 𝓜 𝓡 (Goes-ref 𝓛 1 0 tt (plain (λ _. S.the_row)), (Goes-dropped 𝓛 1 (plain (λ _. P.the_row)) yes (λ κs x f. refl), (Goes-dropped 𝓛 1 (plain (λ _. usize)) yes (λ κs x f. refl), tt)))
     #self fn (compiled.unfolded 𝓤 H 𝓜 𝓡 wired) (λ z are.
     let Post : Val → SProp 𝓤 = (walk_of 𝓛 ended stayed c).post z in
@@ -59,8 +58,8 @@ link_spec 𝓤 𝓛 𝓜 𝓡 wired =
     move ! (1 ∷ []) $ heard ! Asked (λ asked. split ! $ use1 𝓛 (‵ (flft κ q) ⊛ ‵ ftrue) (id⊢ 𝓤 _) $ split ! $ move ! (2 ∷ []) $ fsplit ! $ fsplit3 ! $ feq_l ! (λ e0. move ! (2 ∷ []) $ drop ! $
     let found = is_link w asked in let x = found.0 in let inside = link_inside (words_at cs p) k asked in
     let Gives : Type 0 = (w ≡ link x) × (new.cells ≡ cs) × (new.total ≡ h.total + 1) in
-    regoal ! (λ (us : List Val). prop (WpFn 𝓤 H C Λ fn us Post)) (λ i. e0 i ++ (place_is i ++ (are.1.1.0.0 i ++ []))) refl $
-    enter ! C Λ fn (vptr b o ∷ place_val p ∷ vint w64 k ∷ []) Post $
+    regoal ! (λ (us : List Val). prop (WpFn 𝓤 H t.C t.Λ fn us Post)) (λ i. e0 i ++ (place_is i ++ (are.1.1.0.0 i ++ []))) refl $
+    enter ! t.C t.Λ fn (vptr b o ∷ place_val p ∷ vint w64 k ∷ []) Post $
     alloc_all ! (λ l. pass_all ! refl ((tt, tt), (place_typed [] p, ((tt, record { fits = fk }), tt))) $ let En : Env 𝓤 H = env fn.locals l in
     opens ! tt S.the_row b o (λ us. move ! (1 ∷ []) $ fsplit ! $ move ! (1 ∷ []) $
     -- [the store; the fields; the cell; ..]
@@ -75,7 +74,7 @@ link_spec 𝓤 𝓛 𝓜 𝓡 wired =
     sets ! (bin ! (get ! refl) (get ! refl) tt) refl (tt, tt) $
     sets ! (of_opd ! (get ! refl)) refl (tt, tt) $
     sets_last ! (of_opd ! (load ! (through ! refl (stop !)) (look ! 0 refl))) refl (ptr_typed x) $
-    exec ! C Λ En (after 2 fn.body) (at_ret En Post) $
+    exec ! t.C t.Λ En (after 2 fn.body) (at_ret En Post) $
     sets ! (of_opd ! (get ! refl)) refl (ptr_typed x) $
     sets ! (agg ! (and_then ! (get ! refl) (no_more !))) refl (place_typed [] x) $
     use1 𝓛 (‵ (word_owns (word_ptr (block_ptr pb po) k) (link x))) (link_in 𝓛 x pb (k * 8 + po)) $

@@ -1,6 +1,5 @@
--- `set_number` takes the word out of the store, writes it, and puts it back.
-use Rattle.std.proofs.Common.{◌≡◌, ◌+◌, ◌*◌, ◌^◌, ◌<◌, List, [], ◌∷◌, ◌++◌, length, refl, sym, ap, arith, w64}
-use base.Fraction.{full_share}
+-- `set_value` takes the word out of the store, writes it, and puts it back.
+use Rattle.std.proofs.Common.{◌≡◌, ◌+◌, ◌*◌, ◌^◌, ◌<◌, cond, List, [], ◌∷◌, ◌++◌, length, refl, sym, ap, arith, w64}
 use mir.Syntax.{Fn, ty_int}
 use mir.Val.{Val, vint, vptr, vunit}
 use base.Logic.{SProp, emp, wand, id⊢, apply∗}
@@ -16,7 +15,6 @@ use types.ByLocal.{alloc_all, pass_all, free_all, look_at, get, get_in, through,
 use denote.Exit.{yes}
 use denote.RattleType.{owns}
 use denote.Builtin.{u64, usize}
-use denote.Plain.{uint_in}
 use denote.RawPtr.{Ptr, block_ptr, ptr_val, in_a_block}
 use denote.Signature.{plain, types_at}
 use denote.Steps.{nothing, heard, opens, closes}
@@ -24,27 +22,26 @@ use denote.Triple.Entry.{alive}
 use denote.Triple.Walked.{Stays, stay_dropped, stay_ref, walk_of, Goes-dropped, Goes-ref}
 use Rattle.std.proofs.raw_atomic.Walks.{proved_at, leaves}
 use Rattle.std.proofs.VecSteps.Shapes.{after}
-use Rattle.ss_records_blocks.specs.Cells.{Word, number, words_at, word_at, put_word, MayBeNumber}
+use Rattle.ss_records_blocks.specs.Cells.{Word, number, counter, words_at, word_at, put_word}
 use Rattle.ss_records_blocks.specs.Ownership.{word_owns, store_owns}
-use Rattle.ss_records_blocks.proofs.Memory.{word_ptr, store_take, store_knows, null_word, word_room}
+use Rattle.ss_records_blocks.proofs.Memory.{word_ptr, store_take, store_knows, null_word, word_room, value_in}
 use Rattle.ss_records_blocks.proofs.Values.{place_val, place_known, place_typed}
 use Rattle.ss_records_blocks.specs.contracts.store.Store as S
 use Rattle.ss_records_blocks.specs.contracts.store.Address as P
-use Rattle.ss_records_blocks.specs.contracts.store.Store.set_number.{ended, clauses}
-use Rattle.ss_records_blocks.specs.contracts.store.Store.set_number.Key.{name as #self}
-use Rattle.ss_records_blocks.proofs.store.Store.set_number.Statement.{statement}
-use Rattle.ss_records_blocks.proofs.store.Store.set_number.Code as compiled
+use Rattle.ss_records_blocks.specs.contracts.store.Store.set_value.{ended, clauses}
+use Rattle.ss_records_blocks.specs.contracts.store.Store.set_value.Key.{name as #self}
+use Rattle.ss_records_blocks.proofs.store.Store.set_value.Statement.{statement}
+use Rattle.ss_records_blocks.proofs.store.Store.set_value.Code as compiled
 
 abbrev stayed : Stays ended.signature.params ended.kept
 stayed = (stay_ref (0 ∷ []) tt (plain (λ _. S.the_row)), (stay_dropped (plain (λ _. P.the_row)) yes, (stay_dropped (plain (λ _. usize)) yes, (stay_dropped (plain (λ _. u64)) yes, tt))))
 
-pub set_number_spec : {M : Type 1} → statement M
-set_number_spec 𝓤 𝓛 𝓜 𝓡 wired =
+pub set_value_spec : {M : Type 1} → statement M
+set_value_spec 𝓤 𝓛 𝓜 𝓡 wired =
     let H = 𝓛.H in
     let c = clauses 𝓛 𝓜.mem 𝓡.returns in
     let fn : Fn = compiled.function in
-    let C = (tables 𝓤 H 𝓜 𝓡 𝓡.env).C in
-    let Λ = (tables 𝓤 H 𝓜 𝓡 𝓡.env).Λ in
+    let t = tables 𝓤 H 𝓜 𝓡 𝓡.env in
     proved_at 𝓛 ended stayed c 𝓜 𝓡 (Goes-ref 𝓛 1 0 tt (plain (λ _. S.the_row)), (Goes-dropped 𝓛 1 (plain (λ _. P.the_row)) yes (λ κs x f. refl), (Goes-dropped 𝓛 1 (plain (λ _. usize)) yes (λ κs x f. refl), (Goes-dropped 𝓛 1 (plain (λ _. u64)) yes (λ κs x f. refl), tt))))
     #self fn (compiled.unfolded 𝓤 H 𝓜 𝓡 wired) (λ z are.
     let Post : Val → SProp 𝓤 = (walk_of 𝓛 ended stayed c).post z in
@@ -54,20 +51,21 @@ set_number_spec 𝓤 𝓛 𝓜 𝓡 wired =
     let fk = are.1.1.0.1 in let place_is = place_known p vss.1.0 are.1.0 in
     let w : Word = word_at cs p k in
     let x = a.1.1.1.0 in let fx = are.1.1.1.0.1 in
-    let Asked : Type 0 = (k < length (words_at cs p)) × MayBeNumber w in
-    let new : (S.the_row).Denot = record { cells = put_word cs p k (number x); total = h.total } in
-    let Gives : Type 0 = (new.cells ≡ put_word cs p k (number x)) × (new.total ≡ h.total) in
+    let counts = z.1 in
+    let v : Word = cond counts (counter x) (number x) in
+    let Asked : Type 0 = k < length (words_at cs p) in
+    let new : (S.the_row).Denot = record { cells = put_word cs p k v; total = cond counts (h.total + 1) h.total } in
+    let Gives : Type 0 = (new.cells ≡ put_word cs p k v) × (new.total ≡ cond counts (h.total + 1) h.total) in
     qed 𝓛 ((raw (alive 𝓛 ended.signature z.0.0 z.0.1) ⊛ ‵ (owns (types_at ended.signature.params z.0.0) a vss)) ∷ raw (fact 𝓤 Asked) ∷ []) ∵
-    move ! (1 ∷ []) $ heard ! Asked (λ asked. split ! $ use1 𝓛 (‵ (flft κ q) ⊛ ‵ ftrue) (id⊢ 𝓤 _) $ split ! $ move ! (2 ∷ []) $ fsplit ! $ fsplit3 ! $ feq_l ! (λ e0. move ! (2 ∷ []) $ drop ! $
-    let inside : k < length (words_at cs p) = asked.0 in
-    regoal ! (λ (us : List Val). prop (WpFn 𝓤 H C Λ fn us Post)) (λ i. e0 i ++ (place_is i ++ (are.1.1.0.0 i ++ (are.1.1.1.0.0 i ++ [])))) refl $
-    enter ! C Λ fn (vptr b o ∷ place_val p ∷ vint w64 k ∷ vint w64 x ∷ []) Post $
+    move ! (1 ∷ []) $ heard ! Asked (λ inside. split ! $ use1 𝓛 (‵ (flft κ q) ⊛ ‵ ftrue) (id⊢ 𝓤 _) $ split ! $ move ! (2 ∷ []) $ fsplit ! $ fsplit3 ! $ feq_l ! (λ e0. move ! (2 ∷ []) $ drop ! $
+    regoal ! (λ (us : List Val). prop (WpFn 𝓤 H t.C t.Λ fn us Post)) (λ i. e0 i ++ (place_is i ++ (are.1.1.0.0 i ++ (are.1.1.1.0.0 i ++ [])))) refl $
+    enter ! t.C t.Λ fn (vptr b o ∷ place_val p ∷ vint w64 k ∷ vint w64 x ∷ []) Post $
     alloc_all ! (λ l. pass_all ! refl ((tt, tt), (place_typed [] p, ((tt, record { fits = fk }), ((tt, record { fits = fx }), tt)))) $ let En : Env 𝓤 H = env fn.locals l in
     opens ! tt S.the_row b o (λ us. move ! (1 ∷ []) $ fsplit ! $ move ! (1 ∷ []) $
     -- [the store; the fields; the cell; ..]
     store_knows ! cs p (λ small.
     let offset : k * 8 < 2 ^ 64 = omega (arith, inside, small) in
-    use1 𝓛 (‵ (word_owns (word_ptr p k) w) ⊛ raw (wand 𝓤 (sem 𝓛 (word_owns (word_ptr p k) (number x))) (sem 𝓛 (store_owns (put_word cs p k (number x)))))) (store_take 𝓛 cs p k (number x) inside) $ split ! $
+    use1 𝓛 (‵ (word_owns (word_ptr p k) w) ⊛ raw (wand 𝓤 (sem 𝓛 (word_owns (word_ptr p k) v)) (sem 𝓛 (store_owns (put_word cs p k v))))) (store_take 𝓛 cs p k v inside) $ split ! $
     in_a_block ! p (λ r. word_owns (word_ptr r k) w) (null_word 𝓛 w) (λ pb po ep.
     use1 𝓛 (‵ (froom (ty_int w64) pb (k * 8 + po))) (word_room 𝓛 w pb (k * 8 + po)) $
     sets ! (is ! (of_opd ! (get_in ! (fld ! refl (stop !)) (sub ! 0 refl (whole !)))) (ap ptr_val ep)) refl (tt, tt) $
@@ -75,11 +73,11 @@ set_number_spec 𝓤 𝓛 𝓜 𝓡 wired =
     sets ! (bin ! (get ! refl) (lit ! tt) (record { fits = offset })) refl (tt, record { fits = offset }) $
     sets ! (bin ! (get ! refl) (get ! refl) tt) refl (tt, tt) $
     assigns_last ! (of_opd ! (get ! refl)) (through ! refl (stop !)) (init ! 0 refl (tt, record { fits = fx })) $
-    exec ! C Λ En (after 2 fn.body) (at_ret En Post) $
+    exec ! t.C t.Λ En (after 2 fn.body) (at_ret En Post) $
     sets ! (of_opd ! (unit_lit !)) refl (tt, tt) $
-    use1 𝓛 (‵ (word_owns (word_ptr (block_ptr pb po) k) (number x))) (uint_in 𝓛 full_share w64 x pb (k * 8 + po)) $
-    rewrite ! 0 (λ (r : Ptr). ‵ (word_owns (word_ptr r k) (number x))) (sym ep) refl $
-    use2 𝓛 (‵ (store_owns (put_word cs p k (number x)))) (apply∗ 𝓤 (sem 𝓛 (word_owns (word_ptr p k) (number x))) (sem 𝓛 (store_owns (put_word cs p k (number x))))) $
+    use1 𝓛 (‵ (word_owns (word_ptr (block_ptr pb po) k) v)) (value_in 𝓛 counts x pb (k * 8 + po)) $
+    rewrite ! 0 (λ (r : Ptr). ‵ (word_owns (word_ptr r k) v)) (sym ep) refl $
+    use2 𝓛 (‵ (store_owns (put_word cs p k v))) (apply∗ 𝓤 (sem 𝓛 (word_owns (word_ptr p k) v)) (sem 𝓛 (store_owns (put_word cs p k v)))) $
     move ! (1 ∷ 0 ∷ []) $ fjoin ! $ move ! (1 ∷ 0 ∷ []) $ closes ! tt S.the_row new us b o $
     returns ! (look_at ! 0 refl) $ free_all ! refl $
     -- [obs; bor; token; true]

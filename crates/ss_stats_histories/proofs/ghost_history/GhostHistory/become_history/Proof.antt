@@ -1,4 +1,4 @@
--- `note` sets the ghost field.
+-- `become_history` sets the ghost field.
 use Rattle.std.proofs.Common.{◌≡◌, List, [], ◌∷◌, ◌++◌, refl, w64, of_z}
 use mir.Syntax.{Fn}
 use mir.Val.{Val, vptr, vint, vunit}
@@ -18,19 +18,18 @@ use denote.Triple.Entry.{alive}
 use denote.Triple.Walked.{Stays, stay_ref, stay_dropped, walk_of, Goes-ref, Goes-dropped}
 use denote.Builtin.{i64}
 use denote.Exit.{yes}
-use Rattle.ss_stats.specs.History.{with_noted_value}
 use Rattle.std.proofs.raw_atomic.Walks.{proved_at, leaves}
 use Rattle.ss_stats_histories.specs.contracts.ghost_history.GhostHistory as S
-use Rattle.ss_stats_histories.specs.contracts.ghost_history.GhostHistory.note.{ended, clauses}
-use Rattle.ss_stats_histories.specs.contracts.ghost_history.GhostHistory.note.Key.{name as #self}
-use Rattle.ss_stats_histories.proofs.ghost_history.GhostHistory.note.Statement.{statement}
-use Rattle.ss_stats_histories.proofs.ghost_history.GhostHistory.note.Code as compiled
+use Rattle.ss_stats_histories.specs.contracts.ghost_history.GhostHistory.become_history.{ended, clauses}
+use Rattle.ss_stats_histories.specs.contracts.ghost_history.GhostHistory.become_history.Key.{name as #self}
+use Rattle.ss_stats_histories.proofs.ghost_history.GhostHistory.become_history.Statement.{statement}
+use Rattle.ss_stats_histories.proofs.ghost_history.GhostHistory.become_history.Code as compiled
 
 abbrev stayed : Stays ended.signature.params ended.kept
 stayed = (stay_ref (0 ∷ []) tt (plain (λ _. S.the_row)), (stay_dropped (plain (λ _. i64)) yes, (stay_dropped (plain (λ _. i64)) yes, tt)))
 
-pub note_spec : {M : Type 1} → statement M
-note_spec 𝓤 𝓛 𝓜 𝓡 wired =
+pub become_history_spec : {M : Type 1} → statement M
+become_history_spec 𝓤 𝓛 𝓜 𝓡 wired =
     let H = 𝓛.H in
     let c = clauses 𝓛 𝓜.mem 𝓡.returns in
     let fn : Fn = compiled.function in
@@ -42,8 +41,8 @@ note_spec 𝓤 𝓛 𝓜 𝓡 wired =
     let a = z.0.3 in let vss = z.0.4 in let κ = z.0.0.0 in let q = z.0.1.0 in
     let b = a.0.ref_ptr.0 in let at = a.0.ref_ptr.1 in
     let ms = a.1.0 in let fs = are.1.0.1 in let mo = a.1.1.0 in let fo = are.1.1.0.1 in
-    let new : (S.the_row).Denot = record { history = with_noted_value a.0.now.history ms mo } in
-    let Given : Type 0 = new.history ≡ with_noted_value a.0.now.history ms mo in
+    let new : (S.the_row).Denot = record { history = z.1 } in
+    let Given : Type 0 = new.history ≡ z.1 in
     qed 𝓛 ((raw (alive 𝓛 ended.signature z.0.0 z.0.1) ⊛ ‵ (owns (types_at ended.signature.params z.0.0) a vss)) ∷ ‵ ftrue ∷ []) ∵
     move ! (1 ∷ []) $ drop ! $ split ! $ use1 𝓛 (‵ (flft κ q) ⊛ ‵ ftrue) (id⊢ 𝓤 _) $ split ! $ move ! (2 ∷ []) $ fsplit ! $ fsplit3 ! $ feq_l ! (λ e0. move ! (2 ∷ []) $ drop ! $
     regoal ! (λ (us : List Val). prop (WpFn 𝓤 H C Λ fn us Post)) (λ i. e0 i ++ (are.1.0.0 i ++ (are.1.1.0.0 i ++ []))) refl $
