@@ -36,18 +36,29 @@ fn joined(alloc: Global, first: &[Mode], second: &[Mode]) -> Result<Vec<Mode>, A
     Ok(modes)
 }
 
+/// The local variables of a section: the modes of those that it is given, how many of the others it yields, and the modes of the
+/// others.
+struct Locals {
+    given: Vec<Mode>,
+    yielding: usize,
+    others: Vec<Mode>,
+}
+
 // A section's code comes after what was made so far. Its frame has no room for cells yet.
 fn put_section(
     generator: &mut Generator,
     code: &mut Piece,
     prints: &mut Vec<Lines>,
-    given: Vec<Mode>,
-    yielding: usize,
-    others: Vec<Mode>,
+    locals: Locals,
     body: &[Statement],
 ) -> Result<Entry, AllocError>
-    ensures { IfOk result (λ entry. PutsSection generator.old generator.new code.old code.new prints.old.items prints.new.items (record { place = length code.old.instructions; given = given.items; yielding = yielding; others = others.items }) (view_body body.now) entry) }
+    ensures { IfOk result (λ entry. PutsSection generator.old generator.new code.old code.new prints.old.items prints.new.items (record { place = length code.old.instructions; given = locals.given.items; yielding = locals.yielding; others = locals.others.items }) (view_body body.now) entry) }
 {
+    let Locals {
+        given,
+        yielding,
+        others,
+    } = locals;
     let place = code.len();
     generator.locals = joined(generator.alloc, &given, &others)?;
     let own = generator.section(prints, body)?;
@@ -73,7 +84,12 @@ fn put_main(
     let program = generator.program;
     let others = Vec::from_slice(generator.alloc, &program.locals)?;
     let given = Vec::new(generator.alloc);
-    put_section(generator, code, prints, given, 0, others, &program.main)
+    let locals = Locals {
+        given,
+        yielding: 0,
+        others,
+    };
+    put_section(generator, code, prints, locals, &program.main)
 }
 
 // A routine.
@@ -88,15 +104,12 @@ fn put_routine(
     let given = Vec::from_slice(generator.alloc, &routine.given)?;
     let others = joined(generator.alloc, &routine.yielding, &routine.others)?;
     let yielding = routine.yielding.len();
-    put_section(
-        generator,
-        code,
-        prints,
+    let locals = Locals {
         given,
         yielding,
         others,
-        &routine.body,
-    )
+    };
+    put_section(generator, code, prints, locals, &routine.body)
 }
 
 // The routine of an event.
@@ -110,7 +123,12 @@ fn put_event(
 {
     let given = Vec::from_slice(generator.alloc, &event.given)?;
     let others = Vec::from_slice(generator.alloc, &event.others)?;
-    put_section(generator, code, prints, given, 0, others, &event.body)
+    let locals = Locals {
+        given,
+        yielding: 0,
+        others,
+    };
+    put_section(generator, code, prints, locals, &event.body)
 }
 
 // An entry comes after others.

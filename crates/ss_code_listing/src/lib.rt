@@ -2,4 +2,9 @@
 #![tactic(auto)]
 
 mod detail;
+mod jumps;
 pub mod listing;
+mod looks;
+mod loops;
+mod values;
+mod world;

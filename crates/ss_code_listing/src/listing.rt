@@ -3,7 +3,8 @@
 ghost use Rattle.std.specs.Prelude.{◌≡◌, ◌++◌, length, decimal, IfOk, OnOk};
 ghost use Rattle.ss_code_listing.specs.Listing.{AreLines, IsLine, without_feeds};
 
-use crate::detail::{Detail, Part, detail_of};
+use crate::detail::{Detail, Part};
+use crate::values::detail_of;
 use itoa::Buffer;
 use ss_base::Value;
 use ss_code_instructions::address::Address;

@@ -18,6 +18,14 @@ use ss_machine_entities::population::Population;
 use ss_machine_world::scene::Scene;
 use ss_program::expression::Sign;
 
+/// An attribute that is assigned: its class, its field, and whether it is noted.
+#[derive(Clone, Copy)]
+pub struct Attribute {
+    pub class: u32,
+    pub field: u32,
+    pub noted: bool,
+}
+
 // An attribute is increased or reduced by a number. Faults: 1 to 5, then 14.
 #[inline(always)]
 fn change_whole(
@@ -141,19 +149,17 @@ impl State {
     pub fn set_attribute(
         &mut self,
         here: Here,
-        class: u32,
-        field: u32,
+        attribute: Attribute,
         entity: &Address,
         from: &Address,
-        noted: bool,
     ) -> Option<()>
-        requires { Can here self.old (Instruction.SetAttribute class field entity.now from.now noted) }
-        ensures { Does here self.old self.new (on_after here result) (Instruction.SetAttribute class field entity.now from.now noted) }
+        requires { Can here self.old (Instruction.SetAttribute attribute.class attribute.field entity.now from.now attribute.noted) }
+        ensures { Does here self.old self.new (on_after here result) (Instruction.SetAttribute attribute.class attribute.field entity.now from.now attribute.noted) }
     {
         let (entity, number) = (self.number(here, entity), self.number(here, from));
-        let (class, field) = (class as usize, field as usize);
+        let (class, field) = (attribute.class as usize, attribute.field as usize);
         let answer = assign_number(&mut self.scene, class, field, entity, number);
-        self.assigned(answer, class, field, entity, noted)
+        self.assigned(answer, class, field, entity, attribute.noted)
     }
 
     /// SetTextAttribute.
@@ -180,24 +186,23 @@ impl State {
         self.done(answer)
     }
 
-    /// ChangeAttribute. The attribute is a class and a field of it.
+    /// ChangeAttribute.
     #[inline]
     pub fn change_attribute(
         &mut self,
         here: Here,
         sign: Sign,
-        attribute: (u32, u32),
+        attribute: Attribute,
         entity: &Address,
         by: &Address,
-        noted: bool,
     ) -> Option<()>
-        requires { Can here self.old (Instruction.ChangeAttribute attribute.0 attribute.1 entity.now by.now sign noted) }
-        ensures { Does here self.old self.new (on_after here result) (Instruction.ChangeAttribute attribute.0 attribute.1 entity.now by.now sign noted) }
+        requires { Can here self.old (Instruction.ChangeAttribute attribute.class attribute.field entity.now by.now sign attribute.noted) }
+        ensures { Does here self.old self.new (on_after here result) (Instruction.ChangeAttribute attribute.class attribute.field entity.now by.now sign attribute.noted) }
     {
         let (entity, number) = (self.number(here, entity), self.number(here, by));
-        let (class, field) = (attribute.0 as usize, attribute.1 as usize);
+        let (class, field) = (attribute.class as usize, attribute.field as usize);
         let answer = change(&mut self.scene, sign, class, field, entity, number);
-        self.assigned(answer, class, field, entity, noted)
+        self.assigned(answer, class, field, entity, attribute.noted)
     }
 
     /// Clock.

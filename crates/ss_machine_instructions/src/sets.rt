@@ -21,6 +21,13 @@ use ss_code_instructions::instruction::Instruction;
 use ss_machine_world::scene::Scene;
 use ss_program::expression::{MemberQuery, SetQuery};
 
+/// Where a member is filed: the set, and whether N. of it is noted.
+#[derive(Clone, Copy)]
+pub struct Filing {
+    pub set: u32,
+    pub noted: bool,
+}
+
 // The first member of the set of an owner, 0 for none.
 #[inline(always)]
 fn first_of(scene: &mut Scene, set: usize, owner: i64) -> Result<i64, FaultKind>
@@ -404,19 +411,25 @@ impl State {
     pub fn file_before(
         &mut self,
         here: Here,
-        set: u32,
+        filing: Filing,
         member: &Address,
         beside: &Address,
         owner: &Address,
-        noted: bool,
     ) -> Option<()>
-        requires { Can here self.old (Instruction.FileBeside noted false set member.now beside.now owner.now) }
-        ensures { Does here self.old self.new (on_after here result) (Instruction.FileBeside noted false set member.now beside.now owner.now) }
+        requires { Can here self.old (Instruction.FileBeside filing.noted false filing.set member.now beside.now owner.now) }
+        ensures { Does here self.old self.new (on_after here result) (Instruction.FileBeside filing.noted false filing.set member.now beside.now owner.now) }
     {
         let member = self.number(here, member);
         let beside = self.number(here, beside);
         let owner = self.number(here, owner);
-        let answer = put_before(&mut self.scene, set as usize, owner, member, beside, noted);
+        let answer = put_before(
+            &mut self.scene,
+            filing.set as usize,
+            owner,
+            member,
+            beside,
+            filing.noted,
+        );
         self.done(answer)
     }
 
@@ -425,19 +438,25 @@ impl State {
     pub fn file_after(
         &mut self,
         here: Here,
-        set: u32,
+        filing: Filing,
         member: &Address,
         beside: &Address,
         owner: &Address,
-        noted: bool,
     ) -> Option<()>
-        requires { Can here self.old (Instruction.FileBeside noted true set member.now beside.now owner.now) }
-        ensures { Does here self.old self.new (on_after here result) (Instruction.FileBeside noted true set member.now beside.now owner.now) }
+        requires { Can here self.old (Instruction.FileBeside filing.noted true filing.set member.now beside.now owner.now) }
+        ensures { Does here self.old self.new (on_after here result) (Instruction.FileBeside filing.noted true filing.set member.now beside.now owner.now) }
     {
         let member = self.number(here, member);
         let beside = self.number(here, beside);
         let owner = self.number(here, owner);
-        let answer = put_after(&mut self.scene, set as usize, owner, member, beside, noted);
+        let answer = put_after(
+            &mut self.scene,
+            filing.set as usize,
+            owner,
+            member,
+            beside,
+            filing.noted,
+        );
         self.done(answer)
     }
 

@@ -2,3 +2,4 @@
 #![tactic(auto)]
 
 pub mod events;
+pub mod scheduling;

@@ -6,9 +6,9 @@ use Rattle.ss_code.proofs.generating.put_section.Goals as goal
 
 pub returns : goal.returns
 returns c =
-    let given = c.args.given.items in
-    let others = c.args.others.items in
-    let e : EntryPoint = record { place = length c.args.code.now.instructions; given = given; yielding = c.args.yielding; others = others } in
+    let given = c.args.locals.given.items in
+    let others = c.args.locals.others.items in
+    let e : EntryPoint = record { place = length c.args.code.now.instructions; given = given; yielding = c.args.locals.yielding; others = others } in
     let locals : c.in_ok-generator.field-0.items ≡ given ++ others = c.in_ok-generator.ensures ∙ ap (λ l. l ++ c.deref-2.result.now) c.deref.ensures.value ∙ ap (λ l. given ++ l) c.deref-2.ensures.value in
     let same : c.section.new.self.locals.items ≡ c.in_ok-generator.field-0.items = c.in_ok-own.ensures.code.grows.locals in
     let room : c.len-room.result ≡ length (given ++ others) = omega (arith, c.len-room.ensures, c.section.new.self.locals.ok, ap length (same ∙ locals)) in

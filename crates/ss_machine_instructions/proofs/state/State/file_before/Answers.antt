@@ -8,20 +8,20 @@ use Rattle.ss_machine_instructions.proofs.Setwork.{files_before_in, files_before
 use Rattle.ss_machine_instructions.proofs.state.State.file_before.Goals as goal
 
 pub number-member-requires : goal.number-member-requires
-number-member-requires c = let z = c.requires in (files_before_in z.0 z.1 c.args.here c.args.self.now (Runs c.args.noted false c.args.set c.args.member.now c.args.beside.now c.args.owner.now) z.2 c.args.set c.args.beside.now c.args.member.now c.args.owner.now z.2.runs.carries.1).1.member_place
+number-member-requires c = let z = c.requires in (files_before_in z.0 z.1 c.args.here c.args.self.now (Runs c.args.filing.noted false c.args.filing.set c.args.member.now c.args.beside.now c.args.owner.now) z.2 c.args.filing.set c.args.beside.now c.args.member.now c.args.owner.now z.2.runs.carries.1).1.member_place
 
 pub number-beside-requires : goal.number-beside-requires
-number-beside-requires c = let z = c.requires in (files_before_in z.0 z.1 c.args.here c.args.self.now (Runs c.args.noted false c.args.set c.args.member.now c.args.beside.now c.args.owner.now) z.2 c.args.set c.args.beside.now c.args.member.now c.args.owner.now z.2.runs.carries.1).0
+number-beside-requires c = let z = c.requires in (files_before_in z.0 z.1 c.args.here c.args.self.now (Runs c.args.filing.noted false c.args.filing.set c.args.member.now c.args.beside.now c.args.owner.now) z.2 c.args.filing.set c.args.beside.now c.args.member.now c.args.owner.now z.2.runs.carries.1).0
 
 pub number-owner-requires : goal.number-owner-requires
-number-owner-requires c = let z = c.requires in (files_before_in z.0 z.1 c.args.here c.args.self.now (Runs c.args.noted false c.args.set c.args.member.now c.args.beside.now c.args.owner.now) z.2 c.args.set c.args.beside.now c.args.member.now c.args.owner.now z.2.runs.carries.1).1.owner_place
+number-owner-requires c = let z = c.requires in (files_before_in z.0 z.1 c.args.here c.args.self.now (Runs c.args.filing.noted false c.args.filing.set c.args.member.now c.args.beside.now c.args.owner.now) z.2 c.args.filing.set c.args.beside.now c.args.member.now c.args.owner.now z.2.runs.carries.1).1.owner_place
 
 pub put_before-answer-requires : goal.put_before-answer-requires
-put_before-answer-requires c = let z = c.requires in record { set = (files_before_in z.0 z.1 c.args.here c.args.self.now (Runs c.args.noted false c.args.set c.args.member.now c.args.beside.now c.args.owner.now) z.2 c.args.set c.args.beside.now c.args.member.now c.args.owner.now z.2.runs.carries.1).1.set_place }
+put_before-answer-requires c = let z = c.requires in record { set = (files_before_in z.0 z.1 c.args.here c.args.self.now (Runs c.args.filing.noted false c.args.filing.set c.args.member.now c.args.beside.now c.args.owner.now) z.2 c.args.filing.set c.args.beside.now c.args.member.now c.args.owner.now z.2.runs.carries.1).1.set_place }
 
 pub returns : goal.returns
 returns c = λ w core r.
-    let s = c.args.self.now in let set = c.args.set in let notes = c.args.noted in
+    let s = c.args.self.now in let set = c.args.filing.set in let notes = c.args.filing.noted in
     let n = c.number-member.result in let m = c.number-owner.result in let k = c.number-beside.result in
     let e = c.put_before-answer.new.scene in let q = c.put_before-answer.result in
     let same_n : to_z w64 (of_z w64 n) ≡ n = search rules in
@@ -29,4 +29,4 @@ returns c = λ w core r.
     let same_k : to_z w64 (of_z w64 k) ≡ k = search rules in
     let raw = subst (λ (v : ℤ). Files (JustBefore (Whole v)) set notes s.scene e q (to_z w64 (of_z w64 m)) (to_z w64 (of_z w64 n))) same_k c.put_before-answer.ensures in
     let filed = subst (λ (y : ℤ). Files (JustBefore (Whole k)) set notes s.scene e q y n) same_m (subst (λ (x : ℤ). Files (JustBefore (Whole k)) set notes s.scene e q (to_z w64 (of_z w64 m)) x) same_n raw) in
-    files_before w core c.args.here s (Runs c.args.noted false c.args.set c.args.member.now c.args.beside.now c.args.owner.now) r c.args.set c.args.beside.now c.args.member.now c.args.owner.now k n m notes e q c.done.new.self (on_after c.args.here c.done.result) r.runs.carries.0 r.runs.carries.1 c.number-beside.ensures c.number-member.ensures c.number-owner.ensures filed (c.done.ensures.state, ap (on_after c.args.here) c.done.ensures.way)
+    files_before w core c.args.here s (Runs c.args.filing.noted false c.args.filing.set c.args.member.now c.args.beside.now c.args.owner.now) r c.args.filing.set c.args.beside.now c.args.member.now c.args.owner.now k n m notes e q c.done.new.self (on_after c.args.here c.done.result) r.runs.carries.0 r.runs.carries.1 c.number-beside.ensures c.number-member.ensures c.number-owner.ensures filed (c.done.ensures.state, ap (on_after c.args.here) c.done.ensures.way)
