@@ -44,7 +44,7 @@ use Rattle.ss_machine_notices.specs.Giving.{SettledInWithMemory, MadeIn, Gives}
 use Rattle.ss_machine_instructions.proofs.Placing.{site, located, suits, small, deep_at, deep_here, calm}
 use Rattle.ss_machine_instructions.proofs.Calling.{blocked}
 use Rattle.ss_machine_instructions.proofs.Settling.{fine_right, fine_is, store_is, statistics_seen, fails_on}
-use Rattle.ss_machine_notices.proofs.Scheduling.{refuses}
+use Rattle.ss_machine_notices.proofs.Times.{refuses}
 
 -- a number on top of other cells
 record Topped (cells : List Value) (rest : List Mode) : Type 0 where

@@ -4,7 +4,7 @@ use Rattle.ss_meaning.specs.Events.{unscheduled}
 use Rattle.ss_code_instructions.specs.declared.instruction.Instruction.TheVariants.{Cancel as Runs}
 use Rattle.ss_machine_instructions.specs.Ways.{on_after}
 use Rattle.ss_machine_world.specs.Seen.{Changes}
-use Rattle.ss_machine_notices.proofs.Scheduling.{cancels_in, cancels}
+use Rattle.ss_machine_notices.proofs.Times.{cancels_in, cancels}
 use Rattle.ss_machine_notices.proofs.scheduling.cancel.Goals as goal
 
 pub number-notice-requires : goal.number-notice-requires

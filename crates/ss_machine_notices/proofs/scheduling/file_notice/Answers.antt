@@ -4,7 +4,7 @@ use Rattle.ss_meaning.specs.Events.{filed_notice}
 use Rattle.ss_code_instructions.specs.declared.instruction.Instruction.TheVariants.{FileNotice as Runs}
 use Rattle.ss_machine_instructions.specs.Ways.{on_after}
 use Rattle.ss_machine_world.specs.Seen.{ChangesWithMemory}
-use Rattle.ss_machine_notices.proofs.Scheduling.{file_notice_in, file_notices}
+use Rattle.ss_machine_notices.proofs.Times.{file_notice_in, file_notices}
 use Rattle.ss_machine_notices.proofs.scheduling.file_notice.Goals as goal
 
 pub number-notice-requires : goal.number-notice-requires

@@ -5,7 +5,7 @@ use Rattle.ss_code_instructions.specs.Machine.{act, is_due}
 use Rattle.ss_machine_instructions.specs.Ways.{on_after}
 use Rattle.ss_machine_world.specs.Seen.{Looks}
 use Rattle.ss_machine_instructions.proofs.Placing.{calm}
-use Rattle.ss_machine_notices.proofs.Scheduling.{at_in, ats}
+use Rattle.ss_machine_notices.proofs.Times.{at_in, ats}
 use Rattle.ss_machine_notices.proofs.scheduling.time_at.Goals as goal
 
 pub number-time-requires : goal.number-time-requires

@@ -5,7 +5,7 @@ use Rattle.ss_machine_instructions.specs.Ways.{on_after}
 use Rattle.ss_machine_events.specs.Scheduled.{time_after}
 use Rattle.ss_machine_world.specs.Seen.{Looks}
 use Rattle.ss_machine_instructions.proofs.Placing.{calm}
-use Rattle.ss_machine_notices.proofs.Scheduling.{in_in, ins}
+use Rattle.ss_machine_notices.proofs.Times.{in_in, ins}
 use Rattle.ss_machine_notices.proofs.scheduling.time_in.Goals as goal
 
 pub number-units-requires : goal.number-units-requires
