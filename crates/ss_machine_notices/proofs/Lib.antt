@@ -1,6 +1,6 @@
 pub mod Giving
 pub mod Notices
-pub mod Scheduling
+pub mod Times
 pub mod Receiving
 pub mod Beginning
 pub mod Begun
