@@ -246,7 +246,7 @@ fn are_given_back(alloc: Global, heap: &mut Heap) -> bool {
 }
 
 // Files a job in the pool in the order of coming.
-fn queue(heap: &mut Heap, x: i64) -> Option<Result<(), FaultKind>> {
+fn come_last(heap: &mut Heap, x: i64) -> Option<Result<(), FaultKind>> {
     let layout = heap.layout();
     if POOL >= layout.sets.len() || !fits(layout, POOL, &Discipline::Fifo) {
         return None;
@@ -257,7 +257,7 @@ fn queue(heap: &mut Heap, x: i64) -> Option<Result<(), FaultKind>> {
 // Whether a thousand jobs are filed in that order, each in 4 to 16 touches.
 fn are_queued(alloc: Global, heap: &mut Heap) -> bool {
     for x in 1..1001 {
-        if !is_created(alloc, heap, JOB, x) || queue(heap, x) != Some(Ok(())) {
+        if !is_created(alloc, heap, JOB, x) || come_last(heap, x) != Some(Ok(())) {
             return false;
         }
         let touches = heap.touches();
