@@ -9,14 +9,14 @@ type Answer = Result<usize, ErrorKind>;
 
 // It answers four calls so and fails after them, and counts how often it was called and how long the last buffer was.
 #[derive(Drop)]
-struct Recording {
+pub struct Recording {
     answers: [Answer; 4],
     calls: usize,
     room: usize,
 }
 
 impl Recording {
-    fn new(answers: [Answer; 4]) -> Recording {
+    pub fn new(answers: [Answer; 4]) -> Recording {
         Recording {
             answers,
             calls: 0,

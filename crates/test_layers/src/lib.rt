@@ -15,3 +15,5 @@ mod orders;
 mod pictures;
 #[cfg(test)]
 mod records;
+#[cfg(test)]
+mod sinks;
