@@ -176,9 +176,12 @@ impl<'a> Book<'a> {
     fn begin_with_text(&mut self, name: &str) -> Result<(), Wrong> {
         let name = named(name)?;
         self.settle()?;
-        match self.cases.last_mut() {
-            Some(case) => begin_with(case, text_named(&self.texts, name)),
-            None => Err(Wrong::NoCase),
+        let Some(case) = self.cases.last_mut() else {
+            return Err(Wrong::NoCase);
+        };
+        match text_named(&self.texts, name) {
+            Some(text) => case.begin_model(text),
+            None => Err(Wrong::NoText),
         }
     }
 
@@ -188,8 +191,11 @@ impl<'a> Book<'a> {
             return Err(Wrong::Directive);
         }
         self.settle()?;
-        match self.cases.split_last_mut() {
-            Some((case, earlier)) => begin_as_last(case, earlier),
+        let Some((case, earlier)) = self.cases.split_last_mut() else {
+            return Err(Wrong::NoCaseBefore);
+        };
+        match earlier.last() {
+            Some(before) => case.begin_model(&before.model),
             None => Err(Wrong::NoCaseBefore),
         }
     }
@@ -245,36 +251,13 @@ fn text_named<'b>(texts: &'b [Text<'_>], name: &str) -> Option<&'b [u8]> {
     None
 }
 
-// Begins the model of a case with a text, if there is one.
-fn begin_with(case: &mut Case<'_>, text: Option<&[u8]>) -> Result<(), Wrong> {
-    match text {
-        Some(text) => case.begin_model(text),
-        None => Err(Wrong::NoText),
-    }
-}
-
-// Begins the model of a case with that of the last of the earlier ones.
-fn begin_as_last(case: &mut Case<'_>, earlier: &[Case<'_>]) -> Result<(), Wrong> {
-    match earlier.last() {
-        Some(before) => case.begin_model(&before.model),
-        None => Err(Wrong::NoCaseBefore),
-    }
-}
-
 // What is wrong with words that say something of no case.
 fn said_of_none(alloc: Global, topic: DirectiveTopic, words: &str) -> Result<(), Wrong> {
     let mut case = Case::new(alloc, "", 0);
-    take_down_of_none(&mut case, topic, words)
-}
-
-// What is wrong with words about this case, which is none.
-fn take_down_of_none<'a>(
-    case: &mut Case<'a>,
-    topic: DirectiveTopic,
-    words: &'a str,
-) -> Result<(), Wrong> {
-    case.take_down(topic, words)?;
-    Err(Wrong::NoCase)
+    match case.take_down(topic, words) {
+        Ok(()) => Err(Wrong::NoCase),
+        Err(wrong) => Err(wrong),
+    }
 }
 
 // Adds what is wrong with a line, if anything is.

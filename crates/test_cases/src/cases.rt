@@ -1,6 +1,6 @@
 //! Cases: a whole text each, and what is wanted of it.
 
-use crate::content::{LinePlace, place_of_line};
+use crate::content::place_of_line;
 use crate::directive::DirectiveTopic;
 use crate::ending::Ending;
 use crate::words::{SessionCall, StreamPlan, number, numbers, reader, short_numbers, writer};
@@ -135,22 +135,16 @@ impl<'a> Case<'a> {
     pub fn begin_part(&mut self, part: Part) {
         match part {
             Part::Model => {}
-            Part::Input => self.input.clear(),
-            Part::Report => self.report.clear(),
+            Part::Input | Part::Report => self.content(part).clear(),
         }
     }
 
     /// Cuts the model before the line of this number, counted from 1. What comes after that line
     /// comes back with `end_line`.
     pub fn begin_line(&mut self, number: u64) -> Result<(), Wrong> {
-        match place_of_line(&self.model, number) {
-            Some(place) => self.cut(place),
-            None => Err(Wrong::NoLine),
-        }
-    }
-
-    // Cuts the model before a line, and sets aside what comes after that.
-    fn cut(&mut self, line: LinePlace) -> Result<(), Wrong> {
+        let Some(line) = place_of_line(&self.model, number) else {
+            return Err(Wrong::NoLine);
+        };
         if let Some(rest) = self.model.get(line.end..) {
             self.rest.extend_from_slice(rest)?;
         }
@@ -193,10 +187,7 @@ impl<'a> Case<'a> {
 
     /// What the writer does.
     pub fn writer(&self) -> StreamPlan {
-        match self.writer {
-            Some(plan) => plan,
-            None => StreamPlan::smooth(WRITTEN_PER_CALL),
-        }
+        self.writer.unwrap_or(StreamPlan::smooth(WRITTEN_PER_CALL))
     }
 
     /// How often the reader and the writer fail in all.

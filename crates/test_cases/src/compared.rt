@@ -1,23 +1,50 @@
-//! The results of a case, beside those that are wanted.
+//! The results of a case that are not the wanted ones, in words.
 
-use crate::came::Came;
 use crate::cases::Case;
-use crate::found::{add_call, add_count, add_ending, add_line};
+use crate::ending::Ending;
 use crate::streams::CaseStreams;
 use crate::words::SessionCall;
 use ss_base::Faulty;
 use std::alloc::AllocError;
+use std::fmt;
+
+// Parts what is added next from what was found before.
+fn part(found: &mut String) -> Result<(), AllocError> {
+    if !found.is_empty() {
+        found.push_str("; ")?;
+    }
+    Ok(())
+}
 
 /// Notes where an ending is not the one that is wanted.
 pub fn compare_ending(
     case: &Case<'_>,
-    came: Came<'_>,
+    came: Ending<'_>,
     found: &mut String,
 ) -> Result<(), AllocError> {
     match case.ending {
-        Some(ending) if !came.meets(ending) => add_ending(found, ending, came),
+        Some(wanted) if !came.meets(wanted) => {
+            part(found)?;
+            write!(found, "wanted {wanted}, came {came}")
+        }
         _ => Ok(()),
     }
+}
+
+/// Notes the end of the beginning of the model with so many bytes.
+pub fn add_cut_short(
+    found: &mut String,
+    length: usize,
+    came: Ending<'_>,
+) -> Result<(), AllocError> {
+    part(found)?;
+    write!(found, "cut short to {length} bytes: came {came}")
+}
+
+/// Notes that there is no session, but this.
+pub fn add_no_session(found: &mut String, came: &str) -> Result<(), AllocError> {
+    part(found)?;
+    write!(found, "wanted a session, came {came}")
 }
 
 /// Notes where the line that a call of the session answers, counted from 1, is not the one that is
@@ -25,13 +52,15 @@ pub fn compare_ending(
 pub fn compare_call(
     number: u64,
     call: SessionCall<'_>,
-    line: &str,
+    came: &str,
     found: &mut String,
 ) -> Result<(), AllocError> {
-    if line == call.line {
+    let wanted = call.line;
+    if came == wanted {
         return Ok(());
     }
-    add_call(found, number, call.line, line)
+    part(found)?;
+    write!(found, "call {number}: wanted {wanted}, came {came}")
 }
 
 /// Notes where ticks that are looked at are not those that were used.
@@ -52,7 +81,8 @@ fn compare_count(
     if wanted == came {
         return Ok(());
     }
-    add_count(found, wanted, came, counted)
+    part(found)?;
+    write!(found, "wanted {wanted} {counted}, came {came}")
 }
 
 /// Notes what a reader and a writer show that is not wanted: how often they failed, and the report.
@@ -82,4 +112,32 @@ fn compare_reports(wanted: &[u8], came: &[u8], found: &mut String) -> Result<(),
         number = number.saturating_add(1);
     }
     add_line(found, number, None, rest.next())
+}
+
+// Notes a line of the report, counted from 1.
+fn add_line(
+    found: &mut String,
+    line: u64,
+    wanted: Option<&[u8]>,
+    came: Option<&[u8]>,
+) -> Result<(), AllocError> {
+    part(found)?;
+    let (wanted, came) = (Shown(wanted), Shown(came));
+    write!(
+        found,
+        "line {line} of the report: wanted {wanted}, came {came}"
+    )
+}
+
+// A line of a report as it is shown, if it is there.
+#[derive(Clone, Copy)]
+struct Shown<'a>(Option<&'a [u8]>);
+
+impl fmt::Display for Shown<'_> {
+    fn fmt<W: fmt::Write>(&self, f: &mut fmt::Formatter<W>) -> fmt::Result {
+        match self.0 {
+            Some(line) => write!(f, "\"{}\"", line.escape_ascii()),
+            None => f.write_str("no line"),
+        }
+    }
 }

@@ -28,14 +28,9 @@ impl<'a> Content<'a> {
     /// Adds the bytes of this line to these.
     pub fn add_to(self, alloc: Global, bytes: &mut Vec<u8>) -> Result<(), Wrong> {
         let mut piece = Vec::new(alloc);
-        self.add_through(&mut piece, bytes)
-    }
-
-    // Reads the text into an empty piece, and adds that to the bytes as often as it is repeated.
-    fn add_through(self, piece: &mut Vec<u8>, bytes: &mut Vec<u8>) -> Result<(), Wrong> {
-        unescape(self.text, piece)?;
+        unescape(self.text, &mut piece)?;
         for _ in 0..self.times {
-            bytes.extend_from_slice(piece)?;
+            bytes.extend_from_slice(&piece)?;
         }
         bytes.extend_from_slice(self.end)?;
         Ok(())
@@ -63,10 +58,8 @@ fn repeated(text: &[u8], times: u64) -> Content<'_> {
 // N > and a text.
 fn counted(line: &str) -> Option<Content<'_>> {
     let (count, text) = line.split_once(" > ")?;
-    match count.parse::<u64>() {
-        Ok(times) => Some(repeated(text.as_bytes(), times)),
-        Err(_) => None,
-    }
+    let times = count.parse::<u64>().ok()?;
+    Some(repeated(text.as_bytes(), times))
 }
 
 /// What was read of an escape.

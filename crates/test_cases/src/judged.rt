@@ -1,9 +1,8 @@
 //! Texts judged without a run.
 
-use crate::came::{Came, line_in};
 use crate::cases::Case;
-use crate::compared::compare_ending;
-use crate::found::add_cut_short;
+use crate::compared::{add_cut_short, compare_ending};
+use crate::ending::{Ending, line_in};
 use crate::simulator::Simulator;
 use std::alloc::{AllocError, Global};
 
@@ -15,7 +14,7 @@ pub fn judge_tree<S: Simulator>(
     found: &mut String,
 ) -> Result<(), AllocError> {
     match simulator.tree(alloc, &case.model) {
-        Ok(counts) => compare_ending(case, Came::Tree(counts), found),
+        Ok(counts) => compare_ending(case, Ending::Tree(counts), found),
         Err(refusal) => compare_outcome(alloc, simulator, case, refusal, found),
     }
 }
@@ -29,7 +28,7 @@ pub fn judge_rules<S: Simulator>(
     found: &mut String,
 ) -> Result<(), AllocError> {
     match simulator.refusal(alloc, &case.model) {
-        None => compare_ending(case, Came::Kept, found),
+        None => compare_ending(case, Ending::Kept, found),
         Some(refusal) => compare_outcome(alloc, simulator, case, refusal, found),
     }
 }
@@ -43,7 +42,7 @@ pub fn compare_outcome<S: Simulator>(
     found: &mut String,
 ) -> Result<(), AllocError> {
     let printed = simulator.printed(alloc, outcome)?;
-    compare_ending(case, Came::Line(line_in(&printed)), found)
+    compare_ending(case, Ending::Line(line_in(&printed)), found)
 }
 
 /// Notes the first proper beginning of a model that isn't refused by one of these numbers.
@@ -68,21 +67,16 @@ pub fn cut_short<S: Simulator>(
 
 // Whether a text was refused by one of these numbers.
 fn is_one_of<S: Simulator>(simulator: &S, came: Option<S::Outcome>, refusals: &[u64]) -> bool {
-    match came {
-        Some(refusal) => has_number(simulator.refusal_number(refusal), refusals),
+    let Some(refusal) = came else {
+        return false;
+    };
+    match simulator.refusal_number(refusal) {
+        Some(number) => refusals.contains(&number),
         None => false,
     }
 }
 
-// Whether there is a number, and these have it.
-fn has_number(number: Option<u64>, numbers: &[u64]) -> bool {
-    match number {
-        Some(number) => numbers.contains(&number),
-        None => false,
-    }
-}
-
-// Adds the result for the beginning of a model with so many bytes.
+// Notes what comes of the beginning of a model with so many bytes.
 fn report_cut_short<S: Simulator>(
     alloc: Global,
     simulator: &S,
@@ -90,20 +84,9 @@ fn report_cut_short<S: Simulator>(
     came: Option<S::Outcome>,
     found: &mut String,
 ) -> Result<(), AllocError> {
-    match came {
-        Some(refusal) => report_cut_refused(alloc, simulator, length, refusal, found),
-        None => add_cut_short(found, length, Came::Kept),
-    }
-}
-
-// Notes the refusal of the beginning of a model with so many bytes.
-fn report_cut_refused<S: Simulator>(
-    alloc: Global,
-    simulator: &S,
-    length: usize,
-    refusal: S::Outcome,
-    found: &mut String,
-) -> Result<(), AllocError> {
+    let Some(refusal) = came else {
+        return add_cut_short(found, length, Ending::Kept);
+    };
     let printed = simulator.printed(alloc, refusal)?;
-    add_cut_short(found, length, Came::Line(line_in(&printed)))
+    add_cut_short(found, length, Ending::Line(line_in(&printed)))
 }

@@ -2,14 +2,12 @@
 #![tactic(auto)]
 
 mod book;
-mod came;
 mod cases;
 mod compared;
 mod content;
 mod directive;
 mod ending;
 mod files;
-mod found;
 mod judged;
 mod messages;
 mod score;
@@ -20,7 +18,7 @@ mod trial;
 mod words;
 mod wrong;
 
-pub use ending::{TreeCounts, counted};
+pub use ending::TreeCounts;
 pub use files::try_files;
 pub use score::Score;
 pub use simulator::Simulator;

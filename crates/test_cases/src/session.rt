@@ -1,9 +1,8 @@
 //! Cases run as sessions.
 
-use crate::came::line_in;
 use crate::cases::Case;
-use crate::compared::{compare_call, compare_streams, compare_used};
-use crate::found::add_no_session;
+use crate::compared::{add_no_session, compare_call, compare_streams, compare_used};
+use crate::ending::line_in;
 use crate::simulator::Simulator;
 use crate::streams::CaseStreams;
 use crate::words::SessionCall;
@@ -44,18 +43,10 @@ fn run_started<S: Simulator>(
 ) -> Result<(), AllocError> {
     let called = run_calls(alloc, simulator, case, &mut session, found);
     let streams = simulator.close(session);
-    compare_closed(called, case, &streams, found)
-}
-
-// Notes what the streams of a session show that is not wanted, where its calls were looked at.
-fn compare_closed(
-    called: Result<(), AllocError>,
-    case: &Case<'_>,
-    streams: &CaseStreams,
-    found: &mut String,
-) -> Result<(), AllocError> {
-    called?;
-    compare_streams(case, streams, found)
+    match called {
+        Ok(()) => compare_streams(case, &streams, found),
+        Err(error) => Err(error),
+    }
 }
 
 // Runs a session call by call, and notes what comes that is not wanted.

@@ -19,15 +19,6 @@ impl CaseStreams {
     /// The streams of a case before its run.
     pub fn new(alloc: Global, case: &Case<'_>, plan: Plan) -> Result<CaseStreams, AllocError> {
         let reader = MemoryRead::new(alloc, &case.input, plan)?;
-        CaseStreams::of_reader(alloc, case, reader)
-    }
-
-    // The streams of a case with this reader.
-    fn of_reader(
-        alloc: Global,
-        case: &Case<'_>,
-        reader: MemoryRead,
-    ) -> Result<CaseStreams, AllocError> {
         let StreamPlan { plan, trouble } = case.writer();
         let room = case.report.len().saturating_add(MORE_ROOM);
         let writer = MemoryWrite::new(alloc, room, plan, trouble)?;

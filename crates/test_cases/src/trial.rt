@@ -39,22 +39,11 @@ pub fn tried<S: Simulator>(
         found: String::new(alloc),
         reader: None,
     };
-    try_into(alloc, simulator, case, &mut verdict)?;
-    Ok(verdict)
-}
-
-// Tries a case, and notes how it fared.
-fn try_into<S: Simulator>(
-    alloc: Global,
-    simulator: &S,
-    case: &Case<'_>,
-    verdict: &mut Verdict,
-) -> Result<(), AllocError> {
-    judge(alloc, simulator, case, verdict)?;
-    match &case.cut_short {
-        Some(refusals) => { cut_short(alloc, simulator, &case.model, refusals, &mut verdict.found) }
-        None => Ok(()),
+    judge(alloc, simulator, case, &mut verdict)?;
+    if let Some(refusals) = &case.cut_short {
+        cut_short(alloc, simulator, &case.model, refusals, &mut verdict.found)?;
     }
+    Ok(verdict)
 }
 
 // Judges a case by what is to judge it.
@@ -71,26 +60,22 @@ fn judge<S: Simulator>(
     }
 }
 
-// Runs a case with each of its readers up to the first with which something differs, and notes that
-// reader's bytes a call.
+// Runs a case with its reader, or with the usual ones.
 fn run_with_readers<S: Simulator>(
     alloc: Global,
     simulator: &S,
     case: &Case<'_>,
     verdict: &mut Verdict,
 ) -> Result<(), AllocError> {
+    let usual = [Plan::smooth(1), Plan::smooth(7), Plan::smooth(4096)];
     match case.reader {
         Some(reader) => run_with_plans(alloc, simulator, case, &[reader.plan], verdict),
-        None => run_with_plans(alloc, simulator, case, &usual_readers(), verdict),
+        None => run_with_plans(alloc, simulator, case, &usual, verdict),
     }
 }
 
-// What the readers do that a case is tried with in turn that names none.
-fn usual_readers() -> [Plan; 3] {
-    [Plan::smooth(1), Plan::smooth(7), Plan::smooth(4096)]
-}
-
-// Runs a case with readers of each of these plans, as above.
+// Runs a case with readers of each of these plans up to the first with which something differs, and notes that
+// reader's bytes a call.
 fn run_with_plans<S: Simulator>(
     alloc: Global,
     simulator: &S,

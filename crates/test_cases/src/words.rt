@@ -6,10 +6,7 @@ use std::alloc::Global;
 
 /// The first word of some words, and the others.
 pub fn first_word(words: &str) -> (&str, &str) {
-    match words.split_once(' ') {
-        Some(parts) => parts,
-        None => (words, ""),
-    }
+    words.split_once(' ').unwrap_or((words, ""))
 }
 
 /// A name, which may be several words.
@@ -22,31 +19,16 @@ pub fn named(name: &str) -> Result<&str, Wrong> {
 
 /// A whole number.
 pub fn number(word: &str) -> Result<u64, Wrong> {
-    match word.parse::<u64>() {
-        Ok(number) => Ok(number),
-        Err(_) => Err(Wrong::Number),
-    }
+    word.parse::<u64>().map_err(|_| Wrong::Number)
 }
 
 /// Whole numbers, one at least.
 pub fn numbers(alloc: Global, words: &str) -> Result<Vec<u64>, Wrong> {
     let mut numbers = Vec::new(alloc);
-    add_numbers(&mut numbers, words)?;
-    Ok(numbers)
-}
-
-// Adds whole numbers, one at least.
-fn add_numbers(numbers: &mut Vec<u64>, words: &str) -> Result<(), Wrong> {
     for word in words.split(' ') {
-        add_number(numbers, word)?;
+        numbers.push(number(word)?)?;
     }
-    Ok(())
-}
-
-// Adds a whole number.
-fn add_number(numbers: &mut Vec<u64>, word: &str) -> Result<(), Wrong> {
-    numbers.push(number(word)?)?;
-    Ok(())
+    Ok(numbers)
 }
 
 /// Short N ..
@@ -59,10 +41,7 @@ pub fn short_numbers(alloc: Global, words: &str) -> Result<Vec<u64>, Wrong> {
 
 // A count of bytes, or of calls.
 fn size(word: &str) -> Result<usize, Wrong> {
-    match word.parse::<usize>() {
-        Ok(size) => Ok(size),
-        Err(_) => Err(Wrong::Number),
-    }
+    word.parse::<usize>().map_err(|_| Wrong::Number)
 }
 
 /// What a reader or a writer does at its calls.
@@ -101,16 +80,8 @@ struct Phrase {
     start: Start,
 }
 
-/// What goes wrong with a reader.
-static READER_PHRASES: [Phrase; 1] = [Phrase {
-    before: "fails from call ",
-    after: "",
-    trouble: WriteFailure::Error,
-    start: Start::Call,
-}];
-
-/// What goes wrong with a writer.
-static WRITER_PHRASES: [Phrase; 4] = [
+/// What goes wrong with a writer. The first goes wrong with a reader too.
+static PHRASES: [Phrase; 4] = [
     Phrase {
         before: "fails from call ",
         after: "",
@@ -159,12 +130,12 @@ impl Phrase {
 
 /// N, or N fails from call K.
 pub fn reader(words: &str) -> Result<StreamPlan, Wrong> {
-    stream(words, &READER_PHRASES, Wrong::Reader)
+    stream(words, &PHRASES[..1], Wrong::Reader)
 }
 
 /// N, or N and what goes wrong, and when.
 pub fn writer(words: &str) -> Result<StreamPlan, Wrong> {
-    stream(words, &WRITER_PHRASES, Wrong::Writer)
+    stream(words, &PHRASES, Wrong::Writer)
 }
 
 // N, or N and one of these phrases.
@@ -195,25 +166,17 @@ pub struct SessionCall<'a> {
 impl<'a> SessionCall<'a> {
     /// N LINE, or N LINE, used U.
     pub fn of(words: &'a str) -> Result<SessionCall<'a>, Wrong> {
-        match words.split_once(' ') {
-            Some((ticks, answer)) => answered(number(ticks)?, answer),
-            None => Err(Wrong::Run),
+        let Some((ticks, answer)) = words.split_once(' ') else {
+            return Err(Wrong::Run);
+        };
+        let ticks = number(ticks)?;
+        let (line, used) = match answer.rsplit_once(", used ") {
+            Some((line, used)) => (line, Some(number(used)?)),
+            None => (answer, None),
+        };
+        if line.is_empty() {
+            return Err(Wrong::Run);
         }
+        Ok(SessionCall { ticks, line, used })
     }
-}
-
-// LINE, or LINE, used U.
-fn answered(ticks: u64, answer: &str) -> Result<SessionCall<'_>, Wrong> {
-    match answer.rsplit_once(", used ") {
-        Some((line, used)) => call_of(ticks, line, Some(number(used)?)),
-        None => call_of(ticks, answer, None),
-    }
-}
-
-// A call, where it has a line.
-fn call_of(ticks: u64, line: &str, used: Option<u64>) -> Result<SessionCall<'_>, Wrong> {
-    if line.is_empty() {
-        return Err(Wrong::Run);
-    }
-    Ok(SessionCall { ticks, line, used })
 }

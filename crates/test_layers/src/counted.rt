@@ -1,4 +1,5 @@
-use crate::base::{gives, takes};
+//! A counted stream makes one call of the stream inside. One that retries makes it again where a signal interrupted it.
+
 use simscript_order::Retrying;
 use ss_base::{Counted, Faulty, FaultyRead, FaultyWrite};
 use std::io::{self, ErrorKind};
@@ -8,14 +9,14 @@ type Answer = Result<usize, ErrorKind>;
 
 // It answers four calls so and fails after them, and counts how often it was called and how long the last buffer was.
 #[derive(Drop)]
-struct Recording {
+pub struct Recording {
     answers: [Answer; 4],
     calls: usize,
     room: usize,
 }
 
 impl Recording {
-    fn new(answers: [Answer; 4]) -> Recording {
+    pub fn new(answers: [Answer; 4]) -> Recording {
         Recording {
             answers,
             calls: 0,
@@ -69,33 +70,42 @@ fn is_answer(given: &io::Result<usize>, wanted: Answer) -> bool {
     }
 }
 
-static ANSWERS: [Answer; 6] = [
-    Ok(0),
-    Ok(2),
-    Ok(5),
-    Err(ErrorKind::Interrupted),
-    Err(ErrorKind::WouldBlock),
-    Err(ErrorKind::Other),
+// What the stream inside answers, and how many failures that is for a read and for a write.
+type Row = (Answer, u64, u64);
+
+static ANSWERS: [Row; 6] = [
+    (Ok(0), 0, 1),
+    (Ok(2), 0, 0),
+    (Ok(5), 0, 0),
+    (Err(ErrorKind::Interrupted), 1, 1),
+    (Err(ErrorKind::WouldBlock), 1, 1),
+    (Err(ErrorKind::Other), 1, 1),
 ];
 
-// Whether each read is one read of the reader inside, with the whole buffer, and answers the same.
-fn are_single_reads(answers: &[Answer]) -> bool {
-    for answer in answers {
+// Whether each read is one read of the reader inside, with the whole buffer, answers the same, and is counted.
+fn are_single_reads(rows: &[Row]) -> bool {
+    for (answer, failures, _) in rows {
         let mut reader = Counted::new(Recording::new([*answer; 4]));
         let given = reader.read_some(&mut [0; 5]);
-        if !is_answer(&given, *answer) || !reader.into_inner().was_called_once(5) {
+        if !is_answer(&given, *answer)
+            || reader.faults() != *failures
+            || !reader.into_inner().was_called_once(5)
+        {
             return false;
         }
     }
     true
 }
 
-// Whether each write is one write of the writer inside, with all bytes, and answers the same.
-fn are_single_writes(answers: &[Answer]) -> bool {
-    for answer in answers {
+// Whether each write is one write of the writer inside, with all bytes, answers the same, and is counted.
+fn are_single_writes(rows: &[Row]) -> bool {
+    for (answer, _, failures) in rows {
         let mut writer = Counted::new(Recording::new([*answer; 4]));
         let taken = writer.write_some(b"HELLO");
-        if !is_answer(&taken, *answer) || !writer.into_inner().was_called_once(5) {
+        if !is_answer(&taken, *answer)
+            || writer.faults() != *failures
+            || !writer.into_inner().was_called_once(5)
+        {
             return false;
         }
     }
@@ -110,36 +120,6 @@ fn a_counted_read_is_one_read(rt: HostRuntime) {
 #[test]
 fn a_counted_write_is_one_write(rt: HostRuntime) {
     assert!(rt; are_single_writes(&ANSWERS));
-}
-
-static HELL: [Option<&[u8]>; 1] = [Some(b"HELL")];
-
-// Whether a reader counts no failure, and goes on after what was read.
-fn counts_none(mut reader: Counted<&'static [u8]>) -> bool {
-    let counted = gives(&mut reader, &HELL) && reader.faults() == 0;
-    let rest = reader.into_inner();
-    counted && rest == b"O".as_slice()
-}
-
-#[test]
-fn counted_readers_count_what_failed(rt: HostRuntime) {
-    assert!(rt; counts_none(Counted::new(b"HELLO".as_slice())));
-}
-
-// Whether a writer that takes two bytes, two more and none, and then fails, counts the last two calls.
-fn counts_two(mut writer: Counted<Recording>) -> bool {
-    takes(&mut writer, b"HELLO", &[Some(2), Some(2)])
-        && writer.faults() == 0
-        && takes(&mut writer, b"HELLO", &[Some(0)])
-        && writer.faults() == 1
-        && takes(&mut writer, b"HELLO", &[None])
-        && writer.faults() == 2
-}
-
-#[test]
-fn counted_writers_count_what_failed(rt: HostRuntime) {
-    let narrow = Recording::new([Ok(2), Ok(2), Ok(0), Err(ErrorKind::Other)]);
-    assert!(rt; counts_two(Counted::new(narrow)));
 }
 
 // A stream that a signal interrupts twice, and that then passes two bytes.
@@ -159,18 +139,14 @@ fn reads_again(mut reader: Counted<Retrying<Recording>>) -> bool {
 
 // Whether a write that a signal interrupts is made again, and counts as no failure; another error is handed on.
 fn writes_again(mut writer: Counted<Retrying<Recording>>) -> bool {
-    takes(&mut writer, b"HELLO", &[Some(2)])
+    is_answer(&writer.write_some(b"HELLO"), Ok(2))
         && writer.faults() == 0
-        && takes(&mut writer, b"HELLO", &[None])
+        && is_answer(&writer.write_some(b"HELLO"), Err(ErrorKind::Other))
         && writer.faults() == 1
 }
 
 #[test]
-fn an_interrupted_read_is_made_again(rt: HostRuntime) {
+fn an_interrupted_call_is_made_again(rt: HostRuntime) {
     assert!(rt; reads_again(interrupted_twice()));
-}
-
-#[test]
-fn an_interrupted_write_is_made_again(rt: HostRuntime) {
     assert!(rt; writes_again(interrupted_twice()));
 }

@@ -1,8 +1,6 @@
-//! Worked examples of the calls of single layers, and each of their public calls once.
+//! What no contract of a layer says: how streams are called, what calls cost, and that they succeed where memory is ample.
 #![tactic(auto)]
 
-#[cfg(test)]
-mod base;
 #[cfg(test)]
 mod counted;
 #[cfg(test)]
@@ -18,8 +16,4 @@ mod pictures;
 #[cfg(test)]
 mod records;
 #[cfg(test)]
-mod sets;
-#[cfg(test)]
-mod stats;
-#[cfg(test)]
-mod titles;
+mod sinks;

@@ -1,14 +1,8 @@
-//! Values, sets, notices, statistics and pictures, each by a call or two.
+//! Values, notices, statistics and pictures, each by a call or two.
 
-use crate::records::with_jobs;
-use ss_base::{
-    Alpha, ClassKind, ClassLayout, Discipline, FaultKind, Layout, Mode, Owner, RankKey, RankKeys,
-    Refused, SetLayout, Value, div_f, minus, mod_f, plus, times,
-};
+use ss_base::{Alpha, FaultKind, Mode, Refused, Value, div_f, minus, mod_f, plus, times};
 use ss_events::{Key, Pending, Tie, TieShape};
-use ss_picture::{Item, Picture};
-use ss_records::Heap;
-use ss_sets::{file, fits, is_in, remove_first, remove_last};
+use ss_picture::{Field, Item, Picture};
 use ss_stats::Totals;
 use std::alloc::{AllocError, Global};
 use std::test::Fail;
@@ -24,11 +18,10 @@ fn numbers_are_calculated(rt: HostRuntime) {
 }
 
 #[test]
-fn texts_are_short(rt: HostRuntime) {
-    assert_eq!(rt; Alpha::of(b"BOX  "), Alpha::of(b"BOX"));
-    assert_eq!(rt; Alpha::of(b"A\tB"), None);
-    assert_eq!(rt; Value::Whole(0).mode(), Mode::Integer);
-    assert_eq!(rt; Value::Text(Alpha::empty()).mode(), Mode::Alpha);
+fn faults_have_numbers_and_words(rt: HostRuntime) {
+    assert_eq!(rt; FaultKind::BadCount.number(), 22);
+    assert_eq!(rt; FaultKind::BadCount.text(), "BAD COUNT");
+    assert_eq!(rt; Refused::from(AllocError), Refused::Memory);
 }
 
 // Whether these bytes are a text, and it has them but for the blanks at their end.
@@ -40,116 +33,11 @@ fn is_kept(bytes: &[u8], kept: &[u8]) -> bool {
 }
 
 #[test]
-fn a_text_loses_the_blanks_at_its_end(rt: HostRuntime) {
-    assert!(rt; is_kept(b" BOX  ", b" BOX"));
-}
-
-#[test]
-fn faults_have_numbers_and_words(rt: HostRuntime) {
-    assert_eq!(rt; FaultKind::BadCount.number(), 22);
-    assert_eq!(rt; FaultKind::BadCount.text(), "BAD COUNT");
-}
-
-#[test]
-fn refused_memory_is_no_fault(rt: HostRuntime) {
-    assert_eq!(rt; Refused::from(AllocError), Refused::Memory);
-}
-
-const BY_RANK: RankKey = RankKey {
-    field: 0,
-    high: true,
-};
-
-// JOBs with a RANK, and a POOL of THE SYSTEM for them.
-pub(crate) fn jobs(alloc: Global) -> Result<Layout, AllocError> {
-    let fields = Vec::from_array(alloc, [Mode::Integer])?;
-    let job = ClassLayout {
-        kind: ClassKind::Temporary,
-        fields,
-    };
-    let pool = SetLayout {
-        owner: Owner::System,
-        member: 0,
-    };
-    let classes = Vec::from_array(alloc, [job])?;
-    let sets = Vec::from_array(alloc, [pool])?;
-    Layout::new(classes, sets).ok_or(AllocError)
-}
-
-// Whether a layout is that one.
-pub(crate) fn is_of_jobs(alloc: Global, layout: &Layout) -> bool {
-    match jobs(alloc) {
-        Ok(jobs) => *layout == jobs,
-        Err(_) => false,
-    }
-}
-
-#[test]
-fn layouts_are_equal_where_they_say_the_same(rt: HostRuntime) -> Result<(), Fail> {
-    let layout = jobs(rt.alloc())?;
-    assert!(rt; is_of_jobs(rt.alloc(), &layout));
-    Ok(())
-}
-
-#[test]
-fn disciplines_differ(rt: HostRuntime) -> Result<(), Fail> {
-    let keys = Vec::from_array(rt.alloc(), [BY_RANK])?;
-    assert_ne!(rt; Discipline::Ranked(RankKeys::new(keys)), Discipline::Fifo);
-    Ok(())
-}
-
-// Files a job of `records.rt` in the pool there, in front of all others.
-fn put(heap: &mut Heap, job: i64) -> Option<Result<(), FaultKind>> {
-    let layout = heap.layout();
-    if layout.sets.is_empty() || !fits(layout, 0, &Discipline::Lifo) {
-        return None;
-    }
-    Some(file(heap, &Discipline::Lifo, 0, 0, job))
-}
-
-// Whether a job is in the pool.
-fn is_there(heap: &mut Heap, job: i64) -> Option<Result<bool, FaultKind>> {
-    let layout = heap.layout();
-    if layout.sets.is_empty() {
-        return None;
-    }
-    Some(is_in(heap, 0, 0, job))
-}
-
-// Takes the first job out of the pool, or the last.
-fn take(heap: &mut Heap, first: bool) -> Option<Result<i64, FaultKind>> {
-    let layout = heap.layout();
-    if layout.sets.is_empty() {
-        return None;
-    }
-    if first {
-        Some(remove_first(heap, 0, 0))
-    } else {
-        Some(remove_last(heap, 0, 0))
-    }
-}
-
-// Whether the last filed comes first.
-fn is_last_first(heap: &mut Heap) -> bool {
-    put(heap, 1) == Some(Ok(()))
-        && put(heap, 2) == Some(Ok(()))
-        && is_there(heap, 2) == Some(Ok(true))
-        && take(heap, true) == Some(Ok(2))
-        && take(heap, false) == Some(Ok(1))
-        && take(heap, true) == Some(Err(FaultKind::EmptySet))
-}
-
-// Whether it does in a heap of its own.
-fn comes_last_first(alloc: Global) -> bool {
-    match with_jobs(alloc) {
-        Some(mut heap) => is_last_first(&mut heap),
-        None => false,
-    }
-}
-
-#[test]
-fn the_last_filed_comes_first(rt: HostRuntime) {
-    assert!(rt; comes_last_first(rt.alloc()));
+fn texts_are_short(rt: HostRuntime) {
+    assert!(rt; is_kept(b"ABCDEFGHIJKLMNOP   ", b"ABCDEFGHIJKLMNOP"));
+    assert_eq!(rt; Alpha::of(b"ABCDEFGHIJKLMNOPQ"), None);
+    assert_eq!(rt; Value::Whole(0).mode(), Mode::Integer);
+    assert_eq!(rt; Value::Text(Alpha::empty()).mode(), Mode::Alpha);
 }
 
 // Schedules a notice of the only class at a time, where the ties are that class's.
@@ -176,15 +64,6 @@ fn of_one_class(alloc: Global) -> Result<Pending, AllocError> {
     Pending::new(alloc, &classes)
 }
 
-// What is looked at in a list.
-#[derive(Clone, Copy)]
-enum Look {
-    Nothing,
-    Next,
-    Counts,
-    Again,
-}
-
 // Whether nothing is next, and nothing can be cancelled.
 fn is_empty(pending: &mut Pending) -> bool {
     pending.least().is_none()
@@ -192,68 +71,47 @@ fn is_empty(pending: &mut Pending) -> bool {
         && pending.cancel(1) == Err(FaultKind::NotScheduled)
 }
 
-// Whether the earliest notice is next.
-fn is_next(alloc: Global, pending: &mut Pending) -> bool {
-    schedule(alloc, pending, 9, 1) == Ok(())
-        && schedule(alloc, pending, 5, 2) == Ok(())
-        && pending.least() == Some((5, 2))
-        && pending.take() == Some((5, 2))
-}
-
 // Whether the last call made so many comparisons and moves.
 fn has_counted(pending: &Pending, comparisons: u64, moves: u64) -> bool {
     pending.comparisons() == comparisons && pending.moves() == moves
 }
 
-// Whether the first notice is compared with none, and put into a place, and the second is compared with the first, and stays after it.
-fn are_counted(alloc: Global, pending: &mut Pending) -> bool {
+// Whether two notices are scheduled, each once. The first is compared with none, and put into a place. The second is compared with
+// the first, and stays after it.
+fn are_scheduled(alloc: Global, pending: &mut Pending) -> bool {
+    let twice = Refused::Fault(FaultKind::AlreadyScheduled);
     schedule(alloc, pending, 5, 1) == Ok(())
         && has_counted(pending, 0, 1)
         && schedule(alloc, pending, 9, 2) == Ok(())
         && has_counted(pending, 1, 1)
+        && schedule(alloc, pending, 7, 1) == Err(twice)
 }
 
-// Whether a notice is scheduled once.
-fn is_once(alloc: Global, pending: &mut Pending) -> bool {
-    let twice = Refused::Fault(FaultKind::AlreadyScheduled);
-    !pending.is_scheduled(1)
-        && schedule(alloc, pending, 5, 1) == Ok(())
-        && pending.is_scheduled(1)
-        && schedule(alloc, pending, 9, 1) == Err(twice)
+// Whether the earlier one is next, and the later one can be cancelled.
+fn come_out(pending: &mut Pending) -> bool {
+    pending.least() == Some((5, 1))
+        && pending.take() == Some((5, 1))
+        && !pending.is_scheduled(1)
+        && pending.is_scheduled(2)
+        && pending.cancel(2) == Ok(())
 }
 
-// Whether it is as it should be.
-fn is_right(alloc: Global, pending: &mut Pending, look: Look) -> bool {
-    match look {
-        Look::Nothing => is_empty(pending),
-        Look::Next => is_next(alloc, pending),
-        Look::Counts => are_counted(alloc, pending),
-        Look::Again => is_once(alloc, pending),
-    }
-}
-
-// Whether it is in a list of its own.
-fn looks_right(alloc: Global, look: Look) -> bool {
+// Whether it is so in a list of its own.
+fn are_pending(alloc: Global) -> bool {
     match of_one_class(alloc) {
-        Ok(mut pending) => is_right(alloc, &mut pending, look),
+        Ok(mut pending) => {
+            is_empty(&mut pending)
+                && are_scheduled(alloc, &mut pending)
+                && come_out(&mut pending)
+                && is_empty(&mut pending)
+        }
         Err(_) => false,
     }
 }
 
 #[test]
 fn the_earliest_notice_is_next(rt: HostRuntime) {
-    assert!(rt; looks_right(rt.alloc(), Look::Nothing));
-    assert!(rt; looks_right(rt.alloc(), Look::Next));
-}
-
-#[test]
-fn comparisons_and_moves_are_counted(rt: HostRuntime) {
-    assert!(rt; looks_right(rt.alloc(), Look::Counts));
-}
-
-#[test]
-fn a_notice_is_scheduled_once(rt: HostRuntime) {
-    assert!(rt; looks_right(rt.alloc(), Look::Again));
+    assert!(rt; are_pending(rt.alloc()));
 }
 
 // Whether three values are counted and summed up.
@@ -307,6 +165,11 @@ fn filled(alloc: Global, picture: &Picture, number: i64) -> Result<Vec<u8>, Allo
 #[test]
 fn a_number_goes_to_the_right(rt: HostRuntime) -> Result<(), Fail> {
     let picture = Picture::of(rt.alloc(), b"A**")?;
+    let field = Field {
+        width: 2,
+        decimals: 0,
+    };
+    assert_eq!(rt; picture.fields(), [field].as_slice());
     assert_eq!(rt;
         filled(rt.alloc(), &picture, 7)?.as_slice(),
         b"A 7".as_slice()

@@ -1,4 +1,4 @@
-//! Each public name, used from its crate as a caller would use it; and worked examples of what the engine answers.
+//! Each public name, used from its crate as a caller would use it.
 #![tactic(auto)]
 
 #[cfg(test)]

@@ -1,8 +1,13 @@
-//! The calls of a heap, each by its name.
+//! The calls of a heap, and those of its sets, each by its name.
 
-use ss_base::{ClassKind, ClassLayout, FaultKind, Layout, Mode, Owner, Refused, SetLayout, Value};
+use ss_base::{
+    ClassKind, ClassLayout, Discipline, FaultKind, Layout, Mode, Owner, RankKey, RankKeys, Refused,
+    SetLayout, Value,
+};
 use ss_records::Heap;
+use ss_sets::{file, fits, is_in, remove_first, remove_last};
 use std::alloc::{AllocError, Global};
+use std::test::Fail;
 
 const JOB: usize = 0;
 
@@ -12,10 +17,8 @@ const MACHINE: usize = 2;
 
 const POOL: usize = 0;
 
-// A class: its kind, and the modes of its attributes.
-type ClassRow = (ClassKind, &'static [Mode]);
-
-static CLASSES: [ClassRow; 3] = [
+// Jobs with a rank, bells, and machines, which are permanent.
+static CLASSES: [(ClassKind, &[Mode]); 3] = [
     (ClassKind::Temporary, &[Mode::Integer]),
     (ClassKind::Notice, &[]),
     (ClassKind::Permanent, &[]),
@@ -27,9 +30,9 @@ static SETS: [SetLayout; 1] = [SetLayout {
     member: JOB,
 }];
 
-fn classes(alloc: Global, rows: &[ClassRow]) -> Result<Vec<ClassLayout>, AllocError> {
+fn classes(alloc: Global) -> Result<Vec<ClassLayout>, AllocError> {
     let mut classes = Vec::new(alloc);
-    for (kind, modes) in rows {
+    for (kind, modes) in &CLASSES {
         let class = ClassLayout {
             kind: *kind,
             fields: Vec::from_slice(alloc, modes)?,
@@ -41,8 +44,16 @@ fn classes(alloc: Global, rows: &[ClassRow]) -> Result<Vec<ClassLayout>, AllocEr
 
 fn layout(alloc: Global) -> Result<Option<Layout>, AllocError> {
     let sets = Vec::from_slice(alloc, &SETS)?;
-    let classes = classes(alloc, &CLASSES)?;
+    let classes = classes(alloc)?;
     Ok(Layout::new(classes, sets))
+}
+
+// Whether a layout is the one of these classes and sets.
+pub(crate) fn is_layout(alloc: Global, found: &Layout) -> bool {
+    match layout(alloc) {
+        Ok(Some(layout)) => *found == layout,
+        Ok(None) | Err(_) => false,
+    }
 }
 
 // A heap with nothing in it.
@@ -94,7 +105,7 @@ fn known(heap: &Heap, class: usize, r: i64) -> Option<Result<(), FaultKind>> {
     Some(heap.known(class, r))
 }
 
-// Sets the attribute of a job, where it is a number.
+// Sets the rank of a job, where it is a number.
 fn set_value(heap: &mut Heap, r: i64, value: i64) -> Option<Result<(), FaultKind>> {
     let layout = heap.layout();
     let found = layout.classes.get(JOB)?;
@@ -105,7 +116,7 @@ fn set_value(heap: &mut Heap, r: i64, value: i64) -> Option<Result<(), FaultKind
     }
 }
 
-// The attribute of a job.
+// The rank of a job.
 fn value(heap: &Heap, r: i64) -> Option<Result<Value, FaultKind>> {
     let layout = heap.layout();
     let found = layout.classes.get(JOB)?;
@@ -121,6 +132,8 @@ enum Ask {
     Count,
     Next(i64),
     Previous(i64),
+    RemoveFirst,
+    RemoveLast,
 }
 
 fn answer_to(heap: &mut Heap, asked: Ask) -> Option<Result<i64, FaultKind>> {
@@ -134,6 +147,8 @@ fn answer_to(heap: &mut Heap, asked: Ask) -> Option<Result<i64, FaultKind>> {
         Ask::Count => heap.count(POOL, 0),
         Ask::Next(x) => heap.next(POOL, x),
         Ask::Previous(x) => heap.previous(POOL, x),
+        Ask::RemoveFirst => remove_first(heap, POOL, 0),
+        Ask::RemoveLast => remove_last(heap, POOL, 0),
     })
 }
 
@@ -144,6 +159,15 @@ fn owner_in(heap: &mut Heap, x: i64) -> Option<Result<Option<i64>, FaultKind>> {
         return None;
     }
     Some(heap.owner_in(POOL, x))
+}
+
+// Whether a job is in the pool.
+fn is_pooled(heap: &mut Heap, x: i64) -> Option<Result<bool, FaultKind>> {
+    let layout = heap.layout();
+    if POOL >= layout.sets.len() {
+        return None;
+    }
+    Some(is_in(heap, POOL, 0, x))
 }
 
 // Where a job goes in the pool, or that it leaves.
@@ -170,58 +194,83 @@ fn move_job(heap: &mut Heap, how: Move) -> Option<Result<(), FaultKind>> {
     })
 }
 
-// Whether the next entities are these: the jobs 1 to 4, and the bell 5.
-fn are_created(heap: &mut Heap) -> bool {
-    for x in 1..5 {
-        if create(heap, JOB) != Some(x) {
-            return false;
-        }
+// Files a job in the pool, where the discipline fits it.
+fn put(heap: &mut Heap, by: &Discipline, x: i64) -> Option<Result<(), FaultKind>> {
+    let layout = heap.layout();
+    if POOL >= layout.sets.len() || !fits(layout, POOL, by) {
+        return None;
     }
-    create(heap, BELL) == Some(5)
+    Some(file(heap, by, POOL, 0, x))
 }
 
-// A heap with these, and nothing in the pool.
-pub(crate) fn with_jobs(alloc: Global) -> Option<Heap> {
-    let mut heap = empty(alloc)?;
-    if are_created(&mut heap) {
-        Some(heap)
-    } else {
-        None
-    }
+// Whether the number of a job that is destroyed is never used again.
+fn is_never_used_again(heap: &mut Heap) -> bool {
+    create(heap, JOB) == Some(1)
+        && destroy(heap, 1) == Some(Ok(()))
+        && create(heap, JOB) == Some(2)
+        && known(heap, JOB, 2) == Some(Ok(()))
+        && value(heap, 1) == Some(Err(FaultKind::DestroyedEntity))
 }
 
-// Whether machines are made at once, and only once.
+// Whether a bell keeps its time, which a job has not, and a job its rank.
+fn are_kept(heap: &mut Heap) -> bool {
+    create(heap, BELL) == Some(3)
+        && heap.known_notice(3) == Ok(())
+        && heap.known_notice(2) == Err(FaultKind::WrongClass)
+        && heap.set_time_a(3, 7) == Ok(())
+        && heap.time_a(3) == Ok(7)
+        && set_value(heap, 2, -8) == Some(Ok(()))
+        && value(heap, 2) == Some(Ok(Value::Whole(-8)))
+}
+
+// Whether machines are made at once, and only once. Then there is a block for the system, the job, the bell and each machine. The
+// numbers up to 3 are on one page of 256.
 fn are_made_once(heap: &mut Heap) -> bool {
     let twice = Refused::Fault(FaultKind::CreatedTwice);
     known(heap, MACHINE, 2) == Some(Err(FaultKind::Index))
         && create_all(heap, 2) == Some(Ok(()))
         && known(heap, MACHINE, 2) == Some(Ok(()))
         && create_all(heap, 2) == Some(Err(twice))
+        && heap.blocks() == 5
+        && heap.pages() == 1
 }
 
-// Whether the number of a job that is destroyed is never used again.
-fn is_never_used_again(heap: &mut Heap) -> bool {
-    destroy(heap, 4) == Some(Ok(()))
-        && create(heap, JOB) == Some(6)
-        && value(heap, 4) == Some(Err(FaultKind::DestroyedEntity))
+// Whether the entities of a new heap are as they should be.
+fn are_entities(alloc: Global) -> bool {
+    match empty(alloc) {
+        Some(mut heap) => {
+            is_never_used_again(&mut heap) && are_kept(&mut heap) && are_made_once(&mut heap)
+        }
+        None => false,
+    }
 }
 
-// Whether a notice keeps its time.
-fn has_a_time(heap: &mut Heap) -> bool {
-    heap.known_notice(5) == Ok(())
-        && heap.known_notice(4) == Err(FaultKind::WrongClass)
-        && heap.set_time_a(5, 7) == Ok(())
-        && heap.time_a(5) == Ok(7)
+#[test]
+fn entities_have_numbers_times_and_values(rt: HostRuntime) {
+    assert!(rt; are_entities(rt.alloc()));
 }
 
-// Whether a job keeps its attribute.
-fn has_a_value(heap: &mut Heap) -> bool {
-    set_value(heap, 3, -8) == Some(Ok(())) && value(heap, 3) == Some(Ok(Value::Whole(-8)))
+// A heap with the jobs 1 to 4, of these ranks.
+fn with_jobs(alloc: Global) -> Option<Heap> {
+    let mut heap = empty(alloc)?;
+    if are_ranked(&mut heap, &[2, 1, 2, 3]) {
+        Some(heap)
+    } else {
+        None
+    }
 }
 
-// Whether there is a block for each job, one for the bell and one for the system. The numbers up to 5 are on one page of 256.
-fn takes_blocks(heap: &Heap) -> bool {
-    heap.blocks() == 6 && heap.pages() == 1
+// Whether the next entities are jobs of these ranks.
+fn are_ranked(heap: &mut Heap, ranks: &[i64]) -> bool {
+    for rank in ranks {
+        let Some(x) = create(heap, JOB) else {
+            return false;
+        };
+        if set_value(heap, x, *rank) != Some(Ok(())) {
+            return false;
+        }
+    }
+    true
 }
 
 // The pool is 1, then 2 1, then 2 3 1, then 2 3 4 1, and at last 2 4 1.
@@ -243,106 +292,89 @@ fn are_moved(heap: &mut Heap, moves: &[Move]) -> bool {
     true
 }
 
-// A heap with 2 4 1 in the pool.
-fn with_pool(alloc: Global) -> Option<Heap> {
-    let mut heap = with_jobs(alloc)?;
-    if are_moved(&mut heap, &MOVES) {
-        Some(heap)
-    } else {
-        None
-    }
-}
-
-// Whether 2 4 1 stand in that order.
+// Whether 2 4 1 are in that order, and are counted, which reads one word.
 fn are_in_a_row(heap: &mut Heap) -> bool {
     answer_to(heap, Ask::First) == Some(Ok(2))
         && answer_to(heap, Ask::Next(2)) == Some(Ok(4))
         && answer_to(heap, Ask::Previous(1)) == Some(Ok(4))
         && answer_to(heap, Ask::Last) == Some(Ok(1))
-}
-
-// Whether they are counted, which reads one word.
-fn are_counted(heap: &mut Heap) -> bool {
-    answer_to(heap, Ask::Count) == Some(Ok(3)) && heap.touches() == 1
+        && answer_to(heap, Ask::Count) == Some(Ok(3))
+        && heap.touches() == 1
 }
 
 // Whether the system owns the pool with 4 in it, and 3 is in none.
 fn have_an_owner(heap: &mut Heap) -> bool {
-    owner_in(heap, 4) == Some(Ok(Some(0))) && owner_in(heap, 3) == Some(Ok(None))
+    owner_in(heap, 4) == Some(Ok(Some(0)))
+        && owner_in(heap, 3) == Some(Ok(None))
+        && is_pooled(heap, 4) == Some(Ok(true))
+        && is_pooled(heap, 3) == Some(Ok(false))
 }
 
 // Whether a member is filed once, and removed once.
 fn are_filed_once(heap: &mut Heap) -> bool {
     move_job(heap, Move::Last(4)) == Some(Err(FaultKind::FiledTwice))
         && move_job(heap, Move::Remove(3)) == Some(Err(FaultKind::NotFiled))
+        && answer_to(heap, Ask::RemoveLast) == Some(Ok(1))
+        && answer_to(heap, Ask::RemoveFirst) == Some(Ok(2))
 }
 
-// What is looked at.
-#[derive(Clone, Copy)]
-enum Look {
-    Machines,
-    Numbers,
-    Times,
-    Values,
-    Blocks,
-    Row,
-    Count,
-    Owner,
-    Filing,
-}
-
-// Whether it is as it should be.
-fn is_right(heap: &mut Heap, look: Look) -> bool {
-    match look {
-        Look::Machines => are_made_once(heap),
-        Look::Numbers => is_never_used_again(heap),
-        Look::Times => has_a_time(heap),
-        Look::Values => has_a_value(heap),
-        Look::Blocks => takes_blocks(heap),
-        Look::Row => are_in_a_row(heap),
-        Look::Count => are_counted(heap),
-        Look::Owner => have_an_owner(heap),
-        Look::Filing => are_filed_once(heap),
-    }
-}
-
-// Whether it is in a heap of its own.
-fn looks_right(heap: Option<Heap>, look: Look) -> bool {
-    match heap {
-        Some(mut heap) => is_right(&mut heap, look),
+// Whether it is all so in a heap of its own.
+fn are_members(alloc: Global) -> bool {
+    match with_jobs(alloc) {
+        Some(mut heap) => {
+            are_moved(&mut heap, &MOVES)
+                && are_in_a_row(&mut heap)
+                && have_an_owner(&mut heap)
+                && are_filed_once(&mut heap)
+        }
         None => false,
     }
 }
 
 #[test]
-fn permanent_entities_are_created_at_once(rt: HostRuntime) {
-    assert!(rt; looks_right(empty(rt.alloc()), Look::Machines));
-}
-
-#[test]
-fn a_number_is_never_used_again(rt: HostRuntime) {
-    assert!(rt; looks_right(with_jobs(rt.alloc()), Look::Numbers));
-}
-
-#[test]
-fn times_and_values_are_kept(rt: HostRuntime) {
-    assert!(rt; looks_right(with_jobs(rt.alloc()), Look::Times));
-    assert!(rt; looks_right(with_jobs(rt.alloc()), Look::Values));
-}
-
-#[test]
-fn an_entity_takes_a_block(rt: HostRuntime) {
-    assert!(rt; looks_right(with_jobs(rt.alloc()), Look::Blocks));
-}
-
-#[test]
 fn members_are_in_a_row(rt: HostRuntime) {
-    assert!(rt; looks_right(with_pool(rt.alloc()), Look::Row));
-    assert!(rt; looks_right(with_pool(rt.alloc()), Look::Count));
+    assert!(rt; are_members(rt.alloc()));
+}
+
+// Whether all four jobs are filed.
+fn are_filed(heap: &mut Heap, by: &Discipline) -> bool {
+    for x in 1..5 {
+        if put(heap, by, x) != Some(Ok(())) {
+            return false;
+        }
+    }
+    true
+}
+
+// Whether these are the members, from the first to the last.
+fn come(heap: &mut Heap, order: &[i64]) -> bool {
+    for x in order {
+        if answer_to(heap, Ask::RemoveFirst) != Some(Ok(*x)) {
+            return false;
+        }
+    }
+    answer_to(heap, Ask::RemoveFirst) == Some(Err(FaultKind::EmptySet))
+}
+
+// Whether the jobs of a heap of its own come in this order.
+fn come_by(alloc: Global, by: &Discipline, order: &[i64]) -> bool {
+    match with_jobs(alloc) {
+        Some(mut heap) => are_filed(&mut heap, by) && come(&mut heap, order),
+        None => false,
+    }
 }
 
 #[test]
-fn members_have_an_owner(rt: HostRuntime) {
-    assert!(rt; looks_right(with_pool(rt.alloc()), Look::Owner));
-    assert!(rt; looks_right(with_pool(rt.alloc()), Look::Filing));
+fn members_come_in_the_order_of_their_set(rt: HostRuntime) -> Result<(), Fail> {
+    let rank = RankKey {
+        field: 0,
+        high: true,
+    };
+    let keys = Vec::from_array(rt.alloc(), [rank])?;
+    let by = Discipline::Ranked(RankKeys::new(keys));
+    assert_ne!(rt; by, Discipline::Fifo);
+    assert!(rt; come_by(rt.alloc(), &by, &[4, 1, 3, 2]));
+    assert!(rt; come_by(rt.alloc(), &Discipline::Fifo, &[1, 2, 3, 4]));
+    assert!(rt; come_by(rt.alloc(), &Discipline::Lifo, &[4, 3, 2, 1]));
+    Ok(())
 }

@@ -91,29 +91,20 @@ fn a_report_stalls(rt: HostRuntime) -> Result<(), Fail> {
     Ok(())
 }
 
-// Whether 7 is all that is there.
-fn is_seven<R: FaultyRead>(data: &mut Source<R>) -> bool {
-    data.ended() == Ok(false) && data.integer() == Ok(7) && data.ended() == Ok(true)
-}
-
-#[test]
-fn data_end(rt: HostRuntime) {
-    let mut data = Source::new(Counted::new(b" 7 ".as_slice()));
-    assert!(rt; is_seven(&mut data));
-    assert_eq!(rt; data.into_inner().into_inner(), b"".as_slice());
-}
-
-// Whether a text and 5 are all that is there.
+// Whether a text and 7 are all that is there.
 fn are_words<R: FaultyRead>(data: &mut Source<R>) -> bool {
     data.alpha().ok() == Alpha::of(b"BOX")
-        && data.integer() == Ok(5)
+        && data.ended() == Ok(false)
+        && data.integer() == Ok(7)
+        && data.ended() == Ok(true)
         && data.integer() == Err(Missed::Fault(FaultKind::EndOfData))
 }
 
 #[test]
 fn words_are_read(rt: HostRuntime) {
-    let mut data = Source::new(Counted::new(b"BOX 5".as_slice()));
+    let mut data = Source::new(Counted::new(b"BOX 7 ".as_slice()));
     assert!(rt; are_words(&mut data));
+    assert_eq!(rt; data.into_inner().into_inner(), b"".as_slice());
 }
 
 // Whether it can't be read, which its reader counts.

@@ -1,24 +1,21 @@
 //! From a text to its report, layer by layer.
 
-use crate::layers::is_of_jobs;
-use ss_base::{Counted, Line, MemoryWrite, Plan, WriteFailure};
+use crate::outcomes::ANSWER;
+use crate::records::is_layout;
+use ss_base::Line;
 use ss_check::{CheckError, Checked, check};
 use ss_code::{Code, CodeError, generate};
 use ss_lex::{LexError, Span, Token, TokenKind, Tokens, Word, tokens};
-use ss_machine::{Machine, Source, Stop};
 use ss_parse::{ParseError, Program, parse};
-use ss_picture::Sink;
 use ss_program::release::release_checked;
 use ss_tables::{NameId, TableError, Tables};
 use ss_tree::release::release_tree;
 use std::alloc::Global;
 use std::test::Fail;
 
-static ANSWER: &[u8] = b"MAIN\nPRINT 1 LINE WITH 6*7 THUS\nANSWER ***\nEND";
-
 // Why a text is refused by one of the layers.
 #[derive(Clone, Copy, Debug, PartialEq, Eq)]
-enum Refused {
+pub(crate) enum Refused {
     Lexer(LexError),
     Parser(ParseError),
     Tables(TableError),
@@ -44,7 +41,7 @@ fn checked_of(alloc: Global, program: Program) -> Result<Checked, Refused> {
 }
 
 // The code of a text, by each layer in turn.
-fn code_of(alloc: Global, text: &[u8]) -> Result<Code, Refused> {
+pub(crate) fn code_of(alloc: Global, text: &[u8]) -> Result<Code, Refused> {
     let program = tree_of(alloc, text)?;
     let checked = checked_of(alloc, program)?;
     let code = generate(alloc, &checked).map_err(Refused::Generator);
@@ -98,12 +95,16 @@ fn a_token_has_its_place(rt: HostRuntime) -> Result<(), Fail> {
     Ok(())
 }
 
-// A model of the jobs of `layers.rt`.
+// A model with the classes and the set of `records.rt`.
 static JOBS: &[u8] = b"PREAMBLE NORMALLY, MODE IS INTEGER\n\
 TEMPORARY ENTITIES EVERY JOB HAS A RANK AND MAY BELONG TO A POOL\n\
+EVENT NOTICES INCLUDE BELL\n\
+PERMANENT ENTITIES EVERY MACHINE\n\
 THE SYSTEM OWNS A POOL\n\
 END\n\
 MAIN\n\
+END\n\
+EVENT BELL\n\
 END";
 
 // Whether a name is found, and is spelled so.
@@ -115,17 +116,17 @@ fn is_found(tables: &Tables, spelling: &[u8]) -> bool {
     }
 }
 
-// Whether tables have the layout of `layers.rt`.
-fn are_of_jobs(alloc: Global, tables: &Tables) -> bool {
+// Whether tables have the layout of `records.rt`.
+fn have_layout(alloc: Global, tables: &Tables) -> bool {
     match tables.layout(alloc) {
-        Ok(layout) => is_of_jobs(alloc, &layout),
+        Ok(layout) => is_layout(alloc, &layout),
         Err(_) => false,
     }
 }
 
 // Whether tables have that layout, and find N.POOL and no TOOL.
 fn are_right(alloc: Global, tables: &Tables) -> bool {
-    is_found(tables, b"N.POOL") && tables.find(b"TOOL").is_none() && are_of_jobs(alloc, tables)
+    is_found(tables, b"N.POOL") && tables.find(b"TOOL").is_none() && have_layout(alloc, tables)
 }
 
 // Whether the tables of a tree are right. What they own goes with what is checked.
@@ -187,32 +188,4 @@ fn sizes_of(alloc: Global, text: &[u8]) -> Option<(usize, usize)> {
 #[test]
 fn code_has_a_line_for_each_instruction(rt: HostRuntime) {
     assert_eq!(rt; sizes_of(rt.alloc(), ANSWER), Some((3, 3)));
-}
-
-// Why a machine without data stops, and how many ticks it used.
-fn run(mut machine: Machine, report: &mut Sink<MemoryWrite>) -> (Stop, u64) {
-    let mut source = Source::new(Counted::new(b"".as_slice()));
-    let stop = machine.run(1_000_000, &mut source, report);
-    let used = machine.used();
-    machine.release();
-    (stop, used)
-}
-
-// Why the machine of a text without data stops, and how many ticks it used.
-fn run_text(alloc: Global, text: &[u8], report: &mut Sink<MemoryWrite>) -> Option<(Stop, u64)> {
-    let code = code_of(alloc, text).ok()?;
-    let machine = Machine::new(alloc, code).ok()?;
-    Some(run(machine, report))
-}
-
-#[test]
-fn code_is_run(rt: HostRuntime) -> Result<(), Fail> {
-    let writer = MemoryWrite::new(rt.alloc(), 100, Plan::smooth(4096), WriteFailure::Error)?;
-    let mut report = Sink::new(writer);
-    assert_eq!(rt;
-        run_text(rt.alloc(), ANSWER, &mut report),
-        Some((Stop::Ended, 0))
-    );
-    assert_eq!(rt; report.into_inner().bytes(), b"ANSWER  42\n".as_slice());
-    Ok(())
 }

@@ -6,7 +6,7 @@ use ss_lex::tokens;
 use ss_parse::parse;
 use ss_tree::release::release_tree;
 use std::alloc::{AllocError, Global};
-use test_cases::{CaseStreams, Simulator, TreeCounts, counted};
+use test_cases::{CaseStreams, Simulator, TreeCounts};
 
 /// The engine.
 pub struct Engine;
@@ -97,7 +97,7 @@ fn tree_of(alloc: Global, text: &[u8]) -> Option<TreeCounts> {
     };
     match parse(alloc, &tokens) {
         Ok(program) => {
-            let counts = counted(&program);
+            let counts = TreeCounts::of(&program);
             release_tree(program);
             Some(counts)
         }
