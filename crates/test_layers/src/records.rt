@@ -278,15 +278,15 @@ fn is_created_in_spite(alloc: Global, heap: &mut Heap, x: i64) -> bool {
 }
 
 // Whether a call goes well, where memory may be refused: then the next try does.
-fn is_done_in_spite(alloc: Global, heap: &mut Heap, command: Command) -> bool {
-    is_done(alloc, heap, command) || is_done(alloc, heap, command)
+fn is_done_in_spite(alloc: Global, heap: &mut Heap, command: &Command) -> bool {
+    is_done(alloc, heap, *command) || is_done(alloc, heap, *command)
 }
 
 // Whether six hundred jobs are created and filed in spite of refusals, and then five machines.
 fn come_in_spite(alloc: Global, heap: &mut Heap) -> bool {
     for x in 1..601 {
         if !is_created_in_spite(alloc, heap, x)
-            || !is_done_in_spite(alloc, heap, filed(POOL, 0, x))
+            || !is_done_in_spite(alloc, heap, &filed(POOL, 0, x))
         {
             return false;
         }
@@ -294,7 +294,7 @@ fn come_in_spite(alloc: Global, heap: &mut Heap) -> bool {
     is_done_in_spite(
         alloc,
         heap,
-        Command::CreateAll {
+        &Command::CreateAll {
             class: MACHINE,
             n: 5,
         },
