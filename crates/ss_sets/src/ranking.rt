@@ -12,6 +12,21 @@ use ss_base::{Alpha, Discipline, FaultKind, Mode, RankKey, Value};
 use ss_records::Heap;
 use std::cmp::Ordering;
 
+// How x ranks by the key that counts most, one of whole numbers: the key, and the value of x by it.
+#[derive(Clone, Copy)]
+struct Rank {
+    key: RankKey,
+    own: i64,
+}
+
+// Two entities of a class, of which y may rank after x.
+#[derive(Clone, Copy)]
+struct Pair {
+    class: usize,
+    y: i64,
+    x: i64,
+}
+
 /// Files x in the set of an owner: last for FIFO, first for LIFO, and for RANKED directly before the first member
 /// that ranks strictly after it by the values that they have now, last where there is none. Values that change later
 /// move nothing. Faults: those of x (1 to 5), then those of the owner, then 6 where x is in some set of this name;
@@ -114,10 +129,13 @@ fn first_after_by(
 {
     let class = class_of(heap, set);
     match whole_of(heap, class, key.field, x) {
-        Some(own) => match others {
-            [] => first_after_number(heap, key, set, o, x, own),
-            _ => first_after_whole(heap, key, others, set, o, x, own),
-        },
+        Some(own) => {
+            let rank = Rank { key, own };
+            match others {
+                [] => first_after_number(heap, rank, set, o, x),
+                _ => first_after_whole(heap, rank, others, set, o, x),
+            }
+        }
         None => first_after_value(heap, key, others, set, o, x),
     }
 }
@@ -125,21 +143,20 @@ fn first_after_by(
 // The first member that ranks after x, where the key is the only one and of whole numbers, and x has this value.
 fn first_after_number(
     heap: &mut Heap,
-    key: RankKey,
+    rank: Rank,
     set: usize,
     o: i64,
     x: i64,
-    own: i64,
 ) -> Result<Option<i64>, FaultKind>
     requires set { set < length heap.old.state.layout.sets }
-    requires mode { slice_get (modes_of heap.old.state.layout (member_class heap.old.state.layout set)) key.field ≡ Some Mode.Integer }
-    requires own { value_of heap.old.state (member_class heap.old.state.layout set) key.field x ≡ Value.Whole own }
-    ensures found { MatchResult result (λ y. IsOk (owner heap.old.state set o) × (y ≡ first_after heap.old.state (member_class heap.old.state.layout set) (key ∷ []) x (owned heap.old.state set o))) (λ e. owner heap.old.state set o ≡ Err e) }
+    requires mode { slice_get (modes_of heap.old.state.layout (member_class heap.old.state.layout set)) rank.key.field ≡ Some Mode.Integer }
+    requires own { value_of heap.old.state (member_class heap.old.state.layout set) rank.key.field x ≡ Value.Whole rank.own }
+    ensures found { MatchResult result (λ y. IsOk (owner heap.old.state set o) × (y ≡ first_after heap.old.state (member_class heap.old.state.layout set) (rank.key ∷ []) x (owned heap.old.state set o))) (λ e. owner heap.old.state set o ≡ Err e) }
     ensures same { heap.new.state ≡ heap.old.state }
-    ensures touches { (heap.old.total ≤ heap.new.total) × (heap.new.total ≤ heap.old.total + 1 + members_passed heap.old.state (member_class heap.old.state.layout set) (key ∷ []) x (owned heap.old.state set o)) }
+    ensures touches { (heap.old.total ≤ heap.new.total) × (heap.new.total ≤ heap.old.total + 1 + members_passed heap.old.state (member_class heap.old.state.layout set) (rank.key ∷ []) x (owned heap.old.state set o)) }
 {
     heap.sets_are_apart();
-    match heap.first_past(set, o, key.field, own, key.high) {
+    match heap.first_past(set, o, rank.key.field, rank.own, rank.key.high) {
         Ok(first) => Ok(as_member(first)),
         Err(fault) => Err(fault),
     }
@@ -149,20 +166,19 @@ fn first_after_number(
 // each member is read together with the next member.
 fn first_after_whole(
     heap: &mut Heap,
-    key: RankKey,
+    rank: Rank,
     others: &[RankKey],
     set: usize,
     o: i64,
     x: i64,
-    own: i64,
 ) -> Result<Option<i64>, FaultKind>
     requires set { set < length heap.old.state.layout.sets }
-    requires keys { AreFields heap.old.state.layout (member_class heap.old.state.layout set) (key ∷ others.now) }
-    requires mode { slice_get (modes_of heap.old.state.layout (member_class heap.old.state.layout set)) key.field ≡ Some Mode.Integer }
-    requires own { value_of heap.old.state (member_class heap.old.state.layout set) key.field x ≡ Value.Whole own }
-    ensures found { MatchResult result (λ y. IsOk (owner heap.old.state set o) × (y ≡ first_after heap.old.state (member_class heap.old.state.layout set) (key ∷ others.now) x (owned heap.old.state set o))) (λ e. owner heap.old.state set o ≡ Err e) }
+    requires keys { AreFields heap.old.state.layout (member_class heap.old.state.layout set) (rank.key ∷ others.now) }
+    requires mode { slice_get (modes_of heap.old.state.layout (member_class heap.old.state.layout set)) rank.key.field ≡ Some Mode.Integer }
+    requires own { value_of heap.old.state (member_class heap.old.state.layout set) rank.key.field x ≡ Value.Whole rank.own }
+    ensures found { MatchResult result (λ y. IsOk (owner heap.old.state set o) × (y ≡ first_after heap.old.state (member_class heap.old.state.layout set) (rank.key ∷ others.now) x (owned heap.old.state set o))) (λ e. owner heap.old.state set o ≡ Err e) }
     ensures same { heap.new.state ≡ heap.old.state }
-    ensures touches { (heap.old.total ≤ heap.new.total) × (heap.new.total ≤ heap.old.total + 2 + members_passed heap.old.state (member_class heap.old.state.layout set) (key ∷ others.now) x (owned heap.old.state set o)) }
+    ensures touches { (heap.old.total ≤ heap.new.total) × (heap.new.total ≤ heap.old.total + 2 + members_passed heap.old.state (member_class heap.old.state.layout set) (rank.key ∷ others.now) x (owned heap.old.state set o)) }
 {
     heap.sets_are_apart();
     let class = class_of(heap, set);
@@ -171,11 +187,12 @@ fn first_after_whole(
         Err(fault) => return Err(fault),
     };
     while let Some(y) = member {
-        let its = match heap.whole_member(set, key.field, y) {
+        let its = match heap.whole_member(set, rank.key.field, y) {
             Ok(its) => its,
             Err(fault) => return Err(fault),
         };
-        if ranks_after_whole(heap, its.value, own, key.high, others, class, y, x) {
+        let pair = Pair { class, y, x };
+        if ranks_after_whole(heap, its.value, rank, others, pair) {
             return Ok(Some(y));
         }
         member = as_member(its.next);
@@ -212,7 +229,8 @@ fn first_after_value(
             Err(fault) => return Err(fault),
         };
         let order = order_of(&its.value, &own);
-        if ranks_after_by(heap, order, key.high, others, class, y, x) {
+        let pair = Pair { class, y, x };
+        if ranks_after_by(heap, order, key.high, others, pair) {
             return Ok(Some(y));
         }
         member = as_member(its.next);
@@ -287,56 +305,40 @@ fn order_of_texts(s: Alpha, t: Alpha) -> Ordering
 // Whether y ranks strictly after x: by the order of the two in a key, high or low, and where they tie in it by the first
 // of the others in which they differ.
 #[inline(always)]
-fn ranks_after_by(
-    heap: &Heap,
-    order: Ordering,
-    high: bool,
-    others: &[RankKey],
-    class: usize,
-    y: i64,
-    x: i64,
-) -> bool
-    requires keys { AreFields heap.now.state.layout class others.now }
-    ensures { result ≡ match_ordering order high (ranks_after heap.now.state class others.now y x) (not high) }
+fn ranks_after_by(heap: &Heap, order: Ordering, high: bool, others: &[RankKey], pair: Pair) -> bool
+    requires keys { AreFields heap.now.state.layout pair.class others.now }
+    ensures { result ≡ match_ordering order high (ranks_after heap.now.state pair.class others.now pair.y pair.x) (not high) }
 {
     match order {
         Ordering::Less => high,
         Ordering::Greater => !high,
         Ordering::Equal => match others {
             [] => false,
-            _ => ranks_after(heap, others, class, y, x),
+            _ => ranks_after(heap, others, pair.class, pair.y, pair.x),
         },
     }
 }
 
 // Whether one entity ranks after another, by a key of whole numbers that comes first, and then by the other keys.
 #[inline(always)]
-fn ranks_after_whole(
-    heap: &Heap,
-    its: i64,
-    own: i64,
-    high: bool,
-    others: &[RankKey],
-    class: usize,
-    y: i64,
-    x: i64,
-) -> bool
-    requires keys { AreFields heap.now.state.layout class others.now }
-    ensures { result ≡ match_ordering (int_cmp its own) high (ranks_after heap.now.state class others.now y x) (not high) }
+fn ranks_after_whole(heap: &Heap, its: i64, rank: Rank, others: &[RankKey], pair: Pair) -> bool
+    requires keys { AreFields heap.now.state.layout pair.class others.now }
+    ensures { result ≡ match_ordering (int_cmp its rank.own) rank.key.high (ranks_after heap.now.state pair.class others.now pair.y pair.x) (not rank.key.high) }
 {
-    if its < own {
-        return high;
+    if its < rank.own {
+        return rank.key.high;
     }
-    if own < its {
-        return !high;
+    if rank.own < its {
+        return !rank.key.high;
     }
     match others {
         [] => false,
-        _ => ranks_after(heap, others, class, y, x),
+        _ => ranks_after(heap, others, pair.class, pair.y, pair.x),
     }
 }
 
-// Whether y ranks strictly after x: by the first key in which they differ.
+// Whether y ranks strictly after x: by the first key in which they differ. They are no Pair here: that would be written to memory
+// for each member that x passes.
 #[inline(never)]
 fn ranks_after(heap: &Heap, keys: &[RankKey], class: usize, y: i64, x: i64) -> bool
     requires keys { AreFields heap.now.state.layout class keys.now }

@@ -22,7 +22,7 @@ returns-in-Err-clause-found c =
 pub loop-member-init : goal.loop-member-init
 loop-member-init c =
     let st = c.args.heap.now.state in let o : ℤ = to_z w64 (of_z w64 c.args.o) in let x : ℤ = to_z w64 (of_z w64 c.args.x) in
-    let all : List ℕ = owned st c.args.set o in let class = member_class st.layout c.args.set in let ks : List RankKey = c.args.key ∷ c.args.others.now in
+    let all : List ℕ = owned st c.args.set o in let class = member_class st.layout c.args.set in let ks : List RankKey = c.args.rank.key ∷ c.args.others.now in
     let leads : c.in-Ok.first ≡ leader all = (found_first st c.args.set c.in-Ok.first o c.in-Ok.ensures.first).1 ∙ first_leads st c.sets_are_apart.ensures c.args.set c.requires.set o in
     let whole : onward c.in-Ok.first all ≡ all = ap (λ m. onward m all) leads ∙ onward_all all in
     let same = ap (members_passed st class ks x) whole in
@@ -38,25 +38,25 @@ whole_member-requires-clause-set c = subst (λ (s : State). c.args.set < length 
 
 pub whole_member-requires-clause-mode : goal.whole_member-requires-clause-mode
 whole_member-requires-clause-mode c =
-    subst (λ (s : State). slice_get (modes_of s.layout (member_class s.layout c.args.set)) c.args.key.field ≡ Some Integer) (sym c.loop-member.invariant.same) c.requires.mode
+    subst (λ (s : State). slice_get (modes_of s.layout (member_class s.layout c.args.set)) c.args.rank.key.field ≡ Some Integer) (sym c.loop-member.invariant.same) c.requires.mode
 
 pub ranks_after_whole-requires : goal.ranks_after_whole-requires
 ranks_after_whole-requires c = record {
   keys = subst (λ (l : Layout). AreFields l c.class_of-class.result c.args.others.now) (ap (λ (t : State). t.layout) (sym (c.in-Ok-whole_member.ensures.same ∙ c.loop-member.invariant.same)))
-      (other_fields c.args.heap.now.state.layout c.args.set c.class_of-class.result c.args.key c.args.others.now c.class_of-class.ensures c.requires.keys);
+      (other_fields c.args.heap.now.state.layout c.args.set c.class_of-class.result c.args.rank.key c.args.others.now c.class_of-class.ensures c.requires.keys);
 }
 
 pub returns-then-ranks_after_whole-clause-found : goal.returns-then-ranks_after_whole-clause-found
 returns-then-ranks_after_whole-clause-found c =
     let st = c.args.heap.now.state in let o : ℤ = to_z w64 (of_z w64 c.args.o) in let x : ℤ = to_z w64 (of_z w64 c.args.x) in let y : ℤ = to_z w64 (of_z w64 c.in-Some.y) in
     let own : o ≡ c.args.o = search rules in let its : x ≡ c.args.x = search rules in let hand : y ≡ c.in-Some.y = search rules in
-    let all : List ℕ = owned st c.args.set o in let class = member_class st.layout c.args.set in let ks : List RankKey = c.args.key ∷ c.args.others.now in let h = c.loop-member.invariant in
+    let all : List ℕ = owned st c.args.set o in let class = member_class st.layout c.args.set in let ks : List RankKey = c.args.rank.key ∷ c.args.others.now in let h = c.loop-member.invariant in
     let its_own : to_z w64 (of_z w64 c.args.x) ≡ c.args.x = search rules in
-    let own_is : Whole c.args.own ≡ value_of st c.class_of-class.result c.args.key.field x = sym (ap (λ n. value_of st n c.args.key.field x) c.class_of-class.ensures ∙ ap (λ (z : ℤ). value_of st (member_class st.layout c.args.set) c.args.key.field z) its_own ∙ c.requires.own) in
-    let a : to_z w64 (of_z w64 c.in-Ok-whole_member.its.value) ≡ c.in-Ok-whole_member.its.value = search rules in let b : to_z w64 (of_z w64 c.args.own) ≡ c.args.own = search rules in
-    let order = int_cmp (to_z w64 (of_z w64 c.in-Ok-whole_member.its.value)) (to_z w64 (of_z w64 c.args.own)) in
-    let ordered_so : order ≡ value_cmp (Whole c.in-Ok-whole_member.its.value) (Whole c.args.own) = ap (λ (z : ℤ). int_cmp z (to_z w64 (of_z w64 c.args.own))) a ∙ ap (λ (z : ℤ). int_cmp c.in-Ok-whole_member.its.value z) b in
-    let p = looked st c.sets_are_apart.ensures c.args.set c.requires.set o x c.args.key c.args.others.now c.loop-member.member c.in-Some.y y c.in-Some.is h.here hand c.loop-member.heap.state c.whole_member.new.self.state h.same c.in-Ok-whole_member.ensures.same c.class_of-class.result c.class_of-class.ensures (Whole c.in-Ok-whole_member.its.value) (Whole c.args.own) c.in-Ok-whole_member.its.next c.in-Ok-whole_member.ensures.found.0 c.in-Ok-whole_member.ensures.found.1 own_is order true ordered_so c.if-ranks_after_whole.ensures in (
+    let own_is : Whole c.args.rank.own ≡ value_of st c.class_of-class.result c.args.rank.key.field x = sym (ap (λ n. value_of st n c.args.rank.key.field x) c.class_of-class.ensures ∙ ap (λ (z : ℤ). value_of st (member_class st.layout c.args.set) c.args.rank.key.field z) its_own ∙ c.requires.own) in
+    let a : to_z w64 (of_z w64 c.in-Ok-whole_member.its.value) ≡ c.in-Ok-whole_member.its.value = search rules in
+    let order = int_cmp (to_z w64 (of_z w64 c.in-Ok-whole_member.its.value)) c.args.rank.own in
+    let ordered_so : order ≡ value_cmp (Whole c.in-Ok-whole_member.its.value) (Whole c.args.rank.own) = ap (λ (z : ℤ). int_cmp z c.args.rank.own) a in
+    let p = looked st c.sets_are_apart.ensures c.args.set c.requires.set o x c.args.rank.key c.args.others.now c.loop-member.member c.in-Some.y y c.in-Some.is h.here hand c.loop-member.heap.state c.whole_member.new.self.state h.same c.in-Ok-whole_member.ensures.same c.class_of-class.result c.class_of-class.ensures (Whole c.in-Ok-whole_member.its.value) (Whole c.args.rank.own) c.in-Ok-whole_member.its.next c.in-Ok-whole_member.ensures.found.0 c.in-Ok-whole_member.ensures.found.1 own_is order true ordered_so c.if-ranks_after_whole.ensures in (
       subst (λ (n : ℤ). IsOk (owner st c.args.set n)) own (found_first st c.args.set c.in-Ok.first o c.in-Ok.ensures.first).0,
       ap Some (hand ∙ p.is) ∙ sym (stops st class ks x p.z p.zs p.ranks).0 ∙ sym (ap (first_after st class ks x) p.rest) ∙ h.found
           ∙ ap (λ (n : ℤ). first_after st class ks n all) its ∙ ap (λ (n : ℤ). first_after st class ks c.args.x (owned st c.args.set n)) own,
@@ -79,16 +79,16 @@ pub returns-in-Err-whole_member-clause-touches : goal.returns-in-Err-whole_membe
 returns-in-Err-whole_member-clause-touches c = absurd (impossible c)
 
 -- x passes this member
-passed_one : (c : goal.After-as_member-member) → Looked c.args.heap.now.state c.args.set (to_z w64 (of_z w64 c.args.o)) (to_z w64 (of_z w64 c.args.x)) (c.args.key ∷ c.args.others.now) c.loop-member.member c.in-Some.y c.in-Ok-whole_member.its.next false
+passed_one : (c : goal.After-as_member-member) → Looked c.args.heap.now.state c.args.set (to_z w64 (of_z w64 c.args.o)) (to_z w64 (of_z w64 c.args.x)) (c.args.rank.key ∷ c.args.others.now) c.loop-member.member c.in-Some.y c.in-Ok-whole_member.its.next false
 passed_one c =
     let st = c.args.heap.now.state in let o : ℤ = to_z w64 (of_z w64 c.args.o) in let x : ℤ = to_z w64 (of_z w64 c.args.x) in let y : ℤ = to_z w64 (of_z w64 c.in-Some.y) in
     let hand : y ≡ c.in-Some.y = search rules in let h = c.loop-member.invariant in
     let its_own : to_z w64 (of_z w64 c.args.x) ≡ c.args.x = search rules in
-    let own_is : Whole c.args.own ≡ value_of st c.class_of-class.result c.args.key.field x = sym (ap (λ n. value_of st n c.args.key.field x) c.class_of-class.ensures ∙ ap (λ (z : ℤ). value_of st (member_class st.layout c.args.set) c.args.key.field z) its_own ∙ c.requires.own) in
-    let a : to_z w64 (of_z w64 c.in-Ok-whole_member.its.value) ≡ c.in-Ok-whole_member.its.value = search rules in let b : to_z w64 (of_z w64 c.args.own) ≡ c.args.own = search rules in
-    let order = int_cmp (to_z w64 (of_z w64 c.in-Ok-whole_member.its.value)) (to_z w64 (of_z w64 c.args.own)) in
-    let ordered_so : order ≡ value_cmp (Whole c.in-Ok-whole_member.its.value) (Whole c.args.own) = ap (λ (z : ℤ). int_cmp z (to_z w64 (of_z w64 c.args.own))) a ∙ ap (λ (z : ℤ). int_cmp c.in-Ok-whole_member.its.value z) b in
-    looked st c.sets_are_apart.ensures c.args.set c.requires.set o x c.args.key c.args.others.now c.loop-member.member c.in-Some.y y c.in-Some.is h.here hand c.loop-member.heap.state c.whole_member.new.self.state h.same c.in-Ok-whole_member.ensures.same c.class_of-class.result c.class_of-class.ensures (Whole c.in-Ok-whole_member.its.value) (Whole c.args.own) c.in-Ok-whole_member.its.next c.in-Ok-whole_member.ensures.found.0 c.in-Ok-whole_member.ensures.found.1 own_is order false ordered_so c.if-ranks_after_whole.ensures
+    let own_is : Whole c.args.rank.own ≡ value_of st c.class_of-class.result c.args.rank.key.field x = sym (ap (λ n. value_of st n c.args.rank.key.field x) c.class_of-class.ensures ∙ ap (λ (z : ℤ). value_of st (member_class st.layout c.args.set) c.args.rank.key.field z) its_own ∙ c.requires.own) in
+    let a : to_z w64 (of_z w64 c.in-Ok-whole_member.its.value) ≡ c.in-Ok-whole_member.its.value = search rules in
+    let order = int_cmp (to_z w64 (of_z w64 c.in-Ok-whole_member.its.value)) c.args.rank.own in
+    let ordered_so : order ≡ value_cmp (Whole c.in-Ok-whole_member.its.value) (Whole c.args.rank.own) = ap (λ (z : ℤ). int_cmp z c.args.rank.own) a in
+    looked st c.sets_are_apart.ensures c.args.set c.requires.set o x c.args.rank.key c.args.others.now c.loop-member.member c.in-Some.y y c.in-Some.is h.here hand c.loop-member.heap.state c.whole_member.new.self.state h.same c.in-Ok-whole_member.ensures.same c.class_of-class.result c.class_of-class.ensures (Whole c.in-Ok-whole_member.its.value) (Whole c.args.rank.own) c.in-Ok-whole_member.its.next c.in-Ok-whole_member.ensures.found.0 c.in-Ok-whole_member.ensures.found.1 own_is order false ordered_so c.if-ranks_after_whole.ensures
 
 -- the member that is next
 next_one : (c : goal.After-as_member-member) → c.as_member-member.result ≡ as_member c.in-Ok-whole_member.its.next
@@ -101,7 +101,7 @@ loop-member-smaller c =
 
 pub loop-member-preserved : goal.loop-member-preserved
 loop-member-preserved c =
-    let st = c.args.heap.now.state in let o : ℤ = to_z w64 (of_z w64 c.args.o) in let x : ℤ = to_z w64 (of_z w64 c.args.x) in let class = member_class st.layout c.args.set in let ks : List RankKey = c.args.key ∷ c.args.others.now in
+    let st = c.args.heap.now.state in let o : ℤ = to_z w64 (of_z w64 c.args.o) in let x : ℤ = to_z w64 (of_z w64 c.args.x) in let class = member_class st.layout c.args.set in let ks : List RankKey = c.args.rank.key ∷ c.args.others.now in
     let p = passed_one c in let h = c.loop-member.invariant in let q = passes st class ks x p.z p.zs p.ranks in
     let rest = ap (λ m. onward m (owned st c.args.set o)) (next_one c) ∙ p.following in
     record {

@@ -8,7 +8,7 @@ use Rattle.ss_sets.proofs.ranking.first_after_whole.Given as goal
 -- x passes the members before this one
 abbrev pub invariant-loop-member : goal.invariant-loop-member
 invariant-loop-member l =
-    let st = l.fn.heap.state in let all = owned st l.set l.o in let rest = onward l.member all in let class = member_class st.layout l.set in let ks = l.key ∷ l.others in
+    let st = l.fn.heap.state in let all = owned st l.set l.o in let rest = onward l.member all in let class = member_class st.layout l.set in let ks = l.rank.key ∷ l.others in
     record {
       same : l.heap.state ≡ st;
       here : l.member ≡ leader rest;
