@@ -1,4 +1,8 @@
 pub mod Lists
-pub mod PreambleLaws
+pub mod Orders
+pub mod Statistics
+pub mod Clauses
+pub mod Forms
+pub mod WholePreambles
 pub mod ProgramLaws
 pub mod Whole

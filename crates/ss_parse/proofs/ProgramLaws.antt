@@ -23,10 +23,11 @@ use Rattle.ss_parse.specs.SpelledPreambles.{Variables_are}
 use Rattle.ss_parse_expressions.specs.WordTables.{mode_of_word}
 use Rattle.ss_parse.specs.SpelledPrograms.{section_word, Saving_words, Kind_rest, Definition_is, Section_is, Program_is}
 use Rattle.ss_parse_statements.specs.ReadStatements.{form_word}
-use Rattle.ss_parse.proofs.PreambleLaws.{whole_preamble_reads}
+use Rattle.ss_parse.proofs.WholePreambles.{whole_preamble_reads}
 use Rattle.ss_parse.specs.ReadPrograms.{section_words, begins_section, saving, routine_kind, event_kind, kind_after, variables, definition_tree, definition_at, definition, definitions, body_in, section_tree, section_at, section_in, program_tree, program_in}
 use Rattle.ss_parse_statements.proofs.FirstWords.{Form, plain_form, by_word_reads, first_less}
-use Rattle.ss_parse_statements.proofs.StatementLaws.{false_past_comma, In_statement, all_statements_reads}
+use Rattle.ss_parse_statements.proofs.Beginnings.{false_past_comma}
+use Rattle.ss_parse_statements.proofs.Levels.{In_statement, all_statements_reads}
 
 -- ---- the headers of sections
 

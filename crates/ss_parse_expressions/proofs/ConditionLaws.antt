@@ -30,7 +30,8 @@ use Rattle.ss_parse_expressions.proofs.Marks.{token_less, In_table, begins_table
 use Rattle.ss_parse_expressions.proofs.ReaderLaws.{Reads, Item, continues_never, Made, item_of, item_marked, item_skipped, expect_reads, taken_reads, seq_reads, bind_reads, made_reads, marked_reads, closed_reads, reshaped_reads, fewer_reads, optional_reads, choose_reads, too_deep_reads}
 use Rattle.ss_parse_expressions.proofs.Rows.{first_and_reads, first_less, Loop, loop_of}
 use Rattle.ss_parse_expressions.proofs.WordLaws.{word_in_reads, present_reads, done_reads, fail_reads}
-use Rattle.ss_parse_expressions.proofs.ExpressionLaws.{in_less, in_begins, sum_in_reads, continues_sum}
+use Rattle.ss_parse_expressions.proofs.Beginnings.{in_begins, continues_sum}
+use Rattle.ss_parse_expressions.proofs.Sums.{in_less, sum_in_reads}
 use Rattle.ss_parse_expressions.proofs.PlaceLaws.{reference_in_reads, continues_place}
 
 -- ---- words

@@ -24,7 +24,8 @@ use Rattle.ss_parse_expressions.proofs.Marks.{token_less}
 use Rattle.ss_parse_expressions.proofs.ReaderLaws.{Reads, Item, continues_never, Made, item_of, item_marked, noisy_item, expect_reads, seq_reads, following_reads, bind_reads, apply_reads, made_reads, marked_reads, reshaped_reads, fewer_reads, maybe_reads, flag_reads}
 use Rattle.ss_parse_expressions.proofs.Rows.{rows_reads, each_first, Loop, loop_of}
 use Rattle.ss_parse_expressions.proofs.WordLaws.{word_in_reads, expect_class_reads, done_reads, name_reads, either_reads, item_made, one_begins, one_less, no_word}
-use Rattle.ss_parse_expressions.proofs.ExpressionLaws.{sum_in_reads, continues_sum}
+use Rattle.ss_parse_expressions.proofs.Beginnings.{continues_sum}
+use Rattle.ss_parse_expressions.proofs.Sums.{sum_in_reads}
 use Rattle.ss_parse_expressions.proofs.PlaceLaws.{continues_place}
 use Rattle.ss_parse_expressions.proofs.ConditionLaws.{stops_place, the_set_reads, In_condition, continues_condition, condition_in_reads, condition_less}
 

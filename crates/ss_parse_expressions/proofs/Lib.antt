@@ -4,7 +4,9 @@ pub mod Marks
 pub mod ReaderLaws
 pub mod Rows
 pub mod Lists
-pub mod ExpressionLaws
+pub mod Beginnings
+pub mod Factors
+pub mod Sums
 pub mod WordLaws
 pub mod PlaceLaws
 pub mod References

@@ -17,7 +17,9 @@ use Rattle.ss_parse_expressions.specs.ReadPlaces.{subscript_row, named_tree, sub
 use Rattle.ss_parse_expressions.proofs.Marks.{mark_begins, token_less, In_table, begins_table}
 use Rattle.ss_parse_expressions.proofs.ReaderLaws.{Reads, Item, continues_never, item_of, taken_reads, seq_reads, before_mark_reads, opened_reads, apply_reads, reshaped_reads, maybe_reads, too_deep_reads}
 use Rattle.ss_parse_expressions.proofs.Rows.{list_reads, Loop, loop_of, separated_item}
-use Rattle.ss_parse_expressions.proofs.ExpressionLaws.{In, in_begins, in_less, sum_in_reads, sum_no_and, continues_sum, designated_begins, word_designates}
+use Rattle.ss_parse_expressions.proofs.Beginnings.{In, in_begins, sum_no_and, continues_sum, designated_begins}
+use Rattle.ss_parse_expressions.proofs.Factors.{word_designates}
+use Rattle.ss_parse_expressions.proofs.Sums.{in_less, sum_in_reads}
 
 -- ---- what is named
 

@@ -2,4 +2,6 @@ pub mod Pictures
 pub mod FirstWords
 pub mod StatementParts
 pub mod SimpleLaws
-pub mod StatementLaws
+pub mod Beginnings
+pub mod NestedStatements
+pub mod Levels

@@ -22,7 +22,8 @@ use Rattle.ss_parse_expressions.proofs.Marks.{token, mark_begins, token_less, In
 use Rattle.ss_parse_expressions.proofs.Depth.{upto_same, Bounded, bounded_bind}
 use Rattle.ss_parse_expressions.proofs.ReaderLaws.{Reads, Item, continues_never, Made, item_of, item_marked, expect_reads, taken_reads, seq_reads, marked_reads, closed_reads, made_reads, following_reads, reshaped_reads, before_mark_reads, maybe_reads, choose_reads}
 use Rattle.ss_parse_expressions.proofs.WordLaws.{expect_class_reads, one_begins, one_less, done_reads, perhaps_listed_reads, either_reads, item_made, no_word, no_class}
-use Rattle.ss_parse_expressions.proofs.ExpressionLaws.{In, sum_in_reads, continues_sum}
+use Rattle.ss_parse_expressions.proofs.Beginnings.{In, continues_sum}
+use Rattle.ss_parse_expressions.proofs.Sums.{sum_in_reads}
 use Rattle.ss_parse_expressions.proofs.PlaceLaws.{target_in_reads, targets_in_reads, sums_in_reads, continues_place, continues_targets, continues_sums}
 use Rattle.ss_parse_expressions.proofs.ConditionLaws.{the_set_reads, stops_place}
 use Rattle.ss_parse_statements.specs.SpelledParts.{Trigger, Picture_is, CalledName, Position_is, When_is}

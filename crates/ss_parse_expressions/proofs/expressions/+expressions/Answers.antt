@@ -6,7 +6,7 @@ use Rattle.ss_tree.specs.View.{view_expression, view_term}
 use Rattle.ss_parse_expressions.specs.Reading.{FailsReading}
 use Rattle.ss_parse_expressions.specs.ReadExpressions.{factor_with, sum_in}
 use Rattle.ss_parse_expressions.proofs.Rows.{grows, breaks, is_done}
-use Rattle.ss_parse_expressions.proofs.ExpressionLaws.{further_factors_loop, further_terms_loop, sums_loop}
+use Rattle.ss_parse_expressions.proofs.Sums.{further_factors_loop, further_terms_loop, sums_loop}
 use Rattle.ss_parse_expressions.proofs.expressions.+expressions.Goals as goal
 
 pub further_factors-more-preserved : goal.further_factors-more-preserved

@@ -4,7 +4,7 @@ use Rattle.ss_tree.specs.View.{view_statement}
 use Rattle.ss_parse_expressions.specs.Reading.{FailsReading}
 use Rattle.ss_parse_expressions.proofs.Rows.{grows, breaks, is_done}
 use Rattle.ss_parse_statements.specs.ReadStatements.{statement_in}
-use Rattle.ss_parse_statements.proofs.StatementLaws.{statements_loop}
+use Rattle.ss_parse_statements.proofs.Levels.{statements_loop}
 use Rattle.ss_parse_statements.proofs.statements.+statements.Goals as goal
 
 pub statements-more-preserved : goal.statements-more-preserved

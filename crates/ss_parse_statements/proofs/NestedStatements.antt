@@ -1,215 +1,35 @@
--- Statements: what is read is spelled, and what is spelled is read.
-use Rattle.std.proofs.Common.{◌≡◌, ℕ, zero, suc, ◌<◌, ◌≤◌, Bool, true, false, ◌||◌, List, [], ◌∷◌, length, refl, sym, ap, subst, ◌∙◌, arith, inl, inr, ◌⊎◌}
+-- Statements with others in them: what is read is spelled, and what is spelled is read.
+use Rattle.std.proofs.Common.{◌≡◌, ℕ, suc, ◌<◌, ◌≤◌, Bool, true, false, ◌||◌, List, [], ◌∷◌, length, refl, sym, ap, subst, ◌∙◌, arith, inl, inr, ◌⊎◌}
 use Rattle.ss_base.specs.declared.line.Line.{Line}
 use Rattle.ss_lex.specs.declared.word.Word.{Word}
 use Rattle.ss_lex.specs.declared.word.Word.TheVariants as words
 use Rattle.ss_lex.specs.declared.token.Span.{Span}
-use Rattle.ss_lex.specs.declared.token.TokenKind.{TokenKind}
 use Rattle.ss_lex.specs.declared.token.TokenKind.TheVariants as kinds
 use Rattle.ss_lex.specs.declared.token.Token.{Token}
 use Rattle.ss_base.specs.declared.words.GuardKind.{GuardKind}
 use Rattle.ss_base.specs.declared.words.GuardKind.TheVariants as guards
 use Rattle.ss_tree.specs.declared.statement.FindOutcome.{FindOutcome}
 use Rattle.ss_tree.specs.Tree.{ConditionTree, HeadTree, LoopHeadTree, for_head, guarded, StatementTree, let_statement, add_statement, subtract_statement, call_statement, return_statement, stop_statement, read_statement, start_simulation, if_statement, loop_statement, find_statement, find_if_statement, create_statement, create_every, destroy_statement, file_statement, remove_end, remove_statement, schedule_new, schedule_statement, cancel_statement, reset_statement, print_statement, skip_statement, StatementRow, no_statement, and_statement, statement_row}
-use Rattle.ss_parse_expressions.specs.Openers.{opens, openers}
-use Rattle.ss_parse_expressions.specs.Shapes.{Shape, ◌▷◌, nothing, either_shape, optional, provided, noise, Word_is, Word_for, at, first_token_line, each, nested_shape}
-use Rattle.ss_parse_expressions.specs.SpelledConditions.{guard_word, loop_head_word, Head_rest, Loop_head_rest, Begins_with_for}
-use Rattle.ss_parse_expressions.specs.WordTables.{phrase_of, guard_of, function_of, outcome_of}
-use Rattle.ss_parse_expressions.specs.Reading.{word, kind_of_mark, is, is_some, begins, in_table, after_dropped, closed, choose_reader, comma, skip_comma}
+use Rattle.ss_parse_expressions.specs.Openers.{openers}
+use Rattle.ss_parse_expressions.specs.Shapes.{Shape, ◌▷◌, nothing, either_shape, optional, provided, noise, Word_for, each}
+use Rattle.ss_parse_expressions.specs.SpelledConditions.{guard_word, Head_rest}
+use Rattle.ss_parse_expressions.specs.WordTables.{guard_of, outcome_of}
+use Rattle.ss_parse_expressions.specs.Reading.{word, kind_of_mark, is, is_some, begins, after_dropped, closed, choose_reader, comma, skip_comma}
 use Rattle.ss_parse_expressions.specs.ReadWords.{fail, begins_noisy, expect_noisy}
-use Rattle.ss_parse_expressions.specs.ReadExpressions.{designator_of_word, begins_value, begins_sum}
 use Rattle.ss_parse_expressions.specs.ReadHeads.{begins_guard, guard_tree}
-use Rattle.ss_parse_expressions.proofs.Tools.{which, chosen, or_false}
-use Rattle.ss_parse_expressions.proofs.Marks.{token, is_true, mark_skips, no_skip}
+use Rattle.ss_parse_expressions.proofs.Tools.{chosen, or_false}
+use Rattle.ss_parse_expressions.proofs.Marks.{token, mark_skips}
 use Rattle.ss_parse_expressions.proofs.Depth.{upto_if, upto_same, bounded_if}
-use Rattle.ss_parse_expressions.proofs.ReaderLaws.{Reads, Item, continues_never, Made, item_of, seq_reads, following_reads, marked_reads, closed_reads, expect_reads, bind_reads, apply_reads, made_reads, reshaped_reads, fewer_reads, optional_reads, maybe_list_reads, noisy_item, too_deep_reads}
-use Rattle.ss_parse_expressions.proofs.Rows.{rows_reads, Loop, loop_of}
+use Rattle.ss_parse_expressions.proofs.ReaderLaws.{Reads, Item, continues_never, Made, item_of, seq_reads, following_reads, marked_reads, closed_reads, expect_reads, bind_reads, apply_reads, made_reads, reshaped_reads, fewer_reads, optional_reads, maybe_list_reads, noisy_item}
+use Rattle.ss_parse_expressions.proofs.Rows.{rows_reads}
 use Rattle.ss_parse_expressions.proofs.WordLaws.{word_in_reads, done_reads, noisy_mark_reads, noisy_begins, noisy_less, noisy_stops, either_reads}
-use Rattle.ss_parse_expressions.proofs.ConditionLaws.{In_condition, continues_condition, condition_in_reads, condition_begins}
+use Rattle.ss_parse_expressions.proofs.ConditionLaws.{In_condition, continues_condition, condition_in_reads}
 use Rattle.ss_parse_expressions.proofs.HeadLaws.{head_more, continues_head, continues_for, continues_guarded, for_reads, Guarded_parts, guarded_reads}
-use Rattle.ss_parse_statements.specs.SpelledStatements.{noisy, Find_words, opening_word, May_be_governed, Statement_rest, Statement_from, Statements_are, Else_part, Branches, Governed}
-use Rattle.ss_parse_statements.specs.ReadSimple.{simple_at}
-use Rattle.ss_parse_statements.specs.ReadStatements.{by_word, form_word, begins_form_kind, begins_form, begins_statement, begins_outcome, begins_find_if_form, begins_find_if, statements_with, else_with, branches_with, do_with, governed_with, body_with, find_words, if_with, loop_with, find_if_with, found_with, find_with, for_with, guarded_with, nested_word, nested_at, nested_in, form_in, statement_in, statements_in}
-use Rattle.ss_parse_statements.proofs.FirstWords.{Form, plain_form, opening_form, by_word_reads, first_less}
-use Rattle.ss_parse_statements.proofs.StatementParts.{statement_more, continues_simple}
-use Rattle.ss_parse_statements.proofs.SimpleLaws.{is_nested, nested_first, form_first, Form_is, no_form, let_reads, add_reads, subtract_reads, call_reads, return_reads, stop_reads, read_reads, start_reads, create_reads, destroy_reads, cancel_reads, file_reads, remove_reads, schedule_reads, reset_reads, print_reads, skip_reads}
-
--- what continues a statement
-abbrev pub continues_statement : List Token → Bool
-continues_statement ts = begins_find_if ts || continues_simple ts
-
-no_simple : (ts : List Token) → continues_statement ts ≡ false → continues_simple ts ≡ false
-no_simple ts stop = (or_false (begins_find_if ts) (continues_simple ts) stop).1
-
-both_false : (a b : Bool) → a ≡ false → b ≡ false → (a || b) ≡ false
-both_false a b e f = rw (e, f) refl
-
--- ---- what statements begin with
-
--- a word that begins a statement begins nothing else
-word_no_other : (w : Word) → form_word w ≡ true → (begins_value (kinds.Word w) ≡ false) × (is (word words.And) (kinds.Word w) ≡ false) × (is (word words.Or) (kinds.Word w) ≡ false) × (statement_more w ≡ false) × (head_more w ≡ false) × (is (word words.Do) (kinds.Word w) ≡ false) × (is (word words.Find) (kinds.Word w) ≡ false) × (is (word words.Else) (kinds.Word w) ≡ false)
-word_no_other words.Let e = (refl, refl, refl, refl, refl, refl, refl, refl)
-word_no_other words.Add e = (refl, refl, refl, refl, refl, refl, refl, refl)
-word_no_other words.Subtract e = (refl, refl, refl, refl, refl, refl, refl, refl)
-word_no_other words.Call e = (refl, refl, refl, refl, refl, refl, refl, refl)
-word_no_other words.Return e = (refl, refl, refl, refl, refl, refl, refl, refl)
-word_no_other words.Stop e = (refl, refl, refl, refl, refl, refl, refl, refl)
-word_no_other words.Read e = (refl, refl, refl, refl, refl, refl, refl, refl)
-word_no_other words.Start e = (refl, refl, refl, refl, refl, refl, refl, refl)
-word_no_other words.If e = (refl, refl, refl, refl, refl, refl, refl, refl)
-word_no_other words.For e = (refl, refl, refl, refl, refl, refl, refl, refl)
-word_no_other words.While e = (refl, refl, refl, refl, refl, refl, refl, refl)
-word_no_other words.Until e = (refl, refl, refl, refl, refl, refl, refl, refl)
-word_no_other words.Create e = (refl, refl, refl, refl, refl, refl, refl, refl)
-word_no_other words.Destroy e = (refl, refl, refl, refl, refl, refl, refl, refl)
-word_no_other words.File e = (refl, refl, refl, refl, refl, refl, refl, refl)
-word_no_other words.Remove e = (refl, refl, refl, refl, refl, refl, refl, refl)
-word_no_other words.Schedule e = (refl, refl, refl, refl, refl, refl, refl, refl)
-word_no_other words.Cancel e = (refl, refl, refl, refl, refl, refl, refl, refl)
-word_no_other words.Reset e = (refl, refl, refl, refl, refl, refl, refl, refl)
-word_no_other words.Print e = (refl, refl, refl, refl, refl, refl, refl, refl)
-word_no_other words.Skip e = (refl, refl, refl, refl, refl, refl, refl, refl)
-word_no_other _ e = absurd cc
-
-form_begins : (n : ℕ) (x : StatementTree) (ts rest : List Token) → Statement_from x n ts rest → begins_form ts ≡ true
-form_begins n x ts rest (begins_at, (m, (span, line, e), s)) = ap begins_form e ∙ form_first x
-
-kind_no_comma : (k : TokenKind) → begins_form_kind k ≡ true → is comma k ≡ false
-kind_no_comma (kinds.Word w) e = refl
-kind_no_comma _ e = absurd cc
-
-pub form_no_comma : (ts : List Token) → begins_form ts ≡ true → begins comma ts ≡ false
-form_no_comma [] e = absurd cc
-form_no_comma (t ∷ ts) e = kind_no_comma t.kind e
-
--- what is false of a comma and of a word that begins a statement is false of a statement
-false_at_statement : (c : List Token → Bool) → ((span : Span) (line : Line) (ts : List Token) → c (token (kind_of_mark comma) span line ∷ ts) ≡ false) → ((w : Word) (span : Span) (line : Line) (ts : List Token) → form_word w ≡ true → c (token (kinds.Word w) span line ∷ ts) ≡ false) → (n : ℕ) (x : StatementTree) (ts rest : List Token) → (noise ▷ Statement_from x n) ts rest → c ts ≡ false
-false_at_statement c on_comma on_word n x ts rest (a, inr (span, line, e), s) = ap c e ∙ on_comma span line a
-false_at_statement c on_comma on_word n x ts rest (a, inl e, (begins_at, (m, (span, line, f), s))) = ap c (e ∙ f) ∙ on_word (opening_word x) span line m (form_first x)
-
--- what is false of such a word, with a comma before it or not, is false of a statement
-pub false_past_comma : (c : List Token → Bool) → ((span span' : Span) (line line' : Line) (w : Word) (ts : List Token) → form_word w ≡ true → c (token (kind_of_mark comma) span line ∷ token (kinds.Word w) span' line' ∷ ts) ≡ false) → ((w : Word) (span : Span) (line : Line) (ts : List Token) → form_word w ≡ true → c (token (kinds.Word w) span line ∷ ts) ≡ false) → (n : ℕ) (x : StatementTree) (ts rest : List Token) → (noise ▷ Statement_from x n) ts rest → c ts ≡ false
-false_past_comma c on_comma on_word n x ts rest (a, inr (span, line, e), (begins_at, (m, (span', line', f), s))) = ap c e ∙ ap (λ (r : List Token). c (token (kind_of_mark comma) span line ∷ r)) f ∙ on_comma span span' line line' (opening_word x) m (form_first x)
-false_past_comma c on_comma on_word n x ts rest (a, inl e, (begins_at, (m, (span, line, f), s))) = ap c (e ∙ f) ∙ on_word (opening_word x) span line m (form_first x)
-
-word_no_condition : (w : Word) (span : Span) (line : Line) (ts : List Token) → form_word w ≡ true → continues_condition (token (kinds.Word w) span line ∷ ts) ≡ false
-word_no_condition w span line ts e =
-    let no = word_no_other w e in
-    let a : is (word words.And) (kinds.Word w) ≡ false = no.1 in
-    let b : is (word words.Or) (kinds.Word w) ≡ false = no.2 in
-    rw (a, b) refl
-
-word_no_simple : (w : Word) (span : Span) (line : Line) (ts : List Token) → form_word w ≡ true → continues_simple (token (kinds.Word w) span line ∷ ts) ≡ false
-word_no_simple w span line ts e =
-    let no = word_no_other w e in
-    let a : is (word words.And) (kinds.Word w) ≡ false = no.1 in
-    let b : statement_more w ≡ false = no.3 in
-    rw (a, b) refl
-
-comma_no_simple : (w : Word) (span span' : Span) (line line' : Line) (ts : List Token) → form_word w ≡ true → continues_simple (token (kind_of_mark comma) span line ∷ token (kinds.Word w) span' line' ∷ ts) ≡ false
-comma_no_simple w span span' line line' ts e =
-    let no = word_no_other w e in
-    let a : is (word words.And) (kinds.Word w) ≡ false = no.1 in
-    let values = or_false (is_some (designator_of_word w)) (is_some (function_of w)) no.0 in
-    let b : is_some (designator_of_word w) ≡ false = values.0 in
-    let c : is_some (function_of w) ≡ false = values.1 in
-    rw (a, b, c) refl
-
--- ---- an IF that isn't that of a FIND
-
-head_no_if : (h : LoopHeadTree) → loop_head_word h ≡ words.If → ⊥
-head_no_if (guarded (g ∷ gs)) e = go g.kind e
-  where
-    go : (k : GuardKind) → guard_word k ≡ words.If → ⊥
-    go guards.While e = absurd cc
-    go guards.Until e = absurd cc
-head_no_if _ e = absurd cc
-
-word_same : (w v : Word) → kinds.Word w ≡ kinds.Word v → w ≡ v
-word_same w v e = cc
-
-condition_no_outcome : (ts : List Token) → (begins_sum ts || begins (word words.Data) ts) ≡ true → begins_outcome ts ≡ false
-condition_no_outcome [] e = refl
-condition_no_outcome (t ∷ ts) e = go t.kind e
-  where
-    go_word : (w : Word) → (begins_value (kinds.Word w) || is (word words.Data) (kinds.Word w)) ≡ true → is_some (outcome_of w) ≡ false
-    go_word words.Found e = absurd cc
-    go_word words.None e = absurd cc
-    go_word _ e = refl
-
-    go : (k : TokenKind) → (begins_value k || is (word words.Data) k) ≡ true → is_some (in_table outcome_of k) ≡ false
-    go (kinds.Word w) e = go_word w e
-    go _ e = refl
-
-within_condition : (n : ℕ) (x : StatementTree) (ts rest : List Token) → opening_word x ≡ words.If → Statement_rest x n ts rest → begins_outcome ts ≡ false
-within_condition zero (if_statement line c t e) ts rest is s = absurd s
-within_condition (suc n) (if_statement line c t e) ts rest is s = condition_no_outcome ts (condition_begins (suc n) c ts s.0 s.1)
-within_condition n (loop_statement line head body) ts rest is s = absurd (head_no_if head is)
-within_condition n _ ts rest is s = absurd cc
-
-statement_no_find_if : (n : ℕ) (x : StatementTree) (ts rest : List Token) → Statement_from x n ts rest → begins_find_if_form ts ≡ false
-statement_no_find_if n x ts rest (begins_at, (m, (span, line, e), s)) =
-    elim (which (is (word words.If) (kinds.Word (opening_word x)))) [
-      | inl there ↦
-          let kind = is_true (word words.If) (kinds.Word (opening_word x)) there in
-          let is : opening_word x ≡ words.If = word_same (opening_word x) words.If kind in
-          let no : begins_outcome m ≡ false = within_condition n x m rest is s in
-          rw (e, there, no) refl
-      | inr none ↦ rw (e, none) refl
-    ]
-
-pub statement_stops : (n : ℕ) (x : StatementTree) (ts rest : List Token) → (noise ▷ Statement_from x n) ts rest → continues_statement ts ≡ false
-statement_stops n x ts rest (a, c, s) =
-    let simple : continues_simple ts ≡ false = false_past_comma continues_simple (λ span span' line line' w r e. comma_no_simple w span span' line line' r e) (λ w span line r e. word_no_simple w span line r e) n x ts rest (a, c, s) in
-    let form : begins_find_if_form a ≡ false = statement_no_find_if n x a rest s in
-    let same : skip_comma ts ≡ a = skipped c in
-    both_false (begins_find_if ts) (continues_simple ts) (ap begins_find_if_form same ∙ form) simple
-  where
-    skipped : noise ts a → skip_comma ts ≡ a
-    skipped (inl e) = ap skip_comma e ∙ no_skip comma a (form_no_comma a (form_begins n x a rest s))
-    skipped (inr w) = mark_skips comma ts a w
-
--- ---- statements that a loop may govern
-
-guard_first : (k : GuardKind) → is_some (guard_of (guard_word k)) ≡ true
-guard_first guards.While = refl
-guard_first guards.Until = refl
-
-head_guards : (h : LoopHeadTree) → is_some (guard_of (loop_head_word h)) ≡ false → (n : ℕ) (ts rest : List Token) → Loop_head_rest n h ts rest → Begins_with_for h
-head_guards (for_head head) e n ts rest s = tt
-head_guards (guarded []) e n ts rest s = absurd s
-head_guards (guarded (g ∷ gs)) e n ts rest s = absurd (let a = guard_first g.kind in cc)
-
-head_for : (h : LoopHeadTree) → Begins_with_for h → loop_head_word h ≡ words.For
-head_for (for_head head) b = refl
-head_for (guarded gs) b = absurd b
-
-may_govern : (n : ℕ) (x : StatementTree) (ts rest : List Token) → is_some (guard_of (opening_word x)) ≡ false → Statement_rest x n ts rest → May_be_governed x
-may_govern zero (loop_statement line head body) ts rest e s = absurd s
-may_govern (suc n) (loop_statement line head body) ts rest e s = head_guards head e n ts s.0 s.1
-may_govern n _ ts rest e s = tt
-
-governed_first : (n : ℕ) (x : StatementTree) (ts rest : List Token) → May_be_governed x → Statement_rest x n ts rest → is_some (guard_of (opening_word x)) ≡ false
-governed_first n (loop_statement line head body) ts rest may s = let is = head_for head may in ap (λ w. is_some (guard_of w)) is
-governed_first n _ ts rest may s = refl
-
-guard_same : (a b : GuardKind) → guard_word a ≡ guard_word b → a ≡ b
-guard_same guards.While guards.While e = refl
-guard_same guards.Until guards.Until e = refl
-guard_same guards.While guards.Until e = absurd cc
-guard_same guards.Until guards.While e = absurd cc
-
-no_guard_word : (v w : Word) → is_some (guard_of v) ≡ false → v ≡ w → is_some (guard_of w) ≡ true → ⊥
-no_guard_word v w none e there = let same : is_some (guard_of v) ≡ is_some (guard_of w) = ap (λ w. is_some (guard_of w)) e in absurd cc
-
--- a statement that a loop governs begins no phrase
-no_phrase : (w : Word) → form_word w ≡ true → is_some (guard_of w) ≡ false → is_some (phrase_of w) ≡ false
-no_phrase words.While e u = absurd cc
-no_phrase words.Until e u = absurd cc
-no_phrase words.With e u = absurd cc
-no_phrase words.When e u = absurd cc
-no_phrase words.Unless e u = absurd cc
-no_phrase _ e u = refl
+use Rattle.ss_parse_statements.specs.SpelledStatements.{noisy, Find_words, opening_word, May_be_governed, Statement_from, Statements_are, Else_part, Branches, Governed}
+use Rattle.ss_parse_statements.specs.ReadStatements.{form_word, begins_form, begins_statement, begins_find_if, statements_with, else_with, branches_with, do_with, governed_with, body_with, find_words, if_with, loop_with, find_if_with, found_with, find_with, for_with, guarded_with, nested_word, nested_at, statement_in}
+use Rattle.ss_parse_statements.proofs.StatementParts.{continues_simple}
+use Rattle.ss_parse_statements.proofs.SimpleLaws.{form_first, Form_is}
+use Rattle.ss_parse_statements.proofs.Beginnings.{both_false, word_no_other, form_begins, form_no_comma, false_at_statement, word_no_condition, continues_statement, head_no_if, statement_stops, head_guards, may_govern, governed_first, guard_same, no_guard_word, no_phrase}
 
 -- ---- rows as lists
 
@@ -546,110 +366,9 @@ module _ (k j : ℕ) (le : k ≤ j) (inner : Reads (suc k) (statement_in (suc k)
 
   -- ---- by the first word
 
-  nested_law : (line : Line) (w : Word) → nested_word w ≡ true → Reads (suc k) (nested_at line (suc k) (statement_in (suc k)) w) (nested_at line (suc j) (statement_in (suc j)) w) (Form_is (suc k) line w) continues_statement
+  pub nested_law : (line : Line) (w : Word) → nested_word w ≡ true → Reads (suc k) (nested_at line (suc k) (statement_in (suc k)) w) (nested_at line (suc j) (statement_in (suc j)) w) (Form_is (suc k) line w) continues_statement
   nested_law line words.If e = fewer_reads (reshaped_reads (if_reads line) (Form_is (suc k) line words.If) (if_to line) (if_from line)) continues_statement (λ ts stop. refl)
   nested_law line words.For e = reshaped_reads (for_law line) (Form_is (suc k) line words.For) (for_to line) (for_from line)
   nested_law line words.While e = guarded_law guards.While words.While refl refl line
   nested_law line words.Until e = guarded_law guards.Until words.Until refl refl line
   nested_law line _ e = absurd cc
-
--- where no level may be opened, no statement with others in it is spelled
-nested_never : (x : StatementTree) (ts rest : List Token) → is_nested x ≡ true → Statement_rest x 0 ts rest → ⊥
-nested_never (if_statement line c t e) ts rest n s = s
-nested_never (loop_statement line head body) ts rest n s = s
-nested_never (find_statement line head) ts rest n s = s
-nested_never (find_if_statement line head outcome t e) ts rest n s = s
-nested_never _ ts rest n s = absurd cc
-
-nested_opens : (w : Word) → nested_word w ≡ true → opens (kinds.Word w) ≡ 1
-nested_opens words.If e = refl
-nested_opens words.For e = refl
-nested_opens words.While e = refl
-nested_opens words.Until e = refl
-nested_opens _ e = absurd cc
-
--- ---- statements at each level
-
-abbrev pub In_statement : ℕ → StatementTree → Shape
-In_statement room x = nested_shape (λ l. Statement_from x l) room
-
-simple_law : (n m : ℕ) → n ≤ m → (line : Line) (w : Word) → nested_word w ≡ false → Reads (suc n) (simple_at line (suc n) w) (simple_at line (suc m) w) (Form_is n line w) continues_simple
-unfolding simple_at
-simple_law n m le line words.Let e = let_reads n m le line
-simple_law n m le line words.Add e = add_reads n m le line
-simple_law n m le line words.Subtract e = subtract_reads n m le line
-simple_law n m le line words.Call e = call_reads n m le line
-simple_law n m le line words.Return e = return_reads n m le line
-simple_law n m le line words.Stop e = stop_reads n m le line
-simple_law n m le line words.Read e = read_reads n m le line
-simple_law n m le line words.Start e = start_reads n m le line
-simple_law n m le line words.Create e = create_reads n m le line
-simple_law n m le line words.Destroy e = destroy_reads n m le line
-simple_law n m le line words.File e = file_reads n m le line
-simple_law n m le line words.Remove e = remove_reads n m le line
-simple_law n m le line words.Schedule e = schedule_reads n m le line
-simple_law n m le line words.Cancel e = cancel_reads n m le line
-simple_law n m le line words.Reset e = reset_reads n m le line
-simple_law n m le line words.Print e = print_reads n m le line
-simple_law n m le line words.Skip e = skip_reads n m le line
-simple_law n m le line words.If e = absurd cc
-simple_law n m le line words.For e = absurd cc
-simple_law n m le line words.While e = absurd cc
-simple_law n m le line words.Until e = absurd cc
-simple_law n m le line _ e = no_form (suc n) n line _ refl
-
-module _ (n m : ℕ) (le : n ≤ m) (nested : (line : Line) (w : Word) → nested_word w ≡ true → Reads n (nested_in n (statement_in n) line w) (nested_in m (statement_in m) line w) (Form_is n line w) continues_statement) where
-  form_by : (b : Bool) (line : Line) (w : Word) → nested_word w ≡ b → Form (suc n) w (choose_reader (λ ts. b) (nested_in n (statement_in n) line w) (simple_at line (suc n) w)) (choose_reader (λ ts. b) (nested_in m (statement_in m) line w) (simple_at line (suc m) w)) (Form_is n line w) continues_statement
-  form_by true line w there = opening_form w (nested_opens w there) (nested line w there)
-  form_by false line w none = plain_form w (fewer_reads (simple_law n m le line w none) continues_statement no_simple)
-
-  form_law : (line : Line) (w : Word) → Form (suc n) w (form_in n (statement_in n) line w) (form_in m (statement_in m) line w) (Form_is n line w) continues_statement
-  form_law line w = form_by (nested_word w) line w refl
-
-  form_to : (x : StatementTree) (w : Word) (span : Span) (line : Line) (ts rest : List Token) → Form_is n line w x ts rest → Statement_from x n (token (kinds.Word w) span line ∷ ts) rest
-  form_to x w span line ts rest (at, is, s) = (sym at, (ts, subst (λ (v : Word). Word_is v (token (kinds.Word w) span line ∷ ts) ts) (sym is) (span, line, refl), s))
-
-  form_from : (x : StatementTree) (ts rest : List Token) → Statement_from x n ts rest → (w : Word) × (r : List Token) × (Word_is w ts r) × Form_is n (first_token_line ts) w x r rest
-  form_from x ts rest (at, (r, w, s)) = (opening_word x, r, w, (sym at, refl, s))
-
-  from_reads : Reads (suc n) (by_word (form_in n (statement_in n))) (by_word (form_in m (statement_in m))) (λ x. Statement_from x n) continues_statement
-  from_reads = by_word_reads form_law (λ x. Statement_from x n) form_to form_from
-
-  from_less : (ts : List Token) (x : StatementTree) (rest : List Token) → Statement_from x n ts rest → length rest < length ts
-  from_less ts x rest s = first_less form_law (λ x. Statement_from x n) form_to form_from ts x rest s
-
--- the law of a statement after its first word, given the law of the statements in it
-nested_from : (n m : ℕ) → n ≤ m → Reads n (statement_in n) (statement_in m) (In_statement n) continues_statement → ((ts : List Token) (x : StatementTree) (rest : List Token) → In_statement n x ts rest → length rest < length ts) → (line : Line) (w : Word) → nested_word w ≡ true → Reads n (nested_in n (statement_in n) line w) (nested_in m (statement_in m) line w) (Form_is n line w) continues_statement
-nested_from zero m le inner less line w e = reshaped_reads too_deep_reads (Form_is 0 line w) (λ x ts rest s. absurd s) (λ x ts rest s. nested_never x ts rest (sym (nested_first x) ∙ ap nested_word s.1 ∙ e) s.2)
-nested_from (suc k) zero le inner less line w e = absurd (omega arith)
-nested_from (suc k) (suc j) le inner less line w e = nested_law k j (omega arith) inner less line w e
-
-mutual
-  unfolding statement_in
-
-  pub statement_in_reads : (n m : ℕ) → n ≤ m → Reads n (statement_in n) (statement_in m) (In_statement n) continues_statement
-  statement_in_reads zero m le = too_deep_reads
-  statement_in_reads (suc n) zero le = absurd (omega arith)
-  statement_in_reads (suc n) (suc m) le = from_reads n m (omega arith) (nested_from n m (omega arith) (statement_in_reads n m (omega arith)) (in_statement_less n))
-
-  in_statement_less : (n : ℕ) (ts : List Token) (x : StatementTree) (rest : List Token) → In_statement n x ts rest → length rest < length ts
-  in_statement_less zero ts x rest s = absurd s
-  in_statement_less (suc n) ts x rest s = from_less n n (omega arith) (nested_from n n (omega arith) (statement_in_reads n n (omega arith)) (in_statement_less n)) ts x rest s
-
-in_statement_begins : (n : ℕ) (ts : List Token) (x : StatementTree) (rest : List Token) → In_statement n x ts rest → begins_form ts ≡ true
-in_statement_begins zero ts x rest s = absurd s
-in_statement_begins (suc n) ts x rest s = form_begins n x ts rest s
-
-in_statement_stops : (n : ℕ) (ts : List Token) (x : StatementTree) (rest : List Token) → (noise ▷ In_statement n x) ts rest → continues_statement ts ≡ false
-in_statement_stops zero ts x rest (a, comma_there, s) = absurd s
-in_statement_stops (suc n) ts x rest s = statement_stops n x ts rest s
-
-statement_item : (n m : ℕ) → n ≤ m → Item n begins_statement (λ r. statement_in n (skip_comma r)) (λ r. statement_in m (skip_comma r)) (λ x. noise ▷ In_statement n x) continues_statement
-statement_item n m le = noisy_item (statement_in_reads n m le) begins_form (in_statement_begins n) form_no_comma (in_statement_less n)
-
--- statements, each with a comma before it or not
-pub all_statements_reads : (n m : ℕ) → n ≤ m → Reads n (statements_in n) (statements_in m) (each (λ x. noise ▷ In_statement n x)) (λ ts. begins_statement ts || continues_statement ts)
-all_statements_reads n m le = rows_reads (statement_item n m le) (in_statement_stops n)
-
-pub statements_loop : (n : ℕ) → Loop begins_statement (λ r. statement_in n (skip_comma r))
-statements_loop n = loop_of (statement_item n n (omega arith)) refl

@@ -1,0 +1,83 @@
+-- Statistics: what is read is spelled, and what is spelled is read.
+use Rattle.std.proofs.Common.{◌≡◌, ℕ, ◌<◌, Bool, true, false, ◌||◌, List, length, drop, Some, Ok, refl, sym, ap, ◌∙◌, arith}
+use Rattle.ss_lex.specs.declared.word.Word.{Word}
+use Rattle.ss_lex.specs.declared.word.Word.TheVariants as words
+use Rattle.ss_lex.specs.declared.token.TokenKind.TheVariants as kinds
+use Rattle.ss_lex.specs.declared.token.Token.{Token}
+use Rattle.ss_base.specs.declared.words.Weighting.{Weighting}
+use Rattle.ss_base.specs.declared.words.Weighting.TheVariants as weightings
+use Rattle.ss_tree.specs.declared.preamble.StatisticKind.{StatisticKind}
+use Rattle.ss_tree.specs.declared.preamble.Statistic.{Statistic}
+use Rattle.ss_tree.specs.Tree.{PreambleTree, statistics}
+use Rattle.ss_parse_expressions.specs.declared.failure.Failure.{Failure}
+use Rattle.ss_parse_expressions.specs.declared.failure.Failure.TheVariants as failures
+use Rattle.ss_parse_expressions.specs.Shapes.{separated_list}
+use Rattle.ss_parse_expressions.specs.Reading.{FailsReading, word, is, begins, taken, name_in_token, skip_separator, begins_more}
+use Rattle.ss_parse_expressions.specs.ReadWords.{begins_name}
+use Rattle.ss_parse_expressions.proofs.ReaderLaws.{Reads, continues_never, apply_reads, seq_reads, marked_reads, optional_reads}
+use Rattle.ss_parse_expressions.proofs.Rows.{list_reads, separated_item, Loop, loop_of}
+use Rattle.ss_parse_expressions.proofs.WordLaws.{word_in_reads, name_reads, name_begins, name_no_and, name_less}
+use Rattle.ss_parse.specs.SpelledPreambles.{Statistic_is, weighting_word, preamble_first}
+use Rattle.ss_parse_expressions.specs.WordTables.{statistic_of}
+use Rattle.ss_parse.specs.ReadPreambles.{statistic_tree, statistic_kind, statistic, found, preamble_word}
+
+-- ---- which statements are statistics
+
+abbrev pub is_statistics : PreambleTree → Bool
+is_statistics (statistics line weighting fs subject) = true
+is_statistics _ = false
+
+abbrev pub statistics_word : Word → Bool
+statistics_word words.Tally = true
+statistics_word words.Accumulate = true
+statistics_word _ = false
+
+pub weighting_known : (weighting : Weighting) → (statistics_word (weighting_word weighting) ≡ true) × (preamble_word (weighting_word weighting) ≡ true)
+weighting_known weightings.Tally = (refl, refl)
+weighting_known weightings.Accumulate = (refl, refl)
+
+pub statistics_first : (x : PreambleTree) → statistics_word (preamble_first x) ≡ is_statistics x
+statistics_first (statistics line weighting fs subject) = (weighting_known weighting).0
+statistics_first _ = refl
+
+pub no_statistics : (v w : Word) → statistics_word v ≡ false → v ≡ w → statistics_word w ≡ true → ⊥
+no_statistics v w none e there = let same : statistics_word v ≡ statistics_word w = ap statistics_word e in absurd cc
+
+-- ---- statistics
+
+rank_reads_word : (w : Word) (mode : StatisticKind) → statistic_of w ≡ Some mode → is (word words.The) (kinds.Word w) ≡ false
+rank_reads_word words.Number mode e = refl
+rank_reads_word words.Sum mode e = refl
+rank_reads_word words.Maximum mode e = refl
+rank_reads_word words.Minimum mode e = refl
+rank_reads_word words.Mean mode e = refl
+rank_reads_word _ mode e = absurd cc
+
+module _ (k : ℕ) where
+  statistic_reads : Reads k statistic statistic Statistic_is continues_never
+  unfolding statistic
+  statistic_reads = apply_reads (seq_reads (name_reads k) (marked_reads (word words.As) (optional_reads (word_in_reads k statistic_of) (word words.The) (λ x ts rest s. ap (begins (word words.The)) s.2.2 ∙ rank_reads_word s.0 x s.1))) (λ n ts rest s stop. refl)) statistic_tree Statistic_is (λ p ts rest s. s) (λ x ts rest s. ((x.name, x.kind), refl, s))
+
+  statistic_begins : (ts : List Token) (x : Statistic) (rest : List Token) → Statistic_is x ts rest → begins_name ts ≡ true
+  statistic_begins ts x rest s = name_begins ts x.name s.0 s.1
+
+  statistic_less : (ts : List Token) (x : Statistic) (rest : List Token) → Statistic_is x ts rest → length rest < length ts
+  statistic_less ts x rest s = omega (arith, name_less ts x.name s.0 s.1, (marked_reads (word words.As) (optional_reads (word_in_reads k statistic_of) (word words.The) (λ x ts rest s. ap (begins (word words.The)) s.2.2 ∙ rank_reads_word s.0 x s.1))).shorter s.0 x.kind rest s.2)
+
+  pub found_reads : Reads k found found (separated_list Statistic_is) (λ ts. begins_more begins_name ts || (continues_never ts || continues_never ts))
+  found_reads = list_reads statistic_reads begins_name statistic_begins name_no_and statistic_less (λ span line ts. refl) (λ span line ts. refl)
+
+-- ---- the loop over statistics
+
+pub found_loop : Loop (begins_more begins_name) (λ r. statistic (skip_separator r))
+found_loop = loop_of (separated_item (statistic_reads 0) begins_name (statistic_begins 0) name_no_and) refl
+
+-- a statistic, part by part
+pub statistic_read : (ts a b rest : List Token) (n : List ℕ) (kind : StatisticKind) → a ≡ ts → taken name_in_token a ≡ Ok (n, drop 1 a) → b ≡ drop 1 a → statistic_kind b ≡ Ok (kind, rest) → statistic ts ≡ Ok (record { name = n; kind = kind }, rest)
+unfolding statistic
+statistic_read ts a b rest n kind same e f g = rw (sym same, e, sym f, g) refl
+
+pub statistic_no_kind : (ts a b : List Token) (n : List ℕ) (e : Failure) → a ≡ ts → taken name_in_token a ≡ Ok (n, drop 1 a) → b ≡ drop 1 a → FailsReading e (statistic_kind b) → FailsReading e (statistic ts)
+unfolding statistic
+statistic_no_kind ts a b n failures.Memory same e f g = tt
+statistic_no_kind ts a b n (failures.Refused d left) same e f g = rw (sym same, e, sym f, g) refl

@@ -1,0 +1,258 @@
+-- Terms and sums: what is read is spelled, and what is spelled is read.
+use Rattle.std.proofs.Common.{◌≡◌, ℕ, zero, suc, ◌<◌, ◌≤◌, false, ◌||◌, List, [], ◌∷◌, length, Some, refl, sym, ap, subst, ◌∙◌, arith, inl, inr}
+use Rattle.ss_lex.specs.declared.token.Symbol.TheVariants.{Plus, Minus, Star}
+use Rattle.ss_lex.specs.declared.token.TokenKind.{TokenKind}
+use Rattle.ss_lex.specs.declared.token.TokenKind.TheVariants as kinds
+use Rattle.ss_lex.specs.declared.token.Token.{Token}
+use Rattle.ss_base.specs.declared.words.Sign.{Sign}
+use Rattle.ss_base.specs.declared.words.Sign.TheVariants as signs
+use Rattle.ss_tree.specs.Tree.{ExpressionTree, number, text, named, call, parenthesised, product, signed, sum, ExpressionRow, no_expression, and_expression, expression_row, TermRow, no_term, and_term, term_row}
+use Rattle.ss_parse_expressions.specs.Shapes.{Shape, ◌▷◌, Token_is, Symbol_is, each}
+use Rattle.ss_parse_expressions.specs.SpelledExpressions.{sum_place, first_place, term_place, factor_place, Sign_is, Spelled, Further_factors, Further_terms}
+use Rattle.ss_parse_expressions.specs.Reading.{begins, skip, taken, seq, apply, skip_separator, begins_more}
+use Rattle.ss_parse_expressions.specs.ReadExpressions.{star, sign_of_token, begins_sign, begins_sum, sum_of_terms, product_of, factor_with, further_factors_with, term_with, signed_term_with, first_term_with, further_terms_with, sum_with, sum_in}
+use Rattle.ss_parse_expressions.proofs.Tools.{or_false}
+use Rattle.ss_parse_expressions.proofs.Marks.{token_less, In_table}
+use Rattle.ss_parse_expressions.proofs.ReaderLaws.{Reads, Item, continues_never, item_of, item_skipped, taken_reads, seq_reads, apply_reads, choose_reads, too_deep_reads}
+use Rattle.ss_parse_expressions.proofs.Rows.{rows_reads, each_first, Loop, loop_of, separated_item}
+use Rattle.ss_parse_expressions.proofs.Beginnings.{In, in_begins, sum_no_and, term_cases, first_cases, sum_cases, sign_begins, term_begins, continues_factor, continues_term, continues_sum}
+use Rattle.ss_parse_expressions.proofs.Factors.{factor_reads, factor_less}
+
+-- ---- rows of factors and of terms as lists
+
+further_factors : (levels : ℕ) (xs : List ExpressionTree) (ts rest : List Token) → each (λ e. Symbol_is Star ▷ Spelled e factor_place levels) xs ts rest → Further_factors (expression_row xs) levels ts rest
+further_factors levels [] ts rest e = e
+further_factors levels (x ∷ xs) ts rest (m, (n, separated, one), more) = (n, separated, (m, one, further_factors levels xs m rest more))
+
+factors_listed : (levels : ℕ) (es : ExpressionRow) (ts rest : List Token) → Further_factors es levels ts rest → (xs : List ExpressionTree) × (expression_row xs ≡ es) × each (λ e. Symbol_is Star ▷ Spelled e factor_place levels) xs ts rest
+factors_listed levels no_expression ts rest e = ([], refl, e)
+factors_listed levels (and_expression x es) ts rest (n, separated, (m, one, more)) =
+    let found = factors_listed levels es m rest more in
+    (x ∷ found.0, ap (and_expression x) found.1, (m, (n, separated, one), found.2))
+
+-- a further term of a sum
+abbrev Term_is : ℕ → Sign × ExpressionTree → Shape
+Term_is levels t = Sign_is t.0 ▷ Spelled t.1 term_place levels
+
+further_terms : (levels : ℕ) (xs : List (Sign × ExpressionTree)) (ts rest : List Token) → each (Term_is levels) xs ts rest → Further_terms (term_row xs) levels ts rest
+further_terms levels [] ts rest e = e
+further_terms levels (x ∷ xs) ts rest (m, (n, sign, one), more) = (n, sign, (m, one, further_terms levels xs m rest more))
+
+terms_listed : (levels : ℕ) (es : TermRow) (ts rest : List Token) → Further_terms es levels ts rest → (xs : List (Sign × ExpressionTree)) × (term_row xs ≡ es) × each (Term_is levels) xs ts rest
+terms_listed levels no_term ts rest e = ([], refl, e)
+terms_listed levels (and_term sign x es) ts rest (n, signs_is, (m, one, more)) =
+    let found = terms_listed levels es m rest more in
+    ((sign, x) ∷ found.0, ap (and_term sign x) found.1, (m, (n, signs_is, one), found.2))
+
+-- ---- signs
+
+sign_to : (sign : Sign) (ts rest : List Token) → In_table sign_of_token sign ts rest → Sign_is sign ts rest
+sign_to sign ts rest (k, takes, at) = go k takes at
+  where
+    go : (k : TokenKind) → sign_of_token k ≡ Some sign → Token_is k ts rest → Sign_is sign ts rest
+    go (kinds.Symbol Plus) e at = let is_plus : signs.Plus ≡ sign = cc in subst (λ s. Sign_is s ts rest) is_plus at
+    go (kinds.Symbol Minus) e at = let is_minus : signs.Minus ≡ sign = cc in subst (λ s. Sign_is s ts rest) is_minus at
+    go _ e at = absurd cc
+
+sign_from : (sign : Sign) (ts rest : List Token) → Sign_is sign ts rest → In_table sign_of_token sign ts rest
+sign_from signs.Plus ts rest at = (kinds.Symbol Plus, refl, at)
+sign_from signs.Minus ts rest at = (kinds.Symbol Minus, refl, at)
+
+-- ---- the laws of terms and sums, given those of what is in parentheses
+
+module _ (n m : ℕ) (inner : Reads n (sum_in n) (sum_in m) (In n) continues_sum) (inner_less : (ts : List Token) (e : ExpressionTree) (rest : List Token) → In n e ts rest → length rest < length ts) where
+  -- ---- terms
+
+  factor_item : Item (suc n) (begins star) (λ r. factor_with (sum_in n) (skip star r)) (λ r. factor_with (sum_in m) (skip star r)) (λ e. Symbol_is Star ▷ Spelled e factor_place n) continues_factor
+  factor_item = item_skipped star (factor_reads n m inner inner_less)
+
+  further_factors_reads : Reads (suc n) (further_factors_with (sum_in n)) (further_factors_with (sum_in m)) (each (λ e. Symbol_is Star ▷ Spelled e factor_place n)) continues_term
+  further_factors_reads = rows_reads factor_item (λ ts e rest s. ap continues_factor s.1.2)
+
+  factors_reads : Reads (suc n) (seq (factor_with (sum_in n)) (further_factors_with (sum_in n))) (seq (factor_with (sum_in m)) (further_factors_with (sum_in m))) (λ p. Spelled p.0 factor_place n ▷ each (λ e. Symbol_is Star ▷ Spelled e factor_place n) p.1) continues_term
+  factors_reads =
+      seq_reads (factor_reads n m inner inner_less) further_factors_reads
+      (λ xs ts rest s stop. each_first continues_factor (λ ts e rest s. ap continues_factor s.1.2) xs ts rest s (or_false (begins star rest) (continues_factor rest) stop).1)
+
+  -- a factor is a term
+  as_term : (e : ExpressionTree) (ts rest : List Token) → Spelled e factor_place n ts rest → Spelled e term_place n ts rest
+  as_term (number v) ts rest s = s
+  as_term (text t) ts rest s = s
+  as_term (named d no_expression) ts rest s = s
+  as_term (named d (and_expression e es)) ts rest s = s
+  as_term (call f no_expression) ts rest s = s
+  as_term (call f (and_expression e es)) ts rest s = s
+  as_term (parenthesised e) ts rest s = s
+  as_term (product e no_expression) ts rest s = s
+  as_term (product e (and_expression f fs)) ts rest s = absurd s.0
+  as_term (signed sign e) ts rest s = absurd s.0
+  as_term (sum e no_term) ts rest s = s
+  as_term (sum e (and_term sign f fs)) ts rest s = absurd s.0
+
+  term_to : (p : ExpressionTree × List ExpressionTree) (ts rest : List Token) → (Spelled p.0 factor_place n ▷ each (λ e. Symbol_is Star ▷ Spelled e factor_place n) p.1) ts rest → Spelled (product_of p.0 p.1) term_place n ts rest
+  term_to (e, []) ts rest (m, one, is) = as_term e ts rest (subst (λ r. Spelled e factor_place n ts r) is one)
+  term_to (e, f ∷ fs) ts rest (m, one, more) = (tt, (m, one, further_factors n (f ∷ fs) m rest more))
+
+  term_from : (x : ExpressionTree) (ts rest : List Token) → Spelled x term_place n ts rest → (p : ExpressionTree × List ExpressionTree) × (product_of p.0 p.1 ≡ x) × (Spelled p.0 factor_place n ▷ each (λ e. Symbol_is Star ▷ Spelled e factor_place n) p.1) ts rest
+  term_from x ts rest s =
+      elim (term_cases x n ts rest s) [
+        | inl p ↦ go p.0 p.1 p.2 p.3.0 p.3.1
+        | inr f ↦ ((x, []), refl, (rest, f, refl))
+      ]
+    where
+      go : (f : ExpressionTree) (fs : ExpressionRow) → x ≡ product f fs → (fs ≡ no_expression → ⊥) → (Spelled f factor_place n ▷ Further_factors fs n) ts rest → (p : ExpressionTree × List ExpressionTree) × (product_of p.0 p.1 ≡ x) × (Spelled p.0 factor_place n ▷ each (λ e. Symbol_is Star ▷ Spelled e factor_place n) p.1) ts rest
+      go f no_expression is some s = absurd (some refl)
+      go f (and_expression e es) is some (m, one, (a, star_is, (b, next, more))) =
+          let found = factors_listed n es b rest more in
+          ((f, e ∷ found.0), ap (λ (r : ExpressionRow). product f (and_expression e r)) found.1 ∙ sym is, (m, one, (b, (a, star_is, next), found.2)))
+
+  pub term_reads : Reads (suc n) (term_with (sum_in n)) (term_with (sum_in m)) (λ e. Spelled e term_place n) continues_term
+  unfolding term_with
+  term_reads = apply_reads factors_reads (λ p. product_of p.0 p.1) (λ e. Spelled e term_place n) term_to term_from
+
+  term_less : (ts : List Token) (x : ExpressionTree) (rest : List Token) → Spelled x term_place n ts rest → length rest < length ts
+  term_less ts x rest s =
+      let p = term_from x ts rest s in
+      omega (arith, factor_less n m inner inner_less ts p.0.0 p.2.0 p.2.1, further_factors_reads.shorter p.2.0 p.0.1 rest p.2.2)
+
+  -- ---- sums
+
+  signed_term_reads : Reads (suc n) (signed_term_with (sum_in n)) (signed_term_with (sum_in m)) (Term_is n) continues_term
+  unfolding signed_term_with
+  signed_term_reads = seq_reads sign_reads term_reads (λ x ts rest s stop. refl)
+    where
+      sign_reads : Reads (suc n) (taken sign_of_token) (taken sign_of_token) Sign_is continues_never
+      sign_reads =
+          let law = taken_reads (suc n) sign_of_token in
+          record { sound = λ ts x rest e. sign_to x ts rest (law.sound ts x rest e); complete = λ ts x rest s stop. law.complete ts x rest (sign_from x ts rest s) stop; shorter = λ ts x rest s. law.shorter ts x rest (sign_from x ts rest s); under = law.under; opening = law.opening }
+
+  signed_term_less : (ts : List Token) (x : Sign × ExpressionTree) (rest : List Token) → Term_is n x ts rest → length rest < length ts
+  signed_term_less ts (signs.Plus, e) rest (m, sign_is, one) = omega (arith, token_less (kinds.Symbol Plus) ts m sign_is, term_less m e rest one)
+  signed_term_less ts (signs.Minus, e) rest (m, sign_is, one) = omega (arith, token_less (kinds.Symbol Minus) ts m sign_is, term_less m e rest one)
+
+  signed_term_item : Item (suc n) begins_sign (signed_term_with (sum_in n)) (signed_term_with (sum_in m)) (Term_is n) continues_term
+  signed_term_item = item_of begins_sign signed_term_reads (λ ts x rest s. (sign_begins x.0 ts s.0 s.1).1) signed_term_less
+
+  sign_stops : (sign : Sign) (ts m : List Token) → Sign_is sign ts m → continues_term ts ≡ false
+  sign_stops signs.Plus ts m (span, line, e) = rw e refl
+  sign_stops signs.Minus ts m (span, line, e) = rw e refl
+
+  further_terms_reads : Reads (suc n) (further_terms_with (sum_in n)) (further_terms_with (sum_in m)) (each (Term_is n)) continues_sum
+  further_terms_reads = rows_reads signed_term_item (λ ts x rest s. sign_stops x.0 ts s.0 s.1)
+
+  -- a term is the first term of a sum
+  as_first : (e : ExpressionTree) (ts rest : List Token) → Spelled e term_place n ts rest → Spelled e first_place n ts rest
+  as_first (number v) ts rest s = s
+  as_first (text t) ts rest s = s
+  as_first (named d no_expression) ts rest s = s
+  as_first (named d (and_expression e es)) ts rest s = s
+  as_first (call f no_expression) ts rest s = s
+  as_first (call f (and_expression e es)) ts rest s = s
+  as_first (parenthesised e) ts rest s = s
+  as_first (product e no_expression) ts rest s = s
+  as_first (product e (and_expression f fs)) ts rest s = s
+  as_first (signed sign e) ts rest s = absurd s.0
+  as_first (sum e no_term) ts rest s = s
+  as_first (sum e (and_term sign f fs)) ts rest s = absurd s.0
+
+  -- a sign and a term
+  abbrev Signed_is : ExpressionTree → Shape
+  Signed_is x ts rest = (p : Sign × ExpressionTree) × (signed p.0 p.1 ≡ x) × Term_is n p ts rest
+
+  signed_reads : Reads (suc n) (apply (λ p. signed p.0 p.1) (signed_term_with (sum_in n))) (apply (λ p. signed p.0 p.1) (signed_term_with (sum_in m))) Signed_is continues_term
+  signed_reads = apply_reads signed_term_reads (λ p. signed p.0 p.1) Signed_is (λ p ts rest s. (p, refl, s)) (λ x ts rest s. s)
+
+  signed_item : Item (suc n) begins_sign (apply (λ p. signed p.0 p.1) (signed_term_with (sum_in n))) (apply (λ p. signed p.0 p.1) (signed_term_with (sum_in m))) Signed_is continues_term
+  signed_item = item_of begins_sign signed_reads (λ ts x rest s. (sign_begins s.0.0 ts s.2.0 s.2.1).1) (λ ts x rest s. signed_term_less ts s.0 rest s.2)
+
+  pub first_term_reads : Reads (suc n) (first_term_with (sum_in n)) (first_term_with (sum_in m)) (λ e. Spelled e first_place n) (λ ts. continues_term ts || continues_term ts)
+  unfolding first_term_with
+  first_term_reads =
+      choose_reads signed_item term_reads
+      (λ x ts rest s. subst (λ (e : ExpressionTree). Spelled e first_place n ts rest) s.1 (tt, s.2))
+      as_first
+      (λ x ts rest s. elim (first_cases x n ts rest s) [
+        | inl p ↦ inl ((p.0, p.1), sym p.2, p.3)
+        | inr t ↦ inr ((term_begins x n ts rest t).1, t)
+      ])
+
+  terms_reads : Reads (suc n) (seq (first_term_with (sum_in n)) (further_terms_with (sum_in n))) (seq (first_term_with (sum_in m)) (further_terms_with (sum_in m))) (λ p. Spelled p.0 first_place n ▷ each (Term_is n) p.1) continues_sum
+  terms_reads =
+      seq_reads first_term_reads further_terms_reads
+      (λ xs ts rest s stop.
+      let none = each_first continues_term (λ ts x rest s. sign_stops x.0 ts s.0 s.1) xs ts rest s (or_false (begins_sign rest) (continues_term rest) stop).1 in
+      rw none refl)
+
+  -- the first term of a sum is a sum
+  as_sum : (e : ExpressionTree) (ts rest : List Token) → Spelled e first_place n ts rest → Spelled e sum_place n ts rest
+  as_sum (number v) ts rest s = s
+  as_sum (text t) ts rest s = s
+  as_sum (named d no_expression) ts rest s = s
+  as_sum (named d (and_expression e es)) ts rest s = s
+  as_sum (call f no_expression) ts rest s = s
+  as_sum (call f (and_expression e es)) ts rest s = s
+  as_sum (parenthesised e) ts rest s = s
+  as_sum (product e no_expression) ts rest s = s
+  as_sum (product e (and_expression f fs)) ts rest s = s
+  as_sum (signed sign e) ts rest s = s
+  as_sum (sum e no_term) ts rest s = s
+  as_sum (sum e (and_term sign f fs)) ts rest s = absurd s.0
+
+  sum_to : (p : ExpressionTree × List (Sign × ExpressionTree)) (ts rest : List Token) → (Spelled p.0 first_place n ▷ each (Term_is n) p.1) ts rest → Spelled (sum_of_terms p.0 p.1) sum_place n ts rest
+  sum_to (e, []) ts rest (m, one, is) = as_sum e ts rest (subst (λ r. Spelled e first_place n ts r) is one)
+  sum_to (e, f ∷ fs) ts rest (m, one, more) = (tt, (m, one, further_terms n (f ∷ fs) m rest more))
+
+  sum_from : (x : ExpressionTree) (ts rest : List Token) → Spelled x sum_place n ts rest → (p : ExpressionTree × List (Sign × ExpressionTree)) × (sum_of_terms p.0 p.1 ≡ x) × (Spelled p.0 first_place n ▷ each (Term_is n) p.1) ts rest
+  sum_from x ts rest s =
+      elim (sum_cases x n ts rest s) [
+        | inl p ↦ go p.0 p.1 p.2 p.3.0 p.3.1
+        | inr f ↦ ((x, []), refl, (rest, f, refl))
+      ]
+    where
+      go : (f : ExpressionTree) (fs : TermRow) → x ≡ sum f fs → (fs ≡ no_term → ⊥) → (Spelled f first_place n ▷ Further_terms fs n) ts rest → (p : ExpressionTree × List (Sign × ExpressionTree)) × (sum_of_terms p.0 p.1 ≡ x) × (Spelled p.0 first_place n ▷ each (Term_is n) p.1) ts rest
+      go f no_term is some s = absurd (some refl)
+      go f (and_term sign e es) is some (m, one, (a, sign_is, (b, next, more))) =
+          let found = terms_listed n es b rest more in
+          ((f, (sign, e) ∷ found.0), ap (λ (r : TermRow). sum f (and_term sign e r)) found.1 ∙ sym is, (m, one, (b, (a, sign_is, next), found.2)))
+
+  pub sum_with_reads : Reads (suc n) (sum_with (sum_in n)) (sum_with (sum_in m)) (λ e. Spelled e sum_place n) continues_sum
+  unfolding sum_with
+  sum_with_reads = apply_reads terms_reads (λ p. sum_of_terms p.0 p.1) (λ e. Spelled e sum_place n) sum_to sum_from
+
+  first_less : (ts : List Token) (x : ExpressionTree) (rest : List Token) → Spelled x first_place n ts rest → length rest < length ts
+  first_less ts x rest s =
+      elim (first_cases x n ts rest s) [
+        | inl p ↦ signed_term_less ts (p.0, p.1) rest p.3
+        | inr t ↦ term_less ts x rest t
+      ]
+
+  pub sum_with_less : (ts : List Token) (x : ExpressionTree) (rest : List Token) → Spelled x sum_place n ts rest → length rest < length ts
+  sum_with_less ts x rest s =
+      let p = sum_from x ts rest s in
+      omega (arith, first_less ts p.0.0 p.2.0 p.2.1, further_terms_reads.shorter p.2.0 p.0.1 rest p.2.2)
+
+-- ---- the laws at each level
+
+mutual
+  unfolding sum_in
+
+  pub in_less : (n : ℕ) (ts : List Token) (e : ExpressionTree) (rest : List Token) → In n e ts rest → length rest < length ts
+  in_less zero ts e rest s = absurd s
+  in_less (suc n) ts e rest s = sum_with_less n n (sum_in_reads n n (omega arith)) (in_less n) ts e rest s
+
+  -- an expression, where so many levels may be opened, itself among them
+  pub sum_in_reads : (n m : ℕ) → n ≤ m → Reads n (sum_in n) (sum_in m) (In n) continues_sum
+  sum_in_reads zero m le = too_deep_reads
+  sum_in_reads (suc n) zero le = absurd (omega arith)
+  sum_in_reads (suc n) (suc m) le = sum_with_reads n m (sum_in_reads n m (omega arith)) (in_less n)
+
+-- ---- the loops
+
+pub further_factors_loop : (n : ℕ) → Loop (begins star) (λ r. factor_with (sum_in n) (skip star r))
+further_factors_loop n = loop_of (factor_item n n (sum_in_reads n n (omega arith)) (in_less n)) refl
+
+pub further_terms_loop : (n : ℕ) → Loop begins_sign (signed_term_with (sum_in n))
+further_terms_loop n = loop_of (signed_term_item n n (sum_in_reads n n (omega arith)) (in_less n)) refl
+
+pub sums_loop : (n : ℕ) → Loop (begins_more begins_sum) (λ r. sum_in n (skip_separator r))
+sums_loop n = loop_of (separated_item (sum_in_reads n n (omega arith)) begins_sum (in_begins n) sum_no_and) refl
