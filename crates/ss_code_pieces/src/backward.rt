@@ -35,6 +35,14 @@ impl Backward {
         }
     }
 
+    /// The instructions of a piece, which others will come before.
+    pub fn of(mut piece: Piece) -> Backward
+        ensures { result ≡ piece }
+    {
+        piece.reverse();
+        Backward { piece }
+    }
+
     /// How many instructions there are.
     pub fn len(&self) -> usize
         ensures value { result ≡ length self.now }
@@ -48,7 +56,7 @@ impl Backward {
         ensures { OnOk result (self.new ≡ piece ++ self.old) }
     {
         piece.reverse();
-        self.piece.append(&piece)
+        self.piece.append(piece)
     }
 
     /// All of them, the first first.

@@ -64,12 +64,19 @@ impl Piece {
         Ok(())
     }
 
-    /// Those of another piece after these.
-    pub fn append(&mut self, following: &Piece) -> Result<(), AllocError>
+    /// Those of another piece after these, which is kept.
+    pub fn append_copy(&mut self, following: &Piece) -> Result<(), AllocError>
         ensures { OnOk result (self.new ≡ self.old ++ following.now) }
     {
         self.items.extend_from_slice(&following.items)?;
         Ok(())
+    }
+
+    /// Those of another piece after these.
+    pub fn append(&mut self, following: Piece) -> Result<(), AllocError>
+        ensures { OnOk result (self.new ≡ self.old ++ following) }
+    {
+        self.append_copy(&following)
     }
 
     /// Turns the order of the instructions round.
