@@ -249,6 +249,19 @@ fn lines_of(alloc: Global, code: &Piece) -> Result<Vec<Line>, AllocError>
     Ok(made)
 }
 
+// Both of a piece.
+fn text_of(alloc: Global, code: Piece) -> Result<Text, AllocError>
+    ensures instructions { IfOk result (λ text. text.instructions.items ≡ instructions_in code) }
+    ensures lines { IfOk result (λ text. text.lines.items ≡ lines_in code) }
+{
+    let instructions = instructions_of(alloc, &code)?;
+    let lines = lines_of(alloc, &code)?;
+    Ok(Text {
+        instructions,
+        lines,
+    })
+}
+
 // The code of a program that is well typed.
 fn made(alloc: Global, program: &Program) -> Result<Code, CodeError>
     requires typed { WellTyped (view_program program.now) }
@@ -271,22 +284,13 @@ fn made(alloc: Global, program: &Program) -> Result<Code, CodeError>
     if code.len() > instruction_limit() {
         return Err(CodeError::CodeTooLong);
     }
+    let mut text = text_of(alloc, code)?;
     let said = sayings(alloc, program)?;
     let globals = Vec::from_slice(alloc, &program.globals)?;
-    let mut instructions = instructions_of(alloc, &code)?;
-    let lines = lines_of(alloc, &code)?;
     let Generator { constants, .. } = generator;
-    sift_walks(&mut instructions, globals.len() + constants.len());
+    sift_walks(&mut text.instructions, globals.len() + constants.len());
     Ok(Code::new(
-        Text {
-            instructions,
-            lines,
-        },
-        constants,
-        prints,
-        sections,
-        said,
-        globals,
+        text, constants, prints, sections, said, globals,
     ))
 }
 

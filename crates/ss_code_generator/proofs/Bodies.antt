@@ -361,7 +361,7 @@ one_sided g0 g1 x y here side other test c past none past_is m is = record {
 }
 
 pub two_sided : (g0 g1 : Generator) (x y1 y2 y3 : Lined) (here : Here) (side other test : Lined) (c : Condition) (past skip : ℕ) → (length other ≡ 0 → ⊥) → past ≡ length side + 1 → Emits g0 g1 nothing test here (λ s. GoodCondition s c) (λ t. condition_code t past c) → y1 ≡ x ++ (test ++ side) → skip ≡ length other → y2 ≡ y1 ++ on_line here.line (r.Jump skip) ∷ [] → y3 ≡ y2 ++ other → EmitsAroundBoth g0 g1 x y3 here side other (λ s. GoodCondition s c) (λ t b. if_code t c b.first b.second)
-two_sided g0 g1 x y1 y2 y3 here side other test c past skip some past_is m is1 ls1 skip_is is2 ls2 is3 ls3 = record {
+two_sided g0 g1 x y1 y2 y3 here side other test c past skip some past_is m is1 skip_is is2 is3 = record {
   grows = m.grows;
   adds = λ f t b around located fits.
       let one : length side ≡ length b.first = piece_long f side b.first fits.0 in
@@ -370,10 +370,10 @@ two_sided g0 g1 x y1 y2 y3 here side other test c past skip some past_is m is1 l
       let long : past ≡ length b.first + 1 = omega (arith, past_is, one) in
       let cond : Adds f nothing test (condition_code t (length b.first + 1) c) = adds_same f nothing test (condition_code t past c) (condition_code t (length b.first + 1) c) (ap (λ k. condition_code t k c) long) (m.adds f t tt around located fits.2) in
       let over : Placed = place t (i.Jump (length b.second)) in
-      let jump : Adds f y1 y2 (over ∷ []) = adds_one f y1 y2 here.line over (r.Jump skip) is2 ls2 located.line (record { carries = ap i.Jump (sym (skip_is ∙ two)); deep = located.deep; shown = tt }) in
-      let front : Adds f x y1 (condition_code t (length b.first + 1) c ++ b.first) = sides_add f x y1 test side (condition_code t (length b.first + 1) c) b.first is1 ls1 cond fits.0 in
+      let jump : Adds f y1 y2 (over ∷ []) = adds_one f y1 y2 here.line over (r.Jump skip) is2 located.line (record { carries = ap i.Jump (sym (skip_is ∙ two)); deep = located.deep; shown = tt }) in
+      let front : Adds f x y1 (condition_code t (length b.first + 1) c ++ b.first) = sides_add f x y1 test side (condition_code t (length b.first + 1) c) b.first is1 cond fits.0 in
       let all : Adds f x y3 ((condition_code t (length b.first + 1) c ++ b.first) ++ (over ∷ b.second)) =
-      adds_then f x y1 y3 (condition_code t (length b.first + 1) c ++ b.first) (over ∷ b.second) front (adds_then f y1 y2 y3 (over ∷ []) b.second jump (adds_piece f y2 y3 other b.second is3 ls3 fits.1)) in
+      adds_then f x y1 y3 (condition_code t (length b.first + 1) c ++ b.first) (over ∷ b.second) front (adds_then f y1 y2 y3 (over ∷ []) b.second jump (adds_piece f y2 y3 other b.second is3 fits.1)) in
       adds_same f x y3 ((condition_code t (length b.first + 1) c ++ b.first) ++ (over ∷ b.second)) (if_code t c b.first b.second)
       (append_assoc (condition_code t (length b.first + 1) c) b.first (over ∷ b.second) ∙ sym (if_some t c b.first b.second there)) all;
   more = λ f t b around located fits. tt;

@@ -1,7 +1,6 @@
 -- Pieces put together, and what is around them.
-use Rattle.std.proofs.Common.{◌≡◌, ℕ, suc, ◌+◌, ◌<◌, ◌≤◌, ◌^◌, List, [], ◌∷◌, ◌++◌, length, map, Result, Ok, Err, refl, sym, ap, ◌∙◌, subst, arith, append_assoc, append-nil}
+use Rattle.std.proofs.Common.{◌≡◌, ℕ, suc, ◌+◌, ◌<◌, ◌≤◌, ◌^◌, List, [], ◌∷◌, ◌++◌, length, Result, Ok, Err, refl, sym, ap, ◌∙◌, subst, arith, append_assoc, append-nil}
 use Rattle.std.specs.Prelude.{OnOk}
-use Rattle.std.proofs.lemmas.List.{map-append}
 use Rattle.ss_base.specs.declared.line.Line.{Line}
 use Rattle.ss_base.specs.declared.value.Value.{Value}
 use Rattle.ss_program.specs.View.{view_program}

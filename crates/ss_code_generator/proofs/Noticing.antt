@@ -226,7 +226,7 @@ notice_files f t u (ToCount c) (spots.Count k s) to time class h v at room there
     record { carries = (Taken (height u), at, (Taken h, there, refl)); deep = omega (arith, low); shown = tt }
 
 pub schedule_new_made : (old g1 g2 g3 new : Generator) (p q v w z y end : Lined) (here one higher : Here) (class : ℕ) (x : Place) (given : List Expression) (when : When) (s : Spot) (time to : Address) (cell : ℕ) (noted : Bool) → MakesSpot old g1 p q here (λ t. place_code t x) x s → one.line ≡ here.line → (here.height + spot_cells s < 2 ^ 64 → one.height ≡ here.height + spot_cells s) → Emits g1 g2 q v one (λ k. Every (λ e. Typed e k) given × GoodWhen k when) (λ t. values_code t given ++ when_code (after_values t given) when) → (g2.deepest < 2 ^ 64 → one.height + length given < g2.deepest) → Grows g2 g3 → InFrame (length g3.locals.items + one.height) time → higher.line ≡ one.line → (one.height + 1 < 2 ^ 64 → higher.height ≡ one.height + 1) → Grows g3 new → Lands new higher s to → w ≡ v ++ on_line here.line (r.MakeNotice class cell (length given) to noted) ∷ [] → cell ≡ length new.locals.items + one.height → noted ≡ any_watched new.program.now.statistics.items class (length given) → Names new w z higher to (λ f t k. IsSpot f t k s) → y ≡ z ++ on_line here.line (r.FileNotice class (named_at s to) time) ∷ [] → Emits new new y end one (λ k. Unit {0}) (λ u. forget u (spot_cells s)) → Emits old new p end here (λ k. Good k (ScheduleNew here.line class x given when)) (λ t. schedule_new_code t class x given when)
-schedule_new_made old g1 g2 g3 new p q v w z y end here one higher class x given when s time to cell noted l line up n room gc timed line_2 up_2 gr land made made_line is_cell is_noted names filed filed_line k = record {
+schedule_new_made old g1 g2 g3 new p q v w z y end here one higher class x given when s time to cell noted l line up n room gc timed line_2 up_2 gr land made is_cell is_noted names filed k = record {
   grows = grows_then old g1 new l.grows (grows_then g1 g2 new n.grows (grows_then g2 g3 new gc gr));
   adds = λ f t u around located good.
       let later = grows_then g2 g3 new gc gr in
@@ -263,10 +263,10 @@ schedule_new_made old g1 g2 g3 new p q v w z y end here one higher class x given
       (adds_then f p q end (place_code t x) ((values_code t1 given ++ when_code t2 when) ++ rest) (l.adds f t tt around_1 stands_1 fits)
       (adds_then f q v end (values_code t1 given ++ when_code t2 when) rest values
       (adds_then f v w end (make (landing top x) ∷ []) (named_code t top x ++ (last ∷ forget t1 (spot_cells s)))
-      (adds_one f v w here.line (make (landing top x)) (r.MakeNotice class cell (length given) to noted) made made_line located.line (record { carries = (notes, (height t1, cell_there, (landing top x, at.0, refl))); deep = deep; shown = tt }))
+      (adds_one f v w here.line (make (landing top x)) (r.MakeNotice class cell (length given) to noted) made located.line (record { carries = (notes, (height t1, cell_there, (landing top x, at.0, refl))); deep = deep; shown = tt }))
       (adds_then f w z end (named_code t top x) (last ∷ forget t1 (spot_cells s)) named
       (adds_then f z y end (last ∷ []) (forget t1 (spot_cells s))
-      (adds_one f z y here.line last (r.FileNotice class (named_at s to) time) filed filed_line (notice_line top x ∙ located.line) files)
+      (adds_one f z y here.line last (r.FileNotice class (named_at s to) time) filed (notice_line top x ∙ located.line) files)
       (k.adds f t1 tt around on tt))))));
   more = λ f t u around located good. tt;
 }
@@ -274,7 +274,7 @@ schedule_new_made old g1 g2 g3 new p q v w z y end here one higher class x given
 -- ## SCHEDULE THE
 
 pub schedule_made : (old g1 new : Generator) (p q v w z : Lined) (here one : Here) (class : ℕ) (e : Expression) (o : Read) (given : List Expression) (when : When) (cell : ℕ) (noted : Bool) → Reads old g1 p q here e o → v ≡ q ++ on_line here.line (r.LookEntity class o.address) ∷ [] → one.line ≡ here.line → (here.height + o.cells < 2 ^ 64 → one.height ≡ here.height + o.cells) → Emits g1 new v w one (λ k. Every (λ e. Typed e k) given × GoodWhen k when) (λ t. values_code t given ++ when_code (after_values t given) when) → (new.deepest < 2 ^ 64 → one.height + length given < new.deepest) → cell ≡ length new.locals.items + one.height → noted ≡ any_watched new.program.now.statistics.items class (length given) → z ≡ w ++ on_line here.line (r.Reschedule class o.address cell (length given) noted) ∷ [] → Emits old new p z here (λ k. Good k (Schedule here.line class e given when)) (λ t. schedule_code t class e given when)
-schedule_made old g1 new p q v w z here one class e o given when cell noted m look look_line line up n room is_cell is_noted made made_line = record {
+schedule_made old g1 new p q v w z here one class e o given when cell noted m look line up n room is_cell is_noted made = record {
   grows = grows_then old g1 new m.grows n.grows;
   adds = λ f t u around located good.
       let mine = around_old f g1 new n.grows around in
@@ -298,9 +298,9 @@ schedule_made old g1 new p q v w z here one class e o given when cell noted m lo
       adds_same f p z (entity_code t true class e ++ ((values_code t1 given ++ when_code t2 when) ++ (last ∷ []))) (schedule_code t class e given when) code
       (adds_then f p v z (entity_code t true class e) ((values_code t1 given ++ when_code t2 when) ++ (last ∷ []))
       (adds_then f p q v (operand_code t e) (looks ∷ []) (m.adds f t tt mine there typed)
-      (adds_one f q v here.line looks (r.LookEntity class o.address) look look_line located.line (record { carries = (stay (operand t e), stays_at f t (operand t e) o.address read.at, refl); deep = read.deep; shown = tt })))
+      (adds_one f q v here.line looks (r.LookEntity class o.address) look located.line (record { carries = (stay (operand t e), stays_at f t (operand t e) o.address read.at, refl); deep = read.deep; shown = tt })))
       (adds_then f v w z (values_code t1 given ++ when_code t2 when) (last ∷ []) (n.adds f t1 tt around on (given_typed t.scope class given good.0, good.2))
-      (adds_one f w z here.line last (r.Reschedule class o.address cell (length given) noted) made made_line located.line (record { carries = (notes, (operand t e, read.at, (height t1, cell_there, refl))); deep = deep; shown = tt }))));
+      (adds_one f w z here.line last (r.Reschedule class o.address cell (length given) noted) made located.line (record { carries = (notes, (operand t e, read.at, (height t1, cell_there, refl))); deep = deep; shown = tt }))));
   more = λ f t u around located good. tt;
 }
 

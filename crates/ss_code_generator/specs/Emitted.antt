@@ -3,8 +3,7 @@
 -- There is one form for all functions of the generator, `Makes`. An address of a constant is right, and a frame has room for a cell, only once all code is
 -- made. So each function promises something of every end that may come of it: `Final` is what is known at the end, and `Around` says that it came of what the
 -- generator has so far. What is around more is around less, and so pieces fit together.
-use Rattle.std.specs.Prelude.{◌≡◌, ℕ, ◌+◌, ◌<◌, ◌≤◌, ◌^◌, List, [], ◌∷◌, ◌++◌, length, map, pos, Option, Some, None, slice_get}
-use Rattle.ss_base.specs.declared.line.Line.{Line}
+use Rattle.std.specs.Prelude.{◌≡◌, ℕ, ◌+◌, ◌<◌, ◌≤◌, ◌^◌, List, [], ◌∷◌, ◌++◌, length, pos, Option, Some, None, slice_get}
 use Rattle.ss_base.specs.declared.layout.Mode.{Mode}
 use Rattle.ss_base.specs.declared.layout.Mode.TheVariants.{Integer}
 use Rattle.ss_base.specs.declared.value.Value.{Value}

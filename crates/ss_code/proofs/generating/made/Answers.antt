@@ -27,7 +27,7 @@ new-requires-2 c =
     let sections = c.in_ok-sections.sections in
     let low : c.len-2.result + c.len-3.result ≡ length c.in_ok-globals.globals.items + length c.put_events.new.generator.constants.items = omega (arith, c.len-2.ensures, c.len-3.ensures, c.in_ok-globals.globals.ok, c.put_events.new.generator.constants.ok) in
     let short : length c.put_events.new.code ≤ 1048576 = omega (arith, c.if-len-instruction_limit.false, c.len.ensures.value, c.instruction_limit.ensures) in
-    let for_it = made_for all p c.in_ok-generator.ensures.program c.requires.typed c.in_ok-instructions.instructions.items made c.in_ok-lines.lines.items sections.depth sections.main sections.routines.items sections.events.items c.in_ok-said.said c.in_ok-globals.globals.items (c.len-2.result + c.len-3.result) c.in_ok-instructions.ensures c.in_ok-lines.ensures c.in_ok-sections.ensures.depth c.sift_walks.ensures.alike c.sift_walks.ensures.sifts low (c.laws_of_code.ensures.jumps_land (view_program p)) short c.in_ok-sections.ensures.main c.in_ok-sections.ensures.routines c.in_ok-sections.ensures.events c.in_ok-said.ensures (c.in_ok-globals.ensures.items ∙ c.deref.ensures.value) in
+    let for_it = made_for all p c.in_ok-generator.ensures.program c.requires.typed c.in_ok-text.text.instructions.items made c.in_ok-text.text.lines.items sections.depth sections.main sections.routines.items sections.events.items c.in_ok-said.said c.in_ok-globals.globals.items (c.len-2.result + c.len-3.result) c.in_ok-text.ensures.instructions c.in_ok-text.ensures.lines c.in_ok-sections.ensures.depth c.sift_walks.ensures.alike c.sift_walks.ensures.sifts low (c.laws_of_code.ensures.jumps_land (view_program p)) short c.in_ok-sections.ensures.main c.in_ok-sections.ensures.routines c.in_ok-sections.ensures.events c.in_ok-said.ensures (c.in_ok-globals.ensures.items ∙ c.deref.ensures.value) in
     (view_program p, c.requires.typed, for_it)
 
 pub returns-clause-code : goal.returns-clause-code
@@ -38,7 +38,7 @@ returns-clause-code c =
     let sections = c.in_ok-sections.sections in
     let low : c.len-2.result + c.len-3.result ≡ length c.in_ok-globals.globals.items + length c.put_events.new.generator.constants.items = omega (arith, c.len-2.ensures, c.len-3.ensures, c.in_ok-globals.globals.ok, c.put_events.new.generator.constants.ok) in
     let short : length c.put_events.new.code ≤ 1048576 = omega (arith, c.if-len-instruction_limit.false, c.len.ensures.value, c.instruction_limit.ensures) in
-    let for_it = made_for all p c.in_ok-generator.ensures.program c.requires.typed c.in_ok-instructions.instructions.items made c.in_ok-lines.lines.items sections.depth sections.main sections.routines.items sections.events.items c.in_ok-said.said c.in_ok-globals.globals.items (c.len-2.result + c.len-3.result) c.in_ok-instructions.ensures c.in_ok-lines.ensures c.in_ok-sections.ensures.depth c.sift_walks.ensures.alike c.sift_walks.ensures.sifts low (c.laws_of_code.ensures.jumps_land (view_program p)) short c.in_ok-sections.ensures.main c.in_ok-sections.ensures.routines c.in_ok-sections.ensures.events c.in_ok-said.ensures (c.in_ok-globals.ensures.items ∙ c.deref.ensures.value) in
+    let for_it = made_for all p c.in_ok-generator.ensures.program c.requires.typed c.in_ok-text.text.instructions.items made c.in_ok-text.text.lines.items sections.depth sections.main sections.routines.items sections.events.items c.in_ok-said.said c.in_ok-globals.globals.items (c.len-2.result + c.len-3.result) c.in_ok-text.ensures.instructions c.in_ok-text.ensures.lines c.in_ok-sections.ensures.depth c.sift_walks.ensures.alike c.sift_walks.ensures.sifts low (c.laws_of_code.ensures.jumps_land (view_program p)) short c.in_ok-sections.ensures.main c.in_ok-sections.ensures.routines c.in_ok-sections.ensures.events c.in_ok-said.ensures (c.in_ok-globals.ensures.items ∙ c.deref.ensures.value) in
     subst (λ (k : Compiled). IsFor (view_program p) k) (sym c.new-2.ensures) for_it
 
 pub returns-clause-behaves : goal.returns-clause-behaves
@@ -50,6 +50,6 @@ returns-clause-lands c = c.laws_of_code.ensures.jumps_land (view_program c.args.
 pub returns-clause-limit : goal.returns-clause-limit
 returns-clause-limit c =
     let same : length c.new-2.result.run.instructions ≡ length c.sift_walks.new.code.items = ap (λ (k : Compiled). length k.run.instructions) c.new-2.ensures in
-    let long = all_alike_long c.in_ok-instructions.instructions.items c.sift_walks.new.code.items c.sift_walks.ensures.alike in
-    let before : length c.in_ok-instructions.instructions.items ≡ length c.put_events.new.code = ap length c.in_ok-instructions.ensures ∙ length-map c.put_events.new.code (λ (x : LinedInstruction). x.instruction) in
+    let long = all_alike_long c.in_ok-text.text.instructions.items c.sift_walks.new.code.items c.sift_walks.ensures.alike in
+    let before : length c.in_ok-text.text.instructions.items ≡ length c.put_events.new.code = ap length c.in_ok-text.ensures.instructions ∙ length-map c.put_events.new.code (λ (x : LinedInstruction). x.instruction) in
     omega (arith, same, long, before, c.if-len-instruction_limit.false, c.len.ensures.value, c.instruction_limit.ensures)

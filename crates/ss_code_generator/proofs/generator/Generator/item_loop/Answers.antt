@@ -1,6 +1,5 @@
 use Rattle.std.proofs.Common.{◌∙◌}
 use Rattle.std.proofs.lemmas.Result.{on_ok_weaker}
-use Rattle.ss_code_generator.specs.Looped.{items_begin}
 use Rattle.ss_code_generator.proofs.Rounds.{items_looped}
 use Rattle.ss_code_generator.proofs.generator.Generator.item_loop.Goals as goal
 
