@@ -289,9 +289,7 @@ fn made(alloc: Global, program: &Program) -> Result<Code, CodeError>
     let globals = Vec::from_slice(alloc, &program.globals)?;
     let Generator { constants, .. } = generator;
     sift_walks(&mut text.instructions, globals.len() + constants.len());
-    Ok(Code::new(
-        text, constants, prints, sections, said, globals,
-    ))
+    Ok(Code::new(text, constants, prints, sections, said, globals))
 }
 
 /// The code of a program. It does with each input and each number of ticks what the program means, and nothing else, and
