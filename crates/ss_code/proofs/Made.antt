@@ -1,5 +1,6 @@
 -- The code of a program, from what was put for its sections.
 use Rattle.std.proofs.Common.{◌≡◌, ℕ, ◌+◌, ◌<◌, ◌≤◌, ◌^◌, true, List, [], ◌∷◌, ◌++◌, length, map, sym, ap, ◌∙◌, subst, arith, append-nil}
+use Rattle.std.proofs.lemmas.List.{length-map}
 use Rattle.std.specs.Prelude.{pos}
 use Rattle.std.specs.List.{AllByRecursion as Every}
 use Rattle.ss_base.specs.declared.line.Line.{Line}
@@ -21,7 +22,8 @@ use Rattle.ss_code_instructions.specs.Translation.{code_of, main_code, section_c
 use Rattle.ss_code_instructions.specs.Translation as z
 use Rattle.ss_code_instructions.specs.Walks.{WalksSift}
 use Rattle.ss_code_generator.specs.declared.generator.Generator.{Generator}
-use Rattle.ss_code_pieces.specs.Lined.{Lined, nothing}
+use Rattle.ss_code_pieces.specs.declared.piece.LinedInstruction.{LinedInstruction}
+use Rattle.ss_code_pieces.specs.Lined.{Lined, nothing, instructions_in, lines_in}
 use Rattle.ss_code_generator.specs.Emitted.{Final, Around, HasPrints, Adds}
 use Rattle.ss_code_generator.specs.Printed.{Prints}
 use Rattle.ss_code.specs.Running.{Said, said_by, Compiled, IsFor, Begins, AllBegin}
@@ -47,7 +49,7 @@ pub record All (g0 g1 g2 g3 : Generator) (c0 c1 c2 c3 : Lined) (p0 p1 p2 p3 : Li
   pub constants : g0.constants.items ≡ Whole (pos 0) ∷ (Whole (pos 1) ∷ [])
   pub code : c0 ≡ nothing
   pub prints : p0 ≡ []
-  pub puts_main : PutsSection g0 g1 c0 c1 p0 p1 (record { place = length c0.instructions; given = []; yielding = 0; others = g0.program.now.locals.items }) (view_body g0.program.now.main.items) main
+  pub puts_main : PutsSection g0 g1 c0 c1 p0 p1 (record { place = length c0; given = []; yielding = 0; others = g0.program.now.locals.items }) (view_body g0.program.now.main.items) main
   pub puts_routines : PutsRoutines g1 g2 c1 c2 p1 p2 (map view_routine g1.program.now.routines.items) routines
   pub puts_events : PutsEvents g2 g3 c2 c3 p2 p3 (map view_event g2.program.now.events.items) events
   pub small : g3.deepest < 2 ^ 32
@@ -133,31 +135,31 @@ module _ (g0 g1 g2 g3 : Generator) (c0 c1 c2 c3 : Lined) (p0 p1 p2 p3 : List Run
 
     pub known : Known program g3 c1 c2 c3 p1 p2 p3 main routines events
     known =
-        let rs = subst (λ (h : Held). AllBegin 0 (z.routine_entries (view_program h) (length c1.instructions) (length p1) program.routines) routines) same1 (routines_there.begin final around2 has2 good_routines) in
-        let es = subst (λ (h : Held). AllBegin 0 (z.event_entries (view_program h) (length c2.instructions) (length p2) program.events) events) same2 (events_there.begin final around3 has3 good_events) in
+        let rs = subst (λ (h : Held). AllBegin 0 (z.routine_entries (view_program h) (length c1) (length p1) program.routines) routines) same1 (routines_there.begin final around2 has2 good_routines) in
+        let es = subst (λ (h : Held). AllBegin 0 (z.event_entries (view_program h) (length c2) (length p2) program.events) events) same2 (events_there.begin final around3 has3 good_events) in
         record {
           parts = all_parts;
           fixed = fixed;
-          main_begins = subst (λ (c : Lined). Begins 0 (record { place = length c.instructions; given = []; yielding = 0; others = program.locals }) main) a.code a.puts_main.begins;
+          main_begins = subst (λ (c : Lined). Begins 0 (record { place = length c; given = []; yielding = 0; others = program.locals }) main) a.code a.puts_main.begins;
           routines_begin = routines_begin program g3 c1 c2 c3 p1 p2 p3 all_parts routines rs;
           events_begin = events_begin program g3 c1 c2 c3 p1 p2 p3 all_parts events es;
         }
 
     -- there are as many instructions as places
-    pub all_long : length c3.instructions ≡ length (code_of program).places
+    pub all_long : length c3 ≡ length (code_of program).places
     all_long = piece_long final c3 (code_of program).places (all_added program g3 c1 c2 c3 p1 p2 p3 all_parts)
 
     -- a small program is never one whose code is too long
-    pub small_enough : HasSize → nodes program ≤ 16384 → length c3.instructions ≤ 1048576
+    pub small_enough : HasSize → nodes program ≤ 16384 → length c3 ≤ 1048576
     small_enough size few =
         let long : length (code_of program).places ≡ code_size program = size program in
         omega (arith, all_long, long, code_small program, few)
 
     -- the running code is that of the program
-    pub is_made : (instructions : List Running) (main1 : Entry) (routines1 events1 : List Entry) (said : Said) (globals : List Mode) → AllAlike c3.instructions instructions → WalksSift (length program.globals + length g3.constants.items) instructions → Lands (code_of program) → length c3.instructions ≤ 1048576 → Deepened g3.deepest main main1 → AllDeepened g3.deepest routines routines1 → AllDeepened g3.deepest events events1 → said ≡ said_by program → globals ≡ program.globals → IsFor program (record { run = record { instructions = instructions; lines = c3.lines; constants = g3.constants.items; prints = p3; main = main1; routines = routines1; events = events1; depth = g3.deepest }; said = said; globals = globals })
+    pub is_made : (instructions : List Running) (main1 : Entry) (routines1 events1 : List Entry) (said : Said) (globals : List Mode) → AllAlike (instructions_in c3) instructions → WalksSift (length program.globals + length g3.constants.items) instructions → Lands (code_of program) → length c3 ≤ 1048576 → Deepened g3.deepest main main1 → AllDeepened g3.deepest routines routines1 → AllDeepened g3.deepest events events1 → said ≡ said_by program → globals ≡ program.globals → IsFor program (record { run = record { instructions = instructions; lines = (lines_in c3); constants = g3.constants.items; prints = p3; main = main1; routines = routines1; events = events1; depth = g3.deepest }; said = said; globals = globals })
     is_made instructions main1 routines1 events1 said globals alike sifts lands short dm drs des says modes =
         let k = known in
-        let few : length instructions ≤ 1048576 = omega (arith, short, all_alike_long c3.instructions instructions alike) in
+        let few : length instructions ≤ 1048576 = omega (arith, short, all_alike_long (instructions_in c3) instructions alike, length-map c3 (λ (x : LinedInstruction). x.instruction)) in
         record {
           code = is_code program g3 c1 c2 c3 p1 p2 p3 k.parts instructions main main1 routines routines1 events events1 alike sifts lands k.fixed few k.main_begins dm k.routines_begin drs k.events_begin des;
           said = says;
@@ -172,7 +174,7 @@ few_cells depth old new d = omega (arith, d.small, ap (λ (x : Entry). x.room) d
 
 -- all of it, by what each call ensured
 pub all_made : {g0 g1 g2 g3 : Generator} {c0 c1 c2 c3 : Lined} {p0 p1 p2 p3 : List RunningLines} {main deep : Entry} {routines events : List Entry}
-    → PutsSection g0 g1 c0 c1 p0 p1 (record { place = length c0.instructions; given = []; yielding = 0; others = g0.program.now.locals.items }) (view_body g0.program.now.main.items) main
+    → PutsSection g0 g1 c0 c1 p0 p1 (record { place = length c0; given = []; yielding = 0; others = g0.program.now.locals.items }) (view_body g0.program.now.main.items) main
     → PutsRoutines g1 g2 c1 c2 p1 p2 (map view_routine g1.program.now.routines.items) routines
     → PutsEvents g2 g3 c2 c3 p2 p3 (map view_event g2.program.now.events.items) events
     → Deepened g3.deepest main deep
@@ -192,10 +194,10 @@ module _ {g0 g1 g2 g3 : Generator} {c0 c1 c2 c3 : Lined} {p0 p1 p2 p3 : List Run
   typed_here : WellTyped (view_program g0.program.now)
   typed_here = subst (λ (h : Held). WellTyped (view_program h)) (sym same) typed
 
-  pub code_long : length c3.instructions ≡ length (code_of (view_program held)).places
+  pub code_long : length c3 ≡ length (code_of (view_program held)).places
   code_long = all_long g0 g1 g2 g3 c0 c1 c2 c3 p0 p1 p2 p3 main routines events a typed_here ∙ ap (λ (h : Held). length (code_of (view_program h)).places) same
 
-  pub never_long : HasSize → nodes (view_program held) ≤ 16384 → length c3.instructions ≤ 1048576
+  pub never_long : HasSize → nodes (view_program held) ≤ 16384 → length c3 ≤ 1048576
   never_long size few =
       let here : nodes (view_program g0.program.now) ≡ nodes (view_program held) = ap (λ (h : Held). nodes (view_program h)) same in
       small_enough g0 g1 g2 g3 c0 c1 c2 c3 p0 p1 p2 p3 main routines events a typed_here size (omega (arith, here, few))
@@ -203,12 +205,12 @@ module _ {g0 g1 g2 g3 : Generator} {c0 c1 c2 c3 : Lined} {p0 p1 p2 p3 : List Run
   abbrev pub compiled : (instructions : List Running) (main1 : Entry) (routines1 events1 : List Entry) (said : Said) (globals : List Mode) (lines : List Line) (depth : ℕ) → Compiled
   compiled instructions main1 routines1 events1 said globals lines depth = record { run = record { instructions = instructions; lines = lines; constants = g3.constants.items; prints = p3; main = main1; routines = routines1; events = events1; depth = depth }; said = said; globals = globals }
 
-  pub made_for : (before instructions : List Running) (lines : List Line) (depth : ℕ) (main1 : Entry) (routines1 events1 : List Entry) (said : Said) (globals : List Mode) (low : ℕ) → before ≡ c3.instructions → lines ≡ c3.lines → depth ≡ g3.deepest → AllAlike before instructions → WalksSift low instructions → low ≡ length globals + length g3.constants.items → Lands (code_of (view_program held)) → length c3.instructions ≤ 1048576 → Deepened g3.deepest main main1 → AllDeepened g3.deepest routines routines1 → AllDeepened g3.deepest events events1 → said ≡ said_by (view_program held) → globals ≡ held.globals.items → IsFor (view_program held) (record { run = record { instructions = instructions; lines = lines; constants = g3.constants.items; prints = p3; main = main1; routines = routines1; events = events1; depth = depth }; said = said; globals = globals })
+  pub made_for : (before instructions : List Running) (lines : List Line) (depth : ℕ) (main1 : Entry) (routines1 events1 : List Entry) (said : Said) (globals : List Mode) (low : ℕ) → before ≡ instructions_in c3 → lines ≡ lines_in c3 → depth ≡ g3.deepest → AllAlike before instructions → WalksSift low instructions → low ≡ length globals + length g3.constants.items → Lands (code_of (view_program held)) → length c3 ≤ 1048576 → Deepened g3.deepest main main1 → AllDeepened g3.deepest routines routines1 → AllDeepened g3.deepest events events1 → said ≡ said_by (view_program held) → globals ≡ held.globals.items → IsFor (view_program held) (record { run = record { instructions = instructions; lines = lines; constants = g3.constants.items; prints = p3; main = main1; routines = routines1; events = events1; depth = depth }; said = said; globals = globals })
   made_for before instructions lines depth main1 routines1 events1 said globals low before_is lines_is depth_is alike sifts low_is lands short dm drs des says modes =
-      let alike' : AllAlike c3.instructions instructions = subst (λ (l : List Running). AllAlike l instructions) before_is alike in
+      let alike' : AllAlike (instructions_in c3) instructions = subst (λ (l : List Running). AllAlike l instructions) before_is alike in
       let modes' : globals ≡ g0.program.now.globals.items = modes ∙ sym (ap (λ (h : Held). h.globals.items) same) in
       let sifts' : WalksSift (length g0.program.now.globals.items + length g3.constants.items) instructions = subst (λ k. WalksSift k instructions) (low_is ∙ ap (λ (l : List Mode). length l + length g3.constants.items) modes') sifts in
-      let here : IsFor (view_program held) (compiled instructions main1 routines1 events1 said globals c3.lines g3.deepest) = subst (λ (h : Held). IsFor (view_program h) (compiled instructions main1 routines1 events1 said globals c3.lines g3.deepest)) same
+      let here : IsFor (view_program held) (compiled instructions main1 routines1 events1 said globals (lines_in c3) g3.deepest) = subst (λ (h : Held). IsFor (view_program h) (compiled instructions main1 routines1 events1 said globals (lines_in c3) g3.deepest)) same
       (is_made g0 g1 g2 g3 c0 c1 c2 c3 p0 p1 p2 p3 main routines events a typed_here instructions main1 routines1 events1 said globals alike' sifts' (subst (λ (h : Held). Lands (code_of (view_program h))) (sym same) lands) short dm drs des (says ∙ sym (ap (λ (h : Held). said_by (view_program h)) same)) modes') in
       subst (λ (ls : List Line). IsFor (view_program held) (compiled instructions main1 routines1 events1 said globals ls depth)) (sym lines_is)
-      (subst (λ k. IsFor (view_program held) (compiled instructions main1 routines1 events1 said globals c3.lines k)) (sym depth_is) here)
+      (subst (λ k. IsFor (view_program held) (compiled instructions main1 routines1 events1 said globals (lines_in c3) k)) (sym depth_is) here)

@@ -14,14 +14,14 @@ use Rattle.ss_code_instructions.specs.Carried.{RunningLines, RunningCode, lines_
 use Rattle.ss_code_instructions.specs.Walks.{WalksSift}
 use Rattle.ss_code_instructions.proofs.Steps.{HasAt, has_all}
 use Rattle.ss_code_generator.specs.declared.generator.Generator.{Generator}
-use Rattle.ss_code_pieces.specs.Lined.{Lined, nothing}
-use Rattle.ss_code_generator.specs.Emitted.{Final, Shown, AllRun, Adds}
+use Rattle.ss_code_pieces.specs.Lined.{Lined, nothing, instructions_in, lines_in}
+use Rattle.ss_code_generator.specs.Emitted.{Final, Shown, Adds}
 use Rattle.ss_code_generator.specs.Printed.{Prints}
 use Rattle.ss_code.specs.Running.{Begins, AllBegin}
 use Rattle.ss_code.specs.Sections.{Deepened, AllDeepened}
 use Rattle.ss_code.specs.Sifted.{AllAlike}
 use Rattle.ss_code_generator.proofs.PrintLines.{prints_then, prints_long}
-use Rattle.ss_code.proofs.Alike.{all_run_alike}
+use Rattle.ss_code.proofs.Alike.{RunAlone, lines_run, all_run_alike}
 use Rattle.ss_code_generator.proofs.Emitting.{adds_then, adds_same, piece_long}
 
 -- ## Places
@@ -38,7 +38,7 @@ shows_of prints x shown = λ n h l e there.
 
 module _ (f : Final) (run : RunningCode) (constants : run.constants ≡ f.constants) (prints : run.prints ≡ f.prints) (depth : run.depth ≡ f.depth) (lands : Lands (code_of f.program)) where
   -- what runs, from a place of the code on
-  are_places : (n : ℕ) (xs : List Placed) (ys : List Running) → HasAt (code_of f.program).places n xs → AllRun f xs ys → ArePlaces (code_of f.program) run n xs ys
+  are_places : (n : ℕ) (xs : List Placed) (ys : List Running) → HasAt (code_of f.program).places n xs → RunAlone f xs ys → ArePlaces (code_of f.program) run n xs ys
   are_places n [] [] has h = tt
   are_places n [] (y ∷ ys) has h = absurd h
   are_places n (x ∷ xs) [] has h = absurd h
@@ -135,28 +135,28 @@ module _ (p : Program) (g : Generator) (c1 c2 c3 : Lined) (p1 p2 p3 : List Runni
       ap (map lines_of) all.1 ∙ all.2
 
   -- where the sections begin
-  pub routines_begin : (entries : List Entry) → AllBegin 0 (routine_entries p (length c1.instructions) (length p1) p.routines) entries → AllBegin 0 (code_of p).routines entries
+  pub routines_begin : (entries : List Entry) → AllBegin 0 (routine_entries p (length c1) (length p1) p.routines) entries → AllBegin 0 (code_of p).routines entries
   routines_begin entries h =
-      let at : length c1.instructions ≡ length (main_code p) = piece_long final c1 (main_code p) parts.main in
+      let at : length c1 ≡ length (main_code p) = piece_long final c1 (main_code p) parts.main in
       subst (λ (es : List EntryPoint). AllBegin 0 es entries) (ap (λ k. routine_entries p k (length p1) p.routines) at ∙ ap (λ k. routine_entries p (length (main_code p)) k p.routines) first_long) h
 
-  pub events_begin : (entries : List Entry) → AllBegin 0 (event_entries p (length c2.instructions) (length p2) p.events) entries → AllBegin 0 (code_of p).events entries
+  pub events_begin : (entries : List Entry) → AllBegin 0 (event_entries p (length c2) (length p2) p.events) entries → AllBegin 0 (code_of p).events entries
   events_begin entries h =
       let rs : Adds final c1 c2 (all_routines p) = adds_same final c1 c2 (routines_code p (length p1) p.routines) (all_routines p) (ap (λ n. routines_code p n p.routines) first_long) parts.routines in
       let both : Adds final nothing c2 (main_code p ++ all_routines p) = adds_then final nothing c1 c2 (main_code p) (all_routines p) parts.main rs in
-      let at : length c2.instructions ≡ length (main_code p) + length (all_routines p) = piece_long final c2 (main_code p ++ all_routines p) both ∙ length-append (main_code p) (all_routines p) in
+      let at : length c2 ≡ length (main_code p) + length (all_routines p) = piece_long final c2 (main_code p ++ all_routines p) both ∙ length-append (main_code p) (all_routines p) in
       subst (λ (es : List EntryPoint). AllBegin 0 es entries) (ap (λ k. event_entries p k (length p2) p.events) at ∙ ap (λ k. event_entries p (length (main_code p) + length (all_routines p)) k p.events) second_long) h
 
   -- the running code is that of the program; some walks in it may sift
-  pub is_code : (instructions : List Running) (main0 main1 : Entry) (routines0 routines1 events0 events1 : List Entry) → AllAlike c3.instructions instructions → WalksSift (length p.globals + length g.constants.items) instructions → Lands (code_of p) → ((rest : List Value) × (g.constants.items ≡ Whole (pos 0) ∷ Whole (pos 1) ∷ rest)) → length instructions ≤ 1048576 → Begins 0 (main_entry (code_of p)) main0 → Deepened g.deepest main0 main1 → AllBegin 0 (code_of p).routines routines0 → AllDeepened g.deepest routines0 routines1 → AllBegin 0 (code_of p).events events0 → AllDeepened g.deepest events0 events1 → IsCode (code_of p) (record { instructions = instructions; lines = c3.lines; constants = g.constants.items; prints = p3; main = main1; routines = routines1; events = events1; depth = g.deepest })
+  pub is_code : (instructions : List Running) (main0 main1 : Entry) (routines0 routines1 events0 events1 : List Entry) → AllAlike (instructions_in c3) instructions → WalksSift (length p.globals + length g.constants.items) instructions → Lands (code_of p) → ((rest : List Value) × (g.constants.items ≡ Whole (pos 0) ∷ Whole (pos 1) ∷ rest)) → length instructions ≤ 1048576 → Begins 0 (main_entry (code_of p)) main0 → Deepened g.deepest main0 main1 → AllBegin 0 (code_of p).routines routines0 → AllDeepened g.deepest routines0 routines1 → AllBegin 0 (code_of p).events events0 → AllDeepened g.deepest events0 events1 → IsCode (code_of p) (record { instructions = instructions; lines = lines_in c3; constants = g.constants.items; prints = p3; main = main1; routines = routines1; events = events1; depth = g.deepest })
   is_code instructions main0 main1 routines0 routines1 events0 events1 alike sifts lands fixed short m dm rs drs es des =
-      let run : RunningCode = record { instructions = instructions; lines = c3.lines; constants = g.constants.items; prints = p3; main = main1; routines = routines1; events = events1; depth = g.deepest } in
+      let run : RunningCode = record { instructions = instructions; lines = lines_in c3; constants = g.constants.items; prints = p3; main = main1; routines = routines1; events = events1; depth = g.deepest } in
       let nothing_yields : 0 ≤ length p.locals = omega arith in
-      let alike' : AllAlike all_added.more instructions = subst (λ (is : List Running). AllAlike is instructions) all_added.instructions alike in
+      let alike' : AllAlike (instructions_in all_added.more) instructions = subst (λ (xs : Lined). AllAlike (instructions_in xs) instructions) all_added.added alike in
       record {
         places = are_places final run refl refl refl lands 0 (code_of p).places instructions (has_all (code_of p).places []) (all_run_alike final (code_of p).places all_added.more instructions all_added.run alike');
         short = short;
-        lines = all_added.lines;
+        lines = ap lines_in all_added.added ∙ lines_run final (code_of p).places all_added.more all_added.run;
         constants = fixed;
         prints = all_printed;
         main = entry_of g.deepest (main_entry (code_of p)) main0 main1 m dm nothing_yields;
@@ -166,5 +166,5 @@ module _ (p : Program) (g : Generator) (c1 c2 c3 : Lined) (p1 p2 p3 : List Runni
       }
 
 -- a program whose code is too long: there are as many instructions as places
-pub as_long : (f : Final) (c : Lined) (xs : List Placed) → Adds f nothing c xs → length c.instructions ≡ length xs
+pub as_long : (f : Final) (c : Lined) (xs : List Placed) → Adds f nothing c xs → length c ≡ length xs
 as_long f c xs h = piece_long f c xs h

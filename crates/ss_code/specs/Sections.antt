@@ -49,8 +49,8 @@ pub record PutsSection (old new : Generator) (before after : Lined) (old_prints 
 
 pub record PutsRoutines (old new : Generator) (before after : Lined) (old_prints new_prints : List RunningLines) (rs : List Routine) (entries : List Entry) : Type 0 where
   pub puts : Puts old new before after old_prints new_prints (Every (GoodRoutine (view_program old.program.now)) rs) (routines_prints rs) (λ first. routines_code (view_program old.program.now) first rs)
-  pub begin : (f : Final) → Around f new → HasPrints f new_prints → Every (GoodRoutine (view_program old.program.now)) rs → AllBegin 0 (routine_entries (view_program old.program.now) (length before.instructions) (length old_prints) rs) entries
+  pub begin : (f : Final) → Around f new → HasPrints f new_prints → Every (GoodRoutine (view_program old.program.now)) rs → AllBegin 0 (routine_entries (view_program old.program.now) (length before) (length old_prints) rs) entries
 
 pub record PutsEvents (old new : Generator) (before after : Lined) (old_prints new_prints : List RunningLines) (es : List Event) (entries : List Entry) : Type 0 where
   pub puts : Puts old new before after old_prints new_prints (Every (GoodEvent (view_program old.program.now)) es) (events_prints es) (λ first. events_code (view_program old.program.now) first es)
-  pub begin : (f : Final) → Around f new → HasPrints f new_prints → Every (GoodEvent (view_program old.program.now)) es → AllBegin 0 (event_entries (view_program old.program.now) (length before.instructions) (length old_prints) es) entries
+  pub begin : (f : Final) → Around f new → HasPrints f new_prints → Every (GoodEvent (view_program old.program.now)) es → AllBegin 0 (event_entries (view_program old.program.now) (length before) (length old_prints) es) entries

@@ -7,6 +7,7 @@ ghost use Rattle.ss_program.specs.View.{view_routine, view_event, view_program, 
 ghost use Rattle.ss_program.specs.WellTyped.{WellTyped};
 ghost use Rattle.ss_code_instructions.specs.Running.{Behaves, Lands};
 ghost use Rattle.ss_code_instructions.specs.Translation.{code_of, routine_entry, event_entry};
+ghost use Rattle.ss_code_pieces.specs.Lined.{instructions_in, lines_in};
 ghost use Rattle.ss_code.specs.Limits.{instruction_limit as most_instructions, small_program};
 ghost use Rattle.ss_code.specs.Running.{IsFor};
 ghost use Rattle.ss_code.specs.Sections.{Deepened, AllDeepened, PutsSection, PutsRoutines, PutsEvents};
@@ -15,9 +16,10 @@ use crate::code::{Code, Sections, Text};
 use crate::error::CodeError;
 use crate::sayings::sayings;
 use crate::sifting::sift_walks;
-use ss_base::Mode;
+use ss_base::{Line, Mode};
 use ss_code_generator::generator::Generator;
 use ss_code_instructions::entry::Entry;
+use ss_code_instructions::instruction::Instruction;
 use ss_code_instructions::laws::{laws_of_code, laws_of_meaning};
 use ss_code_instructions::limit::instruction_limit;
 use ss_code_pieces::lines::Lines;
@@ -52,7 +54,7 @@ fn put_section(
     locals: Locals,
     body: &[Statement],
 ) -> Result<Entry, AllocError>
-    ensures { IfOk result (λ entry. PutsSection generator.old generator.new code.old code.new prints.old.items prints.new.items (record { place = length code.old.instructions; given = locals.given.items; yielding = locals.yielding; others = locals.others.items }) (view_body body.now) entry) }
+    ensures { IfOk result (λ entry. PutsSection generator.old generator.new code.old code.new prints.old.items prints.new.items (record { place = length code.old; given = locals.given.items; yielding = locals.yielding; others = locals.others.items }) (view_body body.now) entry) }
 {
     let Locals {
         given,
@@ -79,7 +81,7 @@ fn put_main(
     code: &mut Piece,
     prints: &mut Vec<Lines>,
 ) -> Result<Entry, AllocError>
-    ensures { IfOk result (λ entry. PutsSection generator.old generator.new code.old code.new prints.old.items prints.new.items (record { place = length code.old.instructions; given = []; yielding = 0; others = generator.old.program.now.locals.items }) (view_body generator.old.program.now.main.items) entry) }
+    ensures { IfOk result (λ entry. PutsSection generator.old generator.new code.old code.new prints.old.items prints.new.items (record { place = length code.old; given = []; yielding = 0; others = generator.old.program.now.locals.items }) (view_body generator.old.program.now.main.items) entry) }
 {
     let program = generator.program;
     let others = Vec::from_slice(generator.alloc, &program.locals)?;
@@ -99,7 +101,7 @@ fn put_routine(
     prints: &mut Vec<Lines>,
     routine: &Routine,
 ) -> Result<Entry, AllocError>
-    ensures { IfOk result (λ entry. PutsSection generator.old generator.new code.old code.new prints.old.items prints.new.items (routine_entry (length code.old.instructions) (view_routine routine.now)) (view_routine routine.now).body entry) }
+    ensures { IfOk result (λ entry. PutsSection generator.old generator.new code.old code.new prints.old.items prints.new.items (routine_entry (length code.old) (view_routine routine.now)) (view_routine routine.now).body entry) }
 {
     let given = Vec::from_slice(generator.alloc, &routine.given)?;
     let others = joined(generator.alloc, &routine.yielding, &routine.others)?;
@@ -119,7 +121,7 @@ fn put_event(
     prints: &mut Vec<Lines>,
     event: &Event,
 ) -> Result<Entry, AllocError>
-    ensures { IfOk result (λ entry. PutsSection generator.old generator.new code.old code.new prints.old.items prints.new.items (event_entry (length code.old.instructions) (view_event event.now)) (view_event event.now).body entry) }
+    ensures { IfOk result (λ entry. PutsSection generator.old generator.new code.old code.new prints.old.items prints.new.items (event_entry (length code.old) (view_event event.now)) (view_event event.now).body entry) }
 {
     let given = Vec::from_slice(generator.alloc, &event.given)?;
     let others = Vec::from_slice(generator.alloc, &event.others)?;
@@ -223,6 +225,43 @@ fn sections_of(
     })
 }
 
+// The instructions of a piece.
+fn instructions_of(alloc: Global, code: &Piece) -> Result<Vec<Instruction>, AllocError>
+    ensures { IfOk result (λ made. made.items ≡ instructions_in code.now) }
+{
+    let items = code.items();
+    let mut made = Vec::with_capacity(alloc, items.len())?;
+    for item in items {
+        made.push(item.instruction)?;
+    }
+    Ok(made)
+}
+
+// Their lines.
+fn lines_of(alloc: Global, code: &Piece) -> Result<Vec<Line>, AllocError>
+    ensures { IfOk result (λ made. made.items ≡ lines_in code.now) }
+{
+    let items = code.items();
+    let mut made = Vec::with_capacity(alloc, items.len())?;
+    for item in items {
+        made.push(item.line)?;
+    }
+    Ok(made)
+}
+
+// Both of a piece.
+fn text_of(alloc: Global, code: Piece) -> Result<Text, AllocError>
+    ensures instructions { IfOk result (λ text. text.instructions.items ≡ instructions_in code) }
+    ensures lines { IfOk result (λ text. text.lines.items ≡ lines_in code) }
+{
+    let instructions = instructions_of(alloc, &code)?;
+    let lines = lines_of(alloc, &code)?;
+    Ok(Text {
+        instructions,
+        lines,
+    })
+}
+
 // The code of a program that is well typed.
 fn made(alloc: Global, program: &Program) -> Result<Code, CodeError>
     requires typed { WellTyped (view_program program.now) }
@@ -245,22 +284,12 @@ fn made(alloc: Global, program: &Program) -> Result<Code, CodeError>
     if code.len() > instruction_limit() {
         return Err(CodeError::CodeTooLong);
     }
+    let mut text = text_of(alloc, code)?;
     let said = sayings(alloc, program)?;
     let globals = Vec::from_slice(alloc, &program.globals)?;
-    let (mut instructions, lines) = code.into_parts();
     let Generator { constants, .. } = generator;
-    sift_walks(&mut instructions, globals.len() + constants.len());
-    Ok(Code::new(
-        Text {
-            instructions,
-            lines,
-        },
-        constants,
-        prints,
-        sections,
-        said,
-        globals,
-    ))
+    sift_walks(&mut text.instructions, globals.len() + constants.len());
+    Ok(Code::new(text, constants, prints, sections, said, globals))
 }
 
 /// The code of a program. It does with each input and each number of ticks what the program means, and nothing else, and

@@ -18,7 +18,7 @@ use Rattle.ss_code_instructions.specs.Carried.{RunningLines, Carries}
 use Rattle.ss_code_instructions.specs.Translation.{Site, height, place, at_line, no_line, condition_code, if_code, loop_code, in_loop, loop_cells, phrases_code, for_code, find_code, items_code, after_items, statement_code, statement_prints, block_code, block_prints, code_of}
 use Rattle.ss_code_generator.specs.declared.generator.Generator.{Generator}
 use Rattle.ss_code_generator.specs.declared.generator.Site.{Site as Here}
-use Rattle.ss_code_pieces.specs.Lined.{Lined, nothing}
+use Rattle.ss_code_pieces.specs.Lined.{Lined, nothing, on_line}
 use Rattle.ss_code_generator.specs.Emitted.{Final, Around, Grows, IsLocated, Shown, Adds, Emits, EmitsAround, EmitsAroundBoth, HasPrints}
 use Rattle.ss_code_generator.specs.Items.{GoodItem}
 use Rattle.ss_code_generator.specs.Looped.{loop_width}
@@ -139,10 +139,10 @@ said old new a b h l prints s form seen Fits c m is e line fits none same = subs
     }
 
 -- one instruction without operands
-pub put_said : (g : Generator) (a b : Lined) (here : Here) (x : i.Instruction) (y : Running) → b.instructions ≡ a.instructions ++ y ∷ [] → b.lines ≡ a.lines ++ here.line ∷ [] → ((f : Final) (t : Site) → Carries (code_of f.program) f.constants (place t x) y) → ((f : Final) (t : Site) → Shown f.prints t.cells x) → Emits g g a b here (λ s. Unit {0}) (λ t. place t x ∷ [])
-put_said g a b here x y is ls carries shown = record {
+pub put_said : (g : Generator) (a b : Lined) (here : Here) (x : i.Instruction) (y : Running) → b ≡ a ++ on_line here.line y ∷ [] → ((f : Final) (t : Site) → Carries (code_of f.program) f.constants (place t x) y) → ((f : Final) (t : Site) → Shown f.prints t.cells x) → Emits g g a b here (λ s. Unit {0}) (λ t. place t x ∷ [])
+put_said g a b here x y is carries shown = record {
   grows = grows_same g;
-  adds = λ f t u around located good. adds_one f a b here.line (place t x) y is ls located.line (record { carries = carries f t; deep = located.deep; shown = shown f t });
+  adds = λ f t u around located good. adds_one f a b here.line (place t x) y is located.line (record { carries = carries f t; deep = located.deep; shown = shown f t });
   more = λ f t u around located good. tt;
 }
 
@@ -322,13 +322,13 @@ body_none g x h prints e = record {
 }
 
 -- and a return at the end
-pub section_said : (g0 g1 : Generator) (x y : Lined) (p0 p1 : List RunningLines) (b : Block) → EmitsBlock g0 g1 x 0 p0 p1 b → y.instructions ≡ x.instructions ++ r.Leave ∷ [] → y.lines ≡ x.lines ++ no_line ∷ [] → PrintsBy g0 g1 nothing y (statement_site 0) p0 p1 (λ s. GoodBlock s b) (block_prints b) (λ first t. block_code t first b ++ place t i.Leave ∷ [])
-section_said g0 g1 x y p0 p1 b m is ls = record {
+pub section_said : (g0 g1 : Generator) (x y : Lined) (p0 p1 : List RunningLines) (b : Block) → EmitsBlock g0 g1 x 0 p0 p1 b → y ≡ x ++ on_line no_line r.Leave ∷ [] → PrintsBy g0 g1 nothing y (statement_site 0) p0 p1 (λ s. GoodBlock s b) (block_prints b) (λ first t. block_code t first b ++ place t i.Leave ∷ [])
+section_said g0 g1 x y p0 p1 b m is = record {
   code = record {
     grows = m.code.grows;
     adds = λ f t u around located good.
         adds_then f nothing x y (block_code t (length p0) b) (place t i.Leave ∷ []) (m.code.adds f t u around located good)
-        (adds_one f x y no_line (place t i.Leave) r.Leave is ls located.line (record { carries = refl; deep = located.deep; shown = tt }));
+        (adds_one f x y no_line (place t i.Leave) r.Leave is located.line (record { carries = refl; deep = located.deep; shown = tt }));
     more = λ f t u around located good. tt;
   };
   prints = m.prints;
@@ -337,10 +337,9 @@ section_said g0 g1 x y p0 p1 b m is ls = record {
 -- ## IF
 
 -- a condition and a side
-sides_add : (f : Final) (x y test side : Lined) (c d : List Placed) → y.instructions ≡ x.instructions ++ (test.instructions ++ side.instructions) → y.lines ≡ x.lines ++ (test.lines ++ side.lines) → Adds f nothing test c → Adds f nothing side d → Adds f x y (c ++ d)
-sides_add f x y test side c d is ls m n =
-    let both : Lined = record { instructions = test.instructions ++ side.instructions; lines = test.lines ++ side.lines } in
-    adds_piece f x y both (c ++ d) is ls (adds_apart f test side both c d refl refl m n)
+sides_add : (f : Final) (x y test side : Lined) (c d : List Placed) → y ≡ x ++ (test ++ side) → Adds f nothing test c → Adds f nothing side d → Adds f x y (c ++ d)
+sides_add f x y test side c d is m n =
+    adds_piece f x y (test ++ side) (c ++ d) is (adds_apart f test side (test ++ side) c d refl m n)
 
 if_none : (t : Site) (c : Condition) (a b : List Placed) → b ≡ [] → if_code t c a b ≡ condition_code t (length a) c ++ a
 if_none t c a b e = ap (if_code t c a) e
@@ -349,32 +348,32 @@ if_some : (t : Site) (c : Condition) (a b : List Placed) → 0 < length b → if
 if_some t c a [] h = absurd (omega (arith, h))
 if_some t c a (x ∷ b) h = refl
 
-pub one_sided : (g0 g1 : Generator) (x y : Lined) (here : Here) (side other test : Lined) (c : Condition) (past : ℕ) → length other.instructions ≡ 0 → past ≡ length side.instructions → Emits g0 g1 nothing test here (λ s. GoodCondition s c) (λ t. condition_code t past c) → y.instructions ≡ x.instructions ++ (test.instructions ++ side.instructions) → y.lines ≡ x.lines ++ (test.lines ++ side.lines) → EmitsAroundBoth g0 g1 x y here side other (λ s. GoodCondition s c) (λ t b. if_code t c b.first b.second)
-one_sided g0 g1 x y here side other test c past none past_is m is ls = record {
+pub one_sided : (g0 g1 : Generator) (x y : Lined) (here : Here) (side other test : Lined) (c : Condition) (past : ℕ) → length other ≡ 0 → past ≡ length side → Emits g0 g1 nothing test here (λ s. GoodCondition s c) (λ t. condition_code t past c) → y ≡ x ++ (test ++ side) → EmitsAroundBoth g0 g1 x y here side other (λ s. GoodCondition s c) (λ t b. if_code t c b.first b.second)
+one_sided g0 g1 x y here side other test c past none past_is m is = record {
   grows = m.grows;
   adds = λ f t b around located fits.
       let empty : b.second ≡ [] = none_there f other b.second fits.1 none in
       let long : past ≡ length b.first = past_is ∙ piece_long f side b.first fits.0 in
       let cond : Adds f nothing test (condition_code t (length b.first) c) = adds_same f nothing test (condition_code t past c) (condition_code t (length b.first) c) (ap (λ k. condition_code t k c) long) (m.adds f t tt around located fits.2) in
       adds_same f x y (condition_code t (length b.first) c ++ b.first) (if_code t c b.first b.second) (sym (if_none t c b.first b.second empty))
-      (sides_add f x y test side (condition_code t (length b.first) c) b.first is ls cond fits.0);
+      (sides_add f x y test side (condition_code t (length b.first) c) b.first is cond fits.0);
   more = λ f t b around located fits. tt;
 }
 
-pub two_sided : (g0 g1 : Generator) (x y1 y2 y3 : Lined) (here : Here) (side other test : Lined) (c : Condition) (past skip : ℕ) → (length other.instructions ≡ 0 → ⊥) → past ≡ length side.instructions + 1 → Emits g0 g1 nothing test here (λ s. GoodCondition s c) (λ t. condition_code t past c) → y1.instructions ≡ x.instructions ++ (test.instructions ++ side.instructions) → y1.lines ≡ x.lines ++ (test.lines ++ side.lines) → skip ≡ length other.instructions → y2.instructions ≡ y1.instructions ++ r.Jump skip ∷ [] → y2.lines ≡ y1.lines ++ here.line ∷ [] → y3.instructions ≡ y2.instructions ++ other.instructions → y3.lines ≡ y2.lines ++ other.lines → EmitsAroundBoth g0 g1 x y3 here side other (λ s. GoodCondition s c) (λ t b. if_code t c b.first b.second)
-two_sided g0 g1 x y1 y2 y3 here side other test c past skip some past_is m is1 ls1 skip_is is2 ls2 is3 ls3 = record {
+pub two_sided : (g0 g1 : Generator) (x y1 y2 y3 : Lined) (here : Here) (side other test : Lined) (c : Condition) (past skip : ℕ) → (length other ≡ 0 → ⊥) → past ≡ length side + 1 → Emits g0 g1 nothing test here (λ s. GoodCondition s c) (λ t. condition_code t past c) → y1 ≡ x ++ (test ++ side) → skip ≡ length other → y2 ≡ y1 ++ on_line here.line (r.Jump skip) ∷ [] → y3 ≡ y2 ++ other → EmitsAroundBoth g0 g1 x y3 here side other (λ s. GoodCondition s c) (λ t b. if_code t c b.first b.second)
+two_sided g0 g1 x y1 y2 y3 here side other test c past skip some past_is m is1 skip_is is2 is3 = record {
   grows = m.grows;
   adds = λ f t b around located fits.
-      let one : length side.instructions ≡ length b.first = piece_long f side b.first fits.0 in
-      let two : length other.instructions ≡ length b.second = piece_long f other b.second fits.1 in
-      let there : 0 < length b.second = positive (length other.instructions) (length b.second) some two in
+      let one : length side ≡ length b.first = piece_long f side b.first fits.0 in
+      let two : length other ≡ length b.second = piece_long f other b.second fits.1 in
+      let there : 0 < length b.second = positive (length other) (length b.second) some two in
       let long : past ≡ length b.first + 1 = omega (arith, past_is, one) in
       let cond : Adds f nothing test (condition_code t (length b.first + 1) c) = adds_same f nothing test (condition_code t past c) (condition_code t (length b.first + 1) c) (ap (λ k. condition_code t k c) long) (m.adds f t tt around located fits.2) in
       let over : Placed = place t (i.Jump (length b.second)) in
-      let jump : Adds f y1 y2 (over ∷ []) = adds_one f y1 y2 here.line over (r.Jump skip) is2 ls2 located.line (record { carries = ap i.Jump (sym (skip_is ∙ two)); deep = located.deep; shown = tt }) in
-      let front : Adds f x y1 (condition_code t (length b.first + 1) c ++ b.first) = sides_add f x y1 test side (condition_code t (length b.first + 1) c) b.first is1 ls1 cond fits.0 in
+      let jump : Adds f y1 y2 (over ∷ []) = adds_one f y1 y2 here.line over (r.Jump skip) is2 located.line (record { carries = ap i.Jump (sym (skip_is ∙ two)); deep = located.deep; shown = tt }) in
+      let front : Adds f x y1 (condition_code t (length b.first + 1) c ++ b.first) = sides_add f x y1 test side (condition_code t (length b.first + 1) c) b.first is1 cond fits.0 in
       let all : Adds f x y3 ((condition_code t (length b.first + 1) c ++ b.first) ++ (over ∷ b.second)) =
-      adds_then f x y1 y3 (condition_code t (length b.first + 1) c ++ b.first) (over ∷ b.second) front (adds_then f y1 y2 y3 (over ∷ []) b.second jump (adds_piece f y2 y3 other b.second is3 ls3 fits.1)) in
+      adds_then f x y1 y3 (condition_code t (length b.first + 1) c ++ b.first) (over ∷ b.second) front (adds_then f y1 y2 y3 (over ∷ []) b.second jump (adds_piece f y2 y3 other b.second is3 fits.1)) in
       adds_same f x y3 ((condition_code t (length b.first + 1) c ++ b.first) ++ (over ∷ b.second)) (if_code t c b.first b.second)
       (append_assoc (condition_code t (length b.first + 1) c) b.first (over ∷ b.second) ∙ sym (if_some t c b.first b.second there)) all;
   more = λ f t b around located fits. tt;

@@ -18,7 +18,7 @@ use Rattle.ss_code_pieces.specs.declared.facts.Ordering.TheVariants as orderings
 use Rattle.ss_code_generator.specs.declared.expressions.Operand.{Operand as Read}
 use Rattle.ss_code_generator.specs.declared.generator.Generator.{Generator}
 use Rattle.ss_code_generator.specs.declared.generator.Site.{Site as Here}
-use Rattle.ss_code_pieces.specs.Lined.{Lined}
+use Rattle.ss_code_pieces.specs.Lined.{Lined, on_line}
 use Rattle.ss_code_pieces.specs.Preamble.{filing_of}
 use Rattle.ss_code_generator.specs.Filings.{filing}
 use Rattle.ss_code_generator.specs.Emitted.{Final, Around, Shown, Emits, AtOperand, AtBearer, IsNumber, Reads, ReadsBy, Bears}
@@ -32,15 +32,15 @@ pub counts_noted : (f : Final) (g : Generator) (set : ℕ) (noted : Bool) → Ar
 counts_noted f g set noted around e h = ap (λ (p : Program). watch (code_of p).setting.statistics (OfCount set)) (sym around.program) ∙ sym e ∙ h
 
 -- a member that is looked at
-pub member_looked : (old new : Generator) (p q v : Lined) (here : Here) (set : ℕ) (e : Expression) (o : Read) → Reads old new p q here e o → v.instructions ≡ q.instructions ++ r.LookMember set o.address ∷ [] → v.lines ≡ q.lines ++ here.line ∷ [] → ReadsBy old new p v here (IsNumber e) e o (λ t. member_code t true set e)
-member_looked old new p q v here set e o m is ls =
-    looked_reads old new p q v here e o (IsNumber e) (λ x. i.LookMember set (stay x)) (r.LookMember set o.address) m is ls (λ f t around located good read.
+pub member_looked : (old new : Generator) (p q v : Lined) (here : Here) (set : ℕ) (e : Expression) (o : Read) → Reads old new p q here e o → v ≡ q ++ on_line here.line (r.LookMember set o.address) ∷ [] → ReadsBy old new p v here (IsNumber e) e o (λ t. member_code t true set e)
+member_looked old new p q v here set e o m is =
+    looked_reads old new p q v here e o (IsNumber e) (λ x. i.LookMember set (stay x)) (r.LookMember set o.address) m is (λ f t around located good read.
     ((Integer, good), record { carries = (stay (operand t e), stays_at f t (operand t e) o.address read.at, refl); deep = read.deep; shown = tt }))
     (λ s h. (Integer, h))
 
 -- a member, the owner of its set, and an instruction that works on both
-pub member_works : (old mid new : Generator) (p q v s : Lined) (here higher : Here) (set : ℕ) (e : Expression) (o : SetOwner) (member owner : Read) (make : Operand → Bearer → Instruction) (y : Running) → ReadsBy old mid p q here (IsNumber e) e member (λ t. member_code t (may_fault (expression_of o)) set e) → higher.line ≡ here.line → (here.height + member.cells < 2 ^ 64 → higher.height ≡ here.height + member.cells) → Bears mid new q v higher (expression_of o) owner → s.instructions ≡ v.instructions ++ y ∷ [] → s.lines ≡ v.lines ++ here.line ∷ [] → ((f : Final) (t : Site) → Around f new → AtOperand f (after_bearer (after t e) (expression_of o)) (operand t e) member.address → AtBearer f (after_bearer (after t e) (expression_of o)) (bearer (after t e) (expression_of o)) owner.address → Carries (code_of f.program) f.constants (place (after_bearer (after t e) (expression_of o)) (make (operand t e) (bearer (after t e) (expression_of o)))) y × Shown f.prints (after_bearer (after t e) (expression_of o)).cells (make (operand t e) (bearer (after t e) (expression_of o)))) → Emits old new p s here (λ k. IsNumber e k × OwnerFits k set o) (λ t. member_code t (may_fault (expression_of o)) set e ++ with_owner (after t e) o (make (operand t e)))
-member_works old mid new p q v s here higher set e o member owner make y m line above n is ls suits = record {
+pub member_works : (old mid new : Generator) (p q v s : Lined) (here higher : Here) (set : ℕ) (e : Expression) (o : SetOwner) (member owner : Read) (make : Operand → Bearer → Instruction) (y : Running) → ReadsBy old mid p q here (IsNumber e) e member (λ t. member_code t (may_fault (expression_of o)) set e) → higher.line ≡ here.line → (here.height + member.cells < 2 ^ 64 → higher.height ≡ here.height + member.cells) → Bears mid new q v higher (expression_of o) owner → s ≡ v ++ on_line here.line y ∷ [] → ((f : Final) (t : Site) → Around f new → AtOperand f (after_bearer (after t e) (expression_of o)) (operand t e) member.address → AtBearer f (after_bearer (after t e) (expression_of o)) (bearer (after t e) (expression_of o)) owner.address → Carries (code_of f.program) f.constants (place (after_bearer (after t e) (expression_of o)) (make (operand t e) (bearer (after t e) (expression_of o)))) y × Shown f.prints (after_bearer (after t e) (expression_of o)).cells (make (operand t e) (bearer (after t e) (expression_of o)))) → Emits old new p s here (λ k. IsNumber e k × OwnerFits k set o) (λ t. member_code t (may_fault (expression_of o)) set e ++ with_owner (after t e) o (make (operand t e)))
+member_works old mid new p q v s here higher set e o member owner make y m line above n is suits = record {
   grows = grows_then old mid new m.grows n.grows;
   adds = λ f t u around located good.
       let b = expression_of o in
@@ -55,27 +55,27 @@ member_works old mid new p q v s here higher set e o member owner make y m line 
       let c = suits f t around read.at borne.at in
       adds_then f p q s (member_code t (may_fault b) set e) (bearer_code t1 b ++ place t2 (make (operand t e) (bearer t1 b)) ∷ []) (m.adds f t tt mine there good.0)
       (adds_then f q v s (bearer_code t1 b) (place t2 (make (operand t e) (bearer t1 b)) ∷ []) (n.adds f t1 tt around on_top number)
-      (adds_one f v s here.line (place t2 (make (operand t e) (bearer t1 b))) y is ls located.line (record { carries = c.0; deep = borne.deep; shown = c.1 })));
+      (adds_one f v s here.line (place t2 (make (operand t e) (bearer t1 b))) y is located.line (record { carries = c.0; deep = borne.deep; shown = c.1 })));
   more = λ f t u around located good. tt;
 }
 
-pub member_filed : (old mid new : Generator) (p q v s : Lined) (here higher : Here) (set : ℕ) (e : Expression) (o : SetOwner) (member owner : Read) (ordering : Ordering) (noted : Bool) → ReadsBy old mid p q here (IsNumber e) e member (λ t. member_code t (may_fault (expression_of o)) set e) → higher.line ≡ here.line → (here.height + member.cells < 2 ^ 64 → higher.height ≡ here.height + member.cells) → Bears mid new q v higher (expression_of o) owner → noted ≡ watch new.program.now.statistics.items (OfCount set) → s.instructions ≡ v.instructions ++ filing ordering set member.address owner.address noted ∷ [] → s.lines ≡ v.lines ++ here.line ∷ [] → Emits old new p s here (λ k. IsNumber e k × OwnerFits k set o) (λ t. member_code t (may_fault (expression_of o)) set e ++ with_owner (after t e) o (i.File (filing_of ordering) set (operand t e)))
-member_filed old mid new p q v s here higher set e o member owner ordering noted m line above n watched is ls =
-    member_works old mid new p q v s here higher set e o member owner (λ x b. i.File (filing_of ordering) set x b) (filing ordering set member.address owner.address noted) m line above n is ls (λ f t around at of. (
+pub member_filed : (old mid new : Generator) (p q v s : Lined) (here higher : Here) (set : ℕ) (e : Expression) (o : SetOwner) (member owner : Read) (ordering : Ordering) (noted : Bool) → ReadsBy old mid p q here (IsNumber e) e member (λ t. member_code t (may_fault (expression_of o)) set e) → higher.line ≡ here.line → (here.height + member.cells < 2 ^ 64 → higher.height ≡ here.height + member.cells) → Bears mid new q v higher (expression_of o) owner → noted ≡ watch new.program.now.statistics.items (OfCount set) → s ≡ v ++ on_line here.line (filing ordering set member.address owner.address noted) ∷ [] → Emits old new p s here (λ k. IsNumber e k × OwnerFits k set o) (λ t. member_code t (may_fault (expression_of o)) set e ++ with_owner (after t e) o (i.File (filing_of ordering) set (operand t e)))
+member_filed old mid new p q v s here higher set e o member owner ordering noted m line above n watched is =
+    member_works old mid new p q v s here higher set e o member owner (λ x b. i.File (filing_of ordering) set x b) (filing ordering set member.address owner.address noted) m line above n is (λ f t around at of. (
       forms.files (code_of f.program) f.constants (place (after_bearer (after t e) (expression_of o)) (i.File (filing_of ordering) set (operand t e) (bearer (after t e) (expression_of o)))) ordering set member.address owner.address noted (counts_noted f new set noted around watched)
           (operand t e, at, (bearer (after t e) (expression_of o), of, refl)),
       tt,
     ))
 
-pub member_removed : (old mid new : Generator) (p q v s : Lined) (here higher : Here) (set : ℕ) (e : Expression) (o : SetOwner) (member owner : Read) (noted : Bool) → ReadsBy old mid p q here (IsNumber e) e member (λ t. member_code t (may_fault (expression_of o)) set e) → higher.line ≡ here.line → (here.height + member.cells < 2 ^ 64 → higher.height ≡ here.height + member.cells) → Bears mid new q v higher (expression_of o) owner → noted ≡ watch new.program.now.statistics.items (OfCount set) → s.instructions ≡ v.instructions ++ r.Remove set member.address owner.address noted ∷ [] → s.lines ≡ v.lines ++ here.line ∷ [] → Emits old new p s here (λ k. IsNumber e k × OwnerFits k set o) (λ t. remove_code t set e o)
-member_removed old mid new p q v s here higher set e o member owner noted m line above n watched is ls =
-    member_works old mid new p q v s here higher set e o member owner (λ x b. i.Remove set x b) (r.Remove set member.address owner.address noted) m line above n is ls (λ f t around at of.
+pub member_removed : (old mid new : Generator) (p q v s : Lined) (here higher : Here) (set : ℕ) (e : Expression) (o : SetOwner) (member owner : Read) (noted : Bool) → ReadsBy old mid p q here (IsNumber e) e member (λ t. member_code t (may_fault (expression_of o)) set e) → higher.line ≡ here.line → (here.height + member.cells < 2 ^ 64 → higher.height ≡ here.height + member.cells) → Bears mid new q v higher (expression_of o) owner → noted ≡ watch new.program.now.statistics.items (OfCount set) → s ≡ v ++ on_line here.line (r.Remove set member.address owner.address noted) ∷ [] → Emits old new p s here (λ k. IsNumber e k × OwnerFits k set o) (λ t. remove_code t set e o)
+member_removed old mid new p q v s here higher set e o member owner noted m line above n watched is =
+    member_works old mid new p q v s here higher set e o member owner (λ x b. i.Remove set x b) (r.Remove set member.address owner.address noted) m line above n is (λ f t around at of.
     ((counts_noted f new set noted around watched, (operand t e, at, (bearer (after t e) (expression_of o), of, refl))), tt))
 
 -- whether an entity is in a set
-pub membership_tested : (old mid new : Generator) (p q v s : Lined) (here higher : Here) (skip : ℕ) (negated : Bool) (set : ℕ) (e : Expression) (o : SetOwner) (member owner : Read) → ReadsBy old mid p q here (IsNumber e) e member (λ t. member_code t (may_fault (expression_of o)) set e) → higher.line ≡ here.line → (here.height + member.cells < 2 ^ 64 → higher.height ≡ here.height + member.cells) → Bears mid new q v higher (expression_of o) owner → s.instructions ≡ v.instructions ++ r.UnlessMember set member.address owner.address skip negated ∷ [] → s.lines ≡ v.lines ++ here.line ∷ [] → Emits old new p s here (λ k. GoodTest k (Member negated set e o)) (λ t. test_code t skip (Member negated set e o))
-membership_tested old mid new p q v s here higher skip negated set e o member owner m line above n is ls =
-    member_works old mid new p q v s here higher set e o member owner (λ x b. i.UnlessMember negated set x b skip) (r.UnlessMember set member.address owner.address skip negated) m line above n is ls (λ f t around at of.
+pub membership_tested : (old mid new : Generator) (p q v s : Lined) (here higher : Here) (skip : ℕ) (negated : Bool) (set : ℕ) (e : Expression) (o : SetOwner) (member owner : Read) → ReadsBy old mid p q here (IsNumber e) e member (λ t. member_code t (may_fault (expression_of o)) set e) → higher.line ≡ here.line → (here.height + member.cells < 2 ^ 64 → higher.height ≡ here.height + member.cells) → Bears mid new q v higher (expression_of o) owner → s ≡ v ++ on_line here.line (r.UnlessMember set member.address owner.address skip negated) ∷ [] → Emits old new p s here (λ k. GoodTest k (Member negated set e o)) (λ t. test_code t skip (Member negated set e o))
+membership_tested old mid new p q v s here higher skip negated set e o member owner m line above n is =
+    member_works old mid new p q v s here higher set e o member owner (λ x b. i.UnlessMember negated set x b skip) (r.UnlessMember set member.address owner.address skip negated) m line above n is (λ f t around at of.
     ((operand t e, at, (bearer (after t e) (expression_of o), of, refl)), tt))
 
 -- where a member is filed, by what the statement says
@@ -102,8 +102,8 @@ beside_is : (t : Site) (set : ℕ) (e beside : Expression) (o : SetOwner) (b : B
 beside_is t set e beside o true = refl
 beside_is t set e beside o false = refl
 
-pub member_beside : (old one two new : Generator) (p q v w s : Lined) (here higher highest : Here) (set : ℕ) (e beside : Expression) (o : SetOwner) (member neighbour owner : Read) (b noted : Bool) → ReadsBy old one p q here (IsNumber e) e member (λ t. member_code t true set e) → higher.line ≡ here.line → (here.height + member.cells < 2 ^ 64 → higher.height ≡ here.height + member.cells) → ReadsBy one two q v higher (IsNumber beside) beside neighbour (λ t. member_code t true set beside) → highest.line ≡ higher.line → (higher.height + neighbour.cells < 2 ^ 64 → highest.height ≡ higher.height + neighbour.cells) → Bears two new v w highest (expression_of o) owner → noted ≡ watch new.program.now.statistics.items (OfCount set) → s.instructions ≡ w.instructions ++ r.FileBeside noted b set member.address neighbour.address owner.address ∷ [] → s.lines ≡ w.lines ++ here.line ∷ [] → Emits old new p s here (λ k. IsNumber e k × IsNumber beside k × OwnerFits k set o) (λ t. file_code t set e (if b then AfterMember beside else BeforeMember beside) o)
-member_beside old one two new p q v w s here higher highest set e beside o member neighbour owner b noted m line above n line2 above2 n2 watched is ls =
+pub member_beside : (old one two new : Generator) (p q v w s : Lined) (here higher highest : Here) (set : ℕ) (e beside : Expression) (o : SetOwner) (member neighbour owner : Read) (b noted : Bool) → ReadsBy old one p q here (IsNumber e) e member (λ t. member_code t true set e) → higher.line ≡ here.line → (here.height + member.cells < 2 ^ 64 → higher.height ≡ here.height + member.cells) → ReadsBy one two q v higher (IsNumber beside) beside neighbour (λ t. member_code t true set beside) → highest.line ≡ higher.line → (higher.height + neighbour.cells < 2 ^ 64 → highest.height ≡ higher.height + neighbour.cells) → Bears two new v w highest (expression_of o) owner → noted ≡ watch new.program.now.statistics.items (OfCount set) → s ≡ w ++ on_line here.line (r.FileBeside noted b set member.address neighbour.address owner.address) ∷ [] → Emits old new p s here (λ k. IsNumber e k × IsNumber beside k × OwnerFits k set o) (λ t. file_code t set e (if b then AfterMember beside else BeforeMember beside) o)
+member_beside old one two new p q v w s here higher highest set e beside o member neighbour owner b noted m line above n line2 above2 n2 watched is =
     let late = grows_then one two new n.grows n2.grows in
     record {
       grows = grows_then old one new m.grows late;
@@ -129,6 +129,6 @@ member_beside old one two new p q v w s here higher highest set e beside o membe
           (adds_then f p q s (member_code t true set e) (member_code t1 true set beside ++ (bearer_code t2 c ++ place t3 ins ∷ [])) (m.adds f t tt around1 (stands_old f one new here t late located) good.0)
           (adds_then f q v s (member_code t1 true set beside) (bearer_code t2 c ++ place t3 ins ∷ []) (n.adds f t1 tt around2 on_top1 good.1)
           (adds_then f v w s (bearer_code t2 c) (place t3 ins ∷ []) (n2.adds f t2 tt around on_top2 number)
-          (adds_one f w s here.line (place t3 ins) y is ls located.line (record { carries = carries; deep = borne.deep; shown = tt })))));
+          (adds_one f w s here.line (place t3 ins) y is located.line (record { carries = carries; deep = borne.deep; shown = tt })))));
       more = λ f t u around located good. tt;
     }

@@ -15,7 +15,7 @@ use Rattle.ss_code_instructions.specs.Translation.{Site, height, place, above, n
 use Rattle.ss_code_instructions.specs.Carried.{RunningLines, InFrame, lines_of, kind_of_item, item_modes, onto}
 use Rattle.ss_code_generator.specs.declared.generator.Generator.{Generator}
 use Rattle.ss_code_generator.specs.declared.generator.Site.{Site as Here}
-use Rattle.ss_code_pieces.specs.Lined.{Lined}
+use Rattle.ss_code_pieces.specs.Lined.{Lined, on_line}
 use Rattle.ss_code_pieces.specs.Preamble.{scope_of}
 use Rattle.ss_code_generator.specs.Emitted.{Final, Grows, IsLocated, Makes, Emits, Typed}
 use Rattle.ss_code_generator.specs.Items.{value_kind, kind_of, item_width, GoodItem}
@@ -28,8 +28,8 @@ use Rattle.ss_code_generator.proofs.Spotted.{program_at}
 
 -- ## Items
 
-pub mean_of_looked : (old mid new : Generator) (p q v : Lined) (here : Here) (k : ℕ) (e : Expression) (cell : Address) → Emits old mid p q here (Typed e) (λ t. expression_code t (next t) e) → Grows mid new → InFrame (length new.locals.items + here.height) cell → here.height < new.deepest → v.instructions ≡ q.instructions ++ r.LookMean k cell ∷ [] → v.lines ≡ q.lines ++ here.line ∷ [] → Emits old new p v here (GoodItem (AMeanOf k e)) (λ t. item_code t (AMeanOf k e))
-mean_of_looked old mid new p q v here k e cell m g at room is ls = record {
+pub mean_of_looked : (old mid new : Generator) (p q v : Lined) (here : Here) (k : ℕ) (e : Expression) (cell : Address) → Emits old mid p q here (Typed e) (λ t. expression_code t (next t) e) → Grows mid new → InFrame (length new.locals.items + here.height) cell → here.height < new.deepest → v ≡ q ++ on_line here.line (r.LookMean k cell) ∷ [] → Emits old new p v here (GoodItem (AMeanOf k e)) (λ t. item_code t (AMeanOf k e))
+mean_of_looked old mid new p q v here k e cell m g at room is = record {
   grows = grows_then old mid new m.grows g;
   adds = λ f t u around located good.
       let mine = around_old f mid new g around in
@@ -39,7 +39,7 @@ mean_of_looked old mid new p q v here k e cell m g at room is ls = record {
       let high : height w ≡ height t + 1 = omega arith in
       let deep : height w ≤ f.depth = omega (arith, high, located.high, room, around.depth) in
       adds_then f p q v (expression_code t (next t) e) (place w (i.LookMean k (Some (Stays (height t)))) ∷ []) (m.adds f t tt mine there typed)
-      (adds_one f q v here.line (place w (i.LookMean k (Some (Stays (height t))))) (r.LookMean k cell) is ls located.line
+      (adds_one f q v here.line (place w (i.LookMean k (Some (Stays (height t))))) (r.LookMean k cell) is located.line
       (record { carries = (Some (Stays (height t)), cell_at_site f new here t cell located at, refl); deep = deep; shown = tt }));
   more = λ f t u around located good. tt;
 }
@@ -147,8 +147,8 @@ at_front [] v rest = refl
 at_front (x ∷ before) v rest = at_front before v rest
 
 -- the PRINT after its items
-pub printed : (old mid new : Generator) (p q v : Lined) (here : Here) (old_prints new_prints : List RunningLines) (xs : List PrintItem) (pictures : List (List ℕ)) (made : RunningLines) (n cell : ℕ) → Grows old mid → MakesAll mid new p q here xs → made ≡ record { pictures = pictures; items = map (kind_of (scope_of old.program.now old.locals.items)) xs } → new_prints ≡ old_prints ++ made ∷ [] → n ≡ length old_prints → cell ≡ length new.locals.items + here.height → v.instructions ≡ q.instructions ++ r.Print n cell ∷ [] → v.lines ≡ q.lines ++ here.line ∷ [] → PrintsLines old new p v here old_prints new_prints xs pictures
-printed old mid new p q v here old_prints new_prints xs pictures made n cell g m is_made prints is_n is_cell is ls =
+pub printed : (old mid new : Generator) (p q v : Lined) (here : Here) (old_prints new_prints : List RunningLines) (xs : List PrintItem) (pictures : List (List ℕ)) (made : RunningLines) (n cell : ℕ) → Grows old mid → MakesAll mid new p q here xs → made ≡ record { pictures = pictures; items = map (kind_of (scope_of old.program.now old.locals.items)) xs } → new_prints ≡ old_prints ++ made ∷ [] → n ≡ length old_prints → cell ≡ length new.locals.items + here.height → v ≡ q ++ on_line here.line (r.Print n cell) ∷ [] → PrintsLines old new p v here old_prints new_prints xs pictures
+printed old mid new p q v here old_prints new_prints xs pictures made n cell g m is_made prints is_n is_cell is =
     let s : Scope = scope_of old.program.now old.locals.items in
     let said : lines_of made ≡ lines_said xs pictures =
     ap (λ (l : RunningLines). lines_of l) is_made ∙ ap (λ (ks : List i.ItemKind). record { pictures = pictures; items = ks }) (kinds_said s xs) in
@@ -168,7 +168,7 @@ printed old mid new p q v here old_prints new_prints xs pictures made n cell g m
             let kinds : map (kind_of t.scope) xs ≡ made.items = kinds_by t.scope s.program s.locals xs (program_at f old here t before there_old) there_old.locals ∙ sym (ap (λ (l : RunningLines). l.items) is_made) in
             let cells : w.cells ≡ onto (item_modes made.items) t.cells = cells_onto t.scope xs t.cells ∙ ap (λ (ks : List ItemKind). onto (item_modes ks) t.cells) kinds in
             adds_then f p q v (items_code t xs) (place w ins ∷ []) (m.adds f t tt around located fits.1)
-            (adds_one f q v here.line (place w ins) (r.Print n cell) is ls located.line
+            (adds_one f q v here.line (place w ins) (r.Print n cell) is located.line
             (record { carries = (height t, there, ap (λ (j : ℕ). i.Print j (height t)) (sym is_n)); deep = on; shown = (made, at, (t.cells, cells)) }));
         more = λ f t u around located fits. tt;
       };

@@ -25,7 +25,7 @@ use Rattle.ss_code_generator.specs.declared.targets.VariableSpot.{VariableSpot}
 use Rattle.ss_code_generator.specs.declared.targets.AttributeSpot.{AttributeSpot}
 use Rattle.ss_code_generator.specs.declared.targets.Spot.{Spot}
 use Rattle.ss_code_generator.specs.declared.targets.Spot.TheVariants as spots
-use Rattle.ss_code_pieces.specs.Lined.{Lined}
+use Rattle.ss_code_pieces.specs.Lined.{Lined, on_line}
 use Rattle.ss_code_instructions.specs.Forms.{calculating, storing}
 use Rattle.ss_code_generator.specs.Emitted.{Final, Around, Grows, IsLocated, Shown, Makes, NoMore, Emits, AtOperand, AtTarget, Typed, IsNumber, Reads}
 use Rattle.ss_code_generator.specs.Spots.{IsWatched, IsVariable, IsSpot, GoodPlace, HasRoom, HoldsMode, Given, Gives, Taking, Takes, Changed, variable_of, IsHeldBy, spot_cells, spot_code, landing, assigned_code, landed_code}
@@ -44,8 +44,8 @@ LetsVariable old new before after here e s =
     Makes old new before after here (λ f t (x : Variable). IsVariable t x s × Good t.scope (Let here.line (ToVariable x) e)) (λ t x. let_code t (ToVariable x) e) NoMore
 
 -- and one that is watched
-pub let_kept : (old new : Generator) (p q v : Lined) (here : Here) (e : Expression) (o : Read) (s : VariableSpot) (k : ℕ) → s.watched ≡ Some k → Reads old new p q here e o → v.instructions ≡ q.instructions ++ r.Keep o.address k ∷ [] → v.lines ≡ q.lines ++ here.line ∷ [] → LetsVariable old new p v here e s
-let_kept old new p q v here e o s k watched m is ls = record {
+pub let_kept : (old new : Generator) (p q v : Lined) (here : Here) (e : Expression) (o : Read) (s : VariableSpot) (k : ℕ) → s.watched ≡ Some k → Reads old new p q here e o → v ≡ q ++ on_line here.line (r.Keep o.address k) ∷ [] → LetsVariable old new p v here e s
+let_kept old new p q v here e o s k watched m is = record {
   grows = m.grows;
   adds = λ f t x around located fits.
       let w : (is_kept t x ≡ true) × (x ≡ Global k) = subst (IsWatched (is_kept t x) x) watched fits.0.watched in
@@ -56,7 +56,7 @@ let_kept old new p q v here e o s k watched m is ls = record {
       sym (ap (λ (b : Bool). if b then with_operand t e (λ y. i.Keep y x) else expression_code t (i.Into x) e) w.0) in
       adds_same f p v (with_operand t e (λ y. i.Keep y x)) (let_code t (ToVariable x) e) code
       (adds_then f p q v (operand_code t e) (place (after t e) ins ∷ []) (m.adds f t tt around located typed)
-      (adds_one f q v here.line (place (after t e) ins) (r.Keep o.address k) is ls located.line
+      (adds_one f q v here.line (place (after t e) ins) (r.Keep o.address k) is located.line
       (record { carries = (operand t e, read.at, ap (i.Keep (operand t e)) w.1); deep = read.deep; shown = tt })));
   more = λ f t x around located fits. tt;
 }
@@ -85,8 +85,8 @@ let_of_count old new p q v here higher c e o s h m line up n = record {
   more = λ f t u around located good. tt;
 }
 
-pub let_of_attribute : (old mid new : Generator) (p v w z : Lined) (here higher : Here) (class field : ℕ) (of e : Expression) (s : AttributeSpot) (right : Read) → MakesAttribute old mid p v here (λ t. entity_code t (must_look class of e) class of) class field of s → higher.line ≡ here.line → (here.height + s.cells < 2 ^ 64 → higher.height ≡ here.height + s.cells) → Reads mid new v w higher e right → z.instructions ≡ w.instructions ++ storing s.mode s.class s.field s.entity right.address s.is_watched ∷ [] → z.lines ≡ w.lines ++ here.line ∷ [] → Emits old new p z here (λ k. Good k (Let here.line (ToAttribute class field of) e)) (λ t. let_code t (ToAttribute class field of) e)
-let_of_attribute old mid new p v w z here higher class field of e s right a line up n is ls = record {
+pub let_of_attribute : (old mid new : Generator) (p v w z : Lined) (here higher : Here) (class field : ℕ) (of e : Expression) (s : AttributeSpot) (right : Read) → MakesAttribute old mid p v here (λ t. entity_code t (must_look class of e) class of) class field of s → higher.line ≡ here.line → (here.height + s.cells < 2 ^ 64 → higher.height ≡ here.height + s.cells) → Reads mid new v w higher e right → z ≡ w ++ on_line here.line (storing s.mode s.class s.field s.entity right.address s.is_watched) ∷ [] → Emits old new p z here (λ k. Good k (Let here.line (ToAttribute class field of) e)) (λ t. let_code t (ToAttribute class field of) e)
+let_of_attribute old mid new p v w z here higher class field of e s right a line up n is = record {
   grows = grows_then old mid new a.grows n.grows;
   adds = λ f t u around located good.
       let mine = around_old f mid new n.grows around in
@@ -99,7 +99,7 @@ let_of_attribute old mid new p v w z here higher class field of e s right a line
       let read = n.more f t1 tt around higher_up typed in
       adds_then f p v z (entity_code t (must_look class of e) class of) (operand_code t1 e ++ place t2 (i.SetAttribute class field (operand t of) (operand t1 e)) ∷ []) (a.adds f t tt mine there good.1.1)
       (adds_then f v w z (operand_code t1 e) (place t2 (i.SetAttribute class field (operand t of) (operand t1 e)) ∷ []) (n.adds f t1 tt around higher_up typed)
-      (stored f w z here.line right.address s is ls new around t t2 class field of (operand t of) (operand t1 e) good.0 spot refl spot.entity.at read.at good.1.0 located.line located.program read.deep));
+      (stored f w z here.line right.address s is new around t t2 class field of (operand t of) (operand t1 e) good.0 spot refl spot.entity.at read.at good.1.0 located.line located.program read.deep));
   more = λ f t u around located good. tt;
 }
 
@@ -121,8 +121,8 @@ ChangesVariable old new before after here sign e s variable =
 abbrev pub Lands : Generator → Here → Spot → Address → Type 0
 Lands g here s to = (f : Final) (t u : Site) (x : Place) → Around f g → IsLocated f g here u → t.scope ≡ u.scope → IsSpot f t x s → AtTarget f u (landing u x) to × HasRoom f (landing u x)
 
-pub variable_changed : (old mid new : Generator) (p q v w : Lined) (here : Here) (sign : Sign) (e : Expression) (by : Read) (to : Address) (s : Spot) (variable : VariableSpot) → Reads old mid p q here e by → Grows mid new → Lands new here s to → v.instructions ≡ q.instructions ++ calculating (operator_of sign) variable.address by.address to ∷ [] → v.lines ≡ q.lines ++ here.line ∷ [] → Takes new v w here to (λ f t x. IsSpot f t x s) → ChangesVariable old new p w here sign e s variable
-variable_changed old mid new p q v w here sign e by to s variable m g land is ls n = record {
+pub variable_changed : (old mid new : Generator) (p q v w : Lined) (here : Here) (sign : Sign) (e : Expression) (by : Read) (to : Address) (s : Spot) (variable : VariableSpot) → Reads old mid p q here e by → Grows mid new → Lands new here s to → v ≡ q ++ on_line here.line (calculating (operator_of sign) variable.address by.address to) ∷ [] → Takes new v w here to (λ f t x. IsSpot f t x s) → ChangesVariable old new p w here sign e s variable
+variable_changed old mid new p q v w here sign e by to s variable m g land is n = record {
   grows = grows_then old mid new m.grows g;
   adds = λ f t c around located fits.
       let mine = around_old f mid new g around in
@@ -137,7 +137,7 @@ variable_changed old mid new p q v w here sign e by to s variable m g land is ls
       adds_same f p w (with_operand t e (λ y. i.Calculate (operator_of sign) (Held c.variable) y lands) ++ landed_code t t c.place Integer) (change_code t sign c.place e) (change_parts t sign c.place c.variable e fits.2)
       (adds_then f p v w (with_operand t e (λ y. i.Calculate (operator_of sign) (Held c.variable) y lands)) (landed_code t t c.place Integer)
       (adds_then f p q v (operand_code t e) (place (after t e) ins ∷ []) (m.adds f t tt mine there typed)
-      (adds_one f q v here.line (place (after t e) ins) (calculating (operator_of sign) variable.address by.address to) is ls located.line (record { carries = carries; deep = read.deep; shown = tt })))
+      (adds_one f q v here.line (place (after t e) ins) (calculating (operator_of sign) variable.address by.address to) is located.line (record { carries = carries; deep = read.deep; shown = tt })))
       (n.adds f t it around located (fits.0, refl, at.0, at.1, fits.4)));
   more = λ f t c around located fits. tt;
 }
@@ -162,8 +162,8 @@ change_of_count old new p q here sign c e class s is_class h m = record {
   more = λ f t u around located good. tt;
 }
 
-pub attribute_changed : (old mid new : Generator) (p q v w : Lined) (here higher : Here) (sign : Sign) (class field : ℕ) (of e : Expression) (by : Read) (s : AttributeSpot) → Reads old mid p q here e by → higher.line ≡ here.line → (here.height + by.cells < 2 ^ 64 → higher.height ≡ here.height + by.cells) → MakesAttribute mid new q v higher (λ t. operand_code t of) class field of s → w.instructions ≡ v.instructions ++ r.ChangeAttribute s.class s.field s.entity by.address sign s.is_watched ∷ [] → w.lines ≡ v.lines ++ here.line ∷ [] → Emits old new p w here (λ k. Good k (Change here.line sign (ToAttribute class field of) e)) (λ t. change_code t sign (ToAttribute class field of) e)
-attribute_changed old mid new p q v w here higher sign class field of e by s m line up a is ls = record {
+pub attribute_changed : (old mid new : Generator) (p q v w : Lined) (here higher : Here) (sign : Sign) (class field : ℕ) (of e : Expression) (by : Read) (s : AttributeSpot) → Reads old mid p q here e by → higher.line ≡ here.line → (here.height + by.cells < 2 ^ 64 → higher.height ≡ here.height + by.cells) → MakesAttribute mid new q v higher (λ t. operand_code t of) class field of s → w ≡ v ++ on_line here.line (r.ChangeAttribute s.class s.field s.entity by.address sign s.is_watched) ∷ [] → Emits old new p w here (λ k. Good k (Change here.line sign (ToAttribute class field of) e)) (λ t. change_code t sign (ToAttribute class field of) e)
+attribute_changed old mid new p q v w here higher sign class field of e by s m line up a is = record {
   grows = grows_then old mid new m.grows a.grows;
   adds = λ f t u around located good.
       let mine = around_old f mid new a.grows around in
@@ -182,7 +182,7 @@ attribute_changed old mid new p q v w here higher sign class field of e by s m l
       ∙ sym (ap (λ (k : Program). watch k.statistics (OfAttribute class field)) located.program) ∙ sym spot.noted ∙ off in
       adds_then f p q w (operand_code t e) (operand_code t1 of ++ place t2 ins ∷ []) (m.adds f t tt mine there typed)
       (adds_then f q v w (operand_code t1 of) (place t2 ins ∷ []) (a.adds f t1 tt around higher_up good.0.1)
-      (adds_one f v w here.line (place t2 ins) (r.ChangeAttribute s.class s.field s.entity by.address sign s.is_watched) is ls located.line
+      (adds_one f v w here.line (place t2 ins) (r.ChangeAttribute s.class s.field s.entity by.address sign s.is_watched) is located.line
       (record { carries = (notes, (operand t1 of, spot.entity.at, (operand t e, read.at, same))); deep = spot.entity.deep; shown = tt })));
   more = λ f t u around located good. tt;
 }
@@ -216,8 +216,8 @@ abbrev pub MakesSpot : (old new : Generator) → (before after : Lined) → Here
 MakesSpot old new before after here c x s =
     Makes old new before after here (λ f t (u : Unit {0}). GoodPlace x t.scope) (λ t u. c t) (λ f t u. IsSpot f t x s)
 
-pub to_place_made : (old mid new : Generator) (p q v w : Lined) (here higher : Here) (x : Place) (m : Mode) (s : Spot) (to : Address) (y : Running) (make : Target → Instruction) → MakesSpot old mid p q here (λ t. place_code t x) x s → higher.line ≡ here.line → (here.height + spot_cells s < 2 ^ 64 → higher.height ≡ here.height + spot_cells s) → Grows mid new → Lands new higher s to → ((f : Final) (u : Site) (z : Target) → AtTarget f u z to → Carries (code_of f.program) f.constants (place u (make z)) y) → ((prints : List RunningLines) (cells : List Mode) (z : Target) → Shown prints cells (make z)) → v.instructions ≡ q.instructions ++ y ∷ [] → v.lines ≡ q.lines ++ here.line ∷ [] → Takes new v w higher to (λ f t z. IsSpot f t z s) → Emits old new p w here (λ k. TakesMode k x m) (λ t. to_place_code t x m (λ u z. place u (make z) ∷ []))
-to_place_made old mid new p q v w here higher x m s to y make l line up g land carries shown is ls n = record {
+pub to_place_made : (old mid new : Generator) (p q v w : Lined) (here higher : Here) (x : Place) (m : Mode) (s : Spot) (to : Address) (y : Running) (make : Target → Instruction) → MakesSpot old mid p q here (λ t. place_code t x) x s → higher.line ≡ here.line → (here.height + spot_cells s < 2 ^ 64 → higher.height ≡ here.height + spot_cells s) → Grows mid new → Lands new higher s to → ((f : Final) (u : Site) (z : Target) → AtTarget f u z to → Carries (code_of f.program) f.constants (place u (make z)) y) → ((prints : List RunningLines) (cells : List Mode) (z : Target) → Shown prints cells (make z)) → v ≡ q ++ on_line here.line y ∷ [] → Takes new v w higher to (λ f t z. IsSpot f t z s) → Emits old new p w here (λ k. TakesMode k x m) (λ t. to_place_code t x m (λ u z. place u (make z) ∷ []))
+to_place_made old mid new p q v w here higher x m s to y make l line up g land carries shown is n = record {
   grows = grows_then old mid new l.grows g;
   adds = λ f t u around located good.
       let mine = around_old f mid new g around in
@@ -232,7 +232,7 @@ to_place_made old mid new p q v w here higher x m s to y make l line up g land c
       adds_same f p w (place_code t x ++ (place t1 (make lands) ∷ [] ++ landed_code t t1 x m)) (to_place_code t x m (λ u z. place u (make z) ∷ [])) (to_place_parts t x m (λ u z. place u (make z) ∷ []))
       (adds_then f p q w (place_code t x) (place t1 (make lands) ∷ [] ++ landed_code t t1 x m) (l.adds f t tt mine there fits)
       (adds_then f q v w (place t1 (make lands) ∷ []) (landed_code t t1 x m)
-      (adds_one f q v here.line (place t1 (make lands)) y is ls located.line (record { carries = carries f t1 lands at.0; deep = on.deep; shown = shown f.prints t1.cells lands }))
+      (adds_one f q v here.line (place t1 (make lands)) y is located.line (record { carries = carries f t1 lands at.0; deep = on.deep; shown = shown f.prints t1.cells lands }))
       (n.adds f t1 it around on (spot, refl, at.0, at.1, holds_mode f new here t x m around located good))));
   more = λ f t u around located good. tt;
 }

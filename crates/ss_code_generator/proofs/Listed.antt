@@ -10,7 +10,7 @@ use Rattle.ss_code_instructions.specs.Instructions.{Placed, Read, CreateAll, Res
 use Rattle.ss_code_instructions.specs.Translation.{Site, place, bearer, bearer_code, after_bearer, to_place_code, reads_code, creates_code, restarts_code}
 use Rattle.ss_code_generator.specs.declared.generator.Generator.{Generator}
 use Rattle.ss_code_generator.specs.declared.generator.Site.{Site as Here}
-use Rattle.ss_code_pieces.specs.Lined.{Lined}
+use Rattle.ss_code_pieces.specs.Lined.{Lined, on_line}
 use Rattle.ss_code_generator.specs.Emitted.{Emits}
 use Rattle.ss_code_generator.proofs.Emitting.{around_old, grows_then, stands_old, adds_then, adds_one, adds_same}
 
@@ -50,13 +50,13 @@ restarts_more t xs x =
     ap (λ (c : List Placed). c ++ restarts_code t xs) (sym (append-nil (bearer_code t x.of ++ place (after_bearer t x.of) (Reset x.statistic (bearer t x.of)) ∷ [])))) xs x
 
 -- an instruction for each class
-pub creates_step : (g : Generator) (p q v : Lined) (here : Here) (xs : List CountedClass) (x : CountedClass) → Emits g g p q here (λ s. Unit {0}) (λ t. creates_code t xs) → v.instructions ≡ q.instructions ++ CreatesAll x.class x.variable ∷ [] → v.lines ≡ q.lines ++ here.line ∷ [] → Emits g g p v here (λ s. Unit {0}) (λ t. creates_code t (xs ++ x ∷ []))
-creates_step g p q v here xs x m is ls = record {
+pub creates_step : (g : Generator) (p q v : Lined) (here : Here) (xs : List CountedClass) (x : CountedClass) → Emits g g p q here (λ s. Unit {0}) (λ t. creates_code t xs) → v ≡ q ++ on_line here.line (CreatesAll x.class x.variable) ∷ [] → Emits g g p v here (λ s. Unit {0}) (λ t. creates_code t (xs ++ x ∷ []))
+creates_step g p q v here xs x m is = record {
   grows = m.grows;
   adds = λ f t u around located good.
       adds_same f p v (creates_code t xs ++ place t (CreateAll x) ∷ []) (creates_code t (xs ++ x ∷ [])) (sym (creates_more t xs x))
       (adds_then f p q v (creates_code t xs) (place t (CreateAll x) ∷ []) (m.adds f t tt around located tt)
-      (adds_one f q v here.line (place t (CreateAll x)) (CreatesAll x.class x.variable) is ls located.line (record { carries = refl; deep = located.deep; shown = tt })));
+      (adds_one f q v here.line (place t (CreateAll x)) (CreatesAll x.class x.variable) is located.line (record { carries = refl; deep = located.deep; shown = tt })));
   more = λ f t u around located good. tt;
 }
 

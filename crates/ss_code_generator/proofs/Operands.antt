@@ -12,7 +12,7 @@ use Rattle.ss_code_instructions.specs.Carried.{InFrame}
 use Rattle.ss_code_generator.specs.declared.expressions.Operand.{Operand as Read}
 use Rattle.ss_code_generator.specs.declared.generator.Generator.{Generator}
 use Rattle.ss_code_generator.specs.declared.generator.Site.{Site as Here}
-use Rattle.ss_code_pieces.specs.Lined.{Lined}
+use Rattle.ss_code_pieces.specs.Lined.{Lined, on_line}
 use Rattle.ss_code_generator.specs.Emitted.{Final, Around, Grows, IsLocated, Runs, EmitsTo, AtOperand, AtTarget, Typed, IsRead, Reads, ReadsBy, Bears}
 use Rattle.ss_code_generator.proofs.Emitting.{around_old, stands_old, stands_above, adds_then, adds_one, adds_same}
 
@@ -74,14 +74,14 @@ read_stands f g here higher t e o around located r line above = stands_above f g
 -- ## Looks, and owners
 
 -- an operand that is looked at
-pub looked_reads : (old new : Generator) (p q r : Lined) (here : Here) (e : Expression) (o : Read) (Good : Scope → Type 0) (make : Operand → Instruction) (y : Running) → Reads old new p q here e o → r.instructions ≡ q.instructions ++ y ∷ [] → r.lines ≡ q.lines ++ here.line ∷ [] → ((f : Final) (t : Site) → Around f new → IsLocated f new here t → Good t.scope → IsRead f t e o → Typed e t.scope × Runs f (place (after t e) (make (operand t e))) y) → ((s : Scope) → Good s → Typed e s) → ReadsBy old new p r here Good e o (λ t. with_operand t e make)
-looked_reads old new p q r here e o Good make y m is ls h typed = record {
+pub looked_reads : (old new : Generator) (p q r : Lined) (here : Here) (e : Expression) (o : Read) (Good : Scope → Type 0) (make : Operand → Instruction) (y : Running) → Reads old new p q here e o → r ≡ q ++ on_line here.line y ∷ [] → ((f : Final) (t : Site) → Around f new → IsLocated f new here t → Good t.scope → IsRead f t e o → Typed e t.scope × Runs f (place (after t e) (make (operand t e))) y) → ((s : Scope) → Good s → Typed e s) → ReadsBy old new p r here Good e o (λ t. with_operand t e make)
+looked_reads old new p q r here e o Good make y m is h typed = record {
   grows = m.grows;
   adds = λ f t u around located good.
       let read = m.more f t tt around located (typed t.scope good) in
       let w = h f t around located good read in
       adds_then f p q r (operand_code t e) (place (after t e) (make (operand t e)) ∷ []) (m.adds f t tt around located w.0)
-      (adds_one f q r here.line (place (after t e) (make (operand t e))) y is ls located.line w.1);
+      (adds_one f q r here.line (place (after t e) (make (operand t e))) y is located.line w.1);
   more = λ f t u around located good. m.more f t tt around located (typed t.scope good);
 }
 

@@ -20,7 +20,7 @@ use Rattle.ss_code_generator.specs.declared.generator.Generator.{Generator}
 use Rattle.ss_code_generator.specs.declared.generator.Site.{Site as Here}
 use Rattle.ss_code_generator.specs.declared.loops.Walk.{Walk}
 use Rattle.ss_code_generator.specs.declared.targets.VariableSpot.{VariableSpot}
-use Rattle.ss_code_pieces.specs.Lined.{Lined, nothing}
+use Rattle.ss_code_pieces.specs.Lined.{Lined, nothing, on_line}
 use Rattle.ss_code_generator.specs.Emitted.{Final, Around, Grows, IsLocated, Adds, Runs, Emits, EmitsAround, EmitsAroundBoth, AtBearer, Bears, Typed, IsNumber, AreNumbers}
 use Rattle.ss_code_generator.specs.Spots.{IsVariable}
 use Rattle.ss_code_generator.specs.Looped.{loop_width, is_after, begin_of, items_begin, begins_items, item_loop_code, TakesItem, TakesItems, TakesMembers, KeepsOwner, StartsWalk, Walking}
@@ -30,20 +30,8 @@ use Rattle.ss_code_generator.proofs.Testing.{owner_number}
 
 -- ## Instructions one after another
 
--- one instruction after a piece, and a piece after another one
-pub record Puts (p q : Lined) (l : Here) (y : Running) : Type 0 where
-  pub instructions : q.instructions ≡ p.instructions ++ y ∷ []
-  pub lines : q.lines ≡ p.lines ++ l.line ∷ []
-
-pub record Joins (p q following : Lined) : Type 0 where
-  pub instructions : q.instructions ≡ p.instructions ++ following.instructions
-  pub lines : q.lines ≡ p.lines ++ following.lines
-
-put_one : (f : Final) (g : Generator) (here : Here) (t : Site) (p q : Lined) (x : i.Instruction) (y : Running) → IsLocated f g here t → Puts p q here y → Runs f (place t x) y → Adds f p q (place t x ∷ [])
-put_one f g here t p q x y located put runs = adds_one f p q here.line (place t x) y put.instructions put.lines located.line runs
-
-join_one : (f : Final) (p q following : Lined) (c : List Placed) → Joins p q following → Adds f nothing following c → Adds f p q c
-join_one f p q following c j h = adds_piece f p q following c j.instructions j.lines h
+put_one : (f : Final) (g : Generator) (here : Here) (t : Site) (p q : Lined) (x : i.Instruction) (y : Running) → IsLocated f g here t → q ≡ p ++ on_line here.line y ∷ [] → Runs f (place t x) y → Adds f p q (place t x ∷ [])
+put_one f g here t p q x y located put runs = adds_one f p q here.line (place t x) y put located.line runs
 
 -- a site that located where the generator is, and one some cells above it
 higher : (f : Final) (g : Generator) (here above_here : Here) (t u : Site) (k : ℕ) → Around f g → IsLocated f g here t → above_here.line ≡ here.line → (here.height + k < 2 ^ 64 → above_here.height ≡ here.height + k) → u.scope ≡ t.scope → u.line ≡ t.line → height u ≡ height t + k → height u ≤ f.depth → IsLocated f g above_here u
@@ -55,7 +43,7 @@ module _ (g0 g1 g2 : Generator) (here : Here) (body : Lined) (gs : List Guard) w
   abbrev GoodGuards : Scope → Type 0
   GoodGuards s = Every (λ (g : Guard). GoodCondition s g.condition) gs
 
-  pub looped : (p q empty again t0 t1 t2 t3 turn whole : Lined) (back : ℕ) → empty ≡ nothing → t0 ≡ nothing → EmitsAround g0 g1 nothing again here empty GoodGuards (λ t b. guards_code t (length b + 1) gs ++ b) → Puts t0 t1 here r.Turn → Joins t1 t2 body → Joins t2 t3 again → back ≡ length t3.instructions → Puts t3 turn here (r.Repeat back) → EmitsAround g1 g2 nothing whole here turn GoodGuards (λ t b. guards_code t (length b + 0) gs ++ b) → Joins p q whole → EmitsAround g0 g2 p q here body GoodGuards (λ t b. loop_code t gs b)
+  pub looped : (p q empty again t0 t1 t2 t3 turn whole : Lined) (back : ℕ) → empty ≡ nothing → t0 ≡ nothing → EmitsAround g0 g1 nothing again here empty GoodGuards (λ t b. guards_code t (length b + 1) gs ++ b) → t1 ≡ t0 ++ on_line here.line r.Turn ∷ [] → t2 ≡ t1 ++ body → t3 ≡ t2 ++ again → back ≡ length t3 → turn ≡ t3 ++ on_line here.line (r.Repeat back) ∷ [] → EmitsAround g1 g2 nothing whole here turn GoodGuards (λ t b. guards_code t (length b + 0) gs ++ b) → q ≡ p ++ whole → EmitsAround g0 g2 p q here body GoodGuards (λ t b. loop_code t gs b)
   looped p q empty again t0 t1 t2 t3 turn whole back empty_is t0_is m first second third back_is last n all = record {
     grows = grows_then g0 g1 g2 m.grows n.grows;
     adds = λ f t b around located fits.
@@ -67,9 +55,9 @@ module _ (g0 g1 g2 : Generator) (here : Here) (body : Lined) (gs : List Guard) w
         let tick : Placed = place t i.Turn in
         let begun : Adds f t0 t1 (tick ∷ []) = put_one f g2 here t t0 t1 i.Turn r.Turn located first (record { carries = refl; deep = located.deep; shown = tt }) in
         let inner : Adds f t0 t3 (tick ∷ (b ++ G)) =
-        adds_then f t0 t1 t3 (tick ∷ []) (b ++ G) begun (adds_then f t1 t2 t3 b G (join_one f t1 t2 body b second fits.0) (join_one f t2 t3 again G third guards)) in
+        adds_then f t0 t1 t3 (tick ∷ []) (b ++ G) begun (adds_then f t1 t2 t3 b G (adds_piece f t1 t2 body b second fits.0) (adds_piece f t2 t3 again G third guards)) in
         let from_none : Adds f nothing t3 (tick ∷ (b ++ G)) = subst (λ (e : Lined). Adds f e t3 (tick ∷ (b ++ G))) t0_is inner in
-        let long : length t3.instructions ≡ length (tick ∷ (b ++ G)) = piece_long f t3 (tick ∷ (b ++ G)) from_none in
+        let long : length t3 ≡ length (tick ∷ (b ++ G)) = piece_long f t3 (tick ∷ (b ++ G)) from_none in
         let back_long : back ≡ length b + length G + 1 = omega (arith, back_is, long, length-append b G) in
         let end : Placed = place t (i.Repeat (length b + length G + 1)) in
         let T : List Placed = tick ∷ (b ++ (G ++ end ∷ [])) in
@@ -79,14 +67,14 @@ module _ (g0 g1 g2 : Generator) (here : Here) (body : Lined) (gs : List Guard) w
         adds_same f nothing turn ((tick ∷ (b ++ G)) ++ end ∷ []) T (ap (λ (l : List Placed). tick ∷ l) (append_assoc b G (end ∷ [])))
         (adds_then f nothing t3 turn (tick ∷ (b ++ G)) (end ∷ []) from_none ended) in
         let skip : length T + 0 ≡ length b + length G + 2 = omega (arith, length-append b (G ++ end ∷ []), length-append G (end ∷ [])) in
-        join_one f p q whole (loop_code t gs b) all
+        adds_piece f p q whole (loop_code t gs b) all
         (adds_same f nothing whole (guards_code t (length T + 0) gs ++ T) (loop_code t gs b) (ap (λ k. guards_code t k gs ++ T) skip) (n.adds f t T around located (turned, fits.1)));
     more = λ f t b around located fits. tt;
   }
 
 -- ## Members
 
-pub members_taken : (g : Generator) (a b c turn : Lined) (here : Here) (w : Walk) (back : ℕ) → TakesItem g nothing a here w.cell w.variable → Joins a b turn → back ≡ length b.instructions → Puts b c here (r.NextMember w.set w.owner w.cell back w.reverse false) → TakesMembers g c here w turn
+pub members_taken : (g : Generator) (a b c turn : Lined) (here : Here) (w : Walk) (back : ℕ) → TakesItem g nothing a here w.cell w.variable → b ≡ a ++ turn → back ≡ length b → c ≡ b ++ on_line here.line (r.NextMember w.set w.owner w.cell back w.reverse false) ∷ [] → TakesMembers g c here w turn
 members_taken g a b c turn here w back m both back_is last = record {
   grows = grows_same g;
   adds = λ f u x around located fits.
@@ -95,7 +83,7 @@ members_taken g a b c turn here w back m both back_is last = record {
       let owner : AtBearer f u x.owner w.owner = fits.0.2 in
       let one = m.adds f u (record { variable = x.variable; cell = x.cell; turn = x.turn }) around located (is, fits.0.3) in
       let head : List Placed = take_code u x.cell x.variable in
-      let two = join_one f a b turn x.turn both fits.1 in
+      let two = adds_piece f a b turn x.turn both fits.1 in
       let whole = adds_then f nothing a b head x.turn one two in
       let back_long : back ≡ length head + length x.turn = back_is ∙ piece_long f b (head ++ x.turn) whole ∙ length-append head x.turn in
       let again : i.Instruction = i.NextMember w.reverse x.set x.owner x.cell (length head + length x.turn) in
@@ -141,14 +129,14 @@ three_up : (t : Site) → height (number_loop t) - height t ≡ 3
 three_up t = omega arith
 
 -- the instruction with which it begins
-items_begun : (f : Final) (g : Generator) (here above_here : Here) (t : Site) (class : Option ℕ) (cell skip n : ℕ) (p q : Lined) → IsLocated f g here t → IsLocated f g above_here (number_loop t) → above_here.line ≡ here.line → cell ≡ length t.scope.locals + height t → skip ≡ n → Puts p q here (items_begin class cell skip) → Adds f p q (begins_items t class n ∷ [])
+items_begun : (f : Final) (g : Generator) (here above_here : Here) (t : Site) (class : Option ℕ) (cell skip n : ℕ) (p q : Lined) → IsLocated f g here t → IsLocated f g above_here (number_loop t) → above_here.line ≡ here.line → cell ≡ length t.scope.locals + height t → skip ≡ n → q ≡ p ++ on_line here.line (items_begin class cell skip) ∷ [] → Adds f p q (begins_items t class n ∷ [])
 items_begun f g here above_here t None cell skip n p q located on_top line at long put =
-    put_one f g above_here (number_loop t) p q (i.Begin (height t) n) (r.Begin cell skip) on_top (record { instructions = put.instructions; lines = put.lines ∙ ap (λ (l : Line). p.lines ++ l ∷ []) (sym line) })
+    put_one f g above_here (number_loop t) p q (i.Begin (height t) n) (r.Begin cell skip) on_top (put ∙ ap (λ (l : Line). p ++ on_line l (r.Begin cell skip) ∷ []) (sym line))
     (record { carries = (height t, at, ap (i.Begin (height t)) (sym long)); deep = on_top.deep; shown = tt })
 items_begun f g here above_here t (Some class) cell skip n p q located on_top line at long put =
     put_one f g here t p q (i.BeginClass class (height t) n) (r.BeginClass class cell skip) located put (record { carries = (height t, at, ap (i.BeginClass class (height t)) (sym long)); deep = located.deep; shown = tt })
 
-pub items_looped : (g0 g : Generator) (p q q1 q2 : Lined) (here above_here : Here) (class : Option ℕ) (cell skip : ℕ) (spot : VariableSpot) (turn items : Lined) (x : Variable) → above_here.line ≡ here.line → (here.height + 3 < 2 ^ 64 → above_here.height ≡ here.height + 3) → Grows g0 g → above_here.height ≤ g.deepest → cell ≡ length g.locals.items + here.height → ((f : Final) (h : Here) (t : Site) → Around f g → IsLocated f g h t → IsVariable t x spot) → TakesItems g items above_here cell spot turn → skip ≡ length items.instructions → Puts p q here (items_begin class cell skip) → Joins q q1 items → Emits g g q1 q2 above_here (λ s. Unit {0}) (λ u. forget u 3) → EmitsAround g0 g p q2 here turn (λ s. Unit {0}) (λ t b. item_loop_code t class x b)
+pub items_looped : (g0 g : Generator) (p q q1 q2 : Lined) (here above_here : Here) (class : Option ℕ) (cell skip : ℕ) (spot : VariableSpot) (turn items : Lined) (x : Variable) → above_here.line ≡ here.line → (here.height + 3 < 2 ^ 64 → above_here.height ≡ here.height + 3) → Grows g0 g → above_here.height ≤ g.deepest → cell ≡ length g.locals.items + here.height → ((f : Final) (h : Here) (t : Site) → Around f g → IsLocated f g h t → IsVariable t x spot) → TakesItems g items above_here cell spot turn → skip ≡ length items → q ≡ p ++ on_line here.line (items_begin class cell skip) ∷ [] → q1 ≡ q ++ items → Emits g g q1 q2 above_here (λ s. Unit {0}) (λ u. forget u 3) → EmitsAround g0 g p q2 here turn (λ s. Unit {0}) (λ t b. item_loop_code t class x b)
 items_looped g0 g p q q1 q2 here above_here class cell skip spot turn items x line up grows room at is m skip_is put join forgets = record {
   grows = grows;
   adds = λ f t body around located fits.
@@ -164,7 +152,7 @@ items_looped g0 g p q q1 q2 here above_here class cell skip spot turn items x li
       let long : skip ≡ length turns = skip_is ∙ piece_long f items turns made in
       let gone : Adds f q1 q2 (forget_to t u) = adds_same f q1 q2 (forget u 3) (forget_to t u) (ap (forget u) (sym (three_up t))) (forgets.adds f u tt around on_top tt) in
       adds_then f p q q2 (begins_items t class (length turns) ∷ []) (turns ++ forget_to t u) (items_begun f g here above_here t class cell skip (length turns) p q located on_top line cell_is long put)
-      (adds_then f q q1 q2 turns (forget_to t u) (join_one f q q1 items turns join made) gone);
+      (adds_then f q q1 q2 turns (forget_to t u) (adds_piece f q q1 items turns join made) gone);
   more = λ f t body around located fits. tt;
 }
 
@@ -208,7 +196,7 @@ pub starts_at_end : (g : Generator) (p : Lined) (here : Here) (w : Walk) → Sta
 starts_at_end g p here w = record { grows = grows_same g; adds = λ f u x around located fits. adds_none f p; more = λ f u x around located fits. tt }
 
 -- the owner is looked at, and a member goes into the next cell
-pub starts_at : (g0 g : Generator) (p q s : Lined) (here : Here) (w : Walk) (e : Expression) → Puts p q here (r.LookOwner w.set w.owner) → Emits g0 g q s here (Typed e) (λ t. expression_code t (next t) e) → StartsWalk g0 g p s here w (From e)
+pub starts_at : (g0 g : Generator) (p q s : Lined) (here : Here) (w : Walk) (e : Expression) → q ≡ p ++ on_line here.line (r.LookOwner w.set w.owner) ∷ [] → Emits g0 g q s here (Typed e) (λ t. expression_code t (next t) e) → StartsWalk g0 g p s here w (From e)
 starts_at g0 g p q s here w e put m = record {
   grows = m.grows;
   adds = λ f u x around located fits.
@@ -227,17 +215,17 @@ pub starts_after : (g0 g : Generator) (p s : Lined) (here : Here) (w : Walk) (e 
 starts_after g0 g p s here w e m = record { grows = m.grows; adds = λ f u x around located fits. m.adds f u x around located fits; more = λ f u x around located fits. tt }
 
 -- the instruction that begins a walk from a member, or after it
-begins_at : (f : Final) (g : Generator) (here : Here) (u : Site) (w : Walk) (set : ℕ) (owner : Bearer) (after : Bool) (skip n : ℕ) (reverse : Bool) (p q : Lined) → IsLocated f g here u → height u + 1 ≤ f.depth → w.set ≡ set → AtBearer f u owner w.owner → w.cell ≡ length u.scope.locals + height u → w.reverse ≡ reverse → skip ≡ n → Puts p q here (r.BeginAt w.set w.owner w.cell skip w.reverse after) → Adds f p q (place (above u Integer) (i.BeginAt reverse after set owner (height u) n) ∷ [])
+begins_at : (f : Final) (g : Generator) (here : Here) (u : Site) (w : Walk) (set : ℕ) (owner : Bearer) (after : Bool) (skip n : ℕ) (reverse : Bool) (p q : Lined) → IsLocated f g here u → height u + 1 ≤ f.depth → w.set ≡ set → AtBearer f u owner w.owner → w.cell ≡ length u.scope.locals + height u → w.reverse ≡ reverse → skip ≡ n → q ≡ p ++ on_line here.line (r.BeginAt w.set w.owner w.cell skip w.reverse after) ∷ [] → Adds f p q (place (above u Integer) (i.BeginAt reverse after set owner (height u) n) ∷ [])
 begins_at f g here u w set owner after skip n reverse p q located deep is at cell turned long put =
     let ins : i.Instruction = i.BeginAt reverse after set owner (height u) n in
     let up : Site = above u Integer in
     let tall : length up.cells ≤ f.depth = omega (arith, deep) in
     let same : ins ≡ i.BeginAt w.reverse after w.set owner (height u) skip = cc in
-    adds_one f p q here.line (place up ins) (r.BeginAt w.set w.owner w.cell skip w.reverse after) put.instructions put.lines located.line
+    adds_one f p q here.line (place up ins) (r.BeginAt w.set w.owner w.cell skip w.reverse after) put located.line
     (record { carries = (owner, at, (height u, cell, same)); deep = tall; shown = tt })
 
 -- the instruction that begins a walk
-begins : (f : Final) (g : Generator) (here : Here) (u : Site) (w : Walk) (set : ℕ) (owner : Bearer) (start : Start) (skip n : ℕ) (reverse : Bool) (p q : Lined) → IsLocated f g here u → height u + 1 ≤ f.depth → w.set ≡ set → AtBearer f u owner w.owner → w.cell ≡ length u.scope.locals + height u → w.reverse ≡ reverse → skip ≡ n → Puts p q here (begin_of w (is_after start) skip) → Adds f p q (begin_code u reverse set owner start n ∷ [])
+begins : (f : Final) (g : Generator) (here : Here) (u : Site) (w : Walk) (set : ℕ) (owner : Bearer) (start : Start) (skip n : ℕ) (reverse : Bool) (p q : Lined) → IsLocated f g here u → height u + 1 ≤ f.depth → w.set ≡ set → AtBearer f u owner w.owner → w.cell ≡ length u.scope.locals + height u → w.reverse ≡ reverse → skip ≡ n → q ≡ p ++ on_line here.line (begin_of w (is_after start) skip) ∷ [] → Adds f p q (begin_code u reverse set owner start n ∷ [])
 begins f g here u w set owner AtEnd skip n reverse p q located deep is at cell turned long put =
     let ins : i.Instruction = i.BeginSet reverse set owner (height u) n in
     let same : ins ≡ i.BeginSet w.reverse w.set owner (height u) skip = cc in
@@ -263,9 +251,9 @@ pub record Walks (g0 g1 g2 g3 : Generator) (p q q1 q2 q3 q4 : Lined) (here below
   pub room : above_here.height ≤ g3.deepest
   pub takes : TakesMembers g3 members above_here w turn
   pub skip : ℕ
-  pub skips : skip ≡ length members.instructions
-  pub put : Puts q1 q2 here (begin_of w (is_after start) skip)
-  pub joins : Joins q2 q3 members
+  pub skips : skip ≡ length members
+  pub put : q2 ≡ q1 ++ on_line here.line (begin_of w (is_after start) skip) ∷ []
+  pub joins : q3 ≡ q2 ++ members
   pub count : ℕ
   pub counts : kept.cells + 2 < 2 ^ 64 → count ≡ kept.cells + 2
   pub forgets : Emits g3 g3 q3 q4 above_here (λ s. Unit {0}) (λ u. forget u count)
@@ -303,7 +291,7 @@ members_walked g0 g1 g2 g3 p q q1 q2 q3 q4 here below_here above_here w kept tur
       adds_same f nothing members (turns_code v (height u) x b (i.NextMember w.reverse set bearer (height u))) turns same (k.takes.adds f v walk around high3 ((k.variable f above_here v around1 high1, k.of_set, owner, cell), fits.0)) in
       let long : k.skip ≡ length turns = k.skips ∙ piece_long f members turns taken in
       let room : height u + 1 ≤ f.depth = omega (arith, deep, tall) in
-      let put : Puts q1 q2 below_here (begin_of w (is_after start) k.skip) = record { instructions = k.put.instructions; lines = k.put.lines ∙ ap (λ (l : Line). q1.lines ++ l ∷ []) (sym k.below_line) } in
+      let put : q2 ≡ q1 ++ on_line below_here.line (begin_of w (is_after start) k.skip) ∷ [] = k.put ∙ ap (λ (l : Line). q1 ++ on_line l (begin_of w (is_after start) k.skip) ∷ []) (sym k.below_line) in
       let begin : Adds f q1 q2 (begin_code u reverse set bearer start (length turns) ∷ []) =
       begins f g3 below_here u w set bearer start k.skip (length turns) reverse q1 q2 low3 room k.of_set owner cell k.turned long put in
       let few : kept.cells + 2 < 2 ^ 64 = omega (arith, keep.1, keep.2, around.small) in
@@ -312,7 +300,7 @@ members_walked g0 g1 g2 g3 p q q1 q2 q3 q4 here below_here above_here w kept tur
       adds_then f p q q4 (owner_code t o) (start_code u set bearer start ++ (begin_code u reverse set bearer start (length turns) ∷ (turns ++ forget_to t v))) (k.keeps.adds f t tt around1 stands1 numbers)
       (adds_then f q q1 q4 (start_code u set bearer start) (begin_code u reverse set bearer start (length turns) ∷ (turns ++ forget_to t v)) begun
       (adds_then f q1 q2 q4 (begin_code u reverse set bearer start (length turns) ∷ []) (turns ++ forget_to t v) begin
-      (adds_then f q2 q3 q4 turns (forget_to t v) (join_one f q2 q3 members turns k.joins taken) gone)));
+      (adds_then f q2 q3 q4 turns (forget_to t v) (adds_piece f q2 q3 members turns k.joins taken) gone)));
   more = λ f t b around located fits. tt;
 }
 
@@ -356,8 +344,8 @@ for_looped f g1 g2 g3 g4 p q inner turn here above_here head ps cells t body wid
 
 -- ## FIND
 
-pub found_or_not : (g0 g1 g2 g3 : Generator) (p q q1 q2 q3 q4 : Lined) (here above_here : Here) (head : Head) (ps : List Phrase) (cells skip past_skip : ℕ) (found none case turn past : Lined) → cells ≡ loop_width head → above_here.line ≡ here.line → (here.height + cells < 2 ^ 64 → above_here.height ≡ here.height + cells) → Grows g0 g1 → above_here.height ≤ g1.deepest → skip ≡ length none.instructions + 3 → Emits g1 g1 nothing case above_here (λ s. Unit {0}) (λ t. place t (i.Jump skip) ∷ []) → EmitsAround g1 g2 nothing turn above_here case (λ s. Every (GoodPhrase s) ps) (λ t b. phrases_code t ps b) → EmitsAround g2 g3 p q here turn (λ s. GoodHead s head) (λ t b. for_code t head b) → Joins q q1 none → past_skip ≡ length found.instructions + 1 → Emits g3 g3 nothing past here (λ s. Unit {0}) (λ t. place t (i.Jump past_skip) ∷ []) → Joins q1 q2 past → Emits g3 g3 q2 q3 above_here (λ s. Unit {0}) (λ u. forget u cells) → Joins q3 q4 found → EmitsAroundBoth g0 g3 p q4 here found none (λ s. GoodHead s head × Every (GoodPhrase s) ps) (λ t b. find_code t head ps b.first b.second)
-found_or_not g0 g1 g2 g3 p q q1 q2 q3 q4 here above_here head ps cells skip past_skip found none case turn past wide line up reaches room skip_is m n o first past_is d second forgets third = record {
+pub found_or_not : (g0 g1 g2 g3 : Generator) (p q q1 q2 q3 q4 : Lined) (here above_here : Here) (head : Head) (ps : List Phrase) (cells skip past_skip : ℕ) (found none case turn : Lined) → cells ≡ loop_width head → above_here.line ≡ here.line → (here.height + cells < 2 ^ 64 → above_here.height ≡ here.height + cells) → Grows g0 g1 → above_here.height ≤ g1.deepest → skip ≡ length none + 3 → Emits g1 g1 nothing case above_here (λ s. Unit {0}) (λ t. place t (i.Jump skip) ∷ []) → EmitsAround g1 g2 nothing turn above_here case (λ s. Every (GoodPhrase s) ps) (λ t b. phrases_code t ps b) → EmitsAround g2 g3 p q here turn (λ s. GoodHead s head) (λ t b. for_code t head b) → q1 ≡ q ++ none → past_skip ≡ length found + 1 → q2 ≡ q1 ++ on_line here.line (r.Jump past_skip) ∷ [] → Emits g3 g3 q2 q3 above_here (λ s. Unit {0}) (λ u. forget u cells) → q4 ≡ q3 ++ found → EmitsAroundBoth g0 g3 p q4 here found none (λ s. GoodHead s head × Every (GoodPhrase s) ps) (λ t b. find_code t head ps b.first b.second)
+found_or_not g0 g1 g2 g3 p q q1 q2 q3 q4 here above_here head ps cells skip past_skip found none case turn wide line up reaches room skip_is m n o first past_is second forgets third = record {
   grows = grows_then g0 g1 g3 reaches (grows_then g1 g2 g3 n.grows o.grows);
   adds = λ f t b around located fits.
       let u : Site = in_loop t head in
@@ -370,14 +358,14 @@ found_or_not g0 g1 g2 g3 p q q1 q2 q3 q4 here above_here head ps cells skip past
       let loops : Adds f p q (for_code t head (phrases_code u ps (place u (i.Jump (length b.second + 3)) ∷ []))) =
       for_looped f g1 g1 g2 g3 p q case turn here above_here head ps cells t (place u (i.Jump (length b.second + 3)) ∷ []) wide line up room (grows_same g1) jump n o around located good.0 good.1 in
       let high3 : IsLocated f g3 above_here u = loop_stands f g1 g3 here above_here t head cells wide line up room (around_old f g1 g3 grown around) around located in
-      let passed : Adds f nothing past (place t (i.Jump (length b.first + 1)) ∷ []) =
-      adds_same f nothing past (place t (i.Jump past_skip) ∷ []) (place t (i.Jump (length b.first + 1)) ∷ []) (ap (λ k. place t (i.Jump k) ∷ []) past_long) (d.adds f t tt around located tt) in
+      let passed : Adds f q1 q2 (place t (i.Jump (length b.first + 1)) ∷ []) =
+      put_one f g3 here t q1 q2 (i.Jump (length b.first + 1)) (r.Jump past_skip) located second (record { carries = ap i.Jump (sym past_long); deep = located.deep; shown = tt }) in
       let count : cells ≡ height u - height t = omega (arith, loop_high t head, wide) in
       let gone : Adds f q2 q3 (forget_to t u) = adds_same f q2 q3 (forget u cells) (forget_to t u) (ap (forget u) count) (forgets.adds f u tt around high3 tt) in
       let rest : List Placed = forget_to t u ++ b.first in
       adds_then f p q q4 (for_code t head (phrases_code u ps (place u (i.Jump (length b.second + 3)) ∷ []))) (b.second ++ (place t (i.Jump (length b.first + 1)) ∷ rest)) loops
-      (adds_then f q q1 q4 b.second (place t (i.Jump (length b.first + 1)) ∷ rest) (join_one f q q1 none b.second first fits.1)
-      (adds_then f q1 q2 q4 (place t (i.Jump (length b.first + 1)) ∷ []) rest (join_one f q1 q2 past (place t (i.Jump (length b.first + 1)) ∷ []) second passed)
-      (adds_then f q2 q3 q4 (forget_to t u) b.first gone (join_one f q3 q4 found b.first third fits.0))));
+      (adds_then f q q1 q4 b.second (place t (i.Jump (length b.first + 1)) ∷ rest) (adds_piece f q q1 none b.second first fits.1)
+      (adds_then f q1 q2 q4 (place t (i.Jump (length b.first + 1)) ∷ []) rest passed
+      (adds_then f q2 q3 q4 (forget_to t u) b.first gone (adds_piece f q3 q4 found b.first third fits.0))));
   more = λ f t b around located fits. tt;
 }

@@ -23,7 +23,7 @@ use Rattle.ss_code_generator.specs.declared.targets.VariableSpot.{VariableSpot}
 use Rattle.ss_code_generator.specs.declared.targets.AttributeSpot.{AttributeSpot}
 use Rattle.ss_code_generator.specs.declared.targets.Spot.{Spot}
 use Rattle.ss_code_generator.specs.declared.targets.Spot.TheVariants as spots
-use Rattle.ss_code_pieces.specs.Lined.{Lined}
+use Rattle.ss_code_pieces.specs.Lined.{Lined, on_line}
 use Rattle.ss_code_instructions.specs.Forms.{moving, storing}
 use Rattle.ss_code_generator.specs.Emitted.{Final, Around, IsLocated, Adds, Makes, AtOperand, AtTarget, IsNumber, Reads}
 use Rattle.ss_code_generator.specs.Spots.{IsWatched, IsAttribute, IsSpot, IsPlaceOf, GoodPlace, HasRoom, HoldsMode, Given, Gives, Takes, landing, assigned_code, landed_code}
@@ -59,23 +59,23 @@ attribute_found old new p q here class field e s m is_class is_field mode noted 
 }
 
 -- it is looked at, if it is to be
-pub attribute_looked : (old new : Generator) (p q v : Lined) (here : Here) (class field : ℕ) (e : Expression) (s : AttributeSpot) (b : Bool) → MakesAttribute old new p q here (λ t. operand_code t e) class field e s → v.instructions ≡ q.instructions ++ (if b then r.LookEntity s.class s.entity ∷ [] else []) → v.lines ≡ q.lines ++ (if b then here.line ∷ [] else []) → MakesAttribute old new p v here (λ t. entity_code t b class e) class field e s
-attribute_looked old new p q v here class field e s true m is ls = record {
+pub attribute_looked : (old new : Generator) (p q v : Lined) (here : Here) (class field : ℕ) (e : Expression) (s : AttributeSpot) (b : Bool) → MakesAttribute old new p q here (λ t. operand_code t e) class field e s → v ≡ q ++ (if b then on_line here.line (r.LookEntity s.class s.entity) ∷ [] else []) → MakesAttribute old new p v here (λ t. entity_code t b class e) class field e s
+attribute_looked old new p q v here class field e s true m is = record {
   grows = m.grows;
   adds = λ f t u around located good.
       let is_there = m.more f t tt around located good in
       let ins : Instruction = i.LookEntity class (stay (operand t e)) in
       let same : ins ≡ i.LookEntity s.class (stay (operand t e)) = ap (λ k. i.LookEntity k (stay (operand t e))) (sym is_there.class) in
       adds_then f p q v (operand_code t e) (place (after t e) ins ∷ []) (m.adds f t tt around located good)
-      (adds_one f q v here.line (place (after t e) ins) (r.LookEntity s.class s.entity) is ls located.line
+      (adds_one f q v here.line (place (after t e) ins) (r.LookEntity s.class s.entity) is located.line
       (record { carries = (stay (operand t e), stays_at f t (operand t e) s.entity is_there.entity.at, same); deep = is_there.entity.deep; shown = tt }));
   more = λ f t u around located good. m.more f t tt around located good;
 }
-attribute_looked old new p q v here class field e s false m is ls = record {
+attribute_looked old new p q v here class field e s false m is = record {
   grows = m.grows;
   adds = λ f t u around located good.
       let h = m.adds f t tt around located good in
-      record { more = h.more; instructions = is ∙ append-nil q.instructions ∙ h.instructions; lines = ls ∙ append-nil q.lines ∙ h.lines; run = h.run };
+      record { more = h.more; added = is ∙ append-nil q ∙ h.added; run = h.run };
   more = λ f t u around located good. m.more f t tt around located good;
 }
 
@@ -106,48 +106,48 @@ module _ (g : Generator) (p q : Lined) (here : Here) (from : Address) where
   }
 
   -- and another one
-  moved_at_place : (s : VariableSpot) → s.watched ≡ None → q.instructions ≡ p.instructions ++ moving s.mode from s.address ∷ [] → q.lines ≡ p.lines ++ here.line ∷ [] → (f : Final) (t u : Site) (y : Operand) (x : Place) (m : Mode) → IsPlaceOf t x s → t.scope ≡ u.scope → AtOperand f u y from → HoldsMode u.scope x m → mode_here (code_of f.program) f.constants (place u Leave) y ≡ Some m → IsLocated f g here u → Adds f p q (assigned_code t u x y)
-  moved_at_place s watched is ls f t u y (ToVariable x) m v same at holds mode located =
+  moved_at_place : (s : VariableSpot) → s.watched ≡ None → q ≡ p ++ on_line here.line (moving s.mode from s.address) ∷ [] → (f : Final) (t u : Site) (y : Operand) (x : Place) (m : Mode) → IsPlaceOf t x s → t.scope ≡ u.scope → AtOperand f u y from → HoldsMode u.scope x m → mode_here (code_of f.program) f.constants (place u Leave) y ≡ Some m → IsLocated f g here u → Adds f p q (assigned_code t u x y)
+  moved_at_place s watched is f t u y (ToVariable x) m v same at holds mode located =
       let same_mode : m ≡ s.mode = sym (v.mode ∙ ap (λ (k : Scope). or_integer (mode_at k x)) same ∙ ap or_integer holds) in
-      adds_one f p q here.line (place u (assignment u x y)) (moving s.mode from s.address) is ls located.line (move_runs f t u x y s from v watched same at (mode ∙ ap Some same_mode) located.deep)
-  moved_at_place s watched is ls f t u y (ToAttribute class field e) m v same at holds mode located = absurd v
-  moved_at_place s watched is ls f t u y (ToCount c) m v same at holds mode located = absurd v
+      adds_one f p q here.line (place u (assignment u x y)) (moving s.mode from s.address) is located.line (move_runs f t u x y s from v watched same at (mode ∙ ap Some same_mode) located.deep)
+  moved_at_place s watched is f t u y (ToAttribute class field e) m v same at holds mode located = absurd v
+  moved_at_place s watched is f t u y (ToCount c) m v same at holds mode located = absurd v
 
-  pub moved_given : (s : VariableSpot) → s.watched ≡ None → q.instructions ≡ p.instructions ++ moving s.mode from s.address ∷ [] → q.lines ≡ p.lines ++ here.line ∷ [] → Gives g p q here from (λ f t x. IsPlaceOf t x s)
-  moved_given s watched is ls = record {
+  pub moved_given : (s : VariableSpot) → s.watched ≡ None → q ≡ p ++ on_line here.line (moving s.mode from s.address) ∷ [] → Gives g p q here from (λ f t x. IsPlaceOf t x s)
+  moved_given s watched is = record {
     grows = grows_same g;
-    adds = λ f u x around located fits. moved_at_place s watched is ls f x.resolved u x.from x.place x.mode fits.0 fits.1 fits.2 fits.3 fits.4 located;
+    adds = λ f u x around located fits. moved_at_place s watched is f x.resolved u x.from x.place x.mode fits.0 fits.1 fits.2 fits.3 fits.4 located;
     more = λ f u x around located fits. tt;
   }
 
 -- what goes to an attribute that was found
-pub stored : (f : Final) (p q : Lined) (l : Line) (from : Address) (s : AttributeSpot) → q.instructions ≡ p.instructions ++ storing s.mode s.class s.field s.entity from s.is_watched ∷ [] → q.lines ≡ p.lines ++ l ∷ [] → (g : Generator) → Around f g → (t u : Site) (class field : ℕ) (e : Expression) (z y : Operand) (m : Mode) → IsAttribute f t class field e s → t.scope ≡ u.scope → AtOperand f u z s.entity → AtOperand f u y from → field_mode u.scope.program class field ≡ Some m → u.line ≡ l → u.scope.program ≡ f.program → height u ≤ f.depth → Adds f p q (place u (i.SetAttribute class field z y) ∷ [])
-stored f p q l from s is ls g around t u class field e z y m v same entity at holds line program deep =
+pub stored : (f : Final) (p q : Lined) (l : Line) (from : Address) (s : AttributeSpot) → q ≡ p ++ on_line l (storing s.mode s.class s.field s.entity from s.is_watched) ∷ [] → (g : Generator) → Around f g → (t u : Site) (class field : ℕ) (e : Expression) (z y : Operand) (m : Mode) → IsAttribute f t class field e s → t.scope ≡ u.scope → AtOperand f u z s.entity → AtOperand f u y from → field_mode u.scope.program class field ≡ Some m → u.line ≡ l → u.scope.program ≡ f.program → height u ≤ f.depth → Adds f p q (place u (i.SetAttribute class field z y) ∷ [])
+stored f p q l from s is g around t u class field e z y m v same entity at holds line program deep =
     let mine : t.scope.program ≡ f.program = ap (λ (k : Scope). k.program) same ∙ program in
     let there : field_mode f.program class field ≡ Some m = ap (λ (k : Program). field_mode k class field) (sym program) ∙ holds in
     let mode : s.mode ≡ m = v.mode ∙ ap (λ (k : Program). or_integer (field_mode k class field)) mine ∙ ap or_integer there in
     let plain : m ≡ Alpha → watch f.program.statistics (OfAttribute class field) ≡ false = λ (w : m ≡ Alpha). text_unwatched f.program class field (there ∙ ap Some w) f.program.statistics around.typed.statistics in
     let ins : storing s.mode s.class s.field s.entity from s.is_watched ≡ storing m class field s.entity from s.is_watched =
     ap (λ (k : Mode). storing k s.class s.field s.entity from s.is_watched) mode ∙ ap (λ (k : ℕ). storing m k s.field s.entity from s.is_watched) v.class ∙ ap (λ (k : ℕ). storing m class k s.entity from s.is_watched) v.field in
-    adds_one f p q l (place u (i.SetAttribute class field z y)) (storing m class field s.entity from s.is_watched) (is ∙ ap (λ (k : Running). p.instructions ++ k ∷ []) ins) ls line
+    adds_one f p q l (place u (i.SetAttribute class field z y)) (storing m class field s.entity from s.is_watched) (is ∙ ap (λ (k : Running). p ++ on_line l k ∷ []) ins) line
     (store_runs f t u class field e s v same mine z y from m there plain entity at deep)
 
 module _ (g : Generator) (p q : Lined) (here : Here) (from : Address) where
-  stored_at_place : (s : AttributeSpot) → q.instructions ≡ p.instructions ++ storing s.mode s.class s.field s.entity from s.is_watched ∷ [] → q.lines ≡ p.lines ++ here.line ∷ [] → (f : Final) (t u : Site) (y : Operand) (x : Place) (m : Mode) → IsSpot f t x (spots.Attribute s) → t.scope ≡ u.scope → AtOperand f u y from → HoldsMode u.scope x m → Around f g → IsLocated f g here u → Adds f p q (assigned_code t u x y)
-  stored_at_place s is ls f t u y (ToVariable x) m v same at holds around located = absurd v
-  stored_at_place s is ls f t u y (ToAttribute class field e) m v same at holds around located =
-      stored f p q here.line from s is ls g around t u class field e (operand t e) y m v same (operand_at f t u (operand t e) s.entity (sym same) v.entity.at) at holds located.line located.program located.deep
-  stored_at_place s is ls f t u y (ToCount c) m v same at holds around located = absurd v
+  stored_at_place : (s : AttributeSpot) → q ≡ p ++ on_line here.line (storing s.mode s.class s.field s.entity from s.is_watched) ∷ [] → (f : Final) (t u : Site) (y : Operand) (x : Place) (m : Mode) → IsSpot f t x (spots.Attribute s) → t.scope ≡ u.scope → AtOperand f u y from → HoldsMode u.scope x m → Around f g → IsLocated f g here u → Adds f p q (assigned_code t u x y)
+  stored_at_place s is f t u y (ToVariable x) m v same at holds around located = absurd v
+  stored_at_place s is f t u y (ToAttribute class field e) m v same at holds around located =
+      stored f p q here.line from s is g around t u class field e (operand t e) y m v same (operand_at f t u (operand t e) s.entity (sym same) v.entity.at) at holds located.line located.program located.deep
+  stored_at_place s is f t u y (ToCount c) m v same at holds around located = absurd v
 
-  pub attribute_given : (s : AttributeSpot) → q.instructions ≡ p.instructions ++ storing s.mode s.class s.field s.entity from s.is_watched ∷ [] → q.lines ≡ p.lines ++ here.line ∷ [] → Gives g p q here from (λ f t x. IsSpot f t x (spots.Attribute s))
-  attribute_given s is ls = record {
+  pub attribute_given : (s : AttributeSpot) → q ≡ p ++ on_line here.line (storing s.mode s.class s.field s.entity from s.is_watched) ∷ [] → Gives g p q here from (λ f t x. IsSpot f t x (spots.Attribute s))
+  attribute_given s is = record {
     grows = grows_same g;
-    adds = λ f u x around located fits. stored_at_place s is ls f x.resolved u x.from x.place x.mode fits.0 fits.1 fits.2 fits.3 around located;
+    adds = λ f u x around located fits. stored_at_place s is f x.resolved u x.from x.place x.mode fits.0 fits.1 fits.2 fits.3 around located;
     more = λ f u x around located fits. tt;
   }
 
 -- N. of a class: it is looked whether there are entities yet
-module _ (g : Generator) (p q v : Lined) (here : Here) (from : Address) (class : ℕ) (s : VariableSpot) (is : q.instructions ≡ p.instructions ++ r.LookCount class ∷ []) (ls : q.lines ≡ p.lines ++ here.line ∷ []) (m : Gives g q v here from (λ f t x. IsPlaceOf t x s)) where
+module _ (g : Generator) (p q v : Lined) (here : Here) (from : Address) (class : ℕ) (s : VariableSpot) (is : q ≡ p ++ on_line here.line (r.LookCount class) ∷ []) (m : Gives g q v here from (λ f t x. IsPlaceOf t x s)) where
   counted_at_place : (f : Final) (t u : Site) (y : Operand) (x : Place) (k : Mode) → IsSpot f t x (spots.Count class s) → t.scope ≡ u.scope → AtOperand f u y from → HoldsMode u.scope x k → mode_here (code_of f.program) f.constants (place u Leave) y ≡ Some k → Around f g → IsLocated f g here u → Adds f p v (assigned_code t u x y)
   counted_at_place f t u y (ToVariable x) k h same at holds mode around located = absurd h
   counted_at_place f t u y (ToAttribute c field e) k h same at holds mode around located = absurd h
@@ -155,7 +155,7 @@ module _ (g : Generator) (p q v : Lined) (here : Here) (from : Address) (class :
       let it : Given = record { resolved = t; place = ToVariable (Global c.variable); from = y; mode = k } in
       let look : Instruction = i.LookCount c.class in
       adds_then f p q v (place u look ∷ []) (place u (assignment u (Global c.variable) y) ∷ [])
-      (adds_one f p q here.line (place u look) (r.LookCount class) is ls located.line (record { carries = ap i.LookCount (sym h.0); deep = located.deep; shown = tt }))
+      (adds_one f p q here.line (place u look) (r.LookCount class) is located.line (record { carries = ap i.LookCount (sym h.0); deep = located.deep; shown = tt }))
       (m.adds f u it around located (h.1, same, at, holds, mode))
 
   pub count_given : Gives g p v here from (λ f t x. IsSpot f t x (spots.Count class s))

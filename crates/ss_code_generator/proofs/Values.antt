@@ -31,7 +31,7 @@ use Rattle.ss_code_instructions.specs.Carried.{VariableAt, InFrame, Carries}
 use Rattle.ss_code_generator.specs.declared.expressions.Operand.{Operand as Read}
 use Rattle.ss_code_generator.specs.declared.generator.Generator.{Generator}
 use Rattle.ss_code_generator.specs.declared.generator.Site.{Site as Here}
-use Rattle.ss_code_pieces.specs.Lined.{Lined}
+use Rattle.ss_code_pieces.specs.Lined.{Lined, on_line}
 use Rattle.ss_code_instructions.specs.Forms.{calculating, asking_set, asking_member, moving, fetching}
 use Rattle.ss_code_pieces.specs.Preamble.{mode_in}
 use Rattle.ss_code_generator.specs.Calculations.{folded, operation_code, Left, Operates}
@@ -48,44 +48,44 @@ calm : (f : Final) (t : Site) (ins : Instruction) (y : Running) → Carries (cod
 calm f t ins y c deep s = record { carries = c; deep = deep; shown = s }
 
 module _ (old new : Generator) (p : Lined) (here : Here) (to : Address) where
-  pub constant_emitted : (q : Lined) (v : Value) (from : Address) → Grows old new → ((f : Final) (t : Site) → Around f new → AtOperand f t (Constant v) from) → q.instructions ≡ p.instructions ++ moving (mode_of v) from to ∷ [] → q.lines ≡ p.lines ++ here.line ∷ [] → EmitsTo old new p q here to (Typed (AConstant v)) (λ t x. expression_code t x (AConstant v))
-  constant_emitted q v from grows at is ls = record {
+  pub constant_emitted : (q : Lined) (v : Value) (from : Address) → Grows old new → ((f : Final) (t : Site) → Around f new → AtOperand f t (Constant v) from) → q ≡ p ++ on_line here.line (moving (mode_of v) from to) ∷ [] → EmitsTo old new p q here to (Typed (AConstant v)) (λ t x. expression_code t x (AConstant v))
+  constant_emitted q v from grows at is = record {
     grows = grows;
     adds = λ f t x around located fits.
-        adds_one f p q here.line (place t (i.Move (Constant v) x)) (moving (mode_of v) from to) is ls located.line
+        adds_one f p q here.line (place t (i.Move (Constant v) x)) (moving (mode_of v) from to) is located.line
         (calm f t (i.Move (Constant v) x) (moving (mode_of v) from to)
         (forms.moves (code_of f.program) f.constants (place t (i.Move (Constant v) x)) (mode_of v) from to (Constant v, at f t around, (refl, (x, fits.0, refl)))) located.deep tt);
     more = λ f t x around located fits. tt;
   }
 
-  pub fetch_emitted : (q : Lined) (x : Variable) (m : Mode) (from : Address) → Grows old new → VariableAt x from → ((f : Final) (t : Site) → Around f new → IsLocated f new here t → or_integer (mode_at t.scope x) ≡ m) → q.instructions ≡ p.instructions ++ moving m from to ∷ [] → q.lines ≡ p.lines ++ here.line ∷ [] → EmitsTo old new p q here to (Typed (Fetch x)) (λ t y. expression_code t y (Fetch x))
-  fetch_emitted q x m from grows at mode is ls = record {
+  pub fetch_emitted : (q : Lined) (x : Variable) (m : Mode) (from : Address) → Grows old new → VariableAt x from → ((f : Final) (t : Site) → Around f new → IsLocated f new here t → or_integer (mode_at t.scope x) ≡ m) → q ≡ p ++ on_line here.line (moving m from to) ∷ [] → EmitsTo old new p q here to (Typed (Fetch x)) (λ t y. expression_code t y (Fetch x))
+  fetch_emitted q x m from grows at mode is = record {
     grows = grows;
     adds = λ f t y around located fits.
         let n : Mode = fits.1.0 in
         let same : n ≡ m = sym (ap or_integer fits.1.1) ∙ mode f t around located in
         let held = held_mode f t x n (i.Move (Held x) y) located.program fits.1.1 ∙ ap Some same in
-        adds_one f p q here.line (place t (i.Move (Held x) y)) (moving m from to) is ls located.line
+        adds_one f p q here.line (place t (i.Move (Held x) y)) (moving m from to) is located.line
         (calm f t (i.Move (Held x) y) (moving m from to)
         (forms.moves (code_of f.program) f.constants (place t (i.Move (Held x) y)) m from to (Held x, at, (held, (y, fits.0, refl)))) located.deep tt);
     more = λ f t y around located fits. tt;
   }
 
-  pub system_set_emitted : (q : Lined) (query : SetQuery) (set : ℕ) (zero : Address) → Grows old new → ((f : Final) (t : Site) → Around f new → AtOperand f t (Constant (Whole (pos 0))) zero) → q.instructions ≡ p.instructions ++ asking_set query set zero to ∷ [] → q.lines ≡ p.lines ++ here.line ∷ [] → EmitsTo old new p q here to (Typed (OfSystemSet query set)) (λ t x. expression_code t x (OfSystemSet query set))
-  system_set_emitted q query set zero grows at is ls = record {
+  pub system_set_emitted : (q : Lined) (query : SetQuery) (set : ℕ) (zero : Address) → Grows old new → ((f : Final) (t : Site) → Around f new → AtOperand f t (Constant (Whole (pos 0))) zero) → q ≡ p ++ on_line here.line (asking_set query set zero to) ∷ [] → EmitsTo old new p q here to (Typed (OfSystemSet query set)) (λ t x. expression_code t x (OfSystemSet query set))
+  system_set_emitted q query set zero grows at is = record {
     grows = grows;
     adds = λ f t x around located fits.
-        adds_one f p q here.line (place t (i.OfSet query set None x)) (asking_set query set zero to) is ls located.line
+        adds_one f p q here.line (place t (i.OfSet query set None x)) (asking_set query set zero to) is located.line
         (calm f t (i.OfSet query set None x) (asking_set query set zero to)
         (forms.asks_set (code_of f.program) f.constants (place t (i.OfSet query set None x)) query set zero to (None, at f t around, (x, fits.0, refl))) located.deep tt);
     more = λ f t x around located fits. tt;
   }
 
-  pub figure_emitted : (q : Lined) (fold' : Fold) (k : ℕ) (zero : Address) → Grows old new → ((f : Final) (t : Site) → Around f new → AtOperand f t (Constant (Whole (pos 0))) zero) → q.instructions ≡ p.instructions ++ r.Figure k zero to fold' ∷ [] → q.lines ≡ p.lines ++ here.line ∷ [] → EmitsTo old new p q here to (Typed (Figure fold' k)) (λ t x. expression_code t x (Figure fold' k))
-  figure_emitted q fold' k zero grows at is ls = record {
+  pub figure_emitted : (q : Lined) (fold' : Fold) (k : ℕ) (zero : Address) → Grows old new → ((f : Final) (t : Site) → Around f new → AtOperand f t (Constant (Whole (pos 0))) zero) → q ≡ p ++ on_line here.line (r.Figure k zero to fold') ∷ [] → EmitsTo old new p q here to (Typed (Figure fold' k)) (λ t x. expression_code t x (Figure fold' k))
+  figure_emitted q fold' k zero grows at is = record {
     grows = grows;
     adds = λ f t x around located fits.
-        adds_one f p q here.line (place t (i.Figure fold' k None x)) (r.Figure k zero to fold') is ls located.line
+        adds_one f p q here.line (place t (i.Figure fold' k None x)) (r.Figure k zero to fold') is located.line
         (calm f t (i.Figure fold' k None x) (r.Figure k zero to fold') (None, at f t around, (x, fits.0, refl)) located.deep tt);
     more = λ f t x around located fits. tt;
   }
@@ -98,8 +98,8 @@ module _ (old new : Generator) (p : Lined) (here : Here) (to : Address) where
       (f : Final) (t : Site) (x : Target) → Around f g → IsLocated f g here t → AtTarget f t x to → Good t.scope → AtOperand f (after t e) (operand t e) o.address →
       Carries (code_of f.program) f.constants (place (after t e) (make x (operand t e))) y × Shown f.prints (after t e).cells (make x (operand t e))
 
-  pub one_emitted : (q s : Lined) (e : Expression) (o : Read) (g : Generator) (Good : Scope → Type 0) (make : Target → Operand → Instruction) (y : Running) → Grows g new → Reads old g p q here e o → ((k : Scope) → Good k → HasMode k e Integer) → s.instructions ≡ q.instructions ++ y ∷ [] → s.lines ≡ q.lines ++ here.line ∷ [] → Suits e o new Good make y → EmitsTo old new p s here to Good (λ t x. with_operand t e (make x))
-  one_emitted q s e o g Good make y grows m number is ls suits = record {
+  pub one_emitted : (q s : Lined) (e : Expression) (o : Read) (g : Generator) (Good : Scope → Type 0) (make : Target → Operand → Instruction) (y : Running) → Grows g new → Reads old g p q here e o → ((k : Scope) → Good k → HasMode k e Integer) → s ≡ q ++ on_line here.line y ∷ [] → Suits e o new Good make y → EmitsTo old new p s here to Good (λ t x. with_operand t e (make x))
+  one_emitted q s e o g Good make y grows m number is suits = record {
     grows = grows_then old g new m.grows grows;
     adds = λ f t x around located fits.
         let mine = around_old f g new grows around in
@@ -108,54 +108,54 @@ module _ (old new : Generator) (p : Lined) (here : Here) (to : Address) where
         let read = m.more f t tt mine there typed in
         let c = suits f t x around located fits.0 fits.1 read.at in
         adds_then f p q s (operand_code t e) (place (after t e) (make x (operand t e)) ∷ []) (m.adds f t tt mine there typed)
-        (adds_one f q s here.line (place (after t e) (make x (operand t e))) y is ls located.line (record { carries = c.0; deep = read.deep; shown = c.1 }));
+        (adds_one f q s here.line (place (after t e) (make x (operand t e))) y is located.line (record { carries = c.0; deep = read.deep; shown = c.1 }));
     more = λ f t x around located fits. tt;
   }
 
-  module _ (q s : Lined) (e : Expression) (o : Read) (g : Generator) (grows : Grows g new) (m : Reads old g p q here e o) (ls : s.lines ≡ q.lines ++ here.line ∷ []) where
-    pub attribute_emitted : (class field : ℕ) (n : Mode) → ((f : Final) (t : Site) → Around f new → IsLocated f new here t → or_integer (field_mode t.scope.program class field) ≡ n) → s.instructions ≡ q.instructions ++ fetching n class field o.address to ∷ [] → EmitsTo old new p s here to (Typed (Attribute class field e)) (λ t x. expression_code t x (Attribute class field e))
+  module _ (q s : Lined) (e : Expression) (o : Read) (g : Generator) (grows : Grows g new) (m : Reads old g p q here e o) where
+    pub attribute_emitted : (class field : ℕ) (n : Mode) → ((f : Final) (t : Site) → Around f new → IsLocated f new here t → or_integer (field_mode t.scope.program class field) ≡ n) → s ≡ q ++ on_line here.line (fetching n class field o.address to) ∷ [] → EmitsTo old new p s here to (Typed (Attribute class field e)) (λ t x. expression_code t x (Attribute class field e))
     attribute_emitted class field n mode is =
-        one_emitted q s e o g (Typed (Attribute class field e)) (λ x y. i.Attribute class field y x) (fetching n class field o.address to) grows m (λ k h. h.1.1) is ls (λ f t x around located at good from.
+        one_emitted q s e o g (Typed (Attribute class field e)) (λ x y. i.Attribute class field y x) (fetching n class field o.address to) grows m (λ k h. h.1.1) is (λ f t x around located at good from.
         let same : good.0 ≡ n = sym (ap or_integer good.1.0) ∙ mode f t around located in
         let there : field_mode f.program class field ≡ Some n = sym (ap (λ (p : Program). field_mode p class field) located.program) ∙ good.1.0 ∙ ap Some same in
         let u : Placed = place (after t e) (i.Attribute class field (operand t e) x) in
         (forms.fetches (code_of f.program) f.constants u n class field o.address to (has_field f.program f.constants u class field n there, (operand t e, from, (x, at, refl))), tt))
 
-    pub set_emitted : (query : SetQuery) (set : ℕ) → s.instructions ≡ q.instructions ++ asking_set query set o.address to ∷ [] → EmitsTo old new p s here to (Typed (OfSet query set e)) (λ t x. expression_code t x (OfSet query set e))
+    pub set_emitted : (query : SetQuery) (set : ℕ) → s ≡ q ++ on_line here.line (asking_set query set o.address to) ∷ [] → EmitsTo old new p s here to (Typed (OfSet query set e)) (λ t x. expression_code t x (OfSet query set e))
     set_emitted query set is =
-        one_emitted q s e o g (Typed (OfSet query set e)) (λ x y. i.OfSet query set (Some y) x) (asking_set query set o.address to) grows m (λ k h. h.1.2) is ls (λ f t x around located at good from.
+        one_emitted q s e o g (Typed (OfSet query set e)) (λ x y. i.OfSet query set (Some y) x) (asking_set query set o.address to) grows m (λ k h. h.1.2) is (λ f t x around located at good from.
         (forms.asks_set (code_of f.program) f.constants (place (after t e) (i.OfSet query set (Some (operand t e)) x)) query set o.address to (Some (operand t e), from, (x, at, refl)), tt))
 
-    pub member_emitted : (query : MemberQuery) (set : ℕ) → s.instructions ≡ q.instructions ++ asking_member query set o.address to ∷ [] → EmitsTo old new p s here to (Typed (OfMember query set e)) (λ t x. expression_code t x (OfMember query set e))
+    pub member_emitted : (query : MemberQuery) (set : ℕ) → s ≡ q ++ on_line here.line (asking_member query set o.address to) ∷ [] → EmitsTo old new p s here to (Typed (OfMember query set e)) (λ t x. expression_code t x (OfMember query set e))
     member_emitted query set is =
-        one_emitted q s e o g (Typed (OfMember query set e)) (λ x y. i.OfMember query set y x) (asking_member query set o.address to) grows m (λ k h. h.1.2) is ls (λ f t x around located at good from.
+        one_emitted q s e o g (Typed (OfMember query set e)) (λ x y. i.OfMember query set y x) (asking_member query set o.address to) grows m (λ k h. h.1.2) is (λ f t x around located at good from.
         (forms.asks_member (code_of f.program) f.constants (place (after t e) (i.OfMember query set (operand t e) x)) query set o.address to (operand t e, from, (x, at, refl)), tt))
 
-    pub time_emitted : s.instructions ≡ q.instructions ++ r.TimeOf o.address to ∷ [] → EmitsTo old new p s here to (Typed (TimeOf e)) (λ t x. expression_code t x (TimeOf e))
+    pub time_emitted : s ≡ q ++ on_line here.line (r.TimeOf o.address to) ∷ [] → EmitsTo old new p s here to (Typed (TimeOf e)) (λ t x. expression_code t x (TimeOf e))
     time_emitted is =
-        one_emitted q s e o g (Typed (TimeOf e)) (λ x y. i.TimeOf y x) (r.TimeOf o.address to) grows m (λ k h. h.1.1) is ls (λ f t x around located at good from. ((operand t e, from, (x, at, refl)), tt))
+        one_emitted q s e o g (Typed (TimeOf e)) (λ x y. i.TimeOf y x) (r.TimeOf o.address to) grows m (λ k h. h.1.1) is (λ f t x around located at good from. ((operand t e, from, (x, at, refl)), tt))
 
-    pub figure_of_emitted : (fold' : Fold) (k : ℕ) → s.instructions ≡ q.instructions ++ r.Figure k o.address to fold' ∷ [] → EmitsTo old new p s here to (Typed (FigureOf fold' k e)) (λ t x. expression_code t x (FigureOf fold' k e))
+    pub figure_of_emitted : (fold' : Fold) (k : ℕ) → s ≡ q ++ on_line here.line (r.Figure k o.address to fold') ∷ [] → EmitsTo old new p s here to (Typed (FigureOf fold' k e)) (λ t x. expression_code t x (FigureOf fold' k e))
     figure_of_emitted fold' k is =
-        one_emitted q s e o g (Typed (FigureOf fold' k e)) (λ x y. i.Figure fold' k (Some y) x) (r.Figure k o.address to fold') grows m (λ k h. h.1.2) is ls (λ f t x around located at good from. ((Some (operand t e), from, (x, at, refl)), tt))
+        one_emitted q s e o g (Typed (FigureOf fold' k e)) (λ x y. i.Figure fold' k (Some y) x) (r.Figure k o.address to fold') grows m (λ k h. h.1.2) is (λ f t x around located at good from. ((Some (operand t e), from, (x, at, refl)), tt))
 
-    pub signed_emitted : (sign : Sign) (zero : Address) → ((f : Final) (t : Site) → Around f new → AtOperand f t (Constant (Whole (pos 0))) zero) → s.instructions ≡ q.instructions ++ calculating (operator_of sign) zero o.address to ∷ [] → EmitsTo old new p s here to (Typed (Signed sign e)) (λ t x. expression_code t x (Signed sign e))
+    pub signed_emitted : (sign : Sign) (zero : Address) → ((f : Final) (t : Site) → Around f new → AtOperand f t (Constant (Whole (pos 0))) zero) → s ≡ q ++ on_line here.line (calculating (operator_of sign) zero o.address to) ∷ [] → EmitsTo old new p s here to (Typed (Signed sign e)) (λ t x. expression_code t x (Signed sign e))
     signed_emitted sign zero nought is =
-        one_emitted q s e o g (Typed (Signed sign e)) (λ x y. i.Calculate (operator_of sign) (Constant (Whole (pos 0))) y x) (calculating (operator_of sign) zero o.address to) grows m (λ k h. h.1.1) is ls (λ f t x around located at good from. (
+        one_emitted q s e o g (Typed (Signed sign e)) (λ x y. i.Calculate (operator_of sign) (Constant (Whole (pos 0))) y x) (calculating (operator_of sign) zero o.address to) grows m (λ k h. h.1.1) is (λ f t x around located at good from. (
           forms.calculates (code_of f.program) f.constants (place (after t e) (i.Calculate (operator_of sign) (Constant (Whole (pos 0))) (operand t e) x)) (operator_of sign) zero o.address to
               (Constant (Whole (pos 0)), nought f (after t e) around, (operand t e, from, (x, at, refl))),
           tt,
         ))
 
-    pub unary_emitted : (op : UnaryOperator) → s.instructions ≡ q.instructions ++ r.Unary op o.address to ∷ [] → EmitsTo old new p s here to (Typed (Unary op e)) (λ t x. expression_code t x (Unary op e))
+    pub unary_emitted : (op : UnaryOperator) → s ≡ q ++ on_line here.line (r.Unary op o.address to) ∷ [] → EmitsTo old new p s here to (Typed (Unary op e)) (λ t x. expression_code t x (Unary op e))
     unary_emitted op is =
-        one_emitted q s e o g (Typed (Unary op e)) (λ x y. i.Unary op y x) (r.Unary op o.address to) grows m (λ k h. h.1.1) is ls (λ f t x around located at good from. ((operand t e, from, (x, at, refl)), tt))
+        one_emitted q s e o g (Typed (Unary op e)) (λ x y. i.Unary op y x) (r.Unary op o.address to) grows m (λ k h. h.1.1) is (λ f t x around located at good from. ((operand t e, from, (x, at, refl)), tt))
 
 -- ## Operations, worked off from left to right
 
 -- an operation on a number that is there
-pub operation_emitted : (old new : Generator) (p q s : Lined) (here higher : Here) (left right : Read) (to : Address) (op : Operation) → higher.line ≡ here.line → (here.height + left.cells < 2 ^ 64 → higher.height ≡ here.height + left.cells) → Reads old new p q higher (view_expression op.operand) right → s.instructions ≡ q.instructions ++ calculating op.operator left.address right.address to ∷ [] → s.lines ≡ q.lines ++ here.line ∷ [] → Operates old new p s here left to op
-operation_emitted old new p q s here higher left right to op line above m is ls = record {
+pub operation_emitted : (old new : Generator) (p q s : Lined) (here higher : Here) (left right : Read) (to : Address) (op : Operation) → higher.line ≡ here.line → (here.height + left.cells < 2 ^ 64 → higher.height ≡ here.height + left.cells) → Reads old new p q higher (view_expression op.operand) right → s ≡ q ++ on_line here.line (calculating op.operator left.address right.address to) ∷ [] → Operates old new p s here left to op
+operation_emitted old new p q s here higher left right to op line above m is = record {
   grows = m.grows;
   adds = λ f t x around located fits.
       let b : Expression = view_expression op.operand in
@@ -167,7 +167,7 @@ operation_emitted old new p q s here higher left right to op line above m is ls 
       let from : AtOperand f (after u b) (operand t x.left) left.address = fits.0.at in
       let c = forms.calculates (code_of f.program) f.constants (place (after u b) ins) op.operator left.address right.address to (operand t x.left, from, (operand u b, read.at, (x.to, fits.1, refl))) in
       adds_then f p q s (operand_code u b) (place (after u b) ins ∷ []) (m.adds f u tt around there typed)
-      (adds_one f q s here.line (place (after u b) ins) (calculating op.operator left.address right.address to) is ls located.line (record { carries = c; deep = read.deep; shown = tt }));
+      (adds_one f q s here.line (place (after u b) ins) (calculating op.operator left.address right.address to) is located.line (record { carries = c; deep = read.deep; shown = tt }));
   more = λ f t x around located fits. tt;
 }
 

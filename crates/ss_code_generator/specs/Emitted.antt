@@ -3,8 +3,7 @@
 -- There is one form for all functions of the generator, `Makes`. An address of a constant is right, and a frame has room for a cell, only once all code is
 -- made. So each function promises something of every end that may come of it: `Final` is what is known at the end, and `Around` says that it came of what the
 -- generator has so far. What is around more is around less, and so pieces fit together.
-use Rattle.std.specs.Prelude.{◌≡◌, ℕ, ◌+◌, ◌<◌, ◌≤◌, ◌^◌, List, [], ◌∷◌, ◌++◌, length, map, pos, Option, Some, None, slice_get}
-use Rattle.ss_base.specs.declared.line.Line.{Line}
+use Rattle.std.specs.Prelude.{◌≡◌, ℕ, ◌+◌, ◌<◌, ◌≤◌, ◌^◌, List, [], ◌∷◌, ◌++◌, length, pos, Option, Some, None, slice_get}
 use Rattle.ss_base.specs.declared.layout.Mode.{Mode}
 use Rattle.ss_base.specs.declared.layout.Mode.TheVariants.{Integer}
 use Rattle.ss_base.specs.declared.value.Value.{Value}
@@ -83,20 +82,17 @@ pub record Runs (f : Final) (x : Placed) (y : Running) : Type 0 where
   pub deep : length x.cells ≤ f.depth
   pub shown : Shown f.prints x.cells x.instruction
 
-abbrev pub AllRun : Final → List Placed → List Running → Type 0
+-- and so one after another, each on the line of its place
+abbrev pub AllRun : Final → List Placed → Lined → Type 0
 AllRun f [] [] = Unit {0}
 AllRun f [] (y ∷ ys) = ⊥
 AllRun f (x ∷ xs) [] = ⊥
-AllRun f (x ∷ xs) (y ∷ ys) = Runs f x y × AllRun f xs ys
-
-abbrev pub line_of : Placed → Line
-line_of x = x.line
+AllRun f (x ∷ xs) (y ∷ ys) = (y.line ≡ x.line) × Runs f x y.instruction × AllRun f xs ys
 
 -- what was added to a piece carries out these places
 pub record Adds (f : Final) (before after : Lined) (c : List Placed) : Type 0 where
-  pub more : List Running
-  pub instructions : after.instructions ≡ before.instructions ++ more
-  pub lines : after.lines ≡ before.lines ++ map line_of c
+  pub more : Lined
+  pub added : after ≡ before ++ more
   pub run : AllRun f c more
 
 -- The form of each contract. From here on, at each site and for whatever fits there, the code c was added to a piece, and more is so.

@@ -127,8 +127,8 @@ impl Generator<'_> {
     {
         let mut rest = Backward::new(self.alloc);
         for i in (0..tests.len()).rev() {
-            let mut front = Piece::new(self.alloc);
             let past = as_index(rest.len() + skip as usize)?;
+            let mut front = Piece::new(self.alloc);
             self.test(&mut front, site, past, &tests[i])?;
             rest.put_before(front)?;
         }
@@ -158,11 +158,11 @@ impl Generator<'_> {
             return self.jump(site, skip);
         }
         let last = self.tests(site, skip, &alternatives[count - 1].tests)?;
-        let mut rest = Backward::new(self.alloc);
-        rest.put_before(last)?;
+        let mut rest = Backward::of(last);
         for i in (0..count - 1).rev() {
             let mut front = self.tests(site, 1, &alternatives[i].tests)?;
-            front.append(self.jump(site, as_index(rest.len())?)?)?;
+            let past = as_index(rest.len())?;
+            front.put(site.line, Instruction::Jump { skip: past })?;
             rest.put_before(front)?;
         }
         Ok(rest.into_piece())
@@ -185,7 +185,7 @@ impl Generator<'_> {
         ensures { IfOk result (λ code. Emits self.old self.new nothing code site (λ s. GoodCondition s (view_condition condition.now)) (λ t. negated_code t skip (view_condition condition.now))) }
     {
         let mut code = self.condition(site, 1, condition)?;
-        code.append(self.jump(site, skip)?)?;
+        code.put(site.line, Instruction::Jump { skip })?;
         Ok(code)
     }
 
@@ -210,8 +210,7 @@ impl Generator<'_> {
     ) -> Result<Piece, AllocError>
         ensures { IfOk result (λ code. EmitsAround self.old self.new nothing code site following (λ s. Every (λ g. GoodCondition s g.condition) (map view_guard guards.now)) (λ t b. guards_code t (length b + more) (map view_guard guards.now) ++ b)) }
     {
-        let mut rest = Backward::new(self.alloc);
-        rest.put_before(following)?;
+        let mut rest = Backward::of(following);
         for i in (0..guards.len()).rev() {
             let past = as_index(rest.len() + more as usize)?;
             let front = self.guard(site, past, &guards[i])?;
@@ -243,8 +242,7 @@ impl Generator<'_> {
     ) -> Result<Piece, AllocError>
         ensures { IfOk result (λ code. EmitsAround self.old self.new nothing code site turn (λ s. Every (GoodPhrase s) (map view_phrase phrases.now)) (λ t b. phrases_code t (map view_phrase phrases.now) b)) }
     {
-        let mut rest = Backward::new(self.alloc);
-        rest.put_before(turn)?;
+        let mut rest = Backward::of(turn);
         for i in (0..phrases.len()).rev() {
             let past = as_index(rest.len())?;
             let front = self.phrase(site, past, &phrases[i])?;

@@ -115,14 +115,14 @@ impl Generator<'_> {
         code: &mut Piece,
         site: Site,
         guards: &[Guard],
-        body: Piece,
+        body: &Piece,
     ) -> Result<(), AllocError>
-        ensures { OnOk result (EmitsAround self.old self.new code.old code.new site body (λ s. Every (λ g. GoodCondition s g.condition) (map view_guard guards.now)) (λ t b. loop_code t (map view_guard guards.now) b)) }
+        ensures { OnOk result (EmitsAround self.old self.new code.old code.new site body.now (λ s. Every (λ g. GoodCondition s g.condition) (map view_guard guards.now)) (λ t b. loop_code t (map view_guard guards.now) b)) }
     {
-        let again = self.guards(site, 1, guards, Piece::new(self.alloc))?;
         let mut turn = Piece::new(self.alloc);
         turn.put(site.line, Instruction::Turn)?;
-        turn.append(body)?;
+        turn.append_copy(body)?;
+        let again = self.guards(site, 1, guards, Piece::new(self.alloc))?;
         turn.append(again)?;
         let back = as_index(turn.len())?;
         turn.put(site.line, Instruction::Repeat { back })?;
@@ -160,13 +160,13 @@ impl Generator<'_> {
         site: Site,
         cell: u32,
         variable: VariableSpot,
-        turn: Piece,
+        turn: &Piece,
     ) -> Result<Piece, AllocError>
-        ensures { IfOk result (λ code. TakesItems self.now code site cell variable turn) }
+        ensures { IfOk result (λ code. TakesItems self.now code site cell variable turn.now) }
     {
         let mut code = Piece::new(self.alloc);
         self.take_item(&mut code, site, cell, variable)?;
-        code.append(turn)?;
+        code.append_copy(turn)?;
         let back = as_index(code.len())?;
         code.put(site.line, Instruction::Next { cell, back })?;
         Ok(code)
@@ -199,9 +199,9 @@ impl Generator<'_> {
         site: Site,
         variable: Variable,
         class: Option<u32>,
-        turn: Piece,
+        turn: &Piece,
     ) -> Result<(), AllocError>
-        ensures { OnOk result (EmitsAround self.old self.new code.old code.new site turn (λ s. Unit {0}) (λ t b. item_loop_code t class variable b)) }
+        ensures { OnOk result (EmitsAround self.old self.new code.old code.new site turn.now (λ s. Unit {0}) (λ t b. item_loop_code t class variable b)) }
     {
         let above = site.above(NUMBER_CELLS);
         self.reach(above.height);
@@ -215,12 +215,12 @@ impl Generator<'_> {
     }
 
     // The members of a walk: a turn, and on to the next one.
-    fn take_members(&self, site: Site, walk: Walk, turn: Piece) -> Result<Piece, AllocError>
-        ensures { IfOk result (λ code. TakesMembers self.now code site walk turn) }
+    fn take_members(&self, site: Site, walk: Walk, turn: &Piece) -> Result<Piece, AllocError>
+        ensures { IfOk result (λ code. TakesMembers self.now code site walk turn.now) }
     {
         let mut code = Piece::new(self.alloc);
         self.take_item(&mut code, site, walk.cell, walk.variable)?;
-        code.append(turn)?;
+        code.append_copy(turn)?;
         let back = as_index(code.len())?;
         code.put(
             site.line,
@@ -300,9 +300,9 @@ impl Generator<'_> {
         code: &mut Piece,
         site: Site,
         of: SetLoop<'_>,
-        turn: Piece,
+        turn: &Piece,
     ) -> Result<(), AllocError>
-        ensures { OnOk result (EmitsAround self.old self.new code.old code.new site turn (λ s. GoodHead s (Members of.entry.variable of.entry.set (view_owner of.entry.owner.now) (view_start of.entry.start.now) of.entry.reverse)) (λ t b. for_code t (Members of.entry.variable of.entry.set (view_owner of.entry.owner.now) (view_start of.entry.start.now) of.entry.reverse) b)) }
+        ensures { OnOk result (EmitsAround self.old self.new code.old code.new site turn.now (λ s. GoodHead s (Members of.entry.variable of.entry.set (view_owner of.entry.owner.now) (view_start of.entry.start.now) of.entry.reverse)) (λ t b. for_code t (Members of.entry.variable of.entry.set (view_owner of.entry.owner.now) (view_start of.entry.start.now) of.entry.reverse) b)) }
     {
         let kept = self.kept_owner(code, site, of.owner)?;
         let below = site.above(kept.cells);
@@ -341,7 +341,7 @@ impl Generator<'_> {
                 step,
             } => {
                 self.range(code, site, first, limit, step)?;
-                self.item_loop(code, site, *variable, None, turn)
+                self.item_loop(code, site, *variable, None, &turn)
             }
             Head::Members {
                 variable,
@@ -357,11 +357,11 @@ impl Generator<'_> {
                     start,
                     reverse: *reverse,
                 };
-                self.members(code, site, of, turn)
+                self.members(code, site, of, &turn)
             }
             Head::Each { variable, class } => {
                 let class = as_index(*class)?;
-                self.item_loop(code, site, *variable, Some(class), turn)
+                self.item_loop(code, site, *variable, Some(class), &turn)
             }
         }
     }
@@ -373,10 +373,10 @@ impl Generator<'_> {
         code: &mut Piece,
         site: Site,
         cases: Cases<'_>,
-        found: Piece,
-        none: Piece,
+        found: &Piece,
+        none: &Piece,
     ) -> Result<(), AllocError>
-        ensures { OnOk result (EmitsAroundBoth self.old self.new code.old code.new site found none (λ s. GoodHead s (view_head cases.entry.head.now) × Every (GoodPhrase s) (map view_phrase cases.entry.phrases.now)) (λ t b. find_code t (view_head cases.entry.head.now) (map view_phrase cases.entry.phrases.now) b.first b.second)) }
+        ensures { OnOk result (EmitsAroundBoth self.old self.new code.old code.new site found.now none.now (λ s. GoodHead s (view_head cases.entry.head.now) × Every (GoodPhrase s) (map view_phrase cases.entry.phrases.now)) (λ t b. find_code t (view_head cases.entry.head.now) (map view_phrase cases.entry.phrases.now) b.first b.second)) }
     {
         let cells = cells_of(cases.head);
         let above = site.above(cells);
@@ -384,11 +384,11 @@ impl Generator<'_> {
         let case = self.jump(above, as_index(none.len() + 3)?)?;
         let turn = self.phrases(above, cases.phrases, case)?;
         self.for_loop(code, site, cases.head, turn)?;
-        code.append(none)?;
-        let past = self.jump(site, as_index(found.len() + 1)?)?;
-        code.append(past)?;
+        code.append_copy(none)?;
+        let skip = as_index(found.len() + 1)?;
+        code.put(site.line, Instruction::Jump { skip })?;
         self.forget(code, above, cells)?;
-        code.append(found)?;
+        code.append_copy(found)?;
         Ok(())
     }
 }

@@ -7,7 +7,7 @@ ghost use Rattle.ss_program.specs.View.{view_expression, view_condition, view_pl
 ghost use Rattle.ss_program.specs.WellTyped.{GoodCondition, Good, GoodBlock};
 ghost use Rattle.ss_code_instructions.specs.Instructions.{Call as Calls, Destroy as Destroys, Skip as Skips, Leave};
 ghost use Rattle.ss_code_instructions.specs.Translation.{with_operand, values_code, after_values, place, height as high_of, if_code, gives_code, block_code, block_prints};
-ghost use Rattle.ss_code_pieces.specs.Lined.{nothing};
+ghost use Rattle.ss_code_pieces.specs.Lined.{nothing, on_line};
 ghost use Rattle.ss_code_generator.specs.Emitted.{Emits, EmitsAroundBoth};
 ghost use Rattle.ss_code_generator.specs.Spots.{GoodPlace};
 ghost use Rattle.ss_code_generator.specs.Printed.{statement_site, line_or_none, PrintsBy, EmitsStatement, EmitsBlock};
@@ -26,20 +26,18 @@ use ss_program::statement::{Place, Statement};
 use std::alloc::AllocError;
 
 // A condition, and one side.
-fn put_one_side(code: &mut Piece, test: Piece, then: Piece) -> Result<(), AllocError>
-    ensures instructions { OnOk result (code.new.instructions ≡ code.old.instructions ++ (test.instructions ++ then.instructions)) }
-    ensures lines { OnOk result (code.new.lines ≡ code.old.lines ++ (test.lines ++ then.lines)) }
+fn put_one_side(code: &mut Piece, test: Piece, then: &Piece) -> Result<(), AllocError>
+    ensures { OnOk result (code.new ≡ code.old ++ (test ++ then.now)) }
 {
     code.append(test)?;
-    code.append(then)?;
+    code.append_copy(then)?;
     Ok(())
 }
 
 impl Generator<'_> {
     // An instruction without operands.
     fn put(&self, code: &mut Piece, site: Site, instruction: Instruction) -> Result<(), AllocError>
-        ensures instructions { OnOk result (code.new.instructions ≡ code.old.instructions ++ instruction ∷ []) }
-        ensures lines { OnOk result (code.new.lines ≡ code.old.lines ++ site.line ∷ []) }
+        ensures { OnOk result (code.new ≡ code.old ++ on_line site.line instruction ∷ []) }
     {
         code.put(site.line, instruction)?;
         Ok(())
@@ -51,10 +49,10 @@ impl Generator<'_> {
         code: &mut Piece,
         site: Site,
         condition: &Condition,
-        then: Piece,
-        otherwise: Piece,
+        then: &Piece,
+        otherwise: &Piece,
     ) -> Result<(), AllocError>
-        ensures { OnOk result (EmitsAroundBoth self.old self.new code.old code.new site then otherwise (λ s. GoodCondition s (view_condition condition.now)) (λ t b. if_code t (view_condition condition.now) b.first b.second)) }
+        ensures { OnOk result (EmitsAroundBoth self.old self.new code.old code.new site then.now otherwise.now (λ s. GoodCondition s (view_condition condition.now)) (λ t b. if_code t (view_condition condition.now) b.first b.second)) }
     {
         if otherwise.len() == 0 {
             let past = as_index(then.len())?;
@@ -66,7 +64,7 @@ impl Generator<'_> {
         put_one_side(code, test, then)?;
         let skip = as_index(otherwise.len())?;
         code.put(site.line, Instruction::Jump { skip })?;
-        code.append(otherwise)?;
+        code.append_copy(otherwise)?;
         Ok(())
     }
 
@@ -167,11 +165,11 @@ impl Generator<'_> {
             } => {
                 let first = self.body(prints, height, then)?;
                 let second = self.body(prints, height, otherwise)?;
-                self.branches(code, site, condition, first, second)
+                self.branches(code, site, condition, &first, &second)
             }
             Statement::Loop { guards, body, .. } => {
                 let turn = self.body(prints, height, body)?;
-                self.guarded_loop(code, site, guards, turn)
+                self.guarded_loop(code, site, guards, &turn)
             }
             Statement::For {
                 head,
@@ -195,7 +193,7 @@ impl Generator<'_> {
                 let first = self.body(prints, height, found)?;
                 let second = self.body(prints, height, none)?;
                 let phrases = phrases.as_slice();
-                self.find(code, site, Cases { head, phrases }, first, second)
+                self.find(code, site, Cases { head, phrases }, &first, &second)
             }
             Statement::Create { class, into, .. } => self.create(code, site, *class, into),
             Statement::CreateEvery { classes, .. } => self.creates(code, site, classes),

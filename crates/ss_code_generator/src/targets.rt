@@ -11,6 +11,7 @@ ghost use Rattle.ss_code_instructions.specs.declared.instruction.Instruction.The
 ghost use Rattle.ss_code_instructions.specs.Facts.{is_watched};
 ghost use Rattle.ss_code_instructions.specs.Translation.{Site as At, operand_code, forget, to_place_code, place as placed, let_code, change_code, reads_code, creates_code, give_code, place_code};
 ghost use Rattle.ss_code_instructions.specs.Forms.{storing, reading};
+ghost use Rattle.ss_code_pieces.specs.Lined.{on_line};
 ghost use Rattle.ss_code_generator.specs.declared.generator.Site.{Site as Here};
 ghost use Rattle.ss_code_generator.specs.Emitted.{Final, Around, Grows, IsLocated, AtTarget, Makes, NoMore, Emits, IsNumber};
 ghost use Rattle.ss_code_generator.specs.Spots.{HasRoom, HoldsMode, IsWatched, IsVariable, IsAttribute, IsSpot, IsPlaceOf, spot_cells, spot_code, landing as lands_at, GoodPlace, Gives, Takes, Changed, IsHeldBy};
@@ -120,8 +121,7 @@ fn look_if(
     spot: AttributeSpot,
     is_looked: bool,
 ) -> Result<(), AllocError>
-    ensures instructions { OnOk result (code.new.instructions ≡ code.old.instructions ++ (if is_looked then LookEntity spot.class spot.entity ∷ [] else [])) }
-    ensures lines { OnOk result (code.new.lines ≡ code.old.lines ++ (if is_looked then site.line ∷ [] else [])) }
+    ensures { OnOk result (code.new ≡ code.old ++ (if is_looked then on_line site.line (LookEntity spot.class spot.entity) ∷ [] else [])) }
 {
     if is_looked {
         let (class, entity) = (spot.class, spot.entity);

@@ -22,7 +22,7 @@ impl Model for Backward {
 
     ghost Value = { Lined };
 
-    ghost view = { λ b. record { instructions = reverse b.piece.instructions; lines = reverse b.piece.lines } };
+    ghost view = { λ b. reverse b.piece };
 }
 
 impl Backward {
@@ -35,9 +35,17 @@ impl Backward {
         }
     }
 
+    /// The instructions of a piece, which others will come before.
+    pub fn of(mut piece: Piece) -> Backward
+        ensures { result ≡ piece }
+    {
+        piece.reverse();
+        Backward { piece }
+    }
+
     /// How many instructions there are.
     pub fn len(&self) -> usize
-        ensures value { result ≡ length self.now.instructions }
+        ensures value { result ≡ length self.now }
         ensures small { result < 2 ^ 63 }
     {
         self.piece.len()
@@ -45,8 +53,7 @@ impl Backward {
 
     /// What comes before the instructions that were made so far.
     pub fn put_before(&mut self, mut piece: Piece) -> Result<(), AllocError>
-        ensures instructions { OnOk result (self.new.instructions ≡ piece.instructions ++ self.old.instructions) }
-        ensures lines { OnOk result (self.new.lines ≡ piece.lines ++ self.old.lines) }
+        ensures { OnOk result (self.new ≡ piece ++ self.old) }
     {
         piece.reverse();
         self.piece.append(piece)

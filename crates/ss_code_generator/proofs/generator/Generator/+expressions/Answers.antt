@@ -5,7 +5,7 @@ use Rattle.ss_program.specs.Views.{view_calculate_made}
 use Rattle.ss_code_instructions.specs.Translation.{Site as At}
 use Rattle.ss_code_generator.specs.Calculations.{folded}
 use Rattle.ss_code_generator.specs.Emitted.{Final, Around, IsLocated}
-use Rattle.ss_code_generator.proofs.Emitting.{grows_same, both_ok}
+use Rattle.ss_code_generator.proofs.Emitting.{grows_same}
 use Rattle.ss_code_pieces.proofs.Leafs.{alone_is, none_counted}
 use Rattle.ss_code_generator.proofs.Values.{constant_emitted, fetch_emitted, system_set_emitted, figure_emitted, attribute_emitted, set_emitted, member_emitted, time_emitted, figure_of_emitted, signed_emitted, unary_emitted, operation_emitted, more_emitted, next_reads, folded_taken, folded_last, field_known, variable_known}
 use Rattle.ss_code_generator.proofs.generator.Generator.+expressions.Goals as goal
@@ -14,8 +14,7 @@ pub expression-returns-in_ok-from-in-Constant : goal.expression-returns-in_ok-fr
 unfolding view_expression
 expression-returns-in_ok-from-in-Constant t c =
     let from = c.in_ok-from-in-Constant in
-    rw c.in-Constant.is (both_ok c.put.result (rw (c.move_of.ensures, c.mode.ensures) at c.put.ensures.instructions) c.put.ensures.lines
-    (constant_emitted c.args.self.now c.constant.new.self c.args.code.now c.args.site c.args.to c.put.new.self c.in-Constant.value from.from from.ensures.grows from.ensures.at))
+    rw c.in-Constant.is (on_ok_weaker c.put.result (constant_emitted c.args.self.now c.constant.new.self c.args.code.now c.args.site c.args.to c.put.new.self c.in-Constant.value from.from from.ensures.grows from.ensures.at) (rw (c.move_of.ensures, c.mode.ensures) at c.put.ensures))
 
 pub expression-returns-in_ok-from-in-Fetch : goal.expression-returns-in_ok-from-in-Fetch
 unfolding view_expression
@@ -26,8 +25,7 @@ expression-returns-in_ok-from-in-Fetch t c =
     let g = c.args.self.now in
     let m = c.variable_mode-mode.result in
     let mode = rw c.deref.ensures.value at c.variable_mode-mode.ensures in
-    rw c.in-Fetch.is (both_ok put.result (rw c.move_of-in-Fetch.ensures at put.ensures.instructions) put.ensures.lines
-    (fetch_emitted g g c.args.code.now c.args.site c.args.to put.new.self x m from.from (grows_same g) from.ensures (λ f t around located. variable_known g g x m (grows_same g) mode f t c.args.site around located)))
+    rw c.in-Fetch.is (on_ok_weaker put.result (fetch_emitted g g c.args.code.now c.args.site c.args.to put.new.self x m from.from (grows_same g) from.ensures (λ f t around located. variable_known g g x m (grows_same g) mode f t c.args.site around located)) (rw c.move_of-in-Fetch.ensures at put.ensures))
 
 pub expression-returns-in_ok-field-in-Attribute : goal.expression-returns-in_ok-field-in-Attribute
 unfolding view_expression
@@ -38,8 +36,7 @@ expression-returns-in_ok-field-in-Attribute t c =
     let g = c.operand.new.self in
     let m = c.attribute_mode-mode.result in
     let known = λ (f : Final) (t : At) (around : Around f g) (located : IsLocated f g c.args.site t). field_known g g x.class x.field m (grows_same g) c.attribute_mode-mode.ensures f t c.args.site around located in
-    rw x.is (both_ok put.result (rw (c.attribute_of.ensures, c.in_ok-class-in-Attribute.ensures, c.in_ok-field-in-Attribute.ensures) at put.ensures.instructions) put.ensures.lines
-    (λ is ls. attribute_emitted c.args.self.now g c.args.code.now c.args.site c.args.to c.operand.new.code put.new.self (view_expression x.of.value) entity.field-0 g (grows_same g) (rw c.deref-in-Attribute.ensures at entity.ensures) ls x.class x.field m known is))
+    rw x.is (on_ok_weaker put.result (attribute_emitted c.args.self.now g c.args.code.now c.args.site c.args.to c.operand.new.code put.new.self (view_expression x.of.value) entity.field-0 g (grows_same g) (rw c.deref-in-Attribute.ensures at entity.ensures) x.class x.field m known) (rw (c.attribute_of.ensures, c.in_ok-class-in-Attribute.ensures, c.in_ok-field-in-Attribute.ensures) at put.ensures))
 
 pub expression-returns-in_ok-as_index-in-OfSystemSet : goal.expression-returns-in_ok-as_index-in-OfSystemSet
 unfolding view_expression
@@ -48,8 +45,7 @@ expression-returns-in_ok-as_index-in-OfSystemSet t c =
     let put = c.put-in-OfSystemSet in
     let owner = c.in_ok-owner-in-OfSystemSet in
     let g = c.args.self.now in
-    rw x.is (both_ok put.result (rw (c.ask_set.ensures, c.in_ok-as_index-in-OfSystemSet.ensures) at put.ensures.instructions) put.ensures.lines
-    (system_set_emitted g g c.args.code.now c.args.site c.args.to put.new.self x.query x.set owner.owner (grows_same g) owner.ensures))
+    rw x.is (on_ok_weaker put.result (system_set_emitted g g c.args.code.now c.args.site c.args.to put.new.self x.query x.set owner.owner (grows_same g) owner.ensures) (rw (c.ask_set.ensures, c.in_ok-as_index-in-OfSystemSet.ensures) at put.ensures))
 
 pub expression-returns-in_ok-as_index-in-OfSet : goal.expression-returns-in_ok-as_index-in-OfSet
 unfolding view_expression
@@ -58,8 +54,7 @@ expression-returns-in_ok-as_index-in-OfSet t c =
     let put = c.put-in-OfSet in
     let owner = c.in_ok-owner-in-OfSet in
     let g = c.operand-in-OfSet.new.self in
-    rw x.is (both_ok put.result (rw (c.ask_set-in-OfSet.ensures, c.in_ok-as_index-in-OfSet.ensures) at put.ensures.instructions) put.ensures.lines
-    (λ is ls. set_emitted c.args.self.now g c.args.code.now c.args.site c.args.to c.operand-in-OfSet.new.code put.new.self (view_expression x.owner.value) owner.field-0 g (grows_same g) (rw c.deref-in-OfSet.ensures at owner.ensures) ls x.query x.set is))
+    rw x.is (on_ok_weaker put.result (set_emitted c.args.self.now g c.args.code.now c.args.site c.args.to c.operand-in-OfSet.new.code put.new.self (view_expression x.owner.value) owner.field-0 g (grows_same g) (rw c.deref-in-OfSet.ensures at owner.ensures) x.query x.set) (rw (c.ask_set-in-OfSet.ensures, c.in_ok-as_index-in-OfSet.ensures) at put.ensures))
 
 pub expression-returns-in_ok-as_index-in-OfMember : goal.expression-returns-in_ok-as_index-in-OfMember
 unfolding view_expression
@@ -68,8 +63,7 @@ expression-returns-in_ok-as_index-in-OfMember t c =
     let put = c.put-in-OfMember in
     let member = c.in_ok-member-in-OfMember in
     let g = c.operand-in-OfMember.new.self in
-    rw x.is (both_ok put.result (rw (c.ask_member.ensures, c.in_ok-as_index-in-OfMember.ensures) at put.ensures.instructions) put.ensures.lines
-    (λ is ls. member_emitted c.args.self.now g c.args.code.now c.args.site c.args.to c.operand-in-OfMember.new.code put.new.self (view_expression x.member.value) member.field-0 g (grows_same g) (rw c.deref-in-OfMember.ensures at member.ensures) ls x.query x.set is))
+    rw x.is (on_ok_weaker put.result (member_emitted c.args.self.now g c.args.code.now c.args.site c.args.to c.operand-in-OfMember.new.code put.new.self (view_expression x.member.value) member.field-0 g (grows_same g) (rw c.deref-in-OfMember.ensures at member.ensures) x.query x.set) (rw (c.ask_member.ensures, c.in_ok-as_index-in-OfMember.ensures) at put.ensures))
 
 pub expression-returns-in_ok-notice-in-TimeOf : goal.expression-returns-in_ok-notice-in-TimeOf
 unfolding view_expression
@@ -78,8 +72,7 @@ expression-returns-in_ok-notice-in-TimeOf t c =
     let put = c.put-in-TimeOf in
     let notice = c.in_ok-notice-in-TimeOf in
     let g = c.operand-in-TimeOf.new.self in
-    rw x.is (both_ok put.result put.ensures.instructions put.ensures.lines
-    (λ is ls. time_emitted c.args.self.now g c.args.code.now c.args.site c.args.to c.operand-in-TimeOf.new.code put.new.self (view_expression x.notice.value) notice.field-0 g (grows_same g) (rw c.deref-in-TimeOf.ensures at notice.ensures) ls is))
+    rw x.is (on_ok_weaker put.result (time_emitted c.args.self.now g c.args.code.now c.args.site c.args.to c.operand-in-TimeOf.new.code put.new.self (view_expression x.notice.value) notice.field-0 g (grows_same g) (rw c.deref-in-TimeOf.ensures at notice.ensures)) put.ensures)
 
 pub expression-returns-in_ok-as_index-in-Figure : goal.expression-returns-in_ok-as_index-in-Figure
 unfolding view_expression
@@ -88,8 +81,7 @@ expression-returns-in_ok-as_index-in-Figure t c =
     let put = c.put-in-Figure in
     let entity = c.in_ok-entity-in-Figure in
     let g = c.args.self.now in
-    rw x.is (both_ok put.result (rw (c.figure_of.ensures, c.in_ok-as_index-in-Figure.ensures) at put.ensures.instructions) put.ensures.lines
-    (figure_emitted g g c.args.code.now c.args.site c.args.to put.new.self x.fold x.statistic entity.entity (grows_same g) entity.ensures))
+    rw x.is (on_ok_weaker put.result (figure_emitted g g c.args.code.now c.args.site c.args.to put.new.self x.fold x.statistic entity.entity (grows_same g) entity.ensures) (rw (c.figure_of.ensures, c.in_ok-as_index-in-Figure.ensures) at put.ensures))
 
 pub expression-returns-in_ok-as_index-in-FigureOf : goal.expression-returns-in_ok-as_index-in-FigureOf
 unfolding view_expression
@@ -98,8 +90,7 @@ expression-returns-in_ok-as_index-in-FigureOf t c =
     let put = c.put-in-FigureOf in
     let entity = c.in_ok-entity-in-FigureOf in
     let g = c.operand-in-FigureOf.new.self in
-    rw x.is (both_ok put.result (rw (c.figure_of-in-FigureOf.ensures, c.in_ok-as_index-in-FigureOf.ensures) at put.ensures.instructions) put.ensures.lines
-    (λ is ls. figure_of_emitted c.args.self.now g c.args.code.now c.args.site c.args.to c.operand-in-FigureOf.new.code put.new.self (view_expression x.entity.value) entity.field-0 g (grows_same g) (rw c.deref-in-FigureOf.ensures at entity.ensures) ls x.fold x.statistic is))
+    rw x.is (on_ok_weaker put.result (figure_of_emitted c.args.self.now g c.args.code.now c.args.site c.args.to c.operand-in-FigureOf.new.code put.new.self (view_expression x.entity.value) entity.field-0 g (grows_same g) (rw c.deref-in-FigureOf.ensures at entity.ensures) x.fold x.statistic) (rw (c.figure_of-in-FigureOf.ensures, c.in_ok-as_index-in-FigureOf.ensures) at put.ensures))
 
 pub expression-returns-in_ok-left-in-Signed : goal.expression-returns-in_ok-left-in-Signed
 unfolding view_expression
@@ -109,8 +100,7 @@ expression-returns-in_ok-left-in-Signed t c =
     let left = c.in_ok-left-in-Signed in
     let right = c.in_ok-right-in-Signed in
     let g = c.operand-in-Signed.new.self in
-    rw x.is (both_ok put.result (rw c.signed.ensures at put.ensures.instructions) put.ensures.lines
-    (λ is ls. signed_emitted c.args.self.now g c.args.code.now c.args.site c.args.to c.operand-in-Signed.new.code put.new.self (view_expression x.term.value) right.field-0 g (grows_same g) (rw c.deref-in-Signed.ensures at right.ensures) ls x.sign left.left left.ensures is))
+    rw x.is (on_ok_weaker put.result (signed_emitted c.args.self.now g c.args.code.now c.args.site c.args.to c.operand-in-Signed.new.code put.new.self (view_expression x.term.value) right.field-0 g (grows_same g) (rw c.deref-in-Signed.ensures at right.ensures) x.sign left.left left.ensures) (rw c.signed.ensures at put.ensures))
 
 pub expression-returns-in_ok-of-in-Unary : goal.expression-returns-in_ok-of-in-Unary
 unfolding view_expression
@@ -119,12 +109,11 @@ expression-returns-in_ok-of-in-Unary t c =
     let put = c.put-in-Unary in
     let of = c.in_ok-of-in-Unary in
     let g = c.operand-in-Unary.new.self in
-    rw x.is (both_ok put.result put.ensures.instructions put.ensures.lines
-    (λ is ls. unary_emitted c.args.self.now g c.args.code.now c.args.site c.args.to c.operand-in-Unary.new.code put.new.self (view_expression x.argument.value) of.field-0 g (grows_same g) (rw c.deref-in-Unary.ensures at of.ensures) ls x.operator is))
+    rw x.is (on_ok_weaker put.result (unary_emitted c.args.self.now g c.args.code.now c.args.site c.args.to c.operand-in-Unary.new.code put.new.self (view_expression x.argument.value) of.field-0 g (grows_same g) (rw c.deref-in-Unary.ensures at of.ensures) x.operator) put.ensures)
 
 pub operation-returns : goal.operation-returns
 operation-returns t c =
-    operation_emitted c.args.self.now c.operand.new.self c.args.code.now c.operand.new.code c.put.new.self c.args.site c.above.result c.args.left c.in_ok-right.field-0 c.args.to c.args.operation.now c.above.ensures.line c.above.ensures.height c.in_ok-right.ensures (rw c.calculate.ensures at c.in_ok-put.ensures.instructions) c.in_ok-put.ensures.lines
+    operation_emitted c.args.self.now c.operand.new.self c.args.code.now c.operand.new.code c.put.new.self c.args.site c.above.result c.args.left c.in_ok-right.field-0 c.args.to c.args.operation.now c.above.ensures.line c.above.ensures.height c.in_ok-right.ensures (rw c.calculate.ensures at c.in_ok-put.ensures)
 
 pub expression-returns-then-count-eq0 : goal.expression-returns-then-count-eq0
 expression-returns-then-count-eq0 t c =

@@ -12,7 +12,6 @@ use Rattle.ss_code_instructions.specs.Translation.{place, height, after_values, 
 use Rattle.ss_code_generator.specs.declared.generator.Site.{Site as Here}
 use Rattle.ss_code_generator.specs.Notices.{simulate_code}
 use Rattle.ss_code_generator.specs.Printed.{line_or_none, EmitsBlock}
-use Rattle.ss_code_generator.proofs.Emitting.{both_ok}
 use Rattle.ss_code_generator.proofs.Bodies.{let_seen, change_seen, call_seen, return_seen, stop_seen, read_seen, simulate_seen, create_seen, create_every_seen, destroy_seen, file_seen, remove_end_seen, remove_seen, schedule_new_seen, schedule_seen, cancel_seen, reset_seen, print_seen, skip_seen, said, put_said, loop_said, for_said, if_said, find_said, print_said, body_none, body_more}
 use Rattle.ss_code_generator.proofs.generator.Generator.+statements.Goals as goal
 
@@ -38,17 +37,17 @@ pub statement-returns-in-Return : goal.statement-returns-in-Return
 statement-returns-in-Return t' c =
     let i' = c.in-Return in
     let site : Here = record { line = c.line_of.result; height = c.args.height } in
-    both_ok c.put.result c.put.ensures.instructions c.put.ensures.lines (λ is ls.
+    on_ok_weaker c.put.result (λ is.
     said c.args.self.now c.args.self.now c.args.code.now c.put.new.code c.args.height c.line_of.result c.args.prints.now.items c.args.s.now _ _ (λ k. Unit {0}) (λ t. place t i.Leave ∷ [])
-    (put_said c.args.self.now c.args.code.now c.put.new.code site i.Leave _ is ls (λ f t. refl) (λ f t. tt)) i'.is return_seen c.line_of.ensures (λ k h. tt) refl (λ first t. refl))
+    (put_said c.args.self.now c.args.code.now c.put.new.code site i.Leave _ is (λ f t. refl) (λ f t. tt)) i'.is return_seen c.line_of.ensures (λ k h. tt) refl (λ first t. refl)) c.put.ensures
 
 pub statement-returns-in-Stop : goal.statement-returns-in-Stop
 statement-returns-in-Stop t' c =
     let i' = c.in-Stop in
     let site : Here = record { line = c.line_of.result; height = c.args.height } in
-    both_ok c.put-in-Stop.result c.put-in-Stop.ensures.instructions c.put-in-Stop.ensures.lines (λ is ls.
+    on_ok_weaker c.put-in-Stop.result (λ is.
     said c.args.self.now c.args.self.now c.args.code.now c.put-in-Stop.new.code c.args.height c.line_of.result c.args.prints.now.items c.args.s.now _ _ (λ k. Unit {0}) (λ t. place t i.Halt ∷ [])
-    (put_said c.args.self.now c.args.code.now c.put-in-Stop.new.code site i.Halt _ is ls (λ f t. refl) (λ f t. tt)) i'.is stop_seen c.line_of.ensures (λ k h. tt) refl (λ first t. refl))
+    (put_said c.args.self.now c.args.code.now c.put-in-Stop.new.code site i.Halt _ is (λ f t. refl) (λ f t. tt)) i'.is stop_seen c.line_of.ensures (λ k h. tt) refl (λ first t. refl)) c.put-in-Stop.ensures
 
 pub statement-returns-in-Read : goal.statement-returns-in-Read
 statement-returns-in-Read t' c =

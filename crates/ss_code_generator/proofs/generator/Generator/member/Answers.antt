@@ -14,4 +14,4 @@ returns-then-not-is_looked c =
 pub returns : goal.returns
 returns c =
     rw c.if-not-is_looked.false
-    (member_looked c.args.self.now c.operand.new.self c.args.code.now c.operand.new.code c.put.new.self c.args.site c.args.set (view_expression c.args.e.now) c.in_ok-member.member c.in_ok-member.ensures (rw c.in_ok-set.ensures at c.in_ok-put.ensures.instructions) c.in_ok-put.ensures.lines)
+    (member_looked c.args.self.now c.operand.new.self c.args.code.now c.operand.new.code c.put.new.self c.args.site c.args.set (view_expression c.args.e.now) c.in_ok-member.member c.in_ok-member.ensures (rw c.in_ok-set.ensures at c.in_ok-put.ensures))
