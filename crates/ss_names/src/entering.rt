@@ -19,6 +19,7 @@ use ss_program::sections::Subject;
 use ss_program::statement::CountedClass;
 use ss_tree::preamble::StatisticKind;
 use std::alloc::{AllocError, Global};
+use std::mem;
 
 // Whether both are what the owner of a set and the class of its members declare.
 fn same_of_set(known: Meaning, new: Meaning) -> bool
@@ -421,8 +422,9 @@ pub fn fill_meanings(
 {
     let mut meanings = Meanings::new(alloc, seed);
     let mut clash: Option<Line> = None;
-    enter_all(names, &mut meanings, &mut clash, declarations)?;
-    names.meanings = meanings;
+    let entered = enter_all(names, &mut meanings, &mut clash, declarations);
+    drop(mem::replace(&mut names.meanings, meanings));
+    entered?;
     Ok(clash)
 }
 

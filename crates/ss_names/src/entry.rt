@@ -4,7 +4,7 @@ use ss_base::{Mode, Name, Owner};
 use ss_names_declarations::SetRule;
 
 /// An attribute: the number of its class, its number in the class, and its mode.
-#[derive(Clone, Copy, Debug, PartialEq, Eq)]
+#[derive(Clone, Copy)]
 pub struct Attribute {
     pub class: usize,
     pub field: usize,
@@ -12,14 +12,14 @@ pub struct Attribute {
 }
 
 /// How a DEFINE orders a set, and the number of its statement.
-#[derive(Clone, Copy, Debug, PartialEq, Eq)]
+#[derive(Clone, Copy)]
 pub struct Order {
     pub rule: SetRule,
     pub statement: usize,
 }
 
 /// A set: its owner, the class of its members, and its DEFINE; None for what nothing says.
-#[derive(Clone, Copy, Debug, PartialEq, Eq)]
+#[derive(Clone, Copy)]
 pub struct Set {
     pub owner: Option<Owner>,
     pub member: Option<usize>,
@@ -27,7 +27,7 @@ pub struct Set {
 }
 
 /// A routine: its section, and how many values it is given and yields.
-#[derive(Clone, Copy, Debug, PartialEq, Eq)]
+#[derive(Clone, Copy)]
 pub struct RoutineSection {
     pub section: usize,
     pub given: usize,
@@ -35,7 +35,7 @@ pub struct RoutineSection {
 }
 
 /// An event routine: its section, how many values it is given, and whether it saves its notice.
-#[derive(Clone, Copy, Debug, PartialEq, Eq)]
+#[derive(Clone, Copy)]
 pub struct EventSection {
     pub section: usize,
     pub given: usize,

@@ -5,7 +5,7 @@ use ss_program::expression::{Fold, MemberQuery, SetQuery, Variable};
 use ss_program::statement::CountedClass;
 
 /// What a name means. Numbers are those of the table.
-#[derive(Clone, Copy, Debug, PartialEq, Eq)]
+#[derive(Clone, Copy)]
 pub enum Meaning {
     /// A local variable, or a global one of a DEFINE.
     Variable {
