@@ -110,14 +110,14 @@ fn class_meaning(
 ) -> Option<Meaning>
     ensures { result ≡ class_meaning class kind variable }
 {
-    let class = class?;
-    let kind = kind?;
-    let variable = variable?;
-    Some(Meaning::Class {
-        class,
-        kind,
-        variable,
-    })
+    match (class, kind, variable) {
+        (Some(class), Some(kind), Some(variable)) => Some(Meaning::Class {
+            class,
+            kind,
+            variable,
+        }),
+        _ => None,
+    }
 }
 
 // What N. of a class means, by the number of the class, its kind and the variable of N.
@@ -128,15 +128,11 @@ fn count_meaning(
 ) -> Option<Meaning>
     ensures { result ≡ count_meaning class kind variable }
 {
-    let class = class?;
-    let kind = kind?;
-    let variable = variable?;
-    match kind {
-        ClassKind::Permanent => Some(Meaning::Count {
+    match (class, kind, variable) {
+        (Some(class), Some(ClassKind::Permanent), Some(variable)) => Some(Meaning::Count {
             count: CountedClass { class, variable },
         }),
-        ClassKind::Temporary => None,
-        ClassKind::Notice => None,
+        _ => None,
     }
 }
 
