@@ -19,6 +19,7 @@ use ss_program::sections::Subject;
 use ss_program::statement::CountedClass;
 use ss_tree::preamble::StatisticKind;
 use std::alloc::{AllocError, Global};
+use std::mem;
 
 // Whether both are what the owner of a set and the class of its members declare.
 fn same_of_set(known: Meaning, new: Meaning) -> bool
@@ -109,14 +110,14 @@ fn class_meaning(
 ) -> Option<Meaning>
     ensures { result ≡ class_meaning class kind variable }
 {
-    let class = class?;
-    let kind = kind?;
-    let variable = variable?;
-    Some(Meaning::Class {
-        class,
-        kind,
-        variable,
-    })
+    match (class, kind, variable) {
+        (Some(class), Some(kind), Some(variable)) => Some(Meaning::Class {
+            class,
+            kind,
+            variable,
+        }),
+        _ => None,
+    }
 }
 
 // What N. of a class means, by the number of the class, its kind and the variable of N.
@@ -127,15 +128,11 @@ fn count_meaning(
 ) -> Option<Meaning>
     ensures { result ≡ count_meaning class kind variable }
 {
-    let class = class?;
-    let kind = kind?;
-    let variable = variable?;
-    match kind {
-        ClassKind::Permanent => Some(Meaning::Count {
+    match (class, kind, variable) {
+        (Some(class), Some(ClassKind::Permanent), Some(variable)) => Some(Meaning::Count {
             count: CountedClass { class, variable },
         }),
-        ClassKind::Temporary => None,
-        ClassKind::Notice => None,
+        _ => None,
     }
 }
 
@@ -421,8 +418,9 @@ pub fn fill_meanings(
 {
     let mut meanings = Meanings::new(alloc, seed);
     let mut clash: Option<Line> = None;
-    enter_all(names, &mut meanings, &mut clash, declarations)?;
-    names.meanings = meanings;
+    let entered = enter_all(names, &mut meanings, &mut clash, declarations);
+    drop(mem::replace(&mut names.meanings, meanings));
+    entered?;
     Ok(clash)
 }
 

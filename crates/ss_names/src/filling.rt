@@ -181,11 +181,7 @@ fn no_sets(alloc: Global, names: &[Name]) -> Result<Vec<Set>, AllocError>
         member: None,
         order,
     };
-    let mut sets = Vec::new(alloc);
-    for name in names {
-        sets.push(set)?;
-    }
-    Ok(sets)
+    Vec::from_elem(alloc, set, names.len())
 }
 
 // Makes room for the attributes of each class, and for each set.

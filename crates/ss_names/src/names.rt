@@ -100,7 +100,7 @@ fn row_at(rows: &[Vec<Name>], class: usize) -> &[Name]
 impl Names {
     /// Gives its memory back. Dropped in line it would do that too, but its caller would prove the drops of its parts again.
     pub fn release(self) {
-        let _released = self;
+        drop(self);
     }
 
     /// The table of these declarations, and the first line where one of them declares a name as another thing than before. The seed
@@ -117,8 +117,13 @@ impl Names {
         ensures clash { IfOk result (λ made. made.1 ≡ first_line (clashes declarations.now)) }
     {
         let mut names = empty(alloc, seed);
-        let clash = fill(alloc, seed, &mut names, declarations)?;
-        Ok((names, clash))
+        match fill(alloc, seed, &mut names, declarations) {
+            Ok(clash) => Ok((names, clash)),
+            Err(error) => {
+                names.release();
+                Err(error)
+            }
+        }
     }
 
     /// The global or derived name of this spelling, in capitals. None where there is none.
