@@ -2,7 +2,8 @@
 
 ghost use Rattle.std.specs.Prelude.{map};
 ghost use Rattle.ss_tree.specs.Tree.{schedule_new, schedule_statement};
-ghost use Rattle.ss_tree.specs.View.{view_expression, view_named, view_option, view_when};
+ghost use Rattle.ss_tree.specs.View.{view_expression_tree, view_named, view_when_tree};
+ghost use Rattle.std.specs.Option.{option_map};
 ghost use Rattle.ss_program.specs.View.{view_statement as view_resolved, view_when as when_seen};
 ghost use Rattle.ss_names_meaning.specs.Answers.{Gives};
 ghost use Rattle.ss_names_meaning.specs.Statements.{simple_statement, when};
@@ -28,7 +29,7 @@ impl Resolver<'_> {
         given: &[Expression],
         when: &When,
     ) -> Result<Resolved, ResolveError>
-        ensures { Gives view_resolved result (simple_statement (scope_in self.now) (schedule_new line class.now (view_option view_named called.now) (map view_expression given.now) (view_when when.now))) }
+        ensures { Gives view_resolved result (simple_statement (scope_in self.now) (schedule_new line class.now (option_map view_named called.now) (map view_expression_tree given.now) (view_when_tree when.now))) }
     {
         let class = self.class_named(ClassNeed::Notice, class)?;
         let into = self.resolve_new_place(class.variable, called)?;
@@ -57,7 +58,7 @@ impl Resolver<'_> {
         given: &[Expression],
         when: &When,
     ) -> Result<Resolved, ResolveError>
-        ensures { Gives view_resolved result (simple_statement (scope_in self.now) (schedule_statement line class.now (view_option view_expression called.now) (map view_expression given.now) (view_when when.now))) }
+        ensures { Gives view_resolved result (simple_statement (scope_in self.now) (schedule_statement line class.now (option_map view_expression_tree called.now) (map view_expression_tree given.now) (view_when_tree when.now))) }
     {
         let class = self.class_named(ClassNeed::Notice, class)?;
         let notice = self.resolve_entity_called(class.variable, called)?;
@@ -78,7 +79,7 @@ impl Resolver<'_> {
 
     /// The time for which a notice is scheduled.
     pub(crate) fn resolve_when(&self, tree: &When) -> Result<ResolvedWhen, ResolveError>
-        ensures { Gives when_seen result (when (scope_in self.now) (view_when tree.now)) }
+        ensures { Gives when_seen result (when (scope_in self.now) (view_when_tree tree.now)) }
     {
         match tree {
             When::At(time) => {

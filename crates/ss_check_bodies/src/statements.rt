@@ -2,7 +2,7 @@
 
 ghost use Rattle.std.specs.Prelude.{◌≡◌, map, IfOk};
 ghost use Rattle.ss_tree.specs.Tree.{call_statement};
-ghost use Rattle.ss_tree.specs.View.{view_expression, view_named, view_statement};
+ghost use Rattle.ss_tree.specs.View.{view_expression_tree, view_named, view_statement_tree};
 ghost use Rattle.ss_program.specs.View.{view_statement as view_resolved};
 ghost use Rattle.ss_program.specs.Program.{Change};
 ghost use Rattle.ss_names_meaning.specs.Answers.{Gives, of_two};
@@ -67,7 +67,7 @@ impl Resolver<'_> {
         given: &[Expression],
         yielding: &[Named],
     ) -> Result<Resolved, ResolveError>
-        ensures { Gives view_resolved result (simple_statement (scope_in self.now) (call_statement line routine.now (map view_expression given.now) (map view_named yielding.now))) }
+        ensures { Gives view_resolved result (simple_statement (scope_in self.now) (call_statement line routine.now (map view_expression_tree given.now) (map view_named yielding.now))) }
     {
         let (routine, section) = self.routine_named(routine)?;
         let values = self.resolve_all(given)?;
@@ -93,7 +93,7 @@ impl Resolver<'_> {
         amount: &Expression,
         place: &Named,
     ) -> Result<Resolved, ResolveError>
-        ensures { Gives view_resolved result (of_two (expression (scope_in self.now) (view_expression amount.now)) (target (scope_in self.now) (view_named place.now)) (λ x p. Change line sign p x)) }
+        ensures { Gives view_resolved result (of_two (expression (scope_in self.now) (view_expression_tree amount.now)) (target (scope_in self.now) (view_named place.now)) (λ x p. Change line sign p x)) }
     {
         let value = self.resolve_expression(amount)?;
         let (value, target) = beside(value, self.resolve_target(place))?;
@@ -106,9 +106,9 @@ impl Resolver<'_> {
     }
 
     /// A statement without statements in it. `Unresolved` for another.
-    #[tactic(auto, unfolding(ss_names_meaning::specs::Statements::simple_statement, ss_tree::specs::View::view_statement, ss_program::specs::View::view_statement))]
+    #[tactic(auto, unfolding(ss_names_meaning::specs::Statements::simple_statement, ss_tree::specs::View::view_statement_tree, ss_program::specs::View::view_statement))]
     pub(crate) fn resolve_simple(&self, tree: &Statement) -> Result<Resolved, ResolveError>
-        ensures { Gives view_resolved result (simple_statement (scope_in self.now) (view_statement tree.now)) }
+        ensures { Gives view_resolved result (simple_statement (scope_in self.now) (view_statement_tree tree.now)) }
     {
         match tree {
             Statement::Let {

@@ -1,7 +1,7 @@
 //! From a resolved program to its code.
 
 ghost use Rattle.std.specs.Prelude.{◌≡◌, ◌+◌, ◌<◌, ◌≤◌, ◌^◌, ◌++◌, ◌∷◌, [], length, map, Err, IfOk, OnOk};
-ghost use Rattle.ss_program.specs.Checking.{program_in};
+ghost use Rattle.ss_program.specs.Checking.{checked_program};
 ghost use Rattle.ss_program.specs.Nodes.{nodes};
 ghost use Rattle.ss_program.specs.View.{view_routine, view_event, view_program, view_body};
 ghost use Rattle.ss_program.specs.WellTyped.{WellTyped};
@@ -18,7 +18,7 @@ use crate::sayings::sayings;
 use crate::sifting::sift_walks;
 use ss_base::{Line, Mode};
 use ss_code_generator::generator::Generator;
-use ss_code_instructions::entry::Entry;
+use ss_code_instructions::entry::SectionEntry;
 use ss_code_instructions::instruction::Instruction;
 use ss_code_instructions::laws::{laws_of_code, laws_of_meaning};
 use ss_code_instructions::limit::instruction_limit;
@@ -53,7 +53,7 @@ fn put_section(
     prints: &mut Vec<Lines>,
     locals: Locals,
     body: &[Statement],
-) -> Result<Entry, AllocError>
+) -> Result<SectionEntry, AllocError>
     ensures { IfOk result (λ entry. PutsSection generator.old generator.new code.old code.new prints.old.items prints.new.items (record { place = length code.old; given = locals.given.items; yielding = locals.yielding; others = locals.others.items }) (view_body body.now) entry) }
 {
     let Locals {
@@ -66,7 +66,7 @@ fn put_section(
     let own = generator.section(prints, body)?;
     code.append(own)?;
     let room = generator.locals.len();
-    Ok(Entry {
+    Ok(SectionEntry {
         place,
         given,
         yielding,
@@ -80,7 +80,7 @@ fn put_main(
     generator: &mut Generator,
     code: &mut Piece,
     prints: &mut Vec<Lines>,
-) -> Result<Entry, AllocError>
+) -> Result<SectionEntry, AllocError>
     ensures { IfOk result (λ entry. PutsSection generator.old generator.new code.old code.new prints.old.items prints.new.items (record { place = length code.old; given = []; yielding = 0; others = generator.old.program.now.locals.items }) (view_body generator.old.program.now.main.items) entry) }
 {
     let program = generator.program;
@@ -100,7 +100,7 @@ fn put_routine(
     code: &mut Piece,
     prints: &mut Vec<Lines>,
     routine: &Routine,
-) -> Result<Entry, AllocError>
+) -> Result<SectionEntry, AllocError>
     ensures { IfOk result (λ entry. PutsSection generator.old generator.new code.old code.new prints.old.items prints.new.items (routine_entry (length code.old) (view_routine routine.now)) (view_routine routine.now).body entry) }
 {
     let given = Vec::from_slice(generator.alloc, &routine.given)?;
@@ -120,7 +120,7 @@ fn put_event(
     code: &mut Piece,
     prints: &mut Vec<Lines>,
     event: &Event,
-) -> Result<Entry, AllocError>
+) -> Result<SectionEntry, AllocError>
     ensures { IfOk result (λ entry. PutsSection generator.old generator.new code.old code.new prints.old.items prints.new.items (event_entry (length code.old) (view_event event.now)) (view_event event.now).body entry) }
 {
     let given = Vec::from_slice(generator.alloc, &event.given)?;
@@ -134,7 +134,7 @@ fn put_event(
 }
 
 // An entry comes after others.
-fn put_entry(entries: &mut Vec<Entry>, entry: Entry) -> Result<(), AllocError>
+fn put_entry(entries: &mut Vec<SectionEntry>, entry: SectionEntry) -> Result<(), AllocError>
     ensures { OnOk result (entries.new.items ≡ entries.old.items ++ entry ∷ []) }
 {
     entries.push(entry)?;
@@ -146,7 +146,7 @@ fn put_routines(
     generator: &mut Generator,
     code: &mut Piece,
     prints: &mut Vec<Lines>,
-) -> Result<Vec<Entry>, AllocError>
+) -> Result<Vec<SectionEntry>, AllocError>
     ensures { IfOk result (λ entries. PutsRoutines generator.old generator.new code.old code.new prints.old.items prints.new.items (map view_routine generator.old.program.now.routines.items) entries.items) }
 {
     let program = generator.program;
@@ -163,7 +163,7 @@ fn put_events(
     generator: &mut Generator,
     code: &mut Piece,
     prints: &mut Vec<Lines>,
-) -> Result<Vec<Entry>, AllocError>
+) -> Result<Vec<SectionEntry>, AllocError>
     ensures { IfOk result (λ entries. PutsEvents generator.old generator.new code.old code.new prints.old.items prints.new.items (map view_event generator.old.program.now.events.items) entries.items) }
 {
     let program = generator.program;
@@ -185,7 +185,7 @@ fn with_cells(variables: usize, depth: usize) -> Result<usize, AllocError>
 }
 
 // The frame of a section gets room for as many cells as any frame has.
-fn deepen(entry: &mut Entry, depth: usize) -> Result<(), AllocError>
+fn deepen(entry: &mut SectionEntry, depth: usize) -> Result<(), AllocError>
     ensures { OnOk result (Deepened depth entry.old entry.new) }
 {
     entry.room = with_cells(entry.room, depth)?;
@@ -193,7 +193,7 @@ fn deepen(entry: &mut Entry, depth: usize) -> Result<(), AllocError>
 }
 
 // And so the frames of all.
-fn deepen_all(entries: &mut Vec<Entry>, depth: usize) -> Result<(), AllocError>
+fn deepen_all(entries: &mut Vec<SectionEntry>, depth: usize) -> Result<(), AllocError>
     ensures { OnOk result (AllDeepened depth entries.old.items entries.new.items) }
 {
     for i in 0..entries.len() {
@@ -205,9 +205,9 @@ fn deepen_all(entries: &mut Vec<Entry>, depth: usize) -> Result<(), AllocError>
 // The sections, each with room for as many cells as any frame has.
 fn sections_of(
     depth: usize,
-    mut main: Entry,
-    mut routines: Vec<Entry>,
-    mut events: Vec<Entry>,
+    mut main: SectionEntry,
+    mut routines: Vec<SectionEntry>,
+    mut events: Vec<SectionEntry>,
 ) -> Result<Sections, AllocError>
     ensures depth { IfOk result (λ made. made.depth ≡ depth) }
     ensures main { IfOk result (λ made. Deepened depth main made.main) }
@@ -299,12 +299,12 @@ fn made(alloc: Global, program: &Program) -> Result<Code, CodeError>
 /// for a program of at most 16,384 nodes; `Memory` where memory was refused, also where a program has so many variables or constants that
 /// no memory holds their values.
 pub fn generate(alloc: Global, checked: &Checked) -> Result<Code, CodeError>
-    ensures code { IfOk result (λ code. IsFor (view_program (program_in checked.now)) code) }
-    ensures behaves { IfOk result (λ code. Behaves (view_program (program_in checked.now)) (code_of (view_program (program_in checked.now)))) }
-    ensures lands { IfOk result (λ code. Lands (code_of (view_program (program_in checked.now)))) }
+    ensures code { IfOk result (λ code. IsFor (view_program (checked_program checked.now)) code) }
+    ensures behaves { IfOk result (λ code. Behaves (view_program (checked_program checked.now)) (code_of (view_program (checked_program checked.now)))) }
+    ensures lands { IfOk result (λ code. Lands (code_of (view_program (checked_program checked.now)))) }
     ensures limit { IfOk result (λ code. length code.run.instructions ≤ most_instructions) }
-    ensures too_long { result ≡ Err CodeError.CodeTooLong → most_instructions < length (code_of (view_program (program_in checked.now))).places }
-    ensures small { nodes (view_program (program_in checked.now)) ≤ small_program → result ≡ Err CodeError.CodeTooLong → ⊥ }
+    ensures too_long { result ≡ Err CodeError.CodeTooLong → most_instructions < length (code_of (view_program (checked_program checked.now))).places }
+    ensures small { nodes (view_program (checked_program checked.now)) ≤ small_program → result ≡ Err CodeError.CodeTooLong → ⊥ }
 {
     made(alloc, checked.program())
 }

@@ -7,7 +7,7 @@ use Rattle.ss_base.specs.declared.layout.Mode.{Mode}
 use Rattle.ss_base.specs.declared.layout.Mode.TheVariants.{Integer}
 use Rattle.ss_program.specs.Program as p
 use Rattle.ss_program.specs.Program.{Expression, Place}
-use Rattle.ss_program.specs.WellTyped.{Scope, HasMode, HaveModes, TakesMode, Good}
+use Rattle.ss_program.specs.WellTyped.{TypedScope, HasMode, HaveModes, TakesMode, Good}
 use Rattle.ss_code_instructions.specs.declared.instruction.Instruction.{Instruction as Running}
 use Rattle.ss_code_instructions.specs.declared.instruction.Instruction.TheVariants as r
 use Rattle.ss_code_instructions.specs.Instructions.{Operand, Placed}
@@ -19,7 +19,7 @@ use Rattle.ss_code_generator.specs.declared.expressions.Operand.{Operand as Read
 use Rattle.ss_code_generator.specs.declared.generator.Generator.{Generator}
 use Rattle.ss_code_generator.specs.declared.generator.Site.{Site as Here}
 use Rattle.ss_code_pieces.specs.Lined.{Lined, on_line}
-use Rattle.ss_code_generator.specs.Emitted.{Final, Around, Shown, Emits, Typed, Reads}
+use Rattle.ss_code_generator.specs.Emitted.{Final, Around, Shown, Emits, Typed, ReadsOperand}
 use Rattle.ss_code_generator.specs.Spots.{GoodPlace}
 use Rattle.ss_code_generator.proofs.Emitting.{around_old, grows_then, stands_old, stands_above, adds_then, adds_one, adds_same}
 
@@ -59,7 +59,7 @@ every_at P [] k x e h = absurd (none e)
 every_at P (y ∷ xs) zero x e h = let same : y ≡ x = cc in subst P same h.0
 every_at P (y ∷ xs) (suc k) x e h = every_at P xs k x e h.1
 
-abbrev pub GoodPlaces : List Place → Scope → Type 0
+abbrev pub GoodPlaces : List Place → TypedScope → Type 0
 GoodPlaces ps s = Every (λ (p : Place). GoodPlace p s) ps
 
 -- one place more, where the frame has room for all
@@ -88,13 +88,13 @@ gives_all g0 g1 x y here ps n e m = record {
 
 -- ## CALL
 
-all_typed : (s : Scope) (es : List Expression) (ms : List Mode) → HaveModes s es ms → Every (λ (e : Expression). Typed e s) es
+all_typed : (s : TypedScope) (es : List Expression) (ms : List Mode) → HaveModes s es ms → Every (λ (e : Expression). Typed e s) es
 all_typed s [] [] h = tt
 all_typed s [] (m ∷ ms) h = absurd h
 all_typed s (e ∷ es) [] h = absurd h
 all_typed s (e ∷ es) (m ∷ ms) h = ((m, h.0), all_typed s es ms h.1)
 
-all_taken : (s : Scope) (ps : List Place) (ms : List Mode) → AllZip (TakesMode s) ps ms → GoodPlaces ps s
+all_taken : (s : TypedScope) (ps : List Place) (ms : List Mode) → AllZip (TakesMode s) ps ms → GoodPlaces ps s
 all_taken s [] [] h = tt
 all_taken s [] (m ∷ ms) h = absurd h
 all_taken s (p ∷ ps) [] h = absurd h
@@ -123,7 +123,7 @@ called g0 g1 g2 x y z w here l routine cell es ps m room at is n = record {
 -- ## One operand
 
 -- an operand, and an instruction of its address alone
-pub of_one : (g0 g1 : Generator) (x y z : Lined) (here : Here) (e : Expression) (o : Read) (Fits : Scope → Type 0) (make : Operand → i.Instruction) (run : Running) → Reads g0 g1 x y here e o → z ≡ y ++ on_line here.line run ∷ [] → ((s : Scope) → Fits s → HasMode s e Integer) → ((f : Final) (t : Site) → OperandAt (code_of f.program) f.constants (place (after t e) (make (operand t e))) (operand t e) o.address → Carries (code_of f.program) f.constants (place (after t e) (make (operand t e))) run) → ((f : Final) (t : Site) → Shown f.prints (after t e).cells (make (operand t e))) → Emits g0 g1 x z here Fits (λ t. with_operand t e make)
+pub of_one : (g0 g1 : Generator) (x y z : Lined) (here : Here) (e : Expression) (o : Read) (Fits : TypedScope → Type 0) (make : Operand → i.Instruction) (run : Running) → ReadsOperand g0 g1 x y here e o → z ≡ y ++ on_line here.line run ∷ [] → ((s : TypedScope) → Fits s → HasMode s e Integer) → ((f : Final) (t : Site) → OperandAt (code_of f.program) f.constants (place (after t e) (make (operand t e))) (operand t e) o.address → Carries (code_of f.program) f.constants (place (after t e) (make (operand t e))) run) → ((f : Final) (t : Site) → Shown f.prints (after t e).cells (make (operand t e))) → Emits g0 g1 x z here Fits (λ t. with_operand t e make)
 of_one g0 g1 x y z here e o Fits make run m is fits carries shown = record {
   grows = m.grows;
   adds = λ f t u around located good.

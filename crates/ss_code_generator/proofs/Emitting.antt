@@ -9,8 +9,8 @@ use Rattle.ss_code_instructions.specs.Instructions.{Placed}
 use Rattle.ss_code_instructions.specs.Translation.{Site, height}
 use Rattle.ss_code_generator.specs.declared.generator.Generator.{Generator}
 use Rattle.ss_code_generator.specs.declared.generator.Site.{Site as Here}
-use Rattle.ss_code_pieces.specs.Lined.{Lined, nothing, on_line}
-use Rattle.ss_code_generator.specs.Emitted.{Final, Around, Grows, IsLocated, Runs, AllRun, Adds, Makes}
+use Rattle.ss_code_pieces.specs.Lined.{Lined, no_code, on_line}
+use Rattle.ss_code_generator.specs.Emitted.{Final, Around, Grows, IsLocated, Runs, AllRun, Adds, Generates}
 
 -- ## What is around more is around less
 
@@ -88,18 +88,18 @@ pub adds_one : (f : Final) (a b : Lined) (l : Line) (x : Placed) (y : Running) �
 adds_one f a b l x y is same r = record { more = on_line l y ∷ []; added = is; run = (sym same, r, tt) }
 
 -- a piece that was made apart goes after another one, or before
-pub adds_piece : (f : Final) (a b p : Lined) (c : List Placed) → b ≡ a ++ p → Adds f nothing p c → Adds f a b c
+pub adds_piece : (f : Final) (a b p : Lined) (c : List Placed) → b ≡ a ++ p → Adds f no_code p c → Adds f a b c
 adds_piece f a b p c is h = record { more = h.more; added = is ∙ ap (λ (l : Lined). a ++ l) h.added; run = h.run }
 
 -- two pieces that were made apart
-pub adds_apart : (f : Final) (p q r : Lined) (c d : List Placed) → r ≡ p ++ q → Adds f nothing p c → Adds f nothing q d → Adds f nothing r (c ++ d)
-adds_apart f p q r c d is h k = adds_then f nothing p r c d h (adds_piece f p r q d is k)
+pub adds_apart : (f : Final) (p q r : Lined) (c d : List Placed) → r ≡ p ++ q → Adds f no_code p c → Adds f no_code q d → Adds f no_code r (c ++ d)
+adds_apart f p q r c d is h k = adds_then f no_code p r c d h (adds_piece f p r q d is k)
 
-pub piece_long : (f : Final) (p : Lined) (c : List Placed) → Adds f nothing p c → length p ≡ length c
+pub piece_long : (f : Final) (p : Lined) (c : List Placed) → Adds f no_code p c → length p ≡ length c
 piece_long f p c h = ap length h.added ∙ runs_long f c h.more h.run
 
 -- a piece without instructions is that of no place
-pub none_there : (f : Final) (p : Lined) (c : List Placed) → Adds f nothing p c → length p ≡ 0 → c ≡ []
+pub none_there : (f : Final) (p : Lined) (c : List Placed) → Adds f no_code p c → length p ≡ 0 → c ≡ []
 none_there f p [] h e = refl
 none_there f p (x ∷ c) h e = absurd (omega (arith, e, piece_long f p (x ∷ c) h))
 
@@ -109,10 +109,10 @@ adds_same f a b c d e h = subst (Adds f a b) e h
 
 -- ## What was made, from an earlier generator on and up to a later one
 
-pub makes_earlier : {I : Type 0} (older old new : Generator) (p q : Lined) (here : Here) (Fit : Final → Site → I → Type 0) (c : Site → I → List Placed) (More : Final → Site → I → Type 0) → Grows older old → Makes old new p q here Fit c More → Makes older new p q here Fit c More
+pub makes_earlier : {I : Type 0} (older old new : Generator) (p q : Lined) (here : Here) (Fit : Final → Site → I → Type 0) (c : Site → I → List Placed) (More : Final → Site → I → Type 0) → Grows older old → Generates old new p q here Fit c More → Generates older new p q here Fit c More
 makes_earlier older old new p q here Fit c More g m = record { grows = grows_then older old new g m.grows; adds = m.adds; more = m.more }
 
-pub makes_later : {I : Type 0} (old new newer : Generator) (p q : Lined) (here : Here) (Fit : Final → Site → I → Type 0) (c : Site → I → List Placed) (More : Final → Site → I → Type 0) → Grows new newer → Makes old new p q here Fit c More → Makes old newer p q here Fit c More
+pub makes_later : {I : Type 0} (old new newer : Generator) (p q : Lined) (here : Here) (Fit : Final → Site → I → Type 0) (c : Site → I → List Placed) (More : Final → Site → I → Type 0) → Grows new newer → Generates old new p q here Fit c More → Generates old newer p q here Fit c More
 makes_later old new newer p q here Fit c More g m = record {
   grows = grows_then old new newer m.grows g;
   adds = λ f t i around located fits. m.adds f t i (around_old f new newer g around) (stands_old f new newer here t g located) fits;

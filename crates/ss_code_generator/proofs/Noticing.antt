@@ -8,7 +8,7 @@ use Rattle.ss_base.specs.declared.layout.Mode.TheVariants.{Integer}
 use Rattle.ss_program.specs.declared.sections.Statistic.{Statistic}
 use Rattle.ss_program.specs.declared.sections.Subject.TheVariants.{OfAttribute}
 use Rattle.ss_program.specs.Program.{Program, Expression, Place, ToVariable, ToAttribute, ToCount, When, At, In, Restart, ScheduleNew, Schedule}
-use Rattle.ss_program.specs.WellTyped.{Scope, HasMode, GoodWhen, GoodRestart, GoodGiven, Good, TakesMode}
+use Rattle.ss_program.specs.WellTyped.{TypedScope, HasMode, GoodWhen, GoodRestart, GoodGiven, Good, TakesMode}
 use Rattle.ss_code_instructions.specs.declared.address.Address.{Address}
 use Rattle.ss_code_instructions.specs.declared.instruction.Instruction.{Instruction as Running}
 use Rattle.ss_code_instructions.specs.declared.instruction.Instruction.TheVariants as r
@@ -27,8 +27,8 @@ use Rattle.ss_code_generator.specs.declared.targets.Spot.{Spot}
 use Rattle.ss_code_generator.specs.declared.targets.Spot.TheVariants as spots
 use Rattle.ss_code_pieces.specs.Lined.{Lined, on_line}
 use Rattle.ss_code_instructions.specs.Forms.{storing}
-use Rattle.ss_code_generator.specs.Emitted.{Final, Around, Grows, IsLocated, Runs, Adds, Emits, AtTarget, AtOperand, Typed, AreNumbers, IsRead, Reads, Bears}
-use Rattle.ss_code_generator.specs.Spots.{IsSpot, HasRoom, HoldsMode, Given, Gives, Taking, Takes, spot_cells, landing}
+use Rattle.ss_code_generator.specs.Emitted.{Final, Around, Grows, IsLocated, Runs, Adds, Emits, AtTarget, AtOperand, Typed, AreNumbers, IsRead, ReadsOperand, Bears}
+use Rattle.ss_code_generator.specs.Spots.{IsSpot, HasTargetRoom, HoldsMode, Assignment, Assigns, Taking, AssignsLanded, spot_cells, landing}
 use Rattle.ss_code_generator.specs.Notices.{any_watched, named_at, named_code, Names}
 use Rattle.ss_code_generator.proofs.Emitting.{around_old, grows_same, grows_then, stands_old, stands_above, adds_then, adds_one, adds_same}
 use Rattle.ss_code_generator.proofs.Modes.{on_top}
@@ -38,7 +38,7 @@ use Rattle.ss_code_generator.proofs.Letting.{MakesSpot, Lands, spot_stands, hold
 
 -- ## One operand, and an instruction that leaves something in the next cell
 
-pub cell_works : (old mid new : Generator) (p q v : Lined) (here : Here) (e : Expression) (o : Read) (to : Address) (Good : Scope → Type 0) (make : Site → Operand → Instruction) (y : Running) → Grows old mid → InFrame (length mid.locals.items + here.height) to → Reads mid new p q here e o → v ≡ q ++ on_line here.line y ∷ [] → ((k : Scope) → Good k → Typed e k) → ((f : Final) (t : Site) → AtTarget f t (next t) to → IsRead f t e o → Runs f (place (after t e) (make t (operand t e))) y) → Emits old new p v here Good (λ t. with_operand t e (make t))
+pub cell_works : (old mid new : Generator) (p q v : Lined) (here : Here) (e : Expression) (o : Read) (to : Address) (Good : TypedScope → Type 0) (make : Site → Operand → Instruction) (y : Running) → Grows old mid → InFrame (length mid.locals.items + here.height) to → ReadsOperand mid new p q here e o → v ≡ q ++ on_line here.line y ∷ [] → ((k : TypedScope) → Good k → Typed e k) → ((f : Final) (t : Site) → AtTarget f t (next t) to → IsRead f t e o → Runs f (place (after t e) (make t (operand t e))) y) → Emits old new p v here Good (λ t. with_operand t e (make t))
 cell_works old mid new p q v here e o to Good make y g cell m is typed runs = record {
   grows = grows_then old mid new g m.grows;
   adds = λ f t u around located good.
@@ -51,12 +51,12 @@ cell_works old mid new p q v here e o to Good make y g cell m is typed runs = re
 }
 
 -- a time, so
-pub at_timed : (old mid new : Generator) (p q v : Lined) (here : Here) (e : Expression) (o : Read) (to : Address) → Grows old mid → InFrame (length mid.locals.items + here.height) to → Reads mid new p q here e o → v ≡ q ++ on_line here.line (r.At o.address to) ∷ [] → Emits old new p v here (λ s. GoodWhen s (At e)) (λ t. when_code t (At e))
+pub at_timed : (old mid new : Generator) (p q v : Lined) (here : Here) (e : Expression) (o : Read) (to : Address) → Grows old mid → InFrame (length mid.locals.items + here.height) to → ReadsOperand mid new p q here e o → v ≡ q ++ on_line here.line (r.At o.address to) ∷ [] → Emits old new p v here (λ s. GoodWhen s (At e)) (λ t. when_code t (At e))
 at_timed old mid new p q v here e o to g cell m is =
     cell_works old mid new p q v here e o to (λ s. GoodWhen s (At e)) (λ t x. i.At x (next t)) (r.At o.address to) g cell m is (λ k h. (Integer, h))
     (λ f t at read. record { carries = (operand t e, read.at, (next t, at, refl)); deep = read.deep; shown = tt })
 
-pub in_timed : (old mid new : Generator) (p q v : Lined) (here : Here) (e : Expression) (o : Read) (to : Address) → Grows old mid → InFrame (length mid.locals.items + here.height) to → Reads mid new p q here e o → v ≡ q ++ on_line here.line (r.In o.address to) ∷ [] → Emits old new p v here (λ s. GoodWhen s (In e)) (λ t. when_code t (In e))
+pub in_timed : (old mid new : Generator) (p q v : Lined) (here : Here) (e : Expression) (o : Read) (to : Address) → Grows old mid → InFrame (length mid.locals.items + here.height) to → ReadsOperand mid new p q here e o → v ≡ q ++ on_line here.line (r.In o.address to) ∷ [] → Emits old new p v here (λ s. GoodWhen s (In e)) (λ t. when_code t (In e))
 in_timed old mid new p q v here e o to g cell m is =
     cell_works old mid new p q v here e o to (λ s. GoodWhen s (In e)) (λ t x. i.In x (next t)) (r.In o.address to) g cell m is (λ k h. (Integer, h))
     (λ f t at read. record { carries = (operand t e, read.at, (next t, at, refl)); deep = read.deep; shown = tt })
@@ -91,13 +91,13 @@ room_above h n higher d e room up grows low fits =
     omega (arith, is, low)
 
 -- values of the modes of attributes are typed
-haves_typed : (s : Scope) (es : List Expression) (ms : List Mode) → AllZip (HasMode s) es ms → Every (λ e. Typed e s) es
+haves_typed : (s : TypedScope) (es : List Expression) (ms : List Mode) → AllZip (HasMode s) es ms → Every (λ e. Typed e s) es
 haves_typed s [] [] h = tt
 haves_typed s [] (m ∷ ms) h = absurd h
 haves_typed s (e ∷ es) [] h = absurd h
 haves_typed s (e ∷ es) (m ∷ ms) h = ((m, h.0), haves_typed s es ms h.1)
 
-pub given_typed : (s : Scope) (class : ℕ) (es : List Expression) → GoodGiven s class es → Every (λ e. Typed e s) es
+pub given_typed : (s : TypedScope) (class : ℕ) (es : List Expression) → GoodGiven s class es → Every (λ e. Typed e s) es
 given_typed s class es h = haves_typed s es (take (length es) h.1.0) h.1.2
 
 -- none of the first attributes is watched
@@ -119,21 +119,21 @@ notes_given f g here t noted class given around located is off field low =
 
 -- ## A new notice goes to its place
 
-named_in_variable : (g : Generator) (p q : Lined) (here : Here) (from : Address) (s : VariableSpot) → Takes g p q here from (λ f t x. IsSpot f t x (spots.Variable s)) → (f : Final) (t u : Site) (x : Place) → IsSpot f t x (spots.Variable s) → t.scope ≡ u.scope → AtTarget f u (landing u x) from → HasRoom f (landing u x) → HoldsMode u.scope x Integer → Around f g → IsLocated f g here u → Adds f p q (named_code t u x)
+named_in_variable : (g : Generator) (p q : Lined) (here : Here) (from : Address) (s : VariableSpot) → AssignsLanded g p q here from (λ f t x. IsSpot f t x (spots.Variable s)) → (f : Final) (t u : Site) (x : Place) → IsSpot f t x (spots.Variable s) → t.scope ≡ u.scope → AtTarget f u (landing u x) from → HasTargetRoom f (landing u x) → HoldsMode u.scope x Integer → Around f g → IsLocated f g here u → Adds f p q (named_code t u x)
 named_in_variable g p q here from s m f t u (ToVariable x) v same at room holds around located =
     let it : Taking = record { resolved = t; place = ToVariable x; mode = Integer } in
     m.adds f u it around located (v, same, at, room, holds)
 named_in_variable g p q here from s m f t u (ToAttribute class field e) v same at room holds around located = absurd v
 named_in_variable g p q here from s m f t u (ToCount c) v same at room holds around located = absurd v
 
-pub variable_named : (g : Generator) (p q : Lined) (here : Here) (from : Address) (s : VariableSpot) → Takes g p q here from (λ f t x. IsSpot f t x (spots.Variable s)) → Names g p q here from (λ f t x. IsSpot f t x (spots.Variable s))
+pub variable_named : (g : Generator) (p q : Lined) (here : Here) (from : Address) (s : VariableSpot) → AssignsLanded g p q here from (λ f t x. IsSpot f t x (spots.Variable s)) → Names g p q here from (λ f t x. IsSpot f t x (spots.Variable s))
 variable_named g p q here from s m = record {
   grows = grows_same g;
   adds = λ f u x around located fits. named_in_variable g p q here from s m f x.resolved u x.place fits.0 fits.1 fits.2 fits.3 fits.4 around located;
   more = λ f u x around located fits. tt;
 }
 
-named_in_attribute : (g : Generator) (p q : Lined) (here : Here) (from : Address) (s : AttributeSpot) → q ≡ p ++ on_line here.line (storing s.mode s.class s.field s.entity from s.is_watched) ∷ [] → (f : Final) (t u : Site) (x : Place) → IsSpot f t x (spots.Attribute s) → t.scope ≡ u.scope → AtTarget f u (landing u x) from → HasRoom f (landing u x) → HoldsMode u.scope x Integer → Around f g → IsLocated f g here u → Adds f p q (named_code t u x)
+named_in_attribute : (g : Generator) (p q : Lined) (here : Here) (from : Address) (s : AttributeSpot) → q ≡ p ++ on_line here.line (storing s.mode s.class s.field s.entity from s.is_watched) ∷ [] → (f : Final) (t u : Site) (x : Place) → IsSpot f t x (spots.Attribute s) → t.scope ≡ u.scope → AtTarget f u (landing u x) from → HasTargetRoom f (landing u x) → HoldsMode u.scope x Integer → Around f g → IsLocated f g here u → Adds f p q (named_code t u x)
 named_in_attribute g p q here from s is f t u (ToVariable x) v same at room holds around located = absurd v
 named_in_attribute g p q here from s is f t u (ToAttribute class field e) v same at room holds around located =
     let w : Site = above u Integer in
@@ -150,7 +150,7 @@ attribute_named g p q here from s is = record {
   more = λ f u x around located fits. tt;
 }
 
-named_in_count : (g : Generator) (p q : Lined) (here higher : Here) (from : Address) (class : ℕ) (s : VariableSpot) → higher.line ≡ here.line → (here.height + 1 < 2 ^ 64 → higher.height ≡ here.height + 1) → Gives g p q higher from (λ f t x. IsSpot f t x (spots.Count class s)) → (f : Final) (t u : Site) (x : Place) → IsSpot f t x (spots.Count class s) → t.scope ≡ u.scope → AtTarget f u (landing u x) from → HasRoom f (landing u x) → HoldsMode u.scope x Integer → Around f g → IsLocated f g here u → Adds f p q (named_code t u x)
+named_in_count : (g : Generator) (p q : Lined) (here higher : Here) (from : Address) (class : ℕ) (s : VariableSpot) → higher.line ≡ here.line → (here.height + 1 < 2 ^ 64 → higher.height ≡ here.height + 1) → Assigns g p q higher from (λ f t x. IsSpot f t x (spots.Count class s)) → (f : Final) (t u : Site) (x : Place) → IsSpot f t x (spots.Count class s) → t.scope ≡ u.scope → AtTarget f u (landing u x) from → HasTargetRoom f (landing u x) → HoldsMode u.scope x Integer → Around f g → IsLocated f g here u → Adds f p q (named_code t u x)
 named_in_count g p q here higher from class s line up m f t u (ToVariable x) v same at room holds around located = absurd v
 named_in_count g p q here higher from class s line up m f t u (ToAttribute k field e) v same at room holds around located = absurd v
 named_in_count g p q here higher from class s line up m f t u (ToCount c) v same at room holds around located =
@@ -158,10 +158,10 @@ named_in_count g p q here higher from class s line up m f t u (ToCount c) v same
     let low : height u < f.depth = room in
     let high : height w ≡ height u + 1 = omega arith in
     let on = stands_above f g here higher u w 1 around.small located line up refl refl high (omega (arith, high, low)) in
-    let it : Given = record { resolved = t; place = ToCount c; from = Stays (height u); mode = Integer } in
+    let it : Assignment = record { resolved = t; place = ToCount c; from = Stays (height u); mode = Integer } in
     m.adds f w it around on (v, same, at, holds, on_top (height u) Integer u.cells refl)
 
-pub count_named : (g : Generator) (p q : Lined) (here higher : Here) (from : Address) (class : ℕ) (s : VariableSpot) → higher.line ≡ here.line → (here.height + 1 < 2 ^ 64 → higher.height ≡ here.height + 1) → Gives g p q higher from (λ f t x. IsSpot f t x (spots.Count class s)) → Names g p q here from (λ f t x. IsSpot f t x (spots.Count class s))
+pub count_named : (g : Generator) (p q : Lined) (here higher : Here) (from : Address) (class : ℕ) (s : VariableSpot) → higher.line ≡ here.line → (here.height + 1 < 2 ^ 64 → higher.height ≡ here.height + 1) → Assigns g p q higher from (λ f t x. IsSpot f t x (spots.Count class s)) → Names g p q here from (λ f t x. IsSpot f t x (spots.Count class s))
 count_named g p q here higher from class s line up m = record {
   grows = grows_same g;
   adds = λ f u x around located fits. named_in_count g p q here higher from class s line up m f x.resolved u x.place fits.0 fits.1 fits.2 fits.3 fits.4 around located;
@@ -210,7 +210,7 @@ notice_parts f t t1 u class (ToCount c) (spots.Count k s) make is_t1 is_u h =
     subst (λ (t1 : Site). make (next u) ∷ (count_code v c (Stays (height u)) ++ (place v (i.FileNotice class (Taken (height u)) (Taken (height t1))) ∷ [])) ≡ notice_code t u class (ToCount c) make) (sym is_t1) refl
 
 -- a notice is filed
-notice_files : (f : Final) (t u : Site) (x : Place) (s : Spot) (to time : Address) (class h : ℕ) → IsSpot f t x s → AtTarget f u (landing u x) to → HasRoom f (landing u x) → InFrame (length u.scope.locals + h) time → height u ≤ f.depth → Runs f (place (notice_site u x) (i.FileNotice class (notice_from u x) (Taken h))) (r.FileNotice class (named_at s to) time)
+notice_files : (f : Final) (t u : Site) (x : Place) (s : Spot) (to time : Address) (class h : ℕ) → IsSpot f t x s → AtTarget f u (landing u x) to → HasTargetRoom f (landing u x) → InFrame (length u.scope.locals + h) time → height u ≤ f.depth → Runs f (place (notice_site u x) (i.FileNotice class (notice_from u x) (Taken h))) (r.FileNotice class (named_at s to) time)
 notice_files f t u (ToVariable x) (spots.Variable s) to time class h v at room there deep = record { carries = (Held x, v.at, (Taken h, there, refl)); deep = deep; shown = tt }
 notice_files f t u (ToVariable x) (spots.Attribute s) to time class h v at room there deep = absurd v
 notice_files f t u (ToVariable x) (spots.Count k s) to time class h v at room there deep = absurd v
@@ -273,7 +273,7 @@ schedule_new_made old g1 g2 g3 new p q v w z y end here one higher class x given
 
 -- ## SCHEDULE THE
 
-pub schedule_made : (old g1 new : Generator) (p q v w z : Lined) (here one : Here) (class : ℕ) (e : Expression) (o : Read) (given : List Expression) (when : When) (cell : ℕ) (noted : Bool) → Reads old g1 p q here e o → v ≡ q ++ on_line here.line (r.LookEntity class o.address) ∷ [] → one.line ≡ here.line → (here.height + o.cells < 2 ^ 64 → one.height ≡ here.height + o.cells) → Emits g1 new v w one (λ k. Every (λ e. Typed e k) given × GoodWhen k when) (λ t. values_code t given ++ when_code (after_values t given) when) → (new.deepest < 2 ^ 64 → one.height + length given < new.deepest) → cell ≡ length new.locals.items + one.height → noted ≡ any_watched new.program.now.statistics.items class (length given) → z ≡ w ++ on_line here.line (r.Reschedule class o.address cell (length given) noted) ∷ [] → Emits old new p z here (λ k. Good k (Schedule here.line class e given when)) (λ t. schedule_code t class e given when)
+pub schedule_made : (old g1 new : Generator) (p q v w z : Lined) (here one : Here) (class : ℕ) (e : Expression) (o : Read) (given : List Expression) (when : When) (cell : ℕ) (noted : Bool) → ReadsOperand old g1 p q here e o → v ≡ q ++ on_line here.line (r.LookEntity class o.address) ∷ [] → one.line ≡ here.line → (here.height + o.cells < 2 ^ 64 → one.height ≡ here.height + o.cells) → Emits g1 new v w one (λ k. Every (λ e. Typed e k) given × GoodWhen k when) (λ t. values_code t given ++ when_code (after_values t given) when) → (new.deepest < 2 ^ 64 → one.height + length given < new.deepest) → cell ≡ length new.locals.items + one.height → noted ≡ any_watched new.program.now.statistics.items class (length given) → z ≡ w ++ on_line here.line (r.Reschedule class o.address cell (length given) noted) ∷ [] → Emits old new p z here (λ k. Good k (Schedule here.line class e given when)) (λ t. schedule_code t class e given when)
 schedule_made old g1 new p q v w z here one class e o given when cell noted m look line up n room is_cell is_noted made = record {
   grows = grows_then old g1 new m.grows n.grows;
   adds = λ f t u around located good.
@@ -306,7 +306,7 @@ schedule_made old g1 new p q v w z here one class e o given when cell noted m lo
 
 -- ## RESET
 
-restart_numbers : (s : Scope) (k : ℕ) (e : Option Expression) → GoodRestart s k e → AreNumbers e s
+restart_numbers : (s : TypedScope) (k : ℕ) (e : Option Expression) → GoodRestart s k e → AreNumbers e s
 restart_numbers s k None h = tt
 restart_numbers s k (Some e) h = h.1
 

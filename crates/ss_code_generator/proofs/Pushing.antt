@@ -16,9 +16,9 @@ use Rattle.ss_code_instructions.proofs.Stacked.{values_high}
 use Rattle.ss_code_generator.specs.declared.generator.Generator.{Generator}
 use Rattle.ss_code_generator.specs.declared.generator.Site.{Site as Here}
 use Rattle.ss_code_generator.specs.declared.targets.VariableSpot.{VariableSpot}
-use Rattle.ss_code_pieces.specs.Lined.{Lined, nothing, on_line}
+use Rattle.ss_code_pieces.specs.Lined.{Lined, no_code, on_line}
 use Rattle.ss_code_generator.specs.Emitted.{Final, Around, Grows, Emits, AtOperand, Typed}
-use Rattle.ss_code_generator.specs.Looped.{TakesItem, TakesItems}
+use Rattle.ss_code_generator.specs.Looped.{TakesLoopItem, TakesItems}
 use Rattle.ss_code_generator.proofs.Emitting.{around_old, grows_same, grows_then, stands_old, stands_above, adds_then, adds_one, adds_piece, adds_same, piece_long}
 use Rattle.ss_code_generator.proofs.Operands.{cell_at_site}
 use Rattle.ss_code_generator.proofs.Listed.{every_split}
@@ -79,17 +79,17 @@ all_values old new p q here xs i le m = subst (λ (l : List expressions.Expressi
 -- ## Items of a loop
 
 -- the item, the turn, and on to the next one
-pub items_taken : (g : Generator) (a b c turn : Lined) (here : Here) (n back : ℕ) (s : VariableSpot) → TakesItem g nothing a here n s → b ≡ a ++ turn → back ≡ length b → c ≡ b ++ on_line here.line (r.Next n back) ∷ [] → TakesItems g c here n s turn
+pub items_taken : (g : Generator) (a b c turn : Lined) (here : Here) (n back : ℕ) (s : VariableSpot) → TakesLoopItem g no_code a here n s → b ≡ a ++ turn → back ≡ length b → c ≡ b ++ on_line here.line (r.Next n back) ∷ [] → TakesItems g c here n s turn
 items_taken g a b c turn here n back s m both long made = record {
   grows = grows_same g;
   adds = λ f u x around located fits.
       let one = m.adds f u x around located fits.0 in
       let head : List Placed = take_code u x.cell x.variable in
       let two = adds_piece f a b turn x.turn both fits.1 in
-      let whole = adds_then f nothing a b head x.turn one two in
+      let whole = adds_then f no_code a b head x.turn one two in
       let back_is : back ≡ length head + length x.turn = long ∙ piece_long f b (head ++ x.turn) whole ∙ length-append head x.turn in
       let last : Placed = place u (i.Next x.cell (length head + length x.turn)) in
-      adds_then f nothing a c head (x.turn ++ last ∷ []) one
+      adds_then f no_code a c head (x.turn ++ last ∷ []) one
       (adds_then f a b c x.turn (last ∷ []) two
       (adds_one f b c here.line last (r.Next n back) made located.line (record { carries = (x.cell, fits.0.1, ap (i.Next x.cell) (sym back_is)); deep = located.deep; shown = tt })));
   more = λ f u x around located fits. tt;

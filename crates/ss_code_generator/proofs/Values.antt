@@ -19,7 +19,7 @@ use Rattle.ss_base.specs.declared.words.UnaryOperator.{UnaryOperator}
 use Rattle.ss_program.specs.Program.{Program, Expression, Constant as AConstant, Fetch, Attribute, OfSystemSet, OfSet, OfMember, TimeOf, Figure, FigureOf, Signed, Unary}
 use Rattle.ss_program.specs.View.{view_expression, view_program}
 use Rattle.ss_program.specs.Views.{with_operation}
-use Rattle.ss_program.specs.WellTyped.{Scope, HasMode, mode_at, field_mode}
+use Rattle.ss_program.specs.WellTyped.{TypedScope, HasMode, mode_at, field_mode}
 use Rattle.ss_meaning.specs.Values.{operator_of}
 use Rattle.ss_code_instructions.specs.declared.address.Address.{Address}
 use Rattle.ss_code_instructions.specs.declared.instruction.Instruction.{Instruction as Running}
@@ -34,8 +34,8 @@ use Rattle.ss_code_generator.specs.declared.generator.Site.{Site as Here}
 use Rattle.ss_code_pieces.specs.Lined.{Lined, on_line}
 use Rattle.ss_code_instructions.specs.Forms.{calculating, asking_set, asking_member, moving, fetching}
 use Rattle.ss_code_pieces.specs.Preamble.{mode_in}
-use Rattle.ss_code_generator.specs.Calculations.{folded, operation_code, Left, Operates}
-use Rattle.ss_code_generator.specs.Emitted.{Final, Around, Grows, IsLocated, Shown, Runs, EmitsTo, AtOperand, AtTarget, Typed, IsNumber, Reads}
+use Rattle.ss_code_generator.specs.Calculations.{with_operations, operation_code, LeftOperand, Operates}
+use Rattle.ss_code_generator.specs.Emitted.{Final, Around, Grows, IsLocated, Shown, Runs, EmitsTo, AtOperand, AtTarget, Typed, IsInteger, ReadsOperand}
 use Rattle.ss_code_generator.proofs.Emitting.{around_old, grows_then, stands_old, adds_then, adds_one, adds_same, makes_later}
 use Rattle.ss_code_generator.proofs.Forms as forms
 use Rattle.ss_code_generator.proofs.Modes.{held_mode, has_field}
@@ -93,12 +93,12 @@ module _ (old new : Generator) (p : Lined) (here : Here) (to : Address) where
   -- ## Forms with one operand
 
   -- the operand, and an instruction that carries out what follows where the operand has this address
-  abbrev Suits : (e : Expression) (o : Read) (g : Generator) (Good : Scope → Type 0) (make : Target → Operand → Instruction) (y : Running) → Type 0
+  abbrev Suits : (e : Expression) (o : Read) (g : Generator) (Good : TypedScope → Type 0) (make : Target → Operand → Instruction) (y : Running) → Type 0
   Suits e o g Good make y =
       (f : Final) (t : Site) (x : Target) → Around f g → IsLocated f g here t → AtTarget f t x to → Good t.scope → AtOperand f (after t e) (operand t e) o.address →
       Carries (code_of f.program) f.constants (place (after t e) (make x (operand t e))) y × Shown f.prints (after t e).cells (make x (operand t e))
 
-  pub one_emitted : (q s : Lined) (e : Expression) (o : Read) (g : Generator) (Good : Scope → Type 0) (make : Target → Operand → Instruction) (y : Running) → Grows g new → Reads old g p q here e o → ((k : Scope) → Good k → HasMode k e Integer) → s ≡ q ++ on_line here.line y ∷ [] → Suits e o new Good make y → EmitsTo old new p s here to Good (λ t x. with_operand t e (make x))
+  pub one_emitted : (q s : Lined) (e : Expression) (o : Read) (g : Generator) (Good : TypedScope → Type 0) (make : Target → Operand → Instruction) (y : Running) → Grows g new → ReadsOperand old g p q here e o → ((k : TypedScope) → Good k → HasMode k e Integer) → s ≡ q ++ on_line here.line y ∷ [] → Suits e o new Good make y → EmitsTo old new p s here to Good (λ t x. with_operand t e (make x))
   one_emitted q s e o g Good make y grows m number is suits = record {
     grows = grows_then old g new m.grows grows;
     adds = λ f t x around located fits.
@@ -112,7 +112,7 @@ module _ (old new : Generator) (p : Lined) (here : Here) (to : Address) where
     more = λ f t x around located fits. tt;
   }
 
-  module _ (q s : Lined) (e : Expression) (o : Read) (g : Generator) (grows : Grows g new) (m : Reads old g p q here e o) where
+  module _ (q s : Lined) (e : Expression) (o : Read) (g : Generator) (grows : Grows g new) (m : ReadsOperand old g p q here e o) where
     pub attribute_emitted : (class field : ℕ) (n : Mode) → ((f : Final) (t : Site) → Around f new → IsLocated f new here t → or_integer (field_mode t.scope.program class field) ≡ n) → s ≡ q ++ on_line here.line (fetching n class field o.address to) ∷ [] → EmitsTo old new p s here to (Typed (Attribute class field e)) (λ t x. expression_code t x (Attribute class field e))
     attribute_emitted class field n mode is =
         one_emitted q s e o g (Typed (Attribute class field e)) (λ x y. i.Attribute class field y x) (fetching n class field o.address to) grows m (λ k h. h.1.1) is (λ f t x around located at good from.
@@ -154,7 +154,7 @@ module _ (old new : Generator) (p : Lined) (here : Here) (to : Address) where
 -- ## Operations, worked off from left to right
 
 -- an operation on a number that is there
-pub operation_emitted : (old new : Generator) (p q s : Lined) (here higher : Here) (left right : Read) (to : Address) (op : Operation) → higher.line ≡ here.line → (here.height + left.cells < 2 ^ 64 → higher.height ≡ here.height + left.cells) → Reads old new p q higher (view_expression op.operand) right → s ≡ q ++ on_line here.line (calculating op.operator left.address right.address to) ∷ [] → Operates old new p s here left to op
+pub operation_emitted : (old new : Generator) (p q s : Lined) (here higher : Here) (left right : Read) (to : Address) (op : Operation) → higher.line ≡ here.line → (here.height + left.cells < 2 ^ 64 → higher.height ≡ here.height + left.cells) → ReadsOperand old new p q higher (view_expression op.operand) right → s ≡ q ++ on_line here.line (calculating op.operator left.address right.address to) ∷ [] → Operates old new p s here left to op
 operation_emitted old new p q s here higher left right to op line above m is = record {
   grows = m.grows;
   adds = λ f t x around located fits.
@@ -176,11 +176,11 @@ pub calculated_code : (t : Site) (e : Expression) (o : Operation) (to : Target) 
 calculated_code t e o to = refl
 
 -- what is typed as a whole has typed parts: the number before the last operation, and what comes after it
-pub parts_typed : (s : Scope) (e : Expression) (o : Operation) → Typed (with_operation e o) s → IsNumber e s × IsNumber (view_expression o.operand) s
+pub parts_typed : (s : TypedScope) (e : Expression) (o : Operation) → Typed (with_operation e o) s → IsInteger e s × IsInteger (view_expression o.operand) s
 parts_typed s e o h = (h.1.1, h.1.2)
 
 -- one operation more, whose result goes to a target
-pub more_emitted : (old mid new : Generator) (p q s : Lined) (here : Here) (e : Expression) (o : Operation) (left : Read) (to : Address) → Reads old mid p q here e left → Operates mid new q s here left to o → EmitsTo old new p s here to (Typed (with_operation e o)) (λ t x. expression_code t x (with_operation e o))
+pub more_emitted : (old mid new : Generator) (p q s : Lined) (here : Here) (e : Expression) (o : Operation) (left : Read) (to : Address) → ReadsOperand old mid p q here e left → Operates mid new q s here left to o → EmitsTo old new p s here to (Typed (with_operation e o)) (λ t x. expression_code t x (with_operation e o))
 more_emitted old mid new p q s here e o left to m n = record {
   grows = grows_then old mid new m.grows n.grows;
   adds = λ f t x around located fits.
@@ -188,7 +188,7 @@ more_emitted old mid new p q s here e o left to m n = record {
       let there = stands_old f mid new here t n.grows located in
       let parts = parts_typed t.scope e o fits.1 in
       let typed : Typed e t.scope = (Integer, parts.0) in
-      let both : Left = record { left = e; to = x } in
+      let both : LeftOperand = record { left = e; to = x } in
       adds_same f p s (operand_code t e ++ operation_code t e o x) (expression_code t x (with_operation e o)) (calculated_code t e o x)
       (adds_then f p q s (operand_code t e) (operation_code t e o x) (m.adds f t tt mine there typed)
       (n.adds f t both around located (m.more f t tt mine there typed, fits.0, parts.1)));
@@ -196,16 +196,16 @@ more_emitted old mid new p q s here e o left to m n = record {
 }
 
 -- one operation more, whose result goes into the next cell
-pub next_reads : (old mid cell new : Generator) (p q s : Lined) (here : Here) (e : Expression) (o : Operation) (left : Read) (a : Address) → Reads old mid p q here e left → Grows mid cell → InFrame (length cell.locals.items + here.height) a → here.height < cell.deepest → Operates cell new q s here left a o → Reads old new p s here (with_operation e o) (record { address = a; cells = 1 })
+pub next_reads : (old mid cell new : Generator) (p q s : Lined) (here : Here) (e : Expression) (o : Operation) (left : Read) (a : Address) → ReadsOperand old mid p q here e left → Grows mid cell → InFrame (length cell.locals.items + here.height) a → here.height < cell.deepest → Operates cell new q s here left a o → ReadsOperand old new p s here (with_operation e o) (record { address = a; cells = 1 })
 next_reads old mid cell new p q s here e o left a m grows at room n =
     cell_reads_at old cell new p s here (with_operation e o) a refl n.grows at room (more_emitted old cell new p q s here e o left a (makes_later old mid cell p q here _ _ _ grows m) n)
 
 -- operations so far, with the next one, and all of them, of which this is the last one
-pub folded_taken : (e : Expression) (os : List Operation) (i : ℕ) (o : Operation) → i < length os → o ≡ get_or os i o → folded e (take (i + 1) os) ≡ with_operation (folded e (take i os)) o
-folded_taken e os i o lt is = ap (folded e) (take_more os i o lt ∙ ap (λ (x : Operation). take i os ++ x ∷ []) (sym is)) ∙ fold-append with_operation e (take i os) (o ∷ [])
+pub folded_taken : (e : Expression) (os : List Operation) (i : ℕ) (o : Operation) → i < length os → o ≡ get_or os i o → with_operations e (take (i + 1) os) ≡ with_operation (with_operations e (take i os)) o
+folded_taken e os i o lt is = ap (with_operations e) (take_more os i o lt ∙ ap (λ (x : Operation). take i os ++ x ∷ []) (sym is)) ∙ fold-append with_operation e (take i os) (o ∷ [])
 
-pub folded_last : (e : Expression) (os : List Operation) (i j : ℕ) (o : Operation) → length os ≡ i + 1 → j ≡ i → o ≡ get_or os j o → folded e os ≡ with_operation (folded e (take i os)) o
-folded_last e os i j o long same is = ap (folded e) (sym (take_all (i + 1) os (omega (arith, long)))) ∙ folded_taken e os i o (omega (arith, long)) (is ∙ ap (λ k. get_or os k o) same)
+pub folded_last : (e : Expression) (os : List Operation) (i j : ℕ) (o : Operation) → length os ≡ i + 1 → j ≡ i → o ≡ get_or os j o → with_operations e os ≡ with_operation (with_operations e (take i os)) o
+folded_last e os i j o long same is = ap (with_operations e) (sym (take_all (i + 1) os (omega (arith, long)))) ∙ folded_taken e os i o (omega (arith, long)) (is ∙ ap (λ k. get_or os k o) same)
 
 -- ## Modes that the generator knows
 

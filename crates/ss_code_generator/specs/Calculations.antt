@@ -12,23 +12,23 @@ use Rattle.ss_code_generator.specs.declared.expressions.Operand.{Operand as Read
 use Rattle.ss_code_generator.specs.declared.generator.Generator.{Generator}
 use Rattle.ss_code_generator.specs.declared.generator.Site.{Site as Here}
 use Rattle.ss_code_pieces.specs.Lined.{Lined}
-use Rattle.ss_code_generator.specs.Emitted.{Makes, NoMore, AtTarget, IsRead, IsNumber}
+use Rattle.ss_code_generator.specs.Emitted.{Generates, NoMore, AtTarget, IsRead, IsInteger}
 use Rattle.ss_code_instructions.specs.declared.address.Address.{Address}
 
 -- a number and operations on it
-abbrev pub folded : Expression → List Operation → Expression
-folded e os = fold with_operation e os
+abbrev pub with_operations : Expression → List Operation → Expression
+with_operations e os = fold with_operation e os
 
 -- the code of an operation, once the number on its left is there
 abbrev pub operation_code : Site → Expression → Operation → Target → List Placed
 operation_code t e o to = with_operand (after t e) (view_expression o.operand) (λ y. i.Calculate o.operator (operand t e) y to)
 
 -- the number on the left, and where the result goes
-pub record Left : Type 0 where
+pub record LeftOperand : Type 0 where
   pub left : Expression
   pub to : Target
 
 -- an operation on a number that is there
 abbrev pub Operates : (old new : Generator) → (before following : Lined) → Here → Read → Address → Operation → Type 0
 Operates old new before following here left to o =
-    Makes {I = Left} old new before following here (λ f t x. IsRead f t x.left left × AtTarget f t x.to to × IsNumber (view_expression o.operand) t.scope) (λ t x. operation_code t x.left o x.to) NoMore
+    Generates {I = LeftOperand} old new before following here (λ f t x. IsRead f t x.left left × AtTarget f t x.to to × IsInteger (view_expression o.operand) t.scope) (λ t x. operation_code t x.left o x.to) NoMore

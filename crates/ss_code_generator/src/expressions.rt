@@ -3,7 +3,8 @@
 ghost use Rattle.std.specs.Prelude.{◌≡◌, ◌+◌, ◌<◌, ◌≤◌, ◌^◌, ◌∷◌, [], length, map, pos, IfOk, OnOk};
 ghost use Rattle.std.specs.List.{AllByRecursion as Every};
 ghost use Rattle.ss_base.specs.declared.value.Value.TheVariants.{Whole};
-ghost use Rattle.ss_program.specs.View.{view_expression, view_owner, view_option};
+ghost use Rattle.ss_program.specs.View.{view_expression, view_owner};
+ghost use Rattle.std.specs.Option.{option_map};
 ghost use Rattle.ss_meaning.specs.Values.{operator_of};
 ghost use Rattle.ss_code_instructions.specs.Instructions.{Constant, Move};
 ghost use Rattle.ss_code_instructions.specs.declared.instruction.Instruction.TheVariants.{Figure as Figures};
@@ -11,7 +12,7 @@ ghost use Rattle.ss_code_instructions.specs.Facts.{expression_of};
 ghost use Rattle.ss_code_instructions.specs.Translation.{expression_code, values_code, place, next};
 ghost use Rattle.ss_code_instructions.specs.Forms.{calculating, asking_set, asking_member, moving, fetching};
 ghost use Rattle.ss_code_generator.specs.Calculations.{Operates};
-ghost use Rattle.ss_code_generator.specs.Emitted.{Grows, Emits, EmitsTo, Typed, IsLeaf, Reads, Bears};
+ghost use Rattle.ss_code_generator.specs.Emitted.{Grows, Emits, EmitsTo, Typed, IsLeaf, ReadsOperand, Bears};
 
 use crate::generator::{Generator, Site};
 use ss_base::Mode;
@@ -158,7 +159,7 @@ impl Generator<'_> {
         site: Site,
         e: &Expression,
     ) -> Result<Operand, AllocError>
-        ensures { IfOk result (λ o. Reads self.old self.new code.old code.new site (view_expression e.now) o) }
+        ensures { IfOk result (λ o. ReadsOperand self.old self.new code.old code.new site (view_expression e.now) o) }
     {
         if let Some(address) = self.leaf(e)? {
             return Ok(Operand::leaf(address));
@@ -329,7 +330,7 @@ impl Generator<'_> {
         site: Site,
         e: &Option<Expression>,
     ) -> Result<Operand, AllocError>
-        ensures { IfOk result (λ o. Bears self.old self.new code.old code.new site (view_option view_expression e.now) o) }
+        ensures { IfOk result (λ o. Bears self.old self.new code.old code.new site (option_map view_expression e.now) o) }
     {
         match e {
             None => Ok(Operand::leaf(self.zero()?)),

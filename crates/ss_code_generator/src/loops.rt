@@ -3,11 +3,12 @@
 ghost use Rattle.std.specs.Prelude.{◌≡◌, map, Some, IfOk, OnOk};
 ghost use Rattle.std.specs.List.{AllByRecursion as Every};
 ghost use Rattle.ss_program.specs.Program.{Members, From};
-ghost use Rattle.ss_program.specs.View.{view_expression, view_option, view_owner, view_start, view_head, view_guard, view_phrase};
+ghost use Rattle.ss_program.specs.View.{view_expression, view_owner, view_start, view_head, view_guard, view_phrase};
+ghost use Rattle.std.specs.Option.{option_map};
 ghost use Rattle.ss_program.specs.WellTyped.{GoodHead, GoodCondition, GoodPhrase};
 ghost use Rattle.ss_code_instructions.specs.Translation.{loop_code, range_code, for_code, find_code};
-ghost use Rattle.ss_code_generator.specs.Emitted.{Emits, EmitsAround, EmitsAroundBoth, IsNumber, AreNumbers};
-ghost use Rattle.ss_code_generator.specs.Looped.{loop_width, is_after, begin_of, items_begin, item_loop_code, TakesItem, TakesItems, TakesMembers, StartsWalk, KeepsOwner};
+ghost use Rattle.ss_code_generator.specs.Emitted.{Emits, EmitsAround, EmitsAroundBoth, IsInteger, AreNumbers};
+ghost use Rattle.ss_code_generator.specs.Looped.{loop_width, is_after, begin_of, items_begin, item_loop_code, TakesLoopItem, TakesItems, TakesMembers, StartsWalk, KeepsOwner};
 
 use crate::expressions::Operand;
 use crate::generator::{Generator, Site};
@@ -41,7 +42,7 @@ pub fn cells_of(head: &Head) -> usize
 
 // A walk over the members of a set: the variable, the set, its owner, the cell of the next member and the order.
 #[derive(Clone, Copy)]
-pub struct Walk {
+pub struct MemberLoop {
     pub variable: VariableSpot,
     pub set: u32,
     pub owner: Address,
@@ -50,7 +51,7 @@ pub struct Walk {
 }
 
 // The instruction that begins a walk from a member on, or after it.
-fn begin_at(walk: Walk, after: bool, skip: u32) -> Instruction
+fn begin_at(walk: MemberLoop, after: bool, skip: u32) -> Instruction
     ensures { result ≡ begin_of walk (Some after) skip }
 {
     Instruction::BeginAt {
@@ -64,7 +65,7 @@ fn begin_at(walk: Walk, after: bool, skip: u32) -> Instruction
 }
 
 // The instruction that begins a walk, which jumps where there is no member.
-fn begin(walk: Walk, start: &Start, skip: u32) -> Instruction
+fn begin(walk: MemberLoop, start: &Start, skip: u32) -> Instruction
     ensures { result ≡ begin_of walk (is_after (view_start start.now)) skip }
 {
     match start {
@@ -138,7 +139,7 @@ impl Generator<'_> {
         cell: u32,
         variable: VariableSpot,
     ) -> Result<(), AllocError>
-        ensures { OnOk result (TakesItem self.now code.old code.new site cell variable) }
+        ensures { OnOk result (TakesLoopItem self.now code.old code.new site cell variable) }
     {
         match variable.watched {
             None => {
@@ -181,7 +182,7 @@ impl Generator<'_> {
         limit: &Expression,
         step: &Option<Expression>,
     ) -> Result<(), AllocError>
-        ensures { OnOk result (Emits self.old self.new code.old code.new site (λ s. IsNumber (view_expression first.now) s × IsNumber (view_expression limit.now) s × AreNumbers (view_option view_expression step.now) s) (λ t. range_code t (view_expression first.now) (view_expression limit.now) (view_option view_expression step.now))) }
+        ensures { OnOk result (Emits self.old self.new code.old code.new site (λ s. IsInteger (view_expression first.now) s × IsInteger (view_expression limit.now) s × AreNumbers (option_map view_expression step.now) s) (λ t. range_code t (view_expression first.now) (view_expression limit.now) (option_map view_expression step.now))) }
     {
         self.push(code, site, first)?;
         self.push(code, site.above(1), limit)?;
@@ -215,7 +216,7 @@ impl Generator<'_> {
     }
 
     // The members of a walk: a turn, and on to the next one.
-    fn take_members(&self, site: Site, walk: Walk, turn: &Piece) -> Result<Piece, AllocError>
+    fn take_members(&self, site: Site, walk: MemberLoop, turn: &Piece) -> Result<Piece, AllocError>
         ensures { IfOk result (λ code. TakesMembers self.now code site walk turn.now) }
     {
         let mut code = Piece::new(self.alloc);
@@ -262,7 +263,7 @@ impl Generator<'_> {
         &mut self,
         code: &mut Piece,
         site: Site,
-        walk: Walk,
+        walk: MemberLoop,
         member: &Expression,
     ) -> Result<(), AllocError>
         ensures { OnOk result (StartsWalk self.old self.new code.old code.new site walk (From (view_expression member.now))) }
@@ -282,7 +283,7 @@ impl Generator<'_> {
         &mut self,
         code: &mut Piece,
         site: Site,
-        walk: Walk,
+        walk: MemberLoop,
         start: &Start,
     ) -> Result<(), AllocError>
         ensures { OnOk result (StartsWalk self.old self.new code.old code.new site walk (view_start start.now)) }
@@ -306,7 +307,7 @@ impl Generator<'_> {
     {
         let kept = self.kept_owner(code, site, of.owner)?;
         let below = site.above(kept.cells);
-        let walk = Walk {
+        let walk = MemberLoop {
             variable: self.variable_spot(of.variable)?,
             set: as_index(of.set)?,
             owner: kept.address,

@@ -7,7 +7,7 @@ ghost use Rattle.ss_program.specs.View.{view_expression, view_condition, view_pl
 ghost use Rattle.ss_program.specs.WellTyped.{GoodCondition, Good, GoodBlock};
 ghost use Rattle.ss_code_instructions.specs.Instructions.{Call as Calls, Destroy as Destroys, Skip as Skips, Leave};
 ghost use Rattle.ss_code_instructions.specs.Translation.{with_operand, values_code, after_values, place, height as high_of, if_code, gives_code, block_code, block_prints};
-ghost use Rattle.ss_code_pieces.specs.Lined.{nothing, on_line};
+ghost use Rattle.ss_code_pieces.specs.Lined.{no_code, on_line};
 ghost use Rattle.ss_code_generator.specs.Emitted.{Emits, EmitsAroundBoth};
 ghost use Rattle.ss_code_generator.specs.Spots.{GoodPlace};
 ghost use Rattle.ss_code_generator.specs.Printed.{statement_site, line_or_none, PrintsBy, EmitsStatement, EmitsBlock};
@@ -281,7 +281,7 @@ impl Generator<'_> {
         prints: &mut Vec<Lines>,
         body: &[Statement],
     ) -> Result<Piece, AllocError>
-        ensures { IfOk result (λ code. PrintsBy self.old self.new nothing code (statement_site 0) prints.old.items prints.new.items (λ s. GoodBlock s (view_body body.now)) (block_prints (view_body body.now)) (λ first t. block_code t first (view_body body.now) ++ place t Leave ∷ [])) }
+        ensures { IfOk result (λ code. PrintsBy self.old self.new no_code code (statement_site 0) prints.old.items prints.new.items (λ s. GoodBlock s (view_body body.now)) (block_prints (view_body body.now)) (λ first t. block_code t first (view_body body.now) ++ place t Leave ∷ [])) }
     {
         let mut code = self.body(prints, 0, body)?;
         code.put(Line(0), Instruction::Leave)?;

@@ -9,8 +9,8 @@ abbrev pub Lined : Type 0
 Lined = List LinedInstruction
 
 -- none
-abbrev pub nothing : Lined
-nothing = []
+abbrev pub no_code : Lined
+no_code = []
 
 -- an instruction on a line
 abbrev pub on_line : Line → Instruction → LinedInstruction

@@ -1,7 +1,7 @@
 //! Code that is made from its end to its beginning.
 
 ghost use Rattle.std.specs.Prelude.{◌≡◌, ◌++◌, ◌<◌, ◌^◌, length, OnOk};
-ghost use Rattle.ss_code_pieces.specs.Lined.{nothing};
+ghost use Rattle.ss_code_pieces.specs.Lined.{no_code};
 
 use crate::piece::Piece;
 use std::alloc::{AllocError, Global};
@@ -28,7 +28,7 @@ impl Model for Backward {
 impl Backward {
     /// No instruction.
     pub fn new(alloc: Global) -> Backward
-        ensures { result ≡ nothing }
+        ensures { result ≡ no_code }
     {
         Backward {
             piece: Piece::new(alloc),

@@ -1,7 +1,7 @@
 //! Pieces of code.
 
 ghost use Rattle.std.specs.Prelude.{◌≡◌, [], ◌∷◌, ◌++◌, ◌<◌, ◌^◌, length, reverse, IfOk, OnOk};
-ghost use Rattle.ss_code_pieces.specs.Lined.{nothing, on_line};
+ghost use Rattle.ss_code_pieces.specs.Lined.{no_code, on_line};
 
 use ss_base::Line;
 use ss_code_instructions::instruction::Instruction;
@@ -34,7 +34,7 @@ impl Model for Piece {
 impl Piece {
     /// No instruction.
     pub fn new(alloc: Global) -> Piece
-        ensures { result ≡ nothing }
+        ensures { result ≡ no_code }
     {
         Piece {
             items: Vec::new(alloc),

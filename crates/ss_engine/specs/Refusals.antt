@@ -77,9 +77,9 @@ abbrev pub parsed : ParseError → Refusal
 parsed parsing.Memory = Memory
 parsed e = Parsed e
 
-abbrev pub declared : TableError → Refusal
-declared declaring.Memory = Memory
-declared e = Declared e
+abbrev pub table_refusal : TableError → Refusal
+table_refusal declaring.Memory = Memory
+table_refusal e = Declared e
 
 abbrev pub used : CheckError → Refusal
 used using.Memory = Memory

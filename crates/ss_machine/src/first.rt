@@ -1,7 +1,7 @@
 //! The first state of a machine.
 
 ghost use Rattle.std.specs.Prelude.{◌≡◌, ◌+◌, ◌<◌, ◌^◌, length, IfOk, OnOk};
-ghost use Rattle.ss_machine.specs.Beginning.{Laid, values_laid, firsts_laid, IsFirstScene, IsFirstState, first_here};
+ghost use Rattle.ss_machine.specs.Beginning.{IsLaidOut, values_laid, firsts_laid, IsFirstScene, IsFirstState, first_here};
 ghost use Rattle.ss_machine.specs.Start.{IsAtStart};
 ghost use Rattle.ss_machine.specs.Situations.{situated};
 
@@ -37,7 +37,7 @@ fn put_constants(rows: &mut Rows, constants: &[Value]) -> Result<(), AllocError>
 
 // The rows before the first instruction: the global variables, the constants, and the frame of MAIN.
 fn first_rows(alloc: Global, code: &Code) -> Result<Rows, AllocError>
-    ensures { IfOk result (λ rows. Laid code.now rows) }
+    ensures { IfOk result (λ rows. IsLaidOut code.now rows) }
 {
     let _made = code.len();
     let mut rows = Rows::new(alloc);

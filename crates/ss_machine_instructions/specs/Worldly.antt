@@ -34,9 +34,9 @@ Settled f old new (Ok u) = (s : Store) → IsRight (f (with_seen s old)) → f (
 Settled f old new (Err kind) = (s : Store) → IsRight (f (with_seen s old)) → f (with_seen s old) ≡ Err (Fails kind)
 
 -- it gives a number as well
-abbrev pub Given : (Store → Result (Value × Store) Trouble) → (old new : Seen) → Result ℤ FaultKind → Type 0
-Given f old new (Ok n) = (s : Store) → IsRight (f (with_seen s old)) → f (with_seen s old) ≡ Ok (Whole n, with_seen s new)
-Given f old new (Err kind) = (s : Store) → IsRight (f (with_seen s old)) → f (with_seen s old) ≡ Err (Fails kind)
+abbrev pub SettledGiving : (Store → Result (Value × Store) Trouble) → (old new : Seen) → Result ℤ FaultKind → Type 0
+SettledGiving f old new (Ok n) = (s : Store) → IsRight (f (with_seen s old)) → f (with_seen s old) ≡ Ok (Whole n, with_seen s new)
+SettledGiving f old new (Err kind) = (s : Store) → IsRight (f (with_seen s old)) → f (with_seen s old) ≡ Err (Fails kind)
 
 -- ## Notes
 
@@ -85,7 +85,7 @@ Removes set noted old new r m x =
 -- the first or the last is removed from it, and is the answer
 abbrev pub Takes : End → (set : ℕ) → (noted : Bool) → (old new : Seen) → Result ℤ FaultKind → (owner : ℤ) → Type 0
 Takes end set noted old new r m =
-    (o : Option Value) → IsOwner old set o m → IsTold noted (OfCount set) old → Given (removed_at end set o) old new r
+    (o : Option Value) → IsOwner old set o m → IsTold noted (OfCount set) old → SettledGiving (removed_at end set o) old new r
 
 -- 1 where there is an owner, and 0 where there is none, or a fault
 abbrev pub one_of : Result (Option ℤ) FaultKind → Result ℤ FaultKind

@@ -6,7 +6,7 @@ ghost use Rattle.ss_names_declarations.specs.Firsts.{entry_if, place_among, plac
 ghost use Rattle.ss_names.specs.declared.meaning.Meaning.TheVariants as m;
 ghost use Rattle.ss_names.specs.Entries.{count_name};
 ghost use Rattle.ss_names.specs.Table.{attribute_meaning, class_meaning, class_entry, count_meaning, count_entry, declares, derived_name, fold_of, same_of_set, set_meanings, subject_of, subjects_by, variable_meaning};
-ghost use Rattle.ss_names.specs.Filling.{all_entered, clash_after, enter, entered, letter_of_member, letter_of_set, meanings_pass, sooner, with_meanings, with_subjects};
+ghost use Rattle.ss_names.specs.Filling.{all_entered, clash_after, enter_name, entered, letter_of_member, letter_of_set, meanings_pass, sooner, with_meanings, with_subjects};
 
 use crate::filling::{class_number, has_attribute, set_number};
 use crate::meaning::Meaning;
@@ -78,7 +78,7 @@ fn enter(
     spelling: Spelling,
     meaning: Meaning,
 ) -> Result<(), AllocError>
-    ensures { OnOk result (entered meanings.new clash.new ≡ enter line (entered meanings.old clash.old) (spelling, meaning)) }
+    ensures { OnOk result (entered meanings.new clash.new ≡ enter_name line (entered meanings.old clash.old) (spelling, meaning)) }
 {
     let known = meanings.meaning(&spelling);
     let next = clash_after(*clash, known, meaning, line);
@@ -94,7 +94,7 @@ fn enter_if(
     spelling: Spelling,
     meaning: Option<Meaning>,
 ) -> Result<(), AllocError>
-    ensures { OnOk result (entered meanings.new clash.new ≡ fold (enter line) (entered meanings.old clash.old) (entry_if spelling meaning)) }
+    ensures { OnOk result (entered meanings.new clash.new ≡ fold (enter_name line) (entered meanings.old clash.old) (entry_if spelling meaning)) }
 {
     match meaning {
         Some(meaning) => enter(meanings, clash, line, spelling, meaning),
@@ -178,7 +178,7 @@ fn enter_class(
     line: Line,
     name: &Name,
 ) -> Result<(), AllocError>
-    ensures { OnOk result (entered meanings.new clash.new ≡ fold (enter line) (entered meanings.old clash.old) (entry_if name.now (class_entry names.now name.now) ++ entry_if (count_name name.now) (count_entry names.now name.now))) }
+    ensures { OnOk result (entered meanings.new clash.new ≡ fold (enter_name line) (entered meanings.old clash.old) (entry_if name.now (class_entry names.now name.now) ++ entry_if (count_name name.now) (count_entry names.now name.now))) }
 {
     let meaning = class_entry(names, name);
     let count = count_entry(names, name);
@@ -195,7 +195,7 @@ fn enter_of_set(
     query: SetQuery,
     set: usize,
 ) -> Result<(), AllocError>
-    ensures { OnOk result (entered meanings.new clash.new ≡ enter line (entered meanings.old clash.old) (derived_name (letter_of_set query) name.now, m.OfSet query set)) }
+    ensures { OnOk result (entered meanings.new clash.new ≡ enter_name line (entered meanings.old clash.old) (derived_name (letter_of_set query) name.now, m.OfSet query set)) }
 {
     let spelling = Spelling::derived(letter_of_set(query), name);
     enter(
@@ -227,7 +227,7 @@ fn enter_of_member(
     query: MemberQuery,
     set: usize,
 ) -> Result<(), AllocError>
-    ensures { OnOk result (entered meanings.new clash.new ≡ enter line (entered meanings.old clash.old) (derived_name (letter_of_member query) name.now, m.OfMember query set)) }
+    ensures { OnOk result (entered meanings.new clash.new ≡ enter_name line (entered meanings.old clash.old) (derived_name (letter_of_member query) name.now, m.OfMember query set)) }
 {
     let spelling = Spelling::derived(letter_of_member(query), name);
     enter(
@@ -258,7 +258,7 @@ fn enter_numbered(
     name: &Name,
     set: usize,
 ) -> Result<(), AllocError>
-    ensures { OnOk result (entered meanings.new clash.new ≡ fold (enter line) (entered meanings.old clash.old) (set_meanings name.now (Some set))) }
+    ensures { OnOk result (entered meanings.new clash.new ≡ fold (enter_name line) (entered meanings.old clash.old) (set_meanings name.now (Some set))) }
 {
     let spelling = Spelling::of_name(name);
     enter(meanings, clash, line, spelling, Meaning::Set { set })?;
@@ -278,7 +278,7 @@ fn enter_set(
     line: Line,
     name: &Name,
 ) -> Result<(), AllocError>
-    ensures { OnOk result (entered meanings.new clash.new ≡ fold (enter line) (entered meanings.old clash.old) (set_meanings name.now (place_among names.now.set_names name.now))) }
+    ensures { OnOk result (entered meanings.new clash.new ≡ fold (enter_name line) (entered meanings.old clash.old) (set_meanings name.now (place_among names.now.set_names name.now))) }
 {
     match set_number(names, name) {
         Some(set) => enter_numbered(meanings, clash, line, name, set),
@@ -358,7 +358,7 @@ fn add_meanings(
     line: Line,
     what: &Declared,
 ) -> Result<(), AllocError>
-    ensures { OnOk result (entered meanings.new clash.new ≡ fold (enter line) (entered meanings.old clash.old) (declares names.now what.now)) }
+    ensures { OnOk result (entered meanings.new clash.new ≡ fold (enter_name line) (entered meanings.old clash.old) (declares names.now what.now)) }
 {
     match what {
         Declared::Class { class, .. } => enter_class(names, meanings, clash, line, class),

@@ -5,19 +5,19 @@ ghost use Rattle.std.specs.List.{fold};
 ghost use Rattle.ss_base.specs.declared.layout.Owner.TheVariants as owners;
 ghost use Rattle.ss_tree.specs.Names.{NameBytes};
 ghost use Rattle.ss_names_declarations.specs.Firsts.{entry_if, place_among, place_in, value_for, with_first};
-ghost use Rattle.ss_names.specs.Entries.{class_variables, fields_by_class, notice_number, owner_named, row_of, usual_of, with_number};
+ghost use Rattle.ss_names.specs.Entries.{class_variables, fields_by_class, notice_number, owner_named, row_of, usual_of, number_added};
 ghost use Rattle.ss_names.specs.Table.{clashes, declared};
-ghost use Rattle.ss_names.specs.Filling.{HasRows, add_entities, add_names, add_variables, entities_pass, field_pushed, fields_added, fields_of, first_line, kept_mode, merged_at, merged_with, mode_named, names_pass, no_names, no_set, pushed, row_pushed, variables_pass, with_field, with_fields, with_ranks, with_rows, with_set, with_sets, with_variables};
+ghost use Rattle.ss_names.specs.Filling.{HasRows, add_entities, add_names, add_variables, entities_pass, field_pushed, fields_added, table_fields, first_line, kept_mode, merged_at, merged_with, mode_named, names_pass, no_names, no_set, pushed, row_pushed, variables_pass, with_field, with_fields, with_ranks, with_rows, with_set, with_sets, with_variables};
 
 use crate::entering::{fill_meanings, fill_subjects};
-use crate::entry::{Attribute, EventSection, Order, RankedBy, RoutineSection, Set, TiedBy};
+use crate::entry::{Attribute, DefinedOrder, EventSection, RankedBy, RoutineSection, Set, TiedBy};
 use crate::meanings::Meanings;
 use crate::names::{Names, value_mode};
 use ss_base::{ClassKind, Line, Mode, Name, Owner, Spelling};
 use ss_names_declarations::{
     Declaration, Declared, Keys, Seed, Table, has_entry, insert_first, insert_spelled,
 };
-use ss_tree::preamble::Mode as ModeWord;
+use ss_tree::preamble::ModeWord;
 use std::alloc::{AllocError, Global};
 
 /// The table of no declarations.
@@ -175,7 +175,7 @@ fn no_sets(alloc: Global, names: &[Name]) -> Result<Vec<Set>, AllocError>
     ensures { IfOk result (λ sets. sets.items ≡ map (λ (name : NameBytes). no_set) names.now) }
 {
     let owner: Option<Owner> = None;
-    let order: Option<Order> = None;
+    let order: Option<DefinedOrder> = None;
     let set = Set {
         owner,
         member: None,
@@ -218,7 +218,7 @@ fn push_field(rows: &mut Vec<Vec<Name>>, class: usize, name: Name) -> Result<(),
 fn push_attribute(names: &mut Names, attribute: Name, class: usize) -> Result<(), AllocError>
     requires class { class < length names.old.fields }
     requires new { value_for names.old.attributes attribute ≡ None }
-    ensures { OnOk result (names.new ≡ with_fields names.old (field_pushed (mode_named names.old) (fields_of names.old) (attribute, class))) }
+    ensures { OnOk result (names.new ≡ with_fields names.old (field_pushed (mode_named names.old) (table_fields names.old) (attribute, class))) }
 {
     let entry = Attribute {
         class,
@@ -253,7 +253,7 @@ pub(crate) fn set_number(names: &Names, set: &Name) -> Option<usize>
 // Enters an attribute of the class of this number, unless its name has an entry.
 fn add_field(names: &mut Names, attribute: Name, class: usize) -> Result<(), AllocError>
     requires { class < length names.old.fields }
-    ensures { OnOk result (names.new ≡ with_fields names.old (with_field (mode_named names.old) (fields_of names.old) (attribute, class))) }
+    ensures { OnOk result (names.new ≡ with_fields names.old (with_field (mode_named names.old) (table_fields names.old) (attribute, class))) }
 {
     if has_attribute(names, &attribute) {
         return Ok(());
@@ -346,7 +346,7 @@ fn notice_number(names: &Names, class: &Name) -> Option<usize>
 
 // Enters a class in the order of rank, if it is one of notices.
 fn add_notice(names: &mut Names, class: &Name) -> Result<(), AllocError>
-    ensures { OnOk result (names.new ≡ with_ranks names.old (fold with_number names.old.ranks (notice_number names.old.classes class.now))) }
+    ensures { OnOk result (names.new ≡ with_ranks names.old (fold number_added names.old.ranks (notice_number names.old.classes class.now))) }
 {
     match notice_number(names, class) {
         Some(number) => names.ranks.insert_new(number),
@@ -386,7 +386,7 @@ fn add_entities(names: &mut Names, what: &Declared) -> Result<(), AllocError>
             rule,
             statement,
         } => {
-            let order = Order {
+            let order = DefinedOrder {
                 rule: *rule,
                 statement: *statement,
             };
@@ -448,7 +448,7 @@ fn add_class_variables(
 
 // Enters the variables of a class, and the class in the order of rank if PRIORITY ORDER doesn't name it.
 fn add_class(names: &mut Names, kind: ClassKind, class: &Name) -> Result<(), AllocError>
-    ensures { OnOk result (names.new ≡ with_ranks (with_variables names.old (fold with_first names.old.variables (class_variables kind class.now))) (fold with_number names.old.ranks (notice_number names.old.classes class.now))) }
+    ensures { OnOk result (names.new ≡ with_ranks (with_variables names.old (fold with_first names.old.variables (class_variables kind class.now))) (fold number_added names.old.ranks (notice_number names.old.classes class.now))) }
 {
     add_class_variables(&mut names.variables, kind, class)?;
     add_notice(names, class)

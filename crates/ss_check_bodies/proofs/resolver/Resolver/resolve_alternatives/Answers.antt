@@ -1,4 +1,4 @@
-use Rattle.ss_tree.specs.View.{view_conjunction}
+use Rattle.ss_tree.specs.View.{view_conjunction_tree}
 use Rattle.ss_program.specs.View.{view_conjunction as conjunction_seen}
 use Rattle.ss_names_meaning.specs.Conditions.{conjunction}
 use Rattle.ss_names_meaning.proofs.Each.{no_items, each_fails, each_next}
@@ -12,8 +12,8 @@ loop-tree-init c = no_items (conjunction (scope_in c.args.self.now)) conjunction
 pub returns-in_err-one : goal.returns-in_err-one
 returns-in_err-one c =
     failed _ c.from_residual.result c.in_err-one.field-0.0 _ c.from_residual.ensures.1
-    (each_fails (conjunction (scope_in c.args.self.now)) view_conjunction c.args.trees.now c.loop-tree.tree-index c.tree-item.result c.in_err-one.field-0.0 c.loop-tree-test.true c.tree-item.is c.in_err-one.ensures)
+    (each_fails (conjunction (scope_in c.args.self.now)) view_conjunction_tree c.args.trees.now c.loop-tree.tree-index c.tree-item.result c.in_err-one.field-0.0 c.loop-tree-test.true c.tree-item.is c.in_err-one.ensures)
 
 pub loop-tree-preserved : goal.loop-tree-preserved
 loop-tree-preserved c =
-    each_next (conjunction (scope_in c.args.self.now)) view_conjunction conjunction_seen c.args.trees.now c.loop-tree.tree-index c.tree-item.result c.loop-tree.resolved.items c.push.new.self.items c.in_ok-one.one c.loop-tree-test.true c.tree-item.is c.in_ok-push.ensures.items c.loop-tree.invariant c.in_ok-one.ensures
+    each_next (conjunction (scope_in c.args.self.now)) view_conjunction_tree conjunction_seen c.args.trees.now c.loop-tree.tree-index c.tree-item.result c.loop-tree.resolved.items c.push.new.self.items c.in_ok-one.one c.loop-tree-test.true c.tree-item.is c.in_ok-push.ensures.items c.loop-tree.invariant c.in_ok-one.ensures

@@ -1,7 +1,7 @@
-use Rattle.ss_tree.specs.View.{view_head}
+use Rattle.ss_tree.specs.View.{view_head_tree}
 use Rattle.ss_check_bodies.specs.Results.{scope_in}
 use Rattle.ss_check_bodies.proofs.Over.{find_given}
 use Rattle.ss_check_bodies.proofs.resolver.Resolver.resolve_find.Goals as goal
 
 pub returns : goal.returns
-returns c = find_given (scope_in c.args.self.now) c.args.line (view_head c.args.head.now) c.in_ok-head.head c.in_ok-head.phrases c.args.found c.args.none c.in_ok-head.ensures
+returns c = find_given (scope_in c.args.self.now) c.args.line (view_head_tree c.args.head.now) c.in_ok-head.head c.in_ok-head.phrases c.args.found c.args.none c.in_ok-head.ensures

@@ -3,7 +3,7 @@ use Rattle.std.proofs.lemmas.Result.{on_ok_weaker}
 use Rattle.ss_program.specs.View.{view_expression}
 use Rattle.ss_program.specs.Views.{view_calculate_made}
 use Rattle.ss_code_instructions.specs.Translation.{Site as At}
-use Rattle.ss_code_generator.specs.Calculations.{folded}
+use Rattle.ss_code_generator.specs.Calculations.{with_operations}
 use Rattle.ss_code_generator.specs.Emitted.{Final, Around, IsLocated}
 use Rattle.ss_code_generator.proofs.Emitting.{grows_same}
 use Rattle.ss_code_pieces.proofs.Leafs.{alone_is, none_counted}
@@ -135,7 +135,7 @@ expression-loop-i-preserved t c =
       c.loop-i.invariant.0,
       c.loop-i.invariant.1,
       rw (more, c.cell-left.ensures)
-          (next_reads c.args.self.now c.loop-i.self c.cell.new.self c.operation.new.self c.args.code.now c.loop-i.code c.operation.new.code c.args.site (folded first (take c.loop-i.i v.items)) o c.loop-i.left next.next c.loop-i.invariant.2 next.ensures.grows next.ensures.at next.ensures.room c.in_ok-operation-in-Calculate.ensures),
+          (next_reads c.args.self.now c.loop-i.self c.cell.new.self c.operation.new.self c.args.code.now c.loop-i.code c.operation.new.code c.args.site (with_operations first (take c.loop-i.i v.items)) o c.loop-i.left next.next c.loop-i.invariant.2 next.ensures.grows next.ensures.at next.ensures.room c.in_ok-operation-in-Calculate.ensures),
     )
 
 pub expression-returns-after-loop-i : goal.expression-returns-after-loop-i
@@ -149,4 +149,4 @@ expression-returns-after-loop-i t c =
     let long : length v.items ≡ c.loop-i.i + 1 = omega (arith, some, same, c.len-count.ensures, v.ok.0) in
     let is = ap view_expression c.loop-i.invariant.1 ∙ view_calculate_made b v ∙ folded_last first v.items c.loop-i.i (c.len-count.result - 1) o long same c.index-in-Calculate.ensures in
     rw is (on_ok_weaker c.operation-in-Calculate.result
-    (more_emitted c.args.self.now c.loop-i.self c.operation-in-Calculate.new.self c.args.code.now c.loop-i.code c.operation-in-Calculate.new.code c.args.site (folded first (take c.loop-i.i v.items)) o c.loop-i.left c.args.to c.loop-i.invariant.2) c.operation-in-Calculate.ensures)
+    (more_emitted c.args.self.now c.loop-i.self c.operation-in-Calculate.new.self c.args.code.now c.loop-i.code c.operation-in-Calculate.new.code c.args.site (with_operations first (take c.loop-i.i v.items)) o c.loop-i.left c.args.to c.loop-i.invariant.2) c.operation-in-Calculate.ensures)
