@@ -5,3 +5,4 @@ pub mod ReadPreambles
 pub mod ReadPrograms
 pub mod Promise
 pub mod Errors
+pub mod Reaches

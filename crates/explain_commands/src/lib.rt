@@ -1,0 +1,11 @@
+//! The commands of `explain`, over any files and streams.
+#![tactic(auto)]
+
+mod command;
+mod order;
+mod program;
+mod told;
+
+pub use order::{Order, RunOrder};
+pub use program::perform;
+pub use simscript_order::{Disk, Streams, without_words, words};

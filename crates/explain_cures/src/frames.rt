@@ -1,0 +1,311 @@
+//! Changes for what is open too long or closed too early: IFs without ALWAYS, loops without DO or LOOP, sections without END.
+
+use crate::fixes::Fixes;
+use crate::trouble::Trouble;
+use explain_grammar::opens::{Construct, Open};
+use explain_grammar::spellings::begins_statement;
+use explain_pages::page::Page;
+use explain_pages::page::Part::{Bytes, Capitals, Line, Words};
+use explain_pages::places::{indentation, is_blank};
+use explain_pages::tokens::is_first_of_line;
+use ss_lex::{TokenKind, Word};
+use std::alloc::{AllocError, Global};
+
+// Whether an IF has a statement on its own line, and the line has fewer ALWAYS than IFs from it on.
+fn is_short(trouble: &Trouble<'_>, token: usize) -> bool {
+    let mut has_statement = false;
+    let mut ifs: usize = 0;
+    let mut closed: usize = 0;
+    for index in token..trouble.last_of_line(token).saturating_add(1) {
+        match trouble.word(index) {
+            Some(Word::If) => ifs = ifs.saturating_add(1),
+            Some(Word::Always) => closed = closed.saturating_add(1),
+            Some(word) => has_statement = has_statement || begins_statement(word),
+            None => {}
+        }
+    }
+    has_statement && closed < ifs
+}
+
+// An ALWAYS at the end of the line of a short IF.
+fn add_short_if(fixes: &mut Fixes, trouble: &Trouble<'_>, token: usize) -> Result<(), AllocError> {
+    let last = trouble.last_of_line(token);
+    let calls_for_picture = matches!(
+        trouble.word(last),
+        Some(Word::Thus | Word::This | Word::Follows)
+    );
+    if !is_short(trouble, token) || calls_for_picture {
+        return Ok(());
+    }
+    let line = Line(trouble.line_of(token));
+    fixes.insert(
+        trouble.stretch(last).end,
+        &[Words(" ALWAYS")],
+        "The IF of line {} has no ALWAYS: an IF on one line needs it too. Write ALWAYS at the end of line {}.",
+        &[line, line],
+    )
+}
+
+// The ALWAYS that closes the inner IF of an `ELSE IF` of an IF.
+fn end_of_else_if(trouble: &Trouble<'_>, token: usize) -> Option<usize> {
+    let mut depth: usize = 0;
+    let mut chained = false;
+    for index in token..trouble.end() {
+        match trouble.word(index) {
+            Some(Word::If) => depth = depth.saturating_add(1),
+            Some(Word::Always) => {
+                if chained && depth == 2 {
+                    return Some(index);
+                }
+                depth = depth.saturating_sub(1);
+            }
+            Some(Word::Else) => {
+                let is_if = trouble.word(index.saturating_add(1)) == Some(Word::If);
+                chained = chained || (depth == 1 && is_if);
+            }
+            _ => {}
+        }
+    }
+    None
+}
+
+// A second ALWAYS after that of the inner IF of an `ELSE IF`.
+fn add_else_if(fixes: &mut Fixes, trouble: &Trouble<'_>, token: usize) -> Result<(), AllocError> {
+    let Some(always) = end_of_else_if(trouble, token) else {
+        return Ok(());
+    };
+    fixes.insert(
+        trouble.stretch(always).end,
+        &[Words(" ALWAYS")],
+        "The IF of line {} is still open: an ELSE IF is a second IF inside the first, so two ALWAYS are due. Write ALWAYS ALWAYS in line {}.",
+        &[Line(trouble.line_of(token)), Line(trouble.line_of(always))],
+    )
+}
+
+// Whether a line is one of picture.
+fn is_picture_line(trouble: &Trouble<'_>, from: usize, line: u32) -> bool {
+    for token in trouble.tokens.iter().skip(from) {
+        if token.line.0 > line {
+            return false;
+        }
+        if let (true, TokenKind::Picture(_)) = (token.line.0 == line, &token.kind) {
+            return true;
+        }
+    }
+    false
+}
+
+// The word with which a line begins, from a token on.
+fn first_word(trouble: &Trouble<'_>, from: usize, line: u32) -> Option<Word> {
+    for index in from..trouble.tokens.len() {
+        if trouble.line_of(index) == line {
+            return trouble.word(index);
+        }
+        if trouble.line_of(index) > line {
+            return None;
+        }
+    }
+    None
+}
+
+// The line before which a construct ends by how the lines are indented: the first that is no deeper than it and does not
+// belong to it. None where the lines do not say.
+fn end_by_indentation(trouble: &Trouble<'_>, open: Open) -> Option<u32> {
+    if !is_first_of_line(trouble.tokens, open.token) {
+        return None;
+    }
+    let first = trouble.line_of(open.token);
+    let depth = indentation(trouble.line_bytes(first));
+    let is_if = open.construct == Construct::If;
+    let mut was_deeper = false;
+    for line in first.saturating_add(1)..trouble.line().saturating_add(1) {
+        let bytes = trouble.line_bytes(line);
+        if is_blank(bytes) || is_picture_line(trouble, open.token, line) {
+            continue;
+        }
+        if indentation(bytes) > depth {
+            was_deeper = true;
+            continue;
+        }
+        let word = first_word(trouble, open.token, line);
+        let is_level = indentation(bytes) == depth;
+        if is_level && word == Some(if is_if { Word::Always } else { Word::Loop }) {
+            return None;
+        }
+        if was_deeper && !(is_level && is_if && word == Some(Word::Else)) {
+            return Some(line);
+        }
+        was_deeper = false;
+    }
+    None
+}
+
+// The end of the last line before this one that is neither empty nor a comment.
+fn end_before(trouble: &Trouble<'_>, line: u32) -> usize {
+    let mut before = line.saturating_sub(1);
+    for _ in 0..line {
+        if before <= 1 || !is_blank(trouble.line_bytes(before)) {
+            break;
+        }
+        before -= 1;
+    }
+    trouble.line_end(before)
+}
+
+// What is open: a construct and its line, as `The IF of line 17`, with the name of a routine or an event.
+fn opened(alloc: Global, trouble: &Trouble<'_>, open: Open) -> Result<Page, AllocError> {
+    let mut page = Page::new(alloc);
+    page.say("The {}", &[Words(open.construct.word())])?;
+    if let Construct::Routine | Construct::Event = open.construct {
+        page.say(
+            " {}",
+            &[Capitals(trouble.spelling(open.token.saturating_add(1)))],
+        )?;
+    }
+    page.say(" of line {}", &[Line(trouble.line_of(open.token))])?;
+    Ok(page)
+}
+
+// What closes a construct, in a line of its own after the last line that is deeper.
+fn add_by_indentation(
+    fixes: &mut Fixes,
+    trouble: &Trouble<'_>,
+    open: Open,
+) -> Result<(), AllocError> {
+    let Some(line) = end_by_indentation(trouble, open) else {
+        return Ok(());
+    };
+    let what = opened(fixes.alloc(), trouble, open)?;
+    let (what, closer) = (Bytes(what.text.as_slice()), Words(open.construct.closer()));
+    let at = end_before(trouble, line);
+    if line == trouble.line() {
+        let words = "{} is still open where {} comes: write {} before line {}.";
+        let parts = [what, trouble.called(trouble.at), closer, Line(line)];
+        fixes.insert(at, &[Words("\n"), closer], words, &parts)
+    } else {
+        let words = "{} is still open: write {} before line {}.";
+        fixes.insert(
+            at,
+            &[Words("\n"), closer],
+            words,
+            &[what, closer, Line(line)],
+        )
+    }
+}
+
+// What closes a construct, directly before the place.
+fn add_before_place(
+    fixes: &mut Fixes,
+    trouble: &Trouble<'_>,
+    open: Open,
+) -> Result<(), AllocError> {
+    let what = opened(fixes.alloc(), trouble, open)?;
+    let closer = Words(open.construct.closer());
+    let is_open = match open.construct {
+        Construct::If | Construct::Loop => "is still open",
+        _ => "has no END",
+    };
+    let (in_line, line) = match trouble.found() {
+        Some(token) => (Words(" in line "), Line(token.line.0)),
+        None => (Words(""), Words("")),
+    };
+    fixes.insert(
+        trouble.stretch(trouble.at).start,
+        &[Words("\n"), closer, Words("\n")],
+        "{} {}: write {} before {}{}{}.",
+        &[
+            Bytes(what.text.as_slice()),
+            Words(is_open),
+            closer,
+            trouble.called(trouble.at),
+            in_line,
+            line,
+        ],
+    )
+}
+
+// What closes all that is open, directly before the place.
+fn add_all_before_place(fixes: &mut Fixes, trouble: &Trouble<'_>) -> Result<(), AllocError> {
+    let mut list = Page::new(fixes.alloc());
+    let mut with = Page::new(fixes.alloc());
+    for (place, open) in trouble.opens.iter().rev().enumerate() {
+        let word = Words(open.construct.word());
+        let line = Line(trouble.line_of(open.token));
+        list.say(
+            "{}{} of line {}",
+            &[Words(if place > 0 { ", " } else { "" }), word, line],
+        )?;
+        with.say("\n{}", &[Words(open.construct.closer())])?;
+    }
+    fixes.insert(
+        trouble.stretch(trouble.at).start,
+        &[Bytes(with.text.as_slice()), Words("\n")],
+        "Still open there: {}. Close each, the last first, by ALWAYS, LOOP and END.",
+        &[Bytes(list.text.as_slice())],
+    )
+}
+
+// A DO at the end of the line of a loop's head.
+fn add_do(fixes: &mut Fixes, trouble: &Trouble<'_>, token: usize) -> Result<(), AllocError> {
+    fixes.insert(
+        trouble.stretch(trouble.last_of_line(token)).end,
+        &[Words(" DO")],
+        "A loop over more than one statement is DO .. LOOP: write DO at the end of line {}.",
+        &[Line(trouble.line_of(token))],
+    )
+}
+
+// Changes for the IFs of the section, the last first.
+fn add_ifs(fixes: &mut Fixes, trouble: &Trouble<'_>) -> Result<(), AllocError> {
+    for index in (trouble.section..trouble.end()).rev() {
+        if trouble.word(index) == Some(Word::If) {
+            add_short_if(fixes, trouble, index)?;
+        }
+    }
+    for open in trouble.opens.iter().rev() {
+        if open.construct == Construct::If {
+            add_else_if(fixes, trouble, open.token)?;
+        }
+    }
+    for index in (trouble.section..trouble.end()).rev() {
+        if trouble.word(index) == Some(Word::If) {
+            let open = Open {
+                construct: Construct::If,
+                token: index,
+            };
+            add_by_indentation(fixes, trouble, open)?;
+        }
+    }
+    Ok(())
+}
+
+// Changes for the loops of the section.
+fn add_loops(fixes: &mut Fixes, trouble: &Trouble<'_>) -> Result<(), AllocError> {
+    for open in trouble.opens.iter().rev() {
+        if open.construct == Construct::Loop {
+            add_by_indentation(fixes, trouble, *open)?;
+        }
+    }
+    if trouble.word(trouble.at) != Some(Word::Loop) {
+        return Ok(());
+    }
+    for index in (trouble.section..trouble.end()).rev() {
+        if let Some(Word::For | Word::While | Word::Until) = trouble.word(index) {
+            add_do(fixes, trouble, index)?;
+        }
+    }
+    Ok(())
+}
+
+/// Adds the changes for a place where a construct is open too long, or closed too early.
+pub fn add_frames(fixes: &mut Fixes, trouble: &Trouble<'_>) -> Result<(), AllocError> {
+    add_ifs(fixes, trouble)?;
+    add_loops(fixes, trouble)?;
+    if let Some(open) = trouble.opens.last() {
+        add_before_place(fixes, trouble, *open)?;
+    }
+    if trouble.opens.len() > 1 {
+        add_all_before_place(fixes, trouble)?;
+    }
+    Ok(())
+}

@@ -1,0 +1,9 @@
+//! Changes of a text that spells no program, each tried by reading it.
+#![tactic(auto)]
+
+mod fixes;
+mod frames;
+mod prints;
+pub mod syntax;
+mod trouble;
+mod words;
