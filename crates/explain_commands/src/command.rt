@@ -4,41 +4,12 @@ use clap::builder::ValueParser;
 use clap::{Arg, ArgAction, Command};
 use std::alloc::{AllocError, Global};
 
-// The model's file.
-fn model_file<'a>(alloc: Global) -> Arg<'a> {
-    Arg::new(alloc, "MODEL")
-        .help("The file with the model's text, /dev/stdin for a pipe")
-        .action(ArgAction::Set)
-        .required(true)
-}
-
-// The file of the input data.
-fn input_file<'a>(alloc: Global) -> Arg<'a> {
-    Arg::new(alloc, "input")
-        .long("input")
-        .value_name("FILE")
-        .help("Run the model with the input data in this file")
-        .action(ArgAction::Set)
-}
-
-// The ticks that the run is given.
-fn tick_count<'a>(alloc: Global) -> Arg<'a> {
-    Arg::new(alloc, "ticks")
-        .long("ticks")
-        .value_name("N")
-        .help("Run the model with at most so many ticks, 1,000,000 where it is run without this")
-        .action(ArgAction::Set)
-        .value_parser(ValueParser::unsigned(0, u64::MAX))
-}
-
-// The names that are watched.
-fn watched_names<'a>(alloc: Global) -> Arg<'a> {
-    Arg::new(alloc, "watch")
-        .long("watch")
-        .value_name("NAMES")
-        .help(
-            "Run the model, and write a line `time,name,value` whenever one of these has another value after a tick: variables, N. of sets, statistics, attributes as LOAD(2), with commas between",
-        )
+// An argument with a value after its name.
+fn named<'a>(alloc: Global, name: &'a str, value: &'a str, help: &'a str) -> Arg<'a> {
+    Arg::new(alloc, name)
+        .long(name)
+        .value_name(value)
+        .help(help)
         .action(ArgAction::Set)
 }
 
@@ -50,8 +21,8 @@ fn flag<'a>(alloc: Global, name: &'a str, help: &'a str) -> Arg<'a> {
         .action(ArgAction::SetTrue)
 }
 
-// The command line with its file, its data and its ticks.
-fn line_with_files<'a>(alloc: Global) -> Result<Command<'a>, AllocError> {
+// The command line with its file.
+fn line_with_file<'a>(alloc: Global) -> Result<Command<'a>, AllocError> {
     Command::new(alloc, "explain")
         .version("1.0.0")
         .about(
@@ -60,28 +31,29 @@ fn line_with_files<'a>(alloc: Global) -> Result<Command<'a>, AllocError> {
         .after_help(
             "Examples:\n  explain shop.sim\n  explain shop.sim --input shop.data\n  explain shop.sim --input shop.data --events\n  explain shop.sim --input shop.data --watch N.LINEUP,BUSY\n\nWhat is explained goes to the standard output. So does the report of a run; with --trace, --events or --watch it goes to the standard error.\n\nThe exit status is that of simscript: 0 where all is right, 1 for a refused text, 2 for a wrong command line, 3 for a fault, 4 where the ticks were used up, 5 where memory ran out and 6 where a file, the input or the output failed.",
         )
-        .arg(model_file(alloc))?
-        .arg(input_file(alloc))?
-        .arg(tick_count(alloc))
+        .arg(
+            Arg::new(alloc, "MODEL")
+                .help("The file with the model's text, /dev/stdin for a pipe")
+                .action(ArgAction::Set)
+                .required(true),
+        )
 }
 
 /// The whole command line. The error comes where memory was refused.
 pub fn whole_command<'a>(alloc: Global) -> Result<Command<'a>, AllocError> {
-    line_with_files(alloc)?
-        .arg(flag(
-            alloc,
-            "trace",
-            "Run the model, and write a line for each tick",
-        ))?
-        .arg(flag(
-            alloc,
-            "events",
-            "Run the model, and write a line for each event",
-        ))?
-        .arg(watched_names(alloc))?
-        .arg(flag(
-            alloc,
-            "progress",
-            "Run the model, and say each second on the standard error how far it is",
-        ))
+    let input = "Run the model with the input data in this file";
+    let ticks = "Run the model with at most so many ticks, 1,000,000 where it is run without this";
+    let trace = "Run the model, and write a line for each tick";
+    let events = "Run the model, and write a line for each event";
+    let watch =
+        "Run the model, and write a line `time,name,value` whenever one of these has another value after a tick: variables, N. of sets, statistics, attributes as LOAD(2), with commas between";
+    let progress = "Run the model, and say each second on the standard error how far it is";
+    let count = ValueParser::unsigned(0, u64::MAX);
+    line_with_file(alloc)?
+        .arg(named(alloc, "input", "FILE", input))?
+        .arg(named(alloc, "ticks", "N", ticks).value_parser(count))?
+        .arg(flag(alloc, "trace", trace))?
+        .arg(flag(alloc, "events", events))?
+        .arg(named(alloc, "watch", "NAMES", watch))?
+        .arg(flag(alloc, "progress", progress))
 }

@@ -3,8 +3,8 @@
 
 mod command;
 mod order;
+mod pace;
 mod program;
-mod told;
 
 pub use order::{Order, RunOrder};
 pub use program::perform;

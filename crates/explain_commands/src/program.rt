@@ -1,21 +1,20 @@
 //! The program over any files and streams.
 
 use crate::order::{Order, RunOrder};
-use crate::told::Told;
+use crate::pace::Pace;
 use explain_runs::{
-    Kept, Parts, Shown, Subject, Unshown, Watch, add_fault, add_pause, compile_with_names,
-    run_in_pieces, run_shown, watches_of,
+    Guide, Kept, Shown, Watch, compile_with_names, ending_of, run_shown, watches_of,
 };
 use explain_texts::{Page, Part, Wrong, explain_text};
+use simscript_commands::report_ending;
 use simscript_order::{
-    FileStore, ProgramFailure, Retrying, Streams, explain, open, read_file, report_trouble,
-    write_whole,
+    Data, FileStore, ProgramFailure, Retrying, Streams, explain, open, read_file, write_whole,
 };
 use ss_base::Counted;
-use ss_engine::{Model, Outcome, Refusal, Session, Stop, compile, outcome_line, outcome_status};
-use std::alloc::{AllocError, Global};
+use ss_engine::{Model, Outcome, Refusal, Session, Stop, compile};
+use std::alloc::Global;
 use std::convert::AsStr;
-use std::io::{BufReader, BufWriter, Read, Write};
+use std::io::{BufReader, BufWriter, ErrorKind, Read, Write};
 use std::rt::Clock;
 
 /// The status of a command line with a name that can't be watched.
@@ -24,7 +23,7 @@ const MISUSED: u8 = 2;
 /// A run that is asked for, of a text.
 #[derive(Drop)]
 struct Job<'a, C> {
-    subject: Subject<'a>,
+    guide: &'a Guide<'a>,
     order: RunOrder<'a>,
     clock: &'a C,
 }
@@ -34,7 +33,7 @@ struct Job<'a, C> {
 /// run, 4 for a pause, 5 where it ran out of memory, 6 where a file or a stream failed.
 ///
 /// What is explained goes to the output, and so does the report of a run, unless its ticks or values are shown: then it goes to
-/// the errors. `told` gets a line each second that says how far the run is, where that is asked for.
+/// the errors. `terminal` gets a line each second that says how far the run is, where that is asked for.
 pub fn perform<
     F: FileStore,
     C: Clock + Drop,
@@ -43,16 +42,16 @@ pub fn perform<
     O: Write + Drop,
     E: Write + Drop,
     T: Write + Drop,
->(alloc: Global, words: &[S], files: &F, clock: &C, told: T, streams: Streams<I, O, E>) -> u8 {
+>(alloc: Global, words: &[S], files: &F, clock: &C, terminal: T, streams: Streams<I, O, E>) -> u8 {
     let Streams {
         input: _,
         mut output,
         mut errors,
     } = streams;
-    let mut told = told;
+    let mut terminal = terminal;
     match Order::of(alloc, words) {
         Ok(order) => {
-            let ways = (&mut output, &mut errors, &mut told);
+            let ways = (&mut output, &mut errors, &mut terminal);
             match obey(alloc, &order, files, clock, ways) {
                 Ok(Some(outcome)) => report_ending(alloc, Ok(outcome), errors),
                 Ok(None) => MISUSED,
@@ -71,7 +70,7 @@ fn obey<F: FileStore, C: Clock + Drop, O: Write, E: Write, T: Write>(
     clock: &C,
     ways: (&mut O, &mut E, &mut T),
 ) -> Result<Option<Outcome>, ProgramFailure> {
-    let (output, errors, told) = ways;
+    let (output, errors, terminal) = ways;
     let text = read_file(alloc, files, order.model)?;
     let Some(run) = order.run else {
         return check(alloc, text.as_slice(), output).map(Some);
@@ -79,30 +78,18 @@ fn obey<F: FileStore, C: Clock + Drop, O: Write, E: Write, T: Write>(
     match compile_with_names(alloc, text.as_slice()) {
         Ok((model, guide)) => {
             let job = Job {
-                subject: Subject {
-                    alloc,
-                    text: text.as_slice(),
-                    guide: &guide,
-                },
+                guide: &guide,
                 order: run,
                 clock,
             };
-            match watches_in(&job, errors)? {
-                Some(watches) => {
-                    run_model(&job, model, watches, files, (output, errors, told)).map(Some)
-                }
-                None => Ok(None),
-            }
+            let Some(watches) = watches_in(&job, errors)? else {
+                return Ok(None);
+            };
+            let data = data_of(alloc, files, run.input)?;
+            run_with(&job, model, watches, data, (output, errors, terminal)).map(Some)
         }
+        Err(Refusal::Memory) => Err(ProgramFailure::Memory),
         Err(refusal) => refuse(alloc, text.as_slice(), refusal, output).map(Some),
-    }
-}
-
-// What is written, where there was memory for it.
-fn send<O: Write>(output: &mut O, page: Result<Page, AllocError>) -> Result<(), ProgramFailure> {
-    match page {
-        Ok(page) => write_whole(output, page.text.as_slice()),
-        Err(_) => Err(ProgramFailure::Memory),
     }
 }
 
@@ -116,6 +103,14 @@ fn refusal_of(wrong: Wrong) -> Refusal {
     }
 }
 
+// What is said of a text, and what is wrong with it.
+fn explained<'a>(
+    alloc: Global,
+    text: &'a [u8],
+) -> Result<(Page<'a>, Option<Wrong>), ProgramFailure> {
+    explain_text(alloc, text).map_err(|_| ProgramFailure::Memory)
+}
+
 // Explains why a text is refused, of which a compilation said so.
 fn refuse<O: Write>(
     alloc: Global,
@@ -123,118 +118,30 @@ fn refuse<O: Write>(
     refusal: Refusal,
     output: &mut O,
 ) -> Result<Outcome, ProgramFailure> {
-    if refusal == Refusal::Memory {
-        return Err(ProgramFailure::Memory);
-    }
-    let mut page = Page::new(alloc);
-    match explain_text(&mut page, text) {
-        Ok(_wrong) => {
-            send(output, Ok(page))?;
-            Ok(Outcome::Refused(refusal))
-        }
-        Err(_) => Err(ProgramFailure::Memory),
-    }
-}
-
-// What is said of a text that is accepted: the word for that, and notes.
-fn accepted(alloc: Global, notes: &Page) -> Result<Page, AllocError> {
-    let mut page = Page::new(alloc);
-    page.say("accepted\n{}", &[Part::Bytes(notes.text.as_slice())])?;
-    Ok(page)
+    let (page, _wrong) = explained(alloc, text)?;
+    write_whole(output, page.bytes())?;
+    Ok(Outcome::Refused(refusal))
 }
 
 // Explains a text. It is compiled only where nothing else is wrong with it.
 fn check<O: Write>(alloc: Global, text: &[u8], output: &mut O) -> Result<Outcome, ProgramFailure> {
-    let mut page = Page::new(alloc);
-    match explain_text(&mut page, text) {
-        Err(_) => Err(ProgramFailure::Memory),
-        Ok(Some(wrong)) => {
-            send(output, Ok(page))?;
-            Ok(Outcome::Refused(refusal_of(wrong)))
-        }
-        Ok(None) => match compile(alloc, text) {
-            Ok(model) => {
-                model.release();
-                send(output, accepted(alloc, &page))?;
-                Ok(Outcome::Stopped(Stop::Ended, 0))
+    let (page, wrong) = explained(alloc, text)?;
+    if let Some(wrong) = wrong {
+        write_whole(output, page.bytes())?;
+        return Ok(Outcome::Refused(refusal_of(wrong)));
+    }
+    match compile(alloc, text) {
+        Ok(model) => {
+            model.release();
+            let notes = Part::Bytes(page.bytes());
+            match Page::of(alloc, "accepted\n{}", &[notes]) {
+                Ok(said) => write_whole(output, said.bytes())?,
+                Err(_) => return Err(ProgramFailure::Memory),
             }
-            Err(Refusal::Memory) => Err(ProgramFailure::Memory),
-            Err(refusal) => Ok(Outcome::Refused(refusal)),
-        },
-    }
-}
-
-// Runs a model with the data in the file of an order, or with none.
-fn run_model<F: FileStore, C: Clock + Drop, O: Write, E: Write, T: Write>(
-    job: &Job<'_, C>,
-    model: Model,
-    watches: Vec<Watch>,
-    files: &F,
-    ways: (&mut O, &mut E, &mut T),
-) -> Result<Outcome, ProgramFailure> {
-    let Some(name) = job.order.input else {
-        return run_with(job, model, watches, &[][..], ways);
-    };
-    let file = open(files, name, ProgramFailure::Input)?;
-    match BufReader::new(job.subject.alloc, Retrying::new(file)) {
-        Ok(reader) => run_with(job, model, watches, reader, ways),
-        Err(_) => Err(ProgramFailure::Memory),
-    }
-}
-
-// Whether what is shown has the standard output for itself.
-fn shows_lines(run: &RunOrder<'_>) -> bool {
-    run.trace || run.events || run.watch.is_some()
-}
-
-// Runs a model with the data of this reader. Its report goes to the output, or to the errors where lines are shown.
-fn run_with<R: Read + Drop, C: Clock + Drop, O: Write, E: Write, T: Write>(
-    job: &Job<'_, C>,
-    model: Model,
-    watches: Vec<Watch>,
-    reader: R,
-    ways: (&mut O, &mut E, &mut T),
-) -> Result<Outcome, ProgramFailure> {
-    if shows_lines(&job.order) {
-        return run_in_lines(job, model, watches, reader, ways);
-    }
-    let alloc = job.subject.alloc;
-    let (output, _errors, told) = ways;
-    let Ok(report) = BufWriter::new(alloc, Retrying::new(output)) else {
-        return Err(ProgramFailure::Memory);
-    };
-    let mut session = match started(job, model, reader, report) {
-        Ok(session) => session,
-        Err(outcome) => return Ok(outcome),
-    };
-    let mut told = Told::new(alloc, job.clock, told, job.order.ticks, job.order.progress);
-    let stop = run_in_pieces(&mut session, job.order.ticks, &mut told);
-    told.end();
-    let page = ending_of(&job.subject, &mut session, stop);
-    let outcome = Outcome::Stopped(stop, session.used());
-    let (_reader, writer) = session.close();
-    let mut report = writer.into_inner();
-    let Ok(page) = page else {
-        return Err(ProgramFailure::Memory);
-    };
-    if report.write_all(page.text.as_slice()).is_err() || report.flush().is_err() {
-        return Err(ProgramFailure::Report);
-    }
-    Ok(outcome)
-}
-
-// A session of a model with this reader and this writer; the outcome where memory was refused.
-fn started<R: Read + Drop, W: Write + Drop, C>(
-    job: &Job<'_, C>,
-    model: Model,
-    reader: R,
-    report: W,
-) -> Result<Session<Kept<Counted<R>>, Counted<W>>, Outcome> {
-    let reader = Kept::new(Counted::new(reader));
-    let writer = Counted::new(report);
-    match Session::start(job.subject.alloc, model, reader, writer) {
-        Ok(session) => Ok(session),
-        Err(_) => Err(Outcome::Stopped(Stop::Memory, 0)),
+            Ok(Outcome::Stopped(Stop::Ended, 0))
+        }
+        Err(Refusal::Memory) => Err(ProgramFailure::Memory),
+        Err(refusal) => Ok(Outcome::Refused(refusal)),
     }
 }
 
@@ -244,130 +151,102 @@ fn watches_in<C, E: Write>(
     errors: &mut E,
 ) -> Result<Option<Vec<Watch>>, ProgramFailure> {
     let Some(names) = job.order.watch else {
-        return Ok(Some(Vec::new(job.subject.alloc)));
+        return Ok(Some(Vec::new(job.guide.alloc)));
     };
-    match watches_of(job.subject.alloc, job.subject.guide, names.as_bytes()) {
+    match watches_of(job.guide, names.as_bytes()) {
         Ok(Ok(watches)) => Ok(Some(watches)),
         Ok(Err(name)) => {
-            refuse_watch(name, errors);
+            let _ = errors.write_all(b"cannot watch ");
+            let _ = errors.write_all(name);
+            let _ = errors.write_all(
+                b": name a global variable, N. of a set, a statistic, or what an entity has with its number, as N.QUEUE(3)\n",
+            );
             Ok(None)
         }
         Err(_) => Err(ProgramFailure::Memory),
     }
 }
 
-// Says that a name can't be watched.
-fn refuse_watch<E: Write>(name: &[u8], errors: &mut E) {
-    let _ = errors.write_all(b"cannot watch ");
-    let _ = errors.write_all(name);
-    let _ = errors.write_all(
-        b": name a global variable, N. of a set, a statistic, or what an entity has with its number, as N.QUEUE(3)\n",
-    );
+// The data in the file of this name, or none.
+fn data_of<F: FileStore>(
+    alloc: Global,
+    files: &F,
+    name: Option<&str>,
+) -> Result<Data<BufReader<Retrying<F::File>>>, ProgramFailure> {
+    let Some(name) = name else {
+        return Ok(Data::None);
+    };
+    let file = open(files, name, ProgramFailure::Input)?;
+    match BufReader::new(alloc, Retrying::new(file)) {
+        Ok(reader) => Ok(Data::Given(reader)),
+        Err(_) => Err(ProgramFailure::Memory),
+    }
 }
 
-// Runs a model whose ticks or values are shown. Its report goes to the errors.
-fn run_in_lines<R: Read + Drop, C: Clock + Drop, O: Write, E: Write, T: Write>(
+// Runs a model with this data. Its report goes to the output, or to the errors where the output has a line for each tick, event or change.
+fn run_with<R: Read + Drop, C: Clock + Drop, O: Write, E: Write, T: Write>(
     job: &Job<'_, C>,
     model: Model,
     watches: Vec<Watch>,
-    reader: R,
+    data: R,
     ways: (&mut O, &mut E, &mut T),
 ) -> Result<Outcome, ProgramFailure> {
-    let (output, errors, told) = ways;
-    let Ok(mut lines) = BufWriter::new(job.subject.alloc, Retrying::new(output)) else {
+    let (output, errors, terminal) = ways;
+    let Ok(mut output) = BufWriter::new(job.guide.alloc, Retrying::new(output)) else {
         return Err(ProgramFailure::Memory);
     };
-    let session = match started(job, model, reader, errors) {
-        Ok(session) => session,
-        Err(outcome) => return Ok(outcome),
+    let order = &job.order;
+    let ended = if order.trace || order.events || order.watch.is_some() {
+        run_session(job, model, watches, data, errors, (&mut output, terminal))
+    } else {
+        run_session(job, model, watches, data, &mut output, (errors, terminal))
     };
-    let ended = shown_lines(job, session, watches, &mut lines, told);
-    if lines.flush().is_err() {
+    let written = match &ended {
+        Ok((_, page)) => output.write_all(page.bytes()),
+        Err(_) => Ok(()),
+    };
+    if written.and_then(|()| output.flush()).is_err() {
         return Err(ProgramFailure::Report);
     }
-    ended
+    ended.map(|(outcome, _)| outcome)
 }
 
-// Runs a session whose ticks or values are shown.
-fn shown_lines<R: Read + Drop, W: Write + Drop, C: Clock + Drop, L: Write, T: Write>(
-    job: &Job<'_, C>,
-    session: Session<Kept<Counted<R>>, Counted<W>>,
-    watches: Vec<Watch>,
-    lines: &mut L,
-    told: &mut T,
-) -> Result<Outcome, ProgramFailure> {
-    let mut session = session;
-    let mut watches = watches;
-    let shown = Shown {
-        ticks: job.order.trace,
-        events: job.order.events,
+// Runs a session with this data and this report, and shows what is asked for. It answers the outcome, and a page with what is known of it.
+fn run_session<'a, R: Read + Drop, W: Write + Drop, C: Clock + Drop, L: Write, T: Write>(
+    job: &Job<'a, C>,
+    model: Model,
+    mut watches: Vec<Watch>,
+    data: R,
+    report: W,
+    (lines, terminal): (&mut L, &mut T),
+) -> Result<(Outcome, Page<'a>), ProgramFailure> {
+    let (guide, order) = (job.guide, &job.order);
+    let reader = Kept::new(Counted::new(data));
+    let Ok(mut session) = Session::start(guide.alloc, model, reader, Counted::new(report)) else {
+        let nothing = Page::about(guide.alloc, guide.text);
+        return Ok((Outcome::Stopped(Stop::Memory, 0), nothing));
     };
-    let mut told = Told::new(
-        job.subject.alloc,
+    let mut pace = Pace::new(
+        guide.alloc,
         job.clock,
-        told,
-        job.order.ticks,
-        job.order.progress,
+        terminal,
+        order.ticks,
+        order.progress,
     );
-    let parts = Parts {
-        ticks: job.order.ticks,
-        shown,
+    let shown = Shown {
+        count: order.ticks,
+        ticks: order.trace,
+        events: order.events,
     };
-    let stop = run_shown(
-        &job.subject,
-        &mut session,
-        parts,
-        &mut watches,
-        lines,
-        &mut told,
-    );
-    told.end();
+    let stop = run_shown(guide, &mut session, shown, &mut watches, lines, &mut pace);
+    pace.end();
     let stop = match stop {
         Ok(stop) => stop,
-        Err(Unshown::Memory) => return Err(ProgramFailure::Memory),
-        Err(Unshown::Output) => return Err(ProgramFailure::Report),
+        Err(error) if error.kind() == ErrorKind::OutOfMemory => return Err(ProgramFailure::Memory),
+        Err(_) => return Err(ProgramFailure::Report),
     };
-    let Ok(page) = ending_of(&job.subject, &mut session, stop) else {
-        return Err(ProgramFailure::Memory);
-    };
-    if lines.write_all(page.text.as_slice()).is_err() {
-        return Err(ProgramFailure::Report);
-    }
-    Ok(Outcome::Stopped(stop, session.used()))
-}
-
-// What is said of how a run ended.
-fn ending_of<R: Read + Drop, W: Write + Drop>(
-    subject: &Subject<'_>,
-    session: &mut Session<Kept<Counted<R>>, Counted<W>>,
-    stop: Stop,
-) -> Result<Page, AllocError> {
-    let mut page = Page::new(subject.alloc);
-    match stop {
-        Stop::Fault(kind, line) => {
-            add_fault(&mut page, session, subject.guide, subject.text, kind, line)?;
-        }
-        Stop::Paused => add_pause(&mut page, session, subject.guide, subject.text)?,
-        _ => {}
-    }
-    Ok(page)
-}
-
-// Reports how an order ended, and answers the exit status: that of the outcome or of what stopped the program, or that of
-// memory where its line could not be made.
-fn report_ending<E: Write + Drop>(
-    alloc: Global,
-    ended: Result<Outcome, ProgramFailure>,
-    mut errors: E,
-) -> u8 {
-    match ended {
-        Ok(outcome) => match outcome_line(alloc, &outcome) {
-            Ok(line) => {
-                let _ = errors.write_all(&line);
-                outcome_status(&outcome)
-            }
-            Err(_) => report_trouble(ProgramFailure::Memory, errors),
-        },
-        Err(trouble) => report_trouble(trouble, errors),
+    match ending_of(guide, &mut session, stop) {
+        Ok(page) => Ok((Outcome::Stopped(stop, session.used()), page)),
+        Err(_) => Err(ProgramFailure::Memory),
     }
 }

@@ -1,25 +1,9 @@
 //! Changes of a text, each tried by reading the changed text.
 
-use explain_pages::page::{Page, Part};
-use explain_pages::places::Stretch;
-use ss_lex::{LexError, Token, tokens};
+use explain_pages::{Made, Page, Part, Stretch, bytes_of};
+use ss_lex::{LexError, tokens};
 use ss_parse::{Reach, reach_of};
 use std::alloc::{AllocError, Global};
-
-/// A change of a text: a stretch of it gives way to other bytes. And what is said of it.
-#[derive(Drop)]
-pub struct Fix {
-    stretch: Stretch,
-    with: Page,
-    pub say: Page,
-}
-
-/// Changes that are to be tried, those first that say most.
-#[derive(Drop)]
-pub struct Fixes {
-    alloc: Global,
-    all: Vec<Fix>,
-}
 
 /// The part of a text in which changes are tried. It begins with a section, or with the text.
 #[derive(Clone, Copy)]
@@ -29,12 +13,24 @@ pub struct Window<'a> {
     pub start: usize,
 }
 
-impl Fixes {
-    /// No changes.
-    pub fn new(alloc: Global) -> Fixes {
+/// Changes of a window, each tried as it is proposed: what is said of the first of those with which the window is read furthest.
+#[derive(Drop)]
+pub struct Fixes<'a> {
+    alloc: Global,
+    window: Window<'a>,
+    /// How many bytes are left after the best change, and one more.
+    least: usize,
+    pub best: Option<Page<'static>>,
+}
+
+impl<'a> Fixes<'a> {
+    /// No changes. One is good where at most so many bytes of the window are left after it, and one more.
+    pub fn new(alloc: Global, window: Window<'a>, most: usize) -> Fixes<'a> {
         Fixes {
             alloc,
-            all: Vec::new(alloc),
+            window,
+            least: most,
+            best: None,
         }
     }
 
@@ -43,94 +39,73 @@ impl Fixes {
         self.alloc
     }
 
-    /// Adds a change: a stretch gives way to these parts. And what is said of it.
+    // The window with a stretch of the text changed to these parts.
+    fn changed(&self, stretch: Stretch, with: &[Part<'_>]) -> Made<Page<'static>> {
+        let Window { bytes, start } = self.window;
+        let first = stretch.start.saturating_sub(start).min(bytes.len());
+        let last = stretch.end.saturating_sub(start).max(first);
+        let before = Stretch {
+            start: 0,
+            end: first,
+        };
+        let after = Stretch {
+            start: last,
+            end: bytes.len(),
+        };
+        let mut text = Page::of(self.alloc, "{}", &[Part::Bytes(bytes_of(bytes, before))])?;
+        for part in with {
+            text.part(*part)?;
+        }
+        text.part(Part::Bytes(bytes_of(bytes, after)))?;
+        Ok(text)
+    }
+
+    /// Tries a change: a stretch gives way to these parts. And what is said of it.
     pub fn replace(
         &mut self,
         stretch: Stretch,
         with: &[Part<'_>],
         say: &str,
         parts: &[Part<'_>],
-    ) -> Result<(), AllocError> {
-        let mut bytes = Page::new(self.alloc);
-        bytes.parts(with)?;
-        let mut said = Page::new(self.alloc);
-        said.say(say, parts)?;
-        self.all.push(Fix {
-            stretch,
-            with: bytes,
-            say: said,
-        })?;
+    ) -> Made<()> {
+        let text = self.changed(stretch, with)?;
+        if let Some(left) = left_after(self.alloc, text.bytes())? {
+            if left < self.least || (left == self.least && self.best.is_none()) {
+                self.least = left;
+                self.best = Some(Page::of(self.alloc, say, parts)?);
+            }
+        }
         Ok(())
     }
 
-    /// Adds a change: these parts are put in at a place. And what is said of it.
+    /// Tries a change: these parts are put in at a place. And what is said of it.
     pub fn insert(
         &mut self,
         at: usize,
         with: &[Part<'_>],
         say: &str,
         parts: &[Part<'_>],
-    ) -> Result<(), AllocError> {
+    ) -> Made<()> {
         self.replace(Stretch { start: at, end: at }, with, say, parts)
-    }
-
-    /// The first of the changes with which the window is read furthest, where at most so many bytes of it are then left, and one
-    /// more. None where no change is so good.
-    pub fn best(&self, window: Window<'_>, most: usize) -> Result<Option<&Fix>, AllocError> {
-        let mut best = None;
-        let mut least = most;
-        for fix in &self.all {
-            let text = changed(self.alloc, window, fix)?;
-            if let Some(left) = left_after(self.alloc, text.as_slice())? {
-                if left < least || (left == least && best.is_none()) {
-                    least = left;
-                    best = Some(fix);
-                }
-            }
-        }
-        Ok(best)
-    }
-}
-
-// Where the token begins that was not read, or the end of the text. None where all is read.
-fn stop_in(list: &[Token], length: usize, reach: Reach) -> Option<usize> {
-    match reach {
-        Reach::Whole => None,
-        Reach::Stopped(index) | Reach::TooDeep(index) => match list.get(index) {
-            Some(token) => Some(token.span.start),
-            None => Some(length),
-        },
     }
 }
 
 /// How many bytes of this text are left where it is not read further, and one more; 0 where it is a program. None where it has
 /// no tokens.
-pub fn left_after(alloc: Global, text: &[u8]) -> Result<Option<usize>, AllocError> {
-    match tokens(alloc, text) {
-        Err(LexError::Memory) => Err(AllocError),
-        Err(_) => Ok(None),
-        Ok(all) => {
-            let reach = reach_of(alloc, all.list())?;
-            Ok(Some(match stop_in(all.list(), text.len(), reach) {
-                None => 0,
-                Some(stop) => text.len().saturating_sub(stop).saturating_add(1),
-            }))
+pub fn left_after(alloc: Global, text: &[u8]) -> Made<Option<usize>> {
+    let all = match tokens(alloc, text) {
+        Ok(all) => all,
+        Err(LexError::Memory) => return Err(AllocError),
+        Err(_) => return Ok(None),
+    };
+    Ok(Some(match reach_of(alloc, all.list())? {
+        Reach::Whole => 0,
+        Reach::Stopped(index) | Reach::TooDeep(index) => {
+            let stop = match all.list().get(index) {
+                Some(token) => token.span.start,
+                None => text.len(),
+            };
+            text.len().saturating_sub(stop).saturating_add(1)
         }
-    }
-}
-
-// The window with a change made.
-fn changed(alloc: Global, window: Window<'_>, fix: &Fix) -> Result<Vec<u8>, AllocError> {
-    let length = window.bytes.len();
-    let start = fix.stretch.start.saturating_sub(window.start).min(length);
-    let end = fix
-        .stretch
-        .end
-        .saturating_sub(window.start)
-        .min(length)
-        .max(start);
-    let mut text = Vec::from_slice(alloc, &window.bytes[..start])?;
-    text.extend_from_slice(fix.with.text.as_slice())?;
-    text.extend_from_slice(&window.bytes[end..])?;
-    Ok(text)
+    }))
 }

@@ -1,15 +1,13 @@
 //! Changes for what is open too long or closed too early: IFs without ALWAYS, loops without DO or LOOP, sections without END.
 
 use crate::fixes::Fixes;
+use crate::prints::calls_for_picture;
 use crate::trouble::Trouble;
-use explain_grammar::opens::{Construct, Open};
-use explain_grammar::spellings::begins_statement;
-use explain_pages::page::Page;
-use explain_pages::page::Part::{Bytes, Capitals, Line, Words};
-use explain_pages::places::{indentation, is_blank};
-use explain_pages::tokens::is_first_of_line;
+use explain_grammar::{Construct, Open, begins_statement};
+use explain_pages::Part::{Bytes, Capitals, Line, Words};
+use explain_pages::{Made, Page, indentation, is_blank, is_first_of_line};
 use ss_lex::{TokenKind, Word};
-use std::alloc::{AllocError, Global};
+use std::alloc::Global;
 
 // Whether an IF has a statement on its own line, and the line has fewer ALWAYS than IFs from it on.
 fn is_short(trouble: &Trouble<'_>, token: usize) -> bool {
@@ -28,13 +26,9 @@ fn is_short(trouble: &Trouble<'_>, token: usize) -> bool {
 }
 
 // An ALWAYS at the end of the line of a short IF.
-fn add_short_if(fixes: &mut Fixes, trouble: &Trouble<'_>, token: usize) -> Result<(), AllocError> {
+fn add_short_if(fixes: &mut Fixes<'_>, trouble: &Trouble<'_>, token: usize) -> Made<()> {
     let last = trouble.last_of_line(token);
-    let calls_for_picture = matches!(
-        trouble.word(last),
-        Some(Word::Thus | Word::This | Word::Follows)
-    );
-    if !is_short(trouble, token) || calls_for_picture {
+    if !is_short(trouble, token) || calls_for_picture(trouble.word(last)) {
         return Ok(());
     }
     let line = Line(trouble.line_of(token));
@@ -70,7 +64,7 @@ fn end_of_else_if(trouble: &Trouble<'_>, token: usize) -> Option<usize> {
 }
 
 // A second ALWAYS after that of the inner IF of an `ELSE IF`.
-fn add_else_if(fixes: &mut Fixes, trouble: &Trouble<'_>, token: usize) -> Result<(), AllocError> {
+fn add_else_if(fixes: &mut Fixes<'_>, trouble: &Trouble<'_>, token: usize) -> Made<()> {
     let Some(always) = end_of_else_if(trouble, token) else {
         return Ok(());
     };
@@ -82,30 +76,21 @@ fn add_else_if(fixes: &mut Fixes, trouble: &Trouble<'_>, token: usize) -> Result
     )
 }
 
-// Whether a line is one of picture.
 fn is_picture_line(trouble: &Trouble<'_>, from: usize, line: u32) -> bool {
-    for token in trouble.tokens.iter().skip(from) {
-        if token.line.0 > line {
-            return false;
-        }
-        if let (true, TokenKind::Picture(_)) = (token.line.0 == line, &token.kind) {
-            return true;
-        }
-    }
-    false
+    let further = trouble.tokens.iter().skip(from);
+    further.take_while(|token| token.line.0 <= line).any(|token| {
+        token.line.0 == line && matches!(&token.kind, TokenKind::Picture(_))
+    })
 }
 
 // The word with which a line begins, from a token on.
 fn first_word(trouble: &Trouble<'_>, from: usize, line: u32) -> Option<Word> {
-    for index in from..trouble.tokens.len() {
-        if trouble.line_of(index) == line {
-            return trouble.word(index);
-        }
-        if trouble.line_of(index) > line {
-            return None;
-        }
+    let index = (from..trouble.tokens.len()).find(|index| trouble.line_of(*index) >= line)?;
+    if trouble.line_of(index) == line {
+        trouble.word(index)
+    } else {
+        None
     }
-    None
 }
 
 // The line before which a construct ends by how the lines are indented: the first that is no deeper than it and does not
@@ -117,107 +102,96 @@ fn end_by_indentation(trouble: &Trouble<'_>, open: Open) -> Option<u32> {
     let first = trouble.line_of(open.token);
     let depth = indentation(trouble.line_bytes(first));
     let is_if = open.construct == Construct::If;
+    let closer = Some(if is_if { Word::Always } else { Word::Loop });
     let mut was_deeper = false;
     for line in first.saturating_add(1)..trouble.line().saturating_add(1) {
         let bytes = trouble.line_bytes(line);
         if is_blank(bytes) || is_picture_line(trouble, open.token, line) {
             continue;
         }
-        if indentation(bytes) > depth {
-            was_deeper = true;
-            continue;
+        let is_deeper = indentation(bytes) > depth;
+        if !is_deeper {
+            let word = first_word(trouble, open.token, line);
+            let is_level = indentation(bytes) == depth;
+            if is_level && word == closer {
+                return None;
+            }
+            if was_deeper && !(is_level && is_if && word == Some(Word::Else)) {
+                return Some(line);
+            }
         }
-        let word = first_word(trouble, open.token, line);
-        let is_level = indentation(bytes) == depth;
-        if is_level && word == Some(if is_if { Word::Always } else { Word::Loop }) {
-            return None;
-        }
-        if was_deeper && !(is_level && is_if && word == Some(Word::Else)) {
-            return Some(line);
-        }
-        was_deeper = false;
+        was_deeper = is_deeper;
     }
     None
 }
 
 // The end of the last line before this one that is neither empty nor a comment.
 fn end_before(trouble: &Trouble<'_>, line: u32) -> usize {
-    let mut before = line.saturating_sub(1);
-    for _ in 0..line {
-        if before <= 1 || !is_blank(trouble.line_bytes(before)) {
-            break;
-        }
-        before -= 1;
-    }
-    trouble.line_end(before)
+    let mut before = (1..line).rev();
+    let last = before.find(|line| *line == 1 || !is_blank(trouble.line_bytes(*line)));
+    trouble.line_stretch(last.unwrap_or(0)).end
 }
 
 // What is open: a construct and its line, as `The IF of line 17`, with the name of a routine or an event.
-fn opened(alloc: Global, trouble: &Trouble<'_>, open: Open) -> Result<Page, AllocError> {
-    let mut page = Page::new(alloc);
-    page.say("The {}", &[Words(open.construct.word())])?;
+fn opened(alloc: Global, trouble: &Trouble<'_>, open: Open) -> Made<Page<'static>> {
+    let mut page = Page::of(alloc, "The {}", &[Words(open.construct.word())])?;
     if let Construct::Routine | Construct::Event = open.construct {
-        page.say(
-            " {}",
-            &[Capitals(trouble.spelling(open.token.saturating_add(1)))],
-        )?;
+        let name = trouble.spelling(open.token.saturating_add(1));
+        page.say(" {}", &[Capitals(name)])?;
     }
     page.say(" of line {}", &[Line(trouble.line_of(open.token))])?;
     Ok(page)
 }
 
 // What closes a construct, in a line of its own after the last line that is deeper.
-fn add_by_indentation(
-    fixes: &mut Fixes,
-    trouble: &Trouble<'_>,
-    open: Open,
-) -> Result<(), AllocError> {
+fn add_by_indentation(fixes: &mut Fixes<'_>, trouble: &Trouble<'_>, open: Open) -> Made<()> {
     let Some(line) = end_by_indentation(trouble, open) else {
         return Ok(());
     };
     let what = opened(fixes.alloc(), trouble, open)?;
-    let (what, closer) = (Bytes(what.text.as_slice()), Words(open.construct.closer()));
-    let at = end_before(trouble, line);
-    if line == trouble.line() {
-        let words = "{} is still open where {} comes: write {} before line {}.";
-        let parts = [what, trouble.called(trouble.at), closer, Line(line)];
-        fixes.insert(at, &[Words("\n"), closer], words, &parts)
+    let closer = Words(open.construct.closer());
+    let (where_open, found, comes) = if line == trouble.line() {
+        (" where ", trouble.called(trouble.at), " comes")
     } else {
-        let words = "{} is still open: write {} before line {}.";
-        fixes.insert(
-            at,
-            &[Words("\n"), closer],
-            words,
-            &[what, closer, Line(line)],
-        )
-    }
+        ("", Words(""), "")
+    };
+    fixes.insert(
+        end_before(trouble, line),
+        &[Words("\n"), closer],
+        "{} is still open{}{}{}: write {} before line {}.",
+        &[
+            Bytes(what.bytes()),
+            Words(where_open),
+            found,
+            Words(comes),
+            closer,
+            Line(line),
+        ],
+    )
 }
 
 // What closes a construct, directly before the place.
-fn add_before_place(
-    fixes: &mut Fixes,
-    trouble: &Trouble<'_>,
-    open: Open,
-) -> Result<(), AllocError> {
+fn add_before_place(fixes: &mut Fixes<'_>, trouble: &Trouble<'_>, open: Open) -> Made<()> {
     let what = opened(fixes.alloc(), trouble, open)?;
     let closer = Words(open.construct.closer());
     let is_open = match open.construct {
         Construct::If | Construct::Loop => "is still open",
         _ => "has no END",
     };
-    let (in_line, line) = match trouble.found() {
-        Some(token) => (Words(" in line "), Line(token.line.0)),
+    let (in_line, line) = match trouble.kind(trouble.at) {
+        Some(_) => (Words(" in line "), Line(trouble.line())),
         None => (Words(""), Words("")),
     };
+    let place = trouble.called(trouble.at);
     fixes.insert(
         trouble.stretch(trouble.at).start,
         &[Words("\n"), closer, Words("\n")],
         "{} {}: write {} before {}{}{}.",
         &[
-            Bytes(what.text.as_slice()),
+            Bytes(what.bytes()),
             Words(is_open),
             closer,
-            trouble.called(trouble.at),
+            place,
             in_line,
             line,
         ],
@@ -225,28 +199,28 @@ fn add_before_place(
 }
 
 // What closes all that is open, directly before the place.
-fn add_all_before_place(fixes: &mut Fixes, trouble: &Trouble<'_>) -> Result<(), AllocError> {
-    let mut list = Page::new(fixes.alloc());
-    let mut with = Page::new(fixes.alloc());
+fn add_all_before_place(fixes: &mut Fixes<'_>, trouble: &Trouble<'_>) -> Made<()> {
+    let mut list = Page::of(fixes.alloc(), "", &[])?;
+    let mut with = Page::of(fixes.alloc(), "", &[])?;
     for (place, open) in trouble.opens.iter().rev().enumerate() {
-        let word = Words(open.construct.word());
+        let comma = Words(if place > 0 { ", " } else { "" });
         let line = Line(trouble.line_of(open.token));
         list.say(
             "{}{} of line {}",
-            &[Words(if place > 0 { ", " } else { "" }), word, line],
+            &[comma, Words(open.construct.word()), line],
         )?;
         with.say("\n{}", &[Words(open.construct.closer())])?;
     }
     fixes.insert(
         trouble.stretch(trouble.at).start,
-        &[Bytes(with.text.as_slice()), Words("\n")],
+        &[Bytes(with.bytes()), Words("\n")],
         "Still open there: {}. Close each, the last first, by ALWAYS, LOOP and END.",
-        &[Bytes(list.text.as_slice())],
+        &[Bytes(list.bytes())],
     )
 }
 
 // A DO at the end of the line of a loop's head.
-fn add_do(fixes: &mut Fixes, trouble: &Trouble<'_>, token: usize) -> Result<(), AllocError> {
+fn add_do(fixes: &mut Fixes<'_>, trouble: &Trouble<'_>, token: usize) -> Made<()> {
     fixes.insert(
         trouble.stretch(trouble.last_of_line(token)).end,
         &[Words(" DO")],
@@ -256,7 +230,7 @@ fn add_do(fixes: &mut Fixes, trouble: &Trouble<'_>, token: usize) -> Result<(), 
 }
 
 // Changes for the IFs of the section, the last first.
-fn add_ifs(fixes: &mut Fixes, trouble: &Trouble<'_>) -> Result<(), AllocError> {
+fn add_ifs(fixes: &mut Fixes<'_>, trouble: &Trouble<'_>) -> Made<()> {
     for index in (trouble.section..trouble.end()).rev() {
         if trouble.word(index) == Some(Word::If) {
             add_short_if(fixes, trouble, index)?;
@@ -267,20 +241,17 @@ fn add_ifs(fixes: &mut Fixes, trouble: &Trouble<'_>) -> Result<(), AllocError> {
             add_else_if(fixes, trouble, open.token)?;
         }
     }
-    for index in (trouble.section..trouble.end()).rev() {
-        if trouble.word(index) == Some(Word::If) {
-            let open = Open {
-                construct: Construct::If,
-                token: index,
-            };
-            add_by_indentation(fixes, trouble, open)?;
+    for token in (trouble.section..trouble.end()).rev() {
+        if trouble.word(token) == Some(Word::If) {
+            let construct = Construct::If;
+            add_by_indentation(fixes, trouble, Open { construct, token })?;
         }
     }
     Ok(())
 }
 
-// Changes for the loops of the section.
-fn add_loops(fixes: &mut Fixes, trouble: &Trouble<'_>) -> Result<(), AllocError> {
+// Changes for the loops of the section, the last first.
+fn add_loops(fixes: &mut Fixes<'_>, trouble: &Trouble<'_>) -> Made<()> {
     for open in trouble.opens.iter().rev() {
         if open.construct == Construct::Loop {
             add_by_indentation(fixes, trouble, *open)?;
@@ -298,7 +269,7 @@ fn add_loops(fixes: &mut Fixes, trouble: &Trouble<'_>) -> Result<(), AllocError>
 }
 
 /// Adds the changes for a place where a construct is open too long, or closed too early.
-pub fn add_frames(fixes: &mut Fixes, trouble: &Trouble<'_>) -> Result<(), AllocError> {
+pub fn add_frames(fixes: &mut Fixes<'_>, trouble: &Trouble<'_>) -> Made<()> {
     add_ifs(fixes, trouble)?;
     add_loops(fixes, trouble)?;
     if let Some(open) = trouble.opens.last() {

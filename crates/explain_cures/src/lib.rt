@@ -3,6 +3,7 @@
 
 mod fixes;
 mod frames;
+mod moves;
 mod prints;
 pub mod syntax;
 mod trouble;

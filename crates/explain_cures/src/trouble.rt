@@ -1,11 +1,12 @@
 //! The place at which a text is not read further, and what is known of it.
 
 use crate::fixes::Window;
-use explain_grammar::candidates::Candidate;
-use explain_grammar::opens::Open;
-use explain_pages::page::Part::{self, Capitals, Words};
-use explain_pages::places::{Stretch, bytes_of, line_from, spelled, stretch_of};
-use explain_pages::tokens::{line_of, word_at};
+use explain_grammar::{Candidate, Open, has_word};
+use explain_pages::Part::{Capitals, Words};
+use explain_pages::{
+    Part, Stretch, bytes_of, is_first_of_line, kind_at, line_from, line_of, spelled, stretch_of,
+    word_at,
+};
 use ss_lex::{Symbol, Token, TokenKind, Word};
 
 /// The place at which a text is not read further, and what is known of it.
@@ -26,17 +27,14 @@ pub struct Trouble<'a> {
 }
 
 impl<'a> Trouble<'a> {
-    /// The token that does not fit.
-    pub fn found(&self) -> Option<&'a Token> {
-        self.tokens.get(self.at)
+    /// What a token is.
+    pub fn kind(&self, index: usize) -> Option<&'a TokenKind> {
+        kind_at(self.tokens, index)
     }
 
-    /// The token before it.
-    pub fn before(&self) -> Option<&'a Token> {
-        match self.at {
-            0 => None,
-            at => self.tokens.get(at - 1),
-        }
+    /// The index before the place; 0 where there is none.
+    pub fn before(&self) -> usize {
+        self.at.saturating_sub(1)
     }
 
     /// The place after the tokens of the section that come before it.
@@ -46,10 +44,7 @@ impl<'a> Trouble<'a> {
 
     /// How a token is spelled; empty at the end of the text.
     pub fn spelling(&self, index: usize) -> &'a [u8] {
-        match self.tokens.get(index) {
-            Some(token) => spelled(self.text, token),
-            None => &[],
-        }
+        self.bytes(self.stretch(index))
     }
 
     /// What a token is called: its spelling in capitals, or words for the end of the text.
@@ -101,50 +96,46 @@ impl<'a> Trouble<'a> {
 
     /// Whether a token is this symbol.
     pub fn is_symbol(&self, index: usize, wanted: Symbol) -> bool {
-        match self.tokens.get(index) {
-            Some(token) => match &token.kind {
-                TokenKind::Symbol(symbol) => *symbol == wanted,
-                _ => false,
-            },
-            None => false,
+        match self.kind(index) {
+            Some(TokenKind::Symbol(symbol)) => *symbol == wanted,
+            _ => false,
         }
     }
 
     /// Whether the token before the place is in another line.
     pub fn begins_line(&self) -> bool {
-        match (self.before(), self.found()) {
-            (Some(before), Some(found)) => before.line.0 != found.line.0,
-            _ => true,
-        }
+        is_first_of_line(self.tokens, self.at)
+    }
+
+    /// Whether a word may come at the place.
+    pub fn may_be(&self, word: Word) -> bool {
+        has_word(self.candidates, word)
     }
 
     /// The last token of a line, by its index, from this token on.
     pub fn last_of_line(&self, index: usize) -> usize {
         let line = self.line_of(index);
-        let mut last = index;
-        for next in index..self.tokens.len().min(index.saturating_add(2000)) {
-            if self.line_of(next) != line {
-                break;
-            }
-            last = next;
-        }
-        last
+        let further = self.tokens.iter().skip(index).take(2000);
+        let count = further.take_while(|token| token.line.0 == line).count();
+        index.saturating_add(count.saturating_sub(1))
     }
 
     /// The part of the text in which changes are tried: from the section on, and so many bytes past the place. None where the
     /// place is too far from where the section begins.
     pub fn window(&self) -> Option<Window<'a>> {
-        let most: usize = if self.text.len() > 100_000 {
-            2_000
-        } else {
-            20_000
-        };
+        let is_long = self.text.len() > 100_000;
+        let most: usize = if is_long { 2_000 } else { 20_000 };
         let start = match self.section {
             0 => 0,
             section => self.stretch(section).start.min(self.text.len()),
         };
         let place = self.stretch(self.at).start;
-        let end = self.end_of_line(place.saturating_add(most));
+        let least = place.saturating_add(most);
+        let mut further = self.text.iter().skip(least);
+        let end = match further.position(|byte| *byte == b'\n') {
+            Some(count) => least.saturating_add(count),
+            None => self.text.len(),
+        };
         if place.saturating_sub(start) > most || end < start {
             return None;
         }
@@ -154,30 +145,13 @@ impl<'a> Trouble<'a> {
         })
     }
 
-    // The end of the line that this byte is in.
-    fn end_of_line(&self, at: usize) -> usize {
-        match self.text.iter().skip(at).position(|byte| *byte == b'\n') {
-            Some(count) => at.saturating_add(count),
-            None => self.text.len(),
-        }
+    /// The stretch of a line of the text, without its line feed.
+    pub fn line_stretch(&self, line: u32) -> Stretch {
+        line_from(self.text, self.starts, line)
     }
 
     /// The bytes of a line of the text.
     pub fn line_bytes(&self, line: u32) -> &'a [u8] {
-        line_from(self.text, self.starts, line)
-    }
-
-    /// Where a line of the text begins.
-    pub fn line_start(&self, line: u32) -> usize {
-        match self.starts.get((line as usize).saturating_sub(1)) {
-            Some(start) => *start,
-            None => self.text.len(),
-        }
-    }
-
-    /// The end of a line of the text, before its line feed.
-    pub fn line_end(&self, line: u32) -> usize {
-        self.line_start(line)
-            .saturating_add(self.line_bytes(line).len())
+        self.bytes(self.line_stretch(line))
     }
 }

@@ -1,8 +1,9 @@
 //! What may come at a place of a text, as tokens to be tried there.
 
-use crate::spellings::{WORDS, begins_statement};
+use crate::spellings::{WORDS, begins_statement, is_among, is_value_word};
+use explain_pages::Made;
 use ss_base::{Alpha, Line, Name, PictureLine};
-use ss_lex::{Span, Symbol, Token, TokenKind, Word};
+use ss_lex::{LexError, Span, Symbol, Token, TokenKind, Word, tokens};
 use ss_parse::{Reach, reach_of};
 use std::alloc::{AllocError, Global};
 
@@ -41,6 +42,37 @@ static OTHERS: [Candidate; 11] = [
     Candidate::Picture,
 ];
 
+/// A group of words of which two show that all are expected: these two, what all are called, and all.
+pub type Group = (Word, Word, &'static str, &'static str);
+
+pub static RELATION: Group = (
+    Word::Eq,
+    Word::Ge,
+    "a relation as =, NE, LT, GT, LE or GE",
+    "EQ NE LT GT LE GE EQUALS EQUAL LESS GREATER NOT",
+);
+
+pub static STATEMENT: Group = (
+    Word::Let,
+    Word::Print,
+    "a statement",
+    "LET ADD SUBTRACT CALL RETURN STOP READ START IF FOR WHILE UNTIL CREATE DESTROY FILE REMOVE SCHEDULE CANCEL RESET PRINT SKIP",
+);
+
+pub static DECLARATION: Group = (
+    Word::Define,
+    Word::Tally,
+    "a declaration as EVERY, DEFINE or TALLY",
+    "DEFINE TALLY ACCUMULATE NORMALLY THE PRIORITY BREAK PERMANENT TEMPORARY EVENT EVERY",
+);
+
+pub static PHRASE: Group = (
+    Word::With,
+    Word::Unless,
+    "a phrase as WITH or WHILE",
+    "WITH WHEN UNLESS WHILE UNTIL",
+);
+
 // A token of a kind, with no spelling in the text and no line.
 fn token(kind: TokenKind) -> Token {
     Token {
@@ -61,8 +93,7 @@ fn any_name() -> TokenKind {
     }
 }
 
-// A copy of a token.
-fn copied(alloc: Global, original: &Token) -> Result<Token, AllocError> {
+fn copied(alloc: Global, original: &Token) -> Made<Token> {
     let kind = match &original.kind {
         TokenKind::Word(word) => TokenKind::Word(*word),
         TokenKind::Name(name) => TokenKind::Name(*name),
@@ -79,7 +110,7 @@ fn copied(alloc: Global, original: &Token) -> Result<Token, AllocError> {
 }
 
 // Adds the tokens of a candidate.
-fn add(alloc: Global, tokens: &mut Vec<Token>, candidate: Candidate) -> Result<(), AllocError> {
+fn add(alloc: Global, tokens: &mut Vec<Token>, candidate: Candidate) -> Made<()> {
     let kind = match candidate {
         Candidate::Word(word) => TokenKind::Word(word),
         Candidate::Name => any_name(),
@@ -103,7 +134,7 @@ fn find(
     found: &mut Vec<Candidate>,
     tokens: &mut Vec<Token>,
     candidate: Candidate,
-) -> Result<(), AllocError> {
+) -> Made<()> {
     let before = tokens.len();
     add(alloc, tokens, candidate)?;
     let is_read = match reach_of(alloc, tokens.as_slice())? {
@@ -117,41 +148,57 @@ fn find(
     Ok(())
 }
 
-// Whether a candidate is a word that is a value or begins one.
-fn is_value(candidate: &Candidate) -> bool {
-    match candidate {
-        Candidate::Word(word) => is_value_word(*word),
-        _ => true,
+// Finds the reserved words that may come after these tokens.
+fn find_words(alloc: Global, found: &mut Vec<Candidate>, tried: &mut Vec<Token>) -> Made<()> {
+    match tokens(alloc, WORDS.as_bytes()) {
+        Ok(words) => {
+            for token in words.list() {
+                if let TokenKind::Word(word) = &token.kind {
+                    find(alloc, found, tried, Candidate::Word(*word))?;
+                }
+            }
+            Ok(())
+        }
+        Err(LexError::Memory) => Err(AllocError),
+        Err(_) => Ok(()),
     }
 }
 
-// Whether a candidate may come after the head of a loop.
-fn goes_on_loop(candidate: &Candidate) -> bool {
+// Whether a candidate fits, where a value is due or else the one statement of a loop.
+fn fits(candidate: &Candidate, is_value: bool) -> bool {
     match candidate {
+        Candidate::Word(word) if is_value => is_value_word(*word),
         Candidate::Word(word) => {
-            begins_statement(*word)
-                || matches!(
-                    word,
-                    Word::Do
-                        | Word::Find
-                        | Word::With
-                        | Word::When
-                        | Word::Unless
-                        | Word::And
-                        | Word::Or
-                        | Word::By
-                )
+            begins_statement(*word) || is_among(*word, "DO FIND WITH WHEN UNLESS AND OR BY")
         }
         _ => true,
     }
 }
 
-/// Whether the word is a value or begins one.
-pub fn is_value_word(word: Word) -> bool {
-    matches!(
-        word,
-        Word::TimeV | Word::TimeA | Word::AbsF | Word::DivF | Word::ModF | Word::MinF | Word::MaxF
-    )
+/// What may come after these tokens, each tried by reading them with it: with a candidate of the list the tokens are read
+/// further. Nothing is tried where the tokens are too many.
+pub fn candidates_after(alloc: Global, tokens: &[Token]) -> Made<Vec<Candidate>> {
+    let mut found = Vec::new(alloc);
+    if tokens.len() > TRIED_AFTER {
+        return Ok(found);
+    }
+    let mut tried = Vec::new(alloc);
+    for one in tokens {
+        tried.push(copied(alloc, one)?)?;
+    }
+    find_words(alloc, &mut found, &mut tried)?;
+    for candidate in &OTHERS {
+        find(alloc, &mut found, &mut tried, *candidate)?;
+    }
+    // Where a value is due, or the one statement of a loop, the reading stops after a word that is none, so each word seems to fit.
+    if found.len() > MOST_WORDS {
+        let is_value = found.contains(&Candidate::Number);
+        found.retain(|candidate| fits(candidate, is_value));
+    }
+    if reach_of(alloc, tried.as_slice())? == Reach::Whole {
+        found.push(Candidate::End)?;
+    }
+    Ok(found)
 }
 
 /// Whether a token is among the candidates.
@@ -166,107 +213,26 @@ pub fn has_token(candidates: &[Candidate], token: &Token) -> bool {
     })
 }
 
-/// What may come after these tokens, each tried by reading them with it: with a candidate of the list the tokens are read
-/// further. Nothing is tried where the tokens are too many.
-pub fn candidates_after(alloc: Global, tokens: &[Token]) -> Result<Vec<Candidate>, AllocError> {
-    let mut found = Vec::new(alloc);
-    if tokens.len() > TRIED_AFTER {
-        return Ok(found);
-    }
-    let mut tried = Vec::new(alloc);
-    for one in tokens {
-        tried.push(copied(alloc, one)?)?;
-    }
-    for (_, word) in &WORDS {
-        find(alloc, &mut found, &mut tried, Candidate::Word(*word))?;
-    }
-    for candidate in &OTHERS {
-        find(alloc, &mut found, &mut tried, *candidate)?;
-    }
-    // Where a value is due, or the one statement of a loop, the reading stops after a word that is none, so each word seems to fit.
-    if found.len() > MOST_WORDS {
-        if found.contains(&Candidate::Number) {
-            found.retain(|candidate| is_value(candidate));
-        } else {
-            found.retain(|candidate| goes_on_loop(candidate));
-        }
-    }
-    if reach_of(alloc, tried.as_slice())? == Reach::Whole {
-        found.push(Candidate::End)?;
-    }
-    Ok(found)
-}
-
 /// Whether a word is among the candidates.
 pub fn has_word(candidates: &[Candidate], word: Word) -> bool {
     candidates.contains(&Candidate::Word(word))
 }
 
-/// Whether a statement is among them.
-pub fn has_statement(candidates: &[Candidate]) -> bool {
-    has_word(candidates, Word::Let) && has_word(candidates, Word::Print)
+/// Whether the words of a group are among them.
+pub fn has_group(candidates: &[Candidate], group: &Group) -> bool {
+    has_word(candidates, group.0) && has_word(candidates, group.1)
 }
 
-/// Whether a value is among them.
-pub fn has_value(candidates: &[Candidate]) -> bool {
-    candidates.contains(&Candidate::Number) && candidates.contains(&Candidate::Name)
+// Whether the word is of this group, whose words are among the candidates.
+fn is_of(candidates: &[Candidate], group: &Group, word: Word) -> bool {
+    has_group(candidates, group) && is_among(word, group.3)
 }
 
-/// Whether a relation is among them.
-pub fn has_relation(candidates: &[Candidate]) -> bool {
-    has_word(candidates, Word::Eq) && has_word(candidates, Word::Ge)
-}
-
-/// Whether a statement of a preamble is among them.
-pub fn has_declaration(candidates: &[Candidate]) -> bool {
-    has_word(candidates, Word::Define) && has_word(candidates, Word::Tally)
-}
-
-/// Whether a phrase of a FOR is among them.
-pub fn has_phrase(candidates: &[Candidate]) -> bool {
-    has_word(candidates, Word::With) && has_word(candidates, Word::Unless)
-}
-
-/// Whether the word is one of those that `has_..` stand for.
+/// Whether the word is one that is called by the name of its group, or as a value.
 pub fn is_grouped(candidates: &[Candidate], word: Word) -> bool {
-    let in_statement = begins_statement(word);
-    let in_value = is_value_word(word);
-    let in_relation = matches!(
-        word,
-        Word::Eq
-            | Word::Ne
-            | Word::Lt
-            | Word::Gt
-            | Word::Le
-            | Word::Ge
-            | Word::Equals
-            | Word::Equal
-            | Word::Less
-            | Word::Greater
-            | Word::Not
-    );
-    let in_declaration = matches!(
-        word,
-        Word::Define
-            | Word::Tally
-            | Word::Accumulate
-            | Word::Normally
-            | Word::The
-            | Word::Priority
-            | Word::Break
-            | Word::Permanent
-            | Word::Temporary
-            | Word::Event
-            | Word::Every
-    );
-    let in_phrase = matches!(
-        word,
-        Word::With | Word::When | Word::Unless | Word::While | Word::Until
-    );
-    (in_phrase && has_phrase(candidates))
-        || (in_statement && has_statement(candidates))
-        || (in_value && has_value(candidates))
-        || (in_value && candidates.contains(&Candidate::Name))
-        || (in_relation && has_relation(candidates))
-        || (in_declaration && has_declaration(candidates))
+    is_of(candidates, &RELATION, word)
+        || is_of(candidates, &STATEMENT, word)
+        || is_of(candidates, &DECLARATION, word)
+        || is_of(candidates, &PHRASE, word)
+        || (is_value_word(word) && candidates.contains(&Candidate::Name))
 }

@@ -1,9 +1,9 @@
 //! Constructs that are open at a place of a text: sections, IFs and loops that begin before it and end after it.
 
 use crate::spellings::begins_statement;
-use explain_pages::tokens::{is_first_of_line, word_at};
+use explain_pages::{Made, is_first_of_line, word_at};
 use ss_lex::{Token, Word};
-use std::alloc::{AllocError, Global};
+use std::alloc::Global;
 
 /// What can be open.
 #[derive(Clone, Copy, Debug, PartialEq, Eq)]
@@ -52,10 +52,10 @@ pub fn head_at(tokens: &[Token], index: usize) -> Option<Construct> {
     if !is_first_of_line(tokens, index) && !after_end {
         return None;
     }
-    match word_at(tokens, index) {
-        Some(Word::Main) => Some(Construct::Main),
-        Some(Word::Routine) => Some(Construct::Routine),
-        Some(Word::Event) => match word_at(tokens, index.saturating_add(1)) {
+    match word_at(tokens, index)? {
+        Word::Main => Some(Construct::Main),
+        Word::Routine => Some(Construct::Routine),
+        Word::Event => match word_at(tokens, index.saturating_add(1)) {
             Some(Word::Notices | Word::Notice) => None,
             _ => Some(Construct::Event),
         },
@@ -68,11 +68,9 @@ pub fn section_before(tokens: &[Token], at: usize) -> usize {
     let mut found = 0;
     let mut in_preamble = word_at(tokens, 0) == Some(Word::Preamble);
     for index in 0..at.min(tokens.len()) {
-        if word_at(tokens, index) == Some(Word::End) {
-            in_preamble = false;
-        }
-        let is_notice = in_preamble && word_at(tokens, index) == Some(Word::Event);
-        if head_at(tokens, index).is_some() && !is_notice {
+        in_preamble = in_preamble && word_at(tokens, index) != Some(Word::End);
+        let head = head_at(tokens, index);
+        if head.is_some() && !(in_preamble && head == Some(Construct::Event)) {
             in_preamble = false;
             found = index;
         }
@@ -87,80 +85,59 @@ struct Walk {
     head: Option<usize>,
 }
 
-// Forgets the constructs down to the last of this kind, that one too.
-fn close(opens: &mut Vec<Open>, construct: Construct) {
-    if let Some(last) = opens.last() {
-        if last.construct == construct {
-            let _ = opens.pop();
-        }
+// Whether what was opened last is such a construct.
+fn is_last(opens: &[Open], construct: Construct) -> bool {
+    match opens.last() {
+        Some(last) => last.construct == construct,
+        None => false,
     }
 }
 
-// Opens a construct.
-fn add_open(opens: &mut Vec<Open>, construct: Construct, token: usize) -> Result<(), AllocError> {
-    opens.push(Open { construct, token })?;
-    Ok(())
+// Closes what was opened last, if it is such a construct.
+fn close(opens: &mut Vec<Open>, construct: Construct) {
+    if is_last(opens.as_slice(), construct) {
+        let _ = opens.pop();
+    }
+}
+
+// What begins with a token that is a reserved word: a section, an IF or a loop.
+fn opened(walk: &Walk, tokens: &[Token], index: usize, word: Word) -> Option<Open> {
+    let in_preamble = is_last(walk.opens.as_slice(), Construct::Preamble);
+    let (construct, token) = match (head_at(tokens, index), word) {
+        (Some(head), _) if !in_preamble || head != Construct::Event => (head, index),
+        (_, Word::Preamble) => (Construct::Preamble, index),
+        (_, Word::If) => (Construct::If, index),
+        (_, Word::Do) => (Construct::Loop, walk.head.unwrap_or(index)),
+        _ => return None,
+    };
+    Some(Open { construct, token })
 }
 
 // Goes past a token that is a reserved word.
-fn pass(walk: &mut Walk, tokens: &[Token], index: usize, word: Word) -> Result<(), AllocError> {
-    let in_preamble = match walk.opens.last() {
-        Some(last) => last.construct == Construct::Preamble,
-        None => false,
-    };
-    if let Some(section) = head_at(tokens, index) {
-        if !(in_preamble && section == Construct::Event) {
-            walk.opens.clear();
-            return add_open(&mut walk.opens, section, index);
-        }
-    }
+fn pass(walk: &mut Walk, tokens: &[Token], index: usize, word: Word) -> Made<()> {
+    let opened = opened(walk, tokens, index, word);
     match word {
-        Word::Preamble => add_open(&mut walk.opens, Construct::Preamble, index),
-        Word::End => {
-            walk.opens.clear();
-            Ok(())
-        }
-        Word::If => {
-            walk.head = None;
-            add_open(&mut walk.opens, Construct::If, index)
-        }
-        Word::Always => {
-            close(&mut walk.opens, Construct::If);
-            Ok(())
-        }
-        Word::Do => {
-            let head = walk.head.unwrap_or(index);
-            walk.head = None;
-            add_open(&mut walk.opens, Construct::Loop, head)
-        }
-        Word::Loop => {
-            close(&mut walk.opens, Construct::Loop);
-            Ok(())
-        }
-        Word::For => {
-            walk.head = Some(index);
-            Ok(())
-        }
-        Word::While | Word::Until => {
-            walk.head = Some(walk.head.unwrap_or(index));
-            Ok(())
-        }
-        _ => {
-            if begins_statement(word) {
-                walk.head = None;
-            }
-            Ok(())
-        }
+        Word::Always => close(&mut walk.opens, Construct::If),
+        Word::Loop => close(&mut walk.opens, Construct::Loop),
+        Word::End => walk.opens.clear(),
+        Word::Main | Word::Routine | Word::Event if opened.is_some() => walk.opens.clear(),
+        _ => {}
     }
+    walk.head = match word {
+        Word::For => Some(index),
+        Word::While | Word::Until => walk.head.or(Some(index)),
+        Word::Do => None,
+        _ if begins_statement(word) => None,
+        _ => walk.head,
+    };
+    if let Some(open) = opened {
+        walk.opens.push(open)?;
+    }
+    Ok(())
 }
 
 /// The constructs that are open before a token, the outermost first, where the walk begins at another one.
-pub fn opens_at(
-    alloc: Global,
-    tokens: &[Token],
-    from: usize,
-    at: usize,
-) -> Result<Vec<Open>, AllocError> {
+pub fn opens_at(alloc: Global, tokens: &[Token], from: usize, at: usize) -> Made<Vec<Open>> {
     let mut walk = Walk {
         opens: Vec::new(alloc),
         head: None,

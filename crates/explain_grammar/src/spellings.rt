@@ -2,149 +2,21 @@
 
 use ss_lex::Word;
 
-/// The reserved words, each with one of its spellings.
-pub static WORDS: [(&str, Word); 131] = [
-    ("A", Word::A),
-    ("ABS.F", Word::AbsF),
-    ("ACCUMULATE", Word::Accumulate),
-    ("ADD", Word::Add),
-    ("AFTER", Word::After),
-    ("ALL", Word::All),
-    ("ALPHA", Word::Alpha),
-    ("ALWAYS", Word::Always),
-    ("AN", Word::An),
-    ("AND", Word::And),
-    ("AS", Word::As),
-    ("AT", Word::At),
-    ("BEFORE", Word::Before),
-    ("BELONG", Word::Belong),
-    ("BREAK", Word::Break),
-    ("BY", Word::By),
-    ("CALL", Word::Call),
-    ("CALLED", Word::Called),
-    ("CANCEL", Word::Cancel),
-    ("CASE", Word::Case),
-    ("CREATE", Word::Create),
-    ("DATA", Word::Data),
-    ("DEFINE", Word::Define),
-    ("DESTROY", Word::Destroy),
-    ("DIV.F", Word::DivF),
-    ("DO", Word::Do),
-    ("EACH", Word::Each),
-    ("ELSE", Word::Else),
-    ("EMPTY", Word::Empty),
-    ("END", Word::End),
-    ("ENDED", Word::Ended),
-    ("ENTITIES", Word::Entities),
-    ("EQ", Word::Eq),
-    ("EQUAL", Word::Equal),
-    ("EQUALS", Word::Equals),
-    ("EVENT", Word::Event),
-    ("EVERY", Word::Every),
-    ("FIFO", Word::Fifo),
-    ("FILE", Word::File),
-    ("FIND", Word::Find),
-    ("FIRST", Word::First),
-    ("FOLLOWS", Word::Follows),
-    ("FOR", Word::For),
-    ("FOUND", Word::Found),
-    ("FROM", Word::From),
-    ("GE", Word::Ge),
-    ("GIVEN", Word::Given),
-    ("GIVING", Word::Giving),
-    ("GREATER", Word::Greater),
-    ("GT", Word::Gt),
-    ("HAS", Word::Has),
-    ("HIGH", Word::High),
-    ("IF", Word::If),
-    ("IN", Word::In),
-    ("INCLUDE", Word::Include),
-    ("INTEGER", Word::Integer),
-    ("IS", Word::Is),
-    ("LAST", Word::Last),
-    ("LE", Word::Le),
-    ("LESS", Word::Less),
-    ("LET", Word::Let),
-    ("LIFO", Word::Lifo),
-    ("LIKE", Word::Like),
-    ("LINE", Word::Line),
-    ("LOOP", Word::Loop),
-    ("LOW", Word::Low),
-    ("LT", Word::Lt),
-    ("MAIN", Word::Main),
-    ("MAX.F", Word::MaxF),
-    ("MAXIMUM", Word::Maximum),
-    ("MAY", Word::May),
-    ("MEAN", Word::Mean),
-    ("MIN.F", Word::MinF),
-    ("MINIMUM", Word::Minimum),
-    ("MOD.F", Word::ModF),
-    ("MODE", Word::Mode),
-    ("NE", Word::Ne),
-    ("NONE", Word::None),
-    ("NORMALLY", Word::Normally),
-    ("NOT", Word::Not),
-    ("NOTICE", Word::Notice),
-    ("NOTICES", Word::Notices),
-    ("NOW", Word::Now),
-    ("NUMBER", Word::Number),
-    ("OF", Word::Of),
-    ("OR", Word::Or),
-    ("ORDER", Word::Order),
-    ("OUTPUT", Word::Output),
-    ("OWNS", Word::Owns),
-    ("PERMANENT", Word::Permanent),
-    ("PREAMBLE", Word::Preamble),
-    ("PRINT", Word::Print),
-    ("PRIORITY", Word::Priority),
-    ("RANKED", Word::Ranked),
-    ("READ", Word::Read),
-    ("REAL", Word::Real),
-    ("REMOVE", Word::Remove),
-    ("RESET", Word::Reset),
-    ("RETURN", Word::Return),
-    ("REVERSE", Word::Reverse),
-    ("ROUTINE", Word::Routine),
-    ("SAVING", Word::Saving),
-    ("SCHEDULE", Word::Schedule),
-    ("SET", Word::Set),
-    ("SIMULATION", Word::Simulation),
-    ("SKIP", Word::Skip),
-    ("START", Word::Start),
-    ("STOP", Word::Stop),
-    ("SUBTRACT", Word::Subtract),
-    ("SUM", Word::Sum),
-    ("SYSTEM", Word::System),
-    ("TALLY", Word::Tally),
-    ("TEMPORARY", Word::Temporary),
-    ("THAN", Word::Than),
-    ("THE", Word::The),
-    ("THEN", Word::Then),
-    ("THIS", Word::This),
-    ("THUS", Word::Thus),
-    ("TIES", Word::Ties),
-    ("TIME.A", Word::TimeA),
-    ("TIME.V", Word::TimeV),
-    ("TO", Word::To),
-    ("TOTALS", Word::Totals),
-    ("UNITS", Word::Unit),
-    ("UNLESS", Word::Unless),
-    ("UNTIL", Word::Until),
-    ("VARIABLE", Word::Variable),
-    ("WHEN", Word::When),
-    ("WHILE", Word::While),
-    ("WITH", Word::With),
-    ("YIELDING", Word::Yielding),
-];
+/// The reserved words, one spelling of each, in the order of `Word`.
+pub static WORDS: &str =
+    "A ABS.F ACCUMULATE ADD AFTER ALL ALPHA ALWAYS AN AND AS AT BEFORE BELONG BREAK BY CALL CALLED CANCEL CASE CREATE DATA DEFINE DESTROY DIV.F DO EACH ELSE EMPTY END ENDED ENTITIES EQ EQUAL EQUALS EVENT EVERY FIFO FILE FIND FIRST FOLLOWS FOR FOUND FROM GE GIVEN GIVING GREATER GT HAS HIGH IF IN INCLUDE INTEGER IS LAST LE LESS LET LIFO LIKE LINE LOOP LOW LT MAIN MAX.F MAXIMUM MAY MEAN MIN.F MINIMUM MOD.F MODE NE NONE NORMALLY NOT NOTICE NOTICES NOW NUMBER OF OR ORDER OUTPUT OWNS PERMANENT PREAMBLE PRINT PRIORITY RANKED READ REAL REMOVE RESET RETURN REVERSE ROUTINE SAVING SCHEDULE SET SIMULATION SKIP START STOP SUBTRACT SUM SYSTEM TALLY TEMPORARY THAN THE THEN THIS THUS TIES TIME.A TIME.V TO TOTALS UNITS UNLESS UNTIL VARIABLE WHEN WHILE WITH YIELDING";
 
 /// One spelling of a reserved word.
-pub fn spelling_of(word: Word) -> &'static str {
-    for (spelling, known) in &WORDS {
-        if *known == word {
-            return spelling;
-        }
-    }
-    ""
+pub fn spelling_of(word: Word) -> &'static [u8] {
+    let mut all = WORDS.as_bytes().split(|byte| *byte == b' ');
+    all.nth(word as usize).unwrap_or(&[])
+}
+
+/// Whether a word is among these, by its spelling of `WORDS`.
+pub fn is_among(word: Word, words: &str) -> bool {
+    let spelling = spelling_of(word);
+    let mut all = words.as_bytes().split(|byte| *byte == b' ');
+    all.any(|one| one == spelling)
 }
 
 /// Whether a statement begins with the word.
@@ -173,4 +45,9 @@ pub fn begins_statement(word: Word) -> bool {
             | Word::Print
             | Word::Skip
     )
+}
+
+/// Whether the word is a value or begins one.
+pub fn is_value_word(word: Word) -> bool {
+    is_among(word, "TIME.V TIME.A ABS.F DIV.F MOD.F MIN.F MAX.F")
 }

@@ -1,10 +1,9 @@
 //! Texts that have no tokens: refusals 31 to 37.
 
-use crate::page::Page;
 use crate::page::Part::{Bytes, Line, Words};
-use crate::places::{Stretch, bytes_of, line_at, line_bytes, show_marked};
+use crate::page::{Made, Page};
+use crate::places::{Stretch, bytes_of, line_at, line_bytes};
 use ss_lex::{LexError, NAME_LIMIT};
-use std::alloc::AllocError;
 
 /// What a piece of a line is.
 #[derive(Clone, Copy, Debug, PartialEq, Eq)]
@@ -20,128 +19,83 @@ enum Kind {
     Sign,
 }
 
-/// A piece of a line, by where it begins and ends.
-#[derive(Clone, Copy)]
-struct Piece {
-    start: usize,
-    end: usize,
-    kind: Kind,
-}
-
-impl Piece {
-    // Its bytes, as far as the line has them.
-    fn bytes<'a>(&self, line: &'a [u8]) -> &'a [u8] {
-        let stretch = Stretch {
-            start: self.start,
-            end: self.end,
-        };
-        bytes_of(line, stretch)
-    }
-}
-
 fn is_word_byte(byte: u8) -> bool {
     byte.is_ascii_alphanumeric() || byte == b'.'
 }
 
-// How many bytes from the front are of words.
-fn word_length(bytes: &[u8]) -> usize {
-    bytes.iter().take_while(|byte| is_word_byte(**byte)).count()
-}
-
 // A comment, which begins here: to its next two apostrophes, or to the end.
 fn comment_length(bytes: &[u8]) -> usize {
-    for at in 2..bytes.len() {
-        if at > 2 && bytes[at - 1] == b'\'' && bytes[at] == b'\'' {
-            return at + 1;
-        }
+    let mut pairs = bytes.windows(2).skip(2);
+    match pairs.position(|two| two == b"''".as_slice()) {
+        Some(count) => count.saturating_add(4),
+        None => bytes.len(),
     }
-    bytes.len()
 }
 
-// The piece that begins at a place.
-fn piece_at(bytes: &[u8], at: usize) -> Piece {
-    let rest = &bytes[at.min(bytes.len())..];
-    let (length, kind) = match rest {
+// The length and the kind of the piece that begins a line.
+fn first_piece(rest: &[u8]) -> (usize, Kind) {
+    match rest {
         [] => (1, Kind::Blank),
         [b'\'', b'\'', ..] => (comment_length(rest), Kind::Comment),
         [b'"', after @ ..] => match after.iter().position(|byte| *byte == b'"') {
             Some(count) => (count.saturating_add(2), Kind::Closed),
             None => (rest.len(), Kind::Open),
         },
-        [first, ..] => {
-            if is_word_byte(*first) {
-                (word_length(rest), Kind::Word)
-            } else if *first == b' ' || *first == b'\t' {
-                (1, Kind::Blank)
-            } else {
-                (1, Kind::Sign)
-            }
-        }
-    };
-    Piece {
-        start: at,
-        end: at.saturating_add(length),
-        kind,
+        [b' ' | b'\t', ..] => (1, Kind::Blank),
+        _ => match rest.iter().take_while(|byte| is_word_byte(**byte)).count() {
+            0 => (1, Kind::Sign),
+            count => (count, Kind::Word),
+        },
     }
 }
 
+fn is_bad_number(word: &[u8]) -> bool {
+    let cut = word.iter().rev().take_while(|byte| **byte == b'.').count();
+    let whole = word.len().saturating_sub(cut);
+    !word.iter().any(|byte| byte.is_ascii_alphabetic())
+        && (word.len() > 18 || word.iter().take(whole).any(|byte| *byte == b'.'))
+}
+
 // Whether a piece is what the refusal is of.
-fn is_wrong(error: &LexError, line: &[u8], piece: Piece) -> bool {
-    let bytes = piece.bytes(line);
-    let letters = bytes.iter().any(|byte| byte.is_ascii_alphabetic());
+fn is_wrong(error: &LexError, bytes: &[u8], kind: Kind) -> bool {
     match error {
-        LexError::BadNumber(_) => {
-            let inner = bytes.iter().position(|byte| *byte == b'.');
-            let cut = bytes.iter().rev().take_while(|byte| **byte == b'.').count();
-            let has_period = match inner {
-                Some(place) => place < bytes.len().saturating_sub(cut),
-                None => false,
-            };
-            piece.kind == Kind::Word && !letters && (has_period || bytes.len() > 18)
-        }
-        LexError::OpenText(_) => piece.kind == Kind::Open,
-        LexError::AlphaTooLong(_) => piece.kind == Kind::Closed && bytes.len() > 18,
-        LexError::NameTooLong(_) => piece.kind == Kind::Word && bytes.len() > NAME_LIMIT,
+        LexError::BadNumber(_) => kind == Kind::Word && is_bad_number(bytes),
+        LexError::OpenText(_) => kind == Kind::Open,
+        LexError::AlphaTooLong(_) => kind == Kind::Closed && bytes.len() > 18,
+        LexError::NameTooLong(_) => kind == Kind::Word && bytes.len() > NAME_LIMIT,
         LexError::PictureCut(_) => {
-            bytes.eq_ignore_ascii_case(b"THUS".as_slice())
-                || bytes.eq_ignore_ascii_case(b"FOLLOWS".as_slice())
-                || bytes.eq_ignore_ascii_case(b"THIS".as_slice())
+            kind == Kind::Word
+                && ["THUS", "FOLLOWS", "THIS"]
+                    .iter()
+                    .any(|word| bytes.eq_ignore_ascii_case(word.as_bytes()))
         }
-        LexError::TooLong(_) | LexError::NotAscii(_) | LexError::Memory => false,
+        _ => false,
     }
 }
 
 // The first piece of a line that the refusal is of.
-fn wrong_piece(error: &LexError, line: &[u8]) -> Option<Piece> {
-    let mut at = 0;
+fn wrong_piece(error: &LexError, line: &[u8]) -> Option<Stretch> {
+    let mut start: usize = 0;
     for _ in 0..line.len() {
-        if at >= line.len() {
-            break;
+        let (length, kind) = first_piece(&line[start.min(line.len())..]);
+        let end = start.saturating_add(length);
+        if is_wrong(error, bytes_of(line, Stretch { start, end }), kind) {
+            return Some(Stretch { start, end });
         }
-        let piece = piece_at(line, at);
-        if piece.kind != Kind::Comment && is_wrong(error, line, piece) {
-            return Some(piece);
-        }
-        at = piece.end;
+        start = end;
     }
     None
 }
 
-// The first byte of a line that is no character of a text.
-fn foreign_byte(line: &[u8]) -> Option<Piece> {
-    let at = line
+// The first byte of a line that is no character of a text, with those of its kind after it.
+fn foreign_piece(line: &[u8]) -> Option<Stretch> {
+    let start = line
         .iter()
         .position(|byte| (*byte < 32 && *byte != b'\t') || *byte > 126)?;
-    let length = line[at..]
-        .iter()
-        .take_while(|byte| **byte > 126)
-        .count()
-        .max(1);
-    Some(Piece {
-        start: at,
-        end: at.saturating_add(length),
-        kind: Kind::Sign,
-    })
+    let after = line.iter().skip(start);
+    let length = after.take_while(|byte| **byte > 126).count().max(1);
+    let end = start.saturating_add(length);
+    Some(Stretch { start, end })
 }
 
 // What a character is called that no text may have.
@@ -156,80 +110,74 @@ fn foreign_words(bytes: &[u8]) -> &'static str {
     }
 }
 
-// What helps against the refusal.
-fn cure_of(error: &LexError) -> &'static str {
+// What is wrong with the piece, after its bytes, and what helps.
+fn words_of(error: &LexError) -> (&'static str, &'static str) {
     match error {
-        LexError::TooLong(_) => "Put data into a file for READ, and leave comments out.",
-        LexError::NotAscii(_) => {
-            "Write it in plain letters and signs: e for an accented e, ' and \" for curly quotes, - for a dash."
-        }
-        LexError::BadNumber(_) => {
-            "There are no decimals. Count in smaller units, as 15 tenths for 1.5, and divide by DIV.F."
-        }
-        LexError::OpenText(_) => "Write a second quote where the text ends, on the same line.",
-        LexError::AlphaTooLong(_) => {
-            "Make it 16 characters or fewer, or print the words by a picture."
-        }
-        LexError::PictureCut(_) => {
-            "Write the lines of picture below it, or a smaller number after PRINT."
-        }
-        LexError::NameTooLong(_) => "Use a shorter name, in every line.",
-        LexError::Memory => "",
+        LexError::TooLong(_) => ("", "Put data into a file for READ, and leave comments out."),
+        LexError::NotAscii(_) => (
+            "",
+            "Write it in plain letters and signs: e for an accented e, ' and \" for curly quotes, - for a dash.",
+        ),
+        LexError::BadNumber(_) => (
+            ": no whole number",
+            "There are no decimals. Count in smaller units, as 15 tenths for 1.5, and divide by DIV.F.",
+        ),
+        LexError::OpenText(_) => (
+            ": the text has no second quote",
+            "Write a second quote where the text ends, on the same line.",
+        ),
+        LexError::AlphaTooLong(_) => (
+            ": a text of more than 16 characters",
+            "Make it 16 characters or fewer, or print the words by a picture.",
+        ),
+        LexError::PictureCut(_) => (
+            ": too few lines are below it",
+            "Write the lines of picture below it, or a smaller number after PRINT.",
+        ),
+        LexError::NameTooLong(_) => (
+            ": a name of more than 32 characters",
+            "Use a shorter name, in every line.",
+        ),
+        LexError::Memory => ("", ""),
     }
 }
 
-// What is wrong with the piece, after its bytes.
-fn wrong_words(error: &LexError) -> &'static str {
-    match error {
-        LexError::BadNumber(_) => ": no whole number",
-        LexError::OpenText(_) => ": the text has no second quote",
-        LexError::AlphaTooLong(_) => ": a text of more than 16 characters",
-        LexError::PictureCut(_) => ": too few lines are below it",
-        LexError::NameTooLong(_) => ": a name of more than 32 characters",
-        _ => "",
-    }
-}
-
-// Adds what is wrong at the piece.
-fn add_found(
-    page: &mut Page,
-    error: &LexError,
-    line: &[u8],
-    piece: Option<Piece>,
-) -> Result<(), AllocError> {
-    match (error, piece) {
-        (LexError::NotAscii(_), Some(piece)) => { page.line(foreign_words(piece.bytes(line)), &[]) }
-        (_, Some(piece)) => {
-            let bytes = piece.bytes(line);
-            page.line(
-                "{}{}",
-                &[
-                    Bytes(&bytes[..bytes.len().min(80)]),
-                    Words(wrong_words(error)),
-                ],
-            )
-        }
-        _ => page.line("it doesn't fit here", &[]),
-    }
-}
-
-/// Explains a text that has no tokens.
-pub fn explain_lexical(page: &mut Page, text: &[u8], error: &LexError) -> Result<(), AllocError> {
-    let number = error.line().0;
-    if number > 0 {
-        let line = line_bytes(text, number);
-        let piece = match error {
-            LexError::NotAscii(_) => foreign_byte(line),
-            _ => wrong_piece(error, line),
+impl Page<'_> {
+    // Says what is wrong in a line, and shows it with the wrong piece marked.
+    fn wrong_line(&mut self, error: &LexError, number: u32) -> Made<()> {
+        let line = line_bytes(self.about, number);
+        let is_foreign = matches!(error, LexError::NotAscii(_));
+        let piece = if is_foreign {
+            foreign_piece(line)
+        } else {
+            wrong_piece(error, line)
         };
-        page.say("line {}, ", &[Line(number)])?;
-        add_found(page, error, line, piece)?;
-        let start = line_at(text, number).start;
-        let mark = piece.map(|piece| Stretch {
-            start: start.saturating_add(piece.start),
-            end: start.saturating_add(piece.end),
-        });
-        show_marked(page, text, number, mark)?;
+        self.say("line {}, ", &[Line(number)])?;
+        let Some(piece) = piece else {
+            self.line("it doesn't fit here", &[])?;
+            return self.show(number);
+        };
+        let bytes = bytes_of(line, piece);
+        if is_foreign {
+            self.line(foreign_words(bytes), &[])?;
+        } else {
+            let shown = Bytes(&bytes[..bytes.len().min(80)]);
+            self.line("{}{}", &[shown, Words(words_of(error).0)])?;
+        }
+        let first = line_at(self.about, number).start;
+        let mark = Stretch {
+            start: first.saturating_add(piece.start),
+            end: first.saturating_add(piece.end),
+        };
+        self.show_marked(number, mark)
     }
-    page.cure(cure_of(error), &[])
+
+    /// Explains a text that has no tokens.
+    pub fn explain_lexical(&mut self, error: &LexError) -> Made<()> {
+        let number = error.line().0;
+        if number > 0 {
+            self.wrong_line(error, number)?;
+        }
+        self.cure(words_of(error).1, &[])
+    }
 }

@@ -5,6 +5,9 @@ ghost use Rattle.std.specs.Prelude.{◌≡◌, []};
 use itoa::Buffer;
 use std::alloc::{AllocError, Global};
 
+/// What was made, or the error where memory was refused.
+pub type Made<T> = Result<T, AllocError>;
+
 /// A part of what is said.
 #[derive(Clone, Copy)]
 pub enum Part<'a> {
@@ -20,22 +23,31 @@ pub enum Part<'a> {
     Whole(i64),
 }
 
-/// Text for the reader, as it grows.
+/// Text for the reader, as it grows, about a text.
 #[derive(Drop)]
-pub struct Page {
+pub struct Page<'a> {
     alloc: Global,
+    pub about: &'a [u8],
     pub text: Vec<u8>,
 }
 
-impl Page {
-    /// An empty page.
-    pub fn new(alloc: Global) -> Page
+impl<'a> Page<'a> {
+    /// An empty page about a text.
+    pub fn about(alloc: Global, about: &'a [u8]) -> Page<'a>
         ensures { result.text.items ≡ [] }
     {
         Page {
             alloc,
+            about,
             text: Vec::new(alloc),
         }
+    }
+
+    /// A page that has these words, with a part in place of each `{}`.
+    pub fn of(alloc: Global, words: &str, parts: &[Part<'_>]) -> Made<Page<'static>> {
+        let mut page = Page::about(alloc, &[]);
+        page.say(words, parts)?;
+        Ok(page)
     }
 
     /// Where its memory comes from.
@@ -43,19 +55,20 @@ impl Page {
         self.alloc
     }
 
-    // Adds a number, with blanks before it up to this width.
-    fn number(&mut self, number: i128, width: usize) -> Result<(), AllocError> {
+    /// What is on it.
+    pub fn bytes(&self) -> &[u8] {
+        self.text.as_slice()
+    }
+
+    fn number(&mut self, number: i128) -> Made<()> {
         let mut buffer = Buffer::new();
-        let digits = buffer.format(number).as_bytes();
-        for _ in digits.len()..width {
-            self.text.push(b' ')?;
-        }
-        self.text.extend_from_slice(digits)?;
+        self.text
+            .extend_from_slice(buffer.format(number).as_bytes())?;
         Ok(())
     }
 
-    // Adds a part.
-    fn part(&mut self, part: Part<'_>) -> Result<(), AllocError> {
+    /// Adds a part.
+    pub fn part(&mut self, part: Part<'_>) -> Made<()> {
         match part {
             Part::Words(words) => self.text.extend_from_slice(words.as_bytes())?,
             Part::Bytes(bytes) => self.text.extend_from_slice(bytes)?,
@@ -64,23 +77,15 @@ impl Page {
                     self.text.push(byte.to_ascii_uppercase())?;
                 }
             }
-            Part::Line(line) => self.number(i128::from(line), 0)?,
-            Part::Count(count) => self.number(i128::from(count), 0)?,
-            Part::Whole(number) => self.number(i128::from(number), 0)?,
-        }
-        Ok(())
-    }
-
-    /// Adds these parts.
-    pub fn parts(&mut self, parts: &[Part<'_>]) -> Result<(), AllocError> {
-        for part in parts {
-            self.part(*part)?;
+            Part::Line(line) => self.number(i128::from(line))?,
+            Part::Count(count) => self.number(i128::from(count))?,
+            Part::Whole(number) => self.number(i128::from(number))?,
         }
         Ok(())
     }
 
     /// Adds these words, with a part in place of each `{}`. The error comes where memory was refused, here and below.
-    pub fn say(&mut self, words: &str, parts: &[Part<'_>]) -> Result<(), AllocError> {
+    pub fn say(&mut self, words: &str, parts: &[Part<'_>]) -> Made<()> {
         let mut next: usize = 0;
         for byte in words.as_bytes() {
             match *byte {
@@ -98,33 +103,32 @@ impl Page {
     }
 
     /// Adds these words, as `say`, and ends the line.
-    pub fn line(&mut self, words: &str, parts: &[Part<'_>]) -> Result<(), AllocError> {
+    pub fn line(&mut self, words: &str, parts: &[Part<'_>]) -> Made<()> {
         self.say(words, parts)?;
         self.text.push(b'\n')?;
         Ok(())
     }
 
     /// Adds what helps, as a line.
-    pub fn cure(&mut self, words: &str, parts: &[Part<'_>]) -> Result<(), AllocError> {
+    pub fn cure(&mut self, words: &str, parts: &[Part<'_>]) -> Made<()> {
         self.say("Cure: ", &[])?;
         self.line(words, parts)
     }
 
     /// Adds a number, with blanks before it up to this width.
-    pub fn padded(&mut self, number: u64, width: usize) -> Result<(), AllocError> {
-        self.number(i128::from(number), width)
-    }
-
-    /// Adds so many blanks.
-    pub fn blanks(&mut self, count: usize) -> Result<(), AllocError> {
-        for _ in 0..count {
-            self.text.push(b' ')?;
-        }
+    pub fn padded(&mut self, number: u64, width: usize) -> Made<()> {
+        let mut buffer = Buffer::new();
+        let digits = buffer.format(i128::from(number)).as_bytes();
+        self.repeat(b' ', width.saturating_sub(digits.len()))?;
+        self.text.extend_from_slice(digits)?;
         Ok(())
     }
 
-    /// Whether nothing is on it.
-    pub fn is_empty(&self) -> bool {
-        self.text.is_empty()
+    /// Adds a byte so many times.
+    pub fn repeat(&mut self, byte: u8, count: usize) -> Made<()> {
+        for _ in 0..count {
+            self.text.push(byte)?;
+        }
+        Ok(())
     }
 }

@@ -1,8 +1,8 @@
 //! Places in a text: its lines, and the spellings of tokens.
 
-use crate::page::Page;
+use crate::page::{Made, Page};
 use ss_lex::Token;
-use std::alloc::{AllocError, Global};
+use std::alloc::Global;
 
 /// A part of a text, from one byte up to another.
 #[derive(Clone, Copy, Debug, PartialEq, Eq)]
@@ -20,25 +20,21 @@ pub fn bytes_of(text: &[u8], stretch: Stretch) -> &[u8] {
 
 /// The stretch of a line, without its end. Lines count from 1; an empty one at the end of the text where there are fewer.
 pub fn line_at(text: &[u8], line: u32) -> Stretch {
-    let mut start = 0;
-    let mut number: u32 = 1;
-    for (at, byte) in text.iter().enumerate() {
-        if *byte == b'\n' {
-            if number == line {
-                return Stretch { start, end: at };
-            }
-            number = number.saturating_add(1);
-            start = at + 1;
-        }
+    let before = (line as usize).saturating_sub(1);
+    let mut start: usize = 0;
+    for one in text.split(|byte| *byte == b'\n').take(before) {
+        start = start.saturating_add(one.len()).saturating_add(1);
     }
+    let start = start.min(text.len());
+    let length = text.iter().skip(start).position(|byte| *byte == b'\n');
     Stretch {
-        start: if number == line { start } else { text.len() },
-        end: text.len(),
+        start,
+        end: length.map_or(text.len(), |length| start.saturating_add(length)),
     }
 }
 
 /// Where each line begins.
-pub fn line_starts(alloc: Global, text: &[u8]) -> Result<Vec<usize>, AllocError> {
+pub fn line_starts(alloc: Global, text: &[u8]) -> Made<Vec<usize>> {
     let mut starts = Vec::new(alloc);
     starts.push(0)?;
     for (at, byte) in text.iter().enumerate() {
@@ -49,31 +45,25 @@ pub fn line_starts(alloc: Global, text: &[u8]) -> Result<Vec<usize>, AllocError>
     Ok(starts)
 }
 
-/// The bytes of a line, by where the lines begin.
-pub fn line_from<'a>(text: &'a [u8], starts: &[usize], line: u32) -> &'a [u8] {
+/// The stretch of a line, by where the lines begin.
+pub fn line_from(text: &[u8], starts: &[usize], line: u32) -> Stretch {
     let place = (line as usize).saturating_sub(1);
-    let Some(start) = starts.get(place) else {
-        return &[];
-    };
-    let end = match starts.get(place + 1) {
+    let start = starts.get(place).copied().unwrap_or(text.len());
+    let end = match starts.get(place.saturating_add(1)) {
         Some(next) => next.saturating_sub(1),
         None => text.len(),
     };
-    bytes_of(
-        text,
-        Stretch {
-            start: *start,
-            end: end.max(*start),
-        },
-    )
+    Stretch {
+        start,
+        end: end.max(start),
+    }
 }
 
 /// The bytes of a line, without its end and without a carriage return there.
 pub fn line_bytes(text: &[u8], line: u32) -> &[u8] {
-    let bytes = bytes_of(text, line_at(text, line));
-    match bytes {
+    match bytes_of(text, line_at(text, line)) {
         [before @ .., b'\r'] => before,
-        _ => bytes,
+        bytes => bytes,
     }
 }
 
@@ -91,12 +81,12 @@ pub fn unindented(line: &[u8]) -> &[u8] {
 
 /// Whether a line has nothing but blanks, or nothing but a comment.
 pub fn is_blank(line: &[u8]) -> bool {
-    match unindented(line) {
-        [] => true,
-        [b'\r'] => true,
-        [b'\'', b'\'', ..] => true,
-        _ => false,
-    }
+    matches!(unindented(line), [] | [b'\r'] | [b'\'', b'\'', ..])
+}
+
+/// Whether two asterisks are side by side, as in a field of a picture.
+pub fn has_field(line: &[u8]) -> bool {
+    line.windows(2).any(|two| two == b"**".as_slice())
 }
 
 /// The stretch of a token's spelling.
@@ -117,60 +107,44 @@ const SHOWN: usize = 150;
 
 const BEFORE: usize = 60;
 
-// Adds a part of a line under its number, with tabs as blanks.
-fn show_part(page: &mut Page, bytes: &[u8], line: u32, from: usize) -> Result<(), AllocError> {
-    page.padded(u64::from(line), 5)?;
-    page.blanks(2)?;
-    for byte in bytes.iter().skip(from).take(SHOWN) {
-        page.text.push(match *byte {
-            32..=126 => *byte,
-            _ => b' ',
-        })?;
-    }
-    page.line("", &[])
-}
-
-// The first column of a line that is shown, where what is marked begins at this one.
-fn first_shown(length: usize, mark: usize) -> usize {
-    if length <= SHOWN {
-        0
-    } else {
-        mark.saturating_sub(BEFORE)
-    }
-}
-
-/// Adds a line of the text under its number, with tabs as blanks, and below it a row of marks under a stretch of it. Of a long
-/// line the part round the stretch is shown.
-pub fn show_marked(
-    page: &mut Page,
-    text: &[u8],
-    line: u32,
-    mark: Option<Stretch>,
-) -> Result<(), AllocError> {
-    let place = line_at(text, line);
-    let bytes = line_bytes(text, line);
-    match mark {
-        Some(mark) if mark.start >= place.start && mark.start <= place.end => {
-            let before = mark.start - place.start;
-            let from = first_shown(bytes.len(), before);
-            show_part(page, bytes, line, from)?;
-            let count = mark
-                .end
-                .min(place.end)
-                .saturating_sub(mark.start)
-                .min(SHOWN - BEFORE)
-                .max(1);
-            page.blanks(before.saturating_sub(from).saturating_add(7))?;
-            for _ in 0..count {
-                page.text.push(b'^')?;
-            }
-            page.line("", &[])
+impl Page<'_> {
+    // Adds a part of a line under its number, with tabs as blanks.
+    fn show_part(&mut self, line: u32, from: usize) -> Made<()> {
+        self.padded(u64::from(line), 5)?;
+        self.repeat(b' ', 2)?;
+        let bytes = line_bytes(self.about, line);
+        for byte in bytes.iter().skip(from).take(SHOWN) {
+            self.text.push(match *byte {
+                32..=126 => *byte,
+                _ => b' ',
+            })?;
         }
-        _ => show_part(page, bytes, line, 0),
+        self.line("", &[])
     }
-}
 
-/// Adds a line of the text under its number, with tabs as blanks.
-pub fn show_line(page: &mut Page, text: &[u8], line: u32) -> Result<(), AllocError> {
-    show_part(page, line_bytes(text, line), line, 0)
+    /// Adds a line of the text under its number, with tabs as blanks.
+    pub fn show(&mut self, line: u32) -> Made<()> {
+        self.show_part(line, 0)
+    }
+
+    /// Adds a line of the text, as `show`, and below it a row of marks under a stretch of it. Of a long line the part round the
+    /// stretch is shown.
+    pub fn show_marked(&mut self, line: u32, mark: Stretch) -> Made<()> {
+        let place = line_at(self.about, line);
+        if mark.start < place.start || mark.start > place.end {
+            return self.show(line);
+        }
+        let before = mark.start - place.start;
+        let is_long = line_bytes(self.about, line).len() > SHOWN;
+        let from = if is_long {
+            before.saturating_sub(BEFORE)
+        } else {
+            0
+        };
+        self.show_part(line, from)?;
+        self.repeat(b' ', before.saturating_sub(from).saturating_add(7))?;
+        let length = mark.end.min(place.end).saturating_sub(mark.start);
+        self.repeat(b'^', length.min(SHOWN - BEFORE).max(1))?;
+        self.line("", &[])
+    }
 }

@@ -1,7 +1,8 @@
 //! Names that are spelled alike.
 
+use crate::page::Made;
 use ss_base::Name;
-use std::alloc::{AllocError, Global};
+use std::alloc::Global;
 use strsim::osa_distance;
 
 // The most letters in which a spelling of this length may differ.
@@ -15,7 +16,7 @@ fn allowed(length: usize) -> usize {
 }
 
 // How far a spelling is from another one, if they are alike: how many letters differ, a change of place counted once.
-fn likeness(alloc: Global, left: &[u8], right: &[u8]) -> Result<Option<usize>, AllocError> {
+fn likeness(alloc: Global, left: &[u8], right: &[u8]) -> Made<Option<usize>> {
     if left.len().abs_diff(right.len()) > 3 {
         return Ok(None);
     }
@@ -23,23 +24,19 @@ fn likeness(alloc: Global, left: &[u8], right: &[u8]) -> Result<Option<usize>, A
     match (str::from_utf8(left), str::from_utf8(right)) {
         (Ok(left), Ok(right)) => {
             let count = osa_distance(alloc, left, right)?;
-            Ok(if count > 0 && count <= most {
-                Some(count)
-            } else {
-                None
-            })
+            Ok(Some(count).filter(|count| *count > 0 && *count <= most))
         }
         _ => Ok(None),
     }
 }
 
 /// Whether two spellings, both in capitals, are alike and not the same.
-pub fn is_like(alloc: Global, left: &[u8], right: &[u8]) -> Result<bool, AllocError> {
+pub fn is_like(alloc: Global, left: &[u8], right: &[u8]) -> Made<bool> {
     Ok(likeness(alloc, left, right)?.is_some())
 }
 
 /// The name that is spelled most like this, the first of several. None where none is alike.
-pub fn nearest(alloc: Global, spelling: &[u8], all: &[Name]) -> Result<Option<Name>, AllocError> {
+pub fn nearest(alloc: Global, spelling: &[u8], all: &[Name]) -> Made<Option<Name>> {
     let mut best = None;
     let mut least = usize::MAX;
     for name in all {

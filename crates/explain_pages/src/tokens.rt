@@ -2,35 +2,36 @@
 
 use ss_lex::{Token, TokenKind, Word};
 
+/// What a token is.
+pub fn kind_at(tokens: &[Token], index: usize) -> Option<&TokenKind> {
+    Some(&tokens.get(index)?.kind)
+}
+
 /// The reserved word that a token is.
 pub fn word_at(tokens: &[Token], index: usize) -> Option<Word> {
-    match tokens.get(index) {
-        Some(token) => match &token.kind {
-            TokenKind::Word(word) => Some(*word),
-            _ => None,
-        },
-        None => None,
+    match kind_at(tokens, index)? {
+        TokenKind::Word(word) => Some(*word),
+        _ => None,
+    }
+}
+
+/// Whether a token is this name.
+pub fn is_named(token: &Token, wanted: &[u8]) -> bool {
+    match &token.kind {
+        TokenKind::Name(name) => name.bytes() == wanted,
+        _ => false,
     }
 }
 
 /// The line of a token, or of the last one where there are not so many; 0 where there is none.
 pub fn line_of(tokens: &[Token], index: usize) -> u32 {
-    match tokens.get(index) {
-        Some(token) => token.line.0,
-        None => match tokens.last() {
-            Some(token) => token.line.0,
-            None => 0,
-        },
-    }
+    let token = tokens.get(index).or(tokens.last());
+    token.map_or(0, |token| token.line.0)
 }
 
 /// Whether a token is the first of its line.
 pub fn is_first_of_line(tokens: &[Token], index: usize) -> bool {
-    if index == 0 {
-        return true;
-    }
-    match (tokens.get(index.saturating_sub(1)), tokens.get(index)) {
-        (Some(before), Some(token)) => before.line.0 != token.line.0,
-        _ => true,
-    }
+    index == 0
+        || index >= tokens.len()
+        || line_of(tokens, index.saturating_sub(1)) != line_of(tokens, index)
 }

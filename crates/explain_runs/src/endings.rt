@@ -1,38 +1,33 @@
 //! How a run ended, in words: for a fault its line, the time, the section, the data and the entities.
 
-use crate::faults::fault_words;
+use crate::faults::{fault_cure, fault_meaning};
 use crate::guide::{Guide, section_at};
 use crate::kept::Kept;
 use crate::looks::{class_of, instruction, number, time};
-use crate::references::{Reference, references_of};
+use crate::references::{Reference, owner_of, subject_of};
 use crate::ticks::{next_tick, section_page};
-use explain_texts::Part::{self, Bytes, Count, Whole, Words};
-use explain_texts::{Page, show_line};
-use ss_base::{ClassKind, FaultKind, FaultyRead, FaultyWrite, Line, Name};
+use explain_texts::Part::{Bytes, Count, Line, Whole, Words};
+use explain_texts::{Made, Page};
+use ss_base::{ClassKind, FaultKind, FaultyRead, FaultyWrite, Name};
 use ss_code_instructions::instruction::Instruction;
-use ss_engine::Session;
+use ss_engine::{Session, Stop};
 use ss_machine::Machine;
-use std::alloc::AllocError;
 
-// Adds the time, the section and the ticks.
-fn add_place(page: &mut Page, machine: &Machine, guide: &Guide) -> Result<(), AllocError> {
-    let section = section_at(machine.code(), machine.here().place);
-    let section = section_page(page.alloc(), guide, section)?;
-    page.line(
-        "At the time {}, in {}, after {} ticks.",
-        &[
-            Whole(time(machine)),
-            Bytes(section.text.as_slice()),
-            Count(machine.used()),
-        ],
-    )
+fn add_place(page: &mut Page<'_>, machine: &Machine, guide: &Guide<'_>) -> Made<()> {
+    let section = section_page(guide, section_at(machine.code(), machine.here().place))?;
+    let parts = [
+        Whole(time(machine)),
+        Bytes(section.bytes()),
+        Count(machine.used()),
+    ];
+    page.line("At the time {}, in {}, after {} ticks.", &parts)
 }
 
 // Adds the word of the data that was read last.
 fn add_word<R: FaultyRead, W: FaultyWrite>(
-    page: &mut Page,
+    page: &mut Page<'_>,
     session: &Session<Kept<R>, W>,
-) -> Result<(), AllocError> {
+) -> Made<()> {
     match session.reader().word_before(session.unread()) {
         Some(word) => page.line(
             "The word of the data read last: {}, line {}, column {}.",
@@ -42,54 +37,8 @@ fn add_word<R: FaultyRead, W: FaultyWrite>(
     }
 }
 
-// The words for a class, and its name, if there is one.
-fn class_parts<'a>(words: &'static str, name: &'a Option<Name>) -> (Part<'a>, Part<'a>) {
-    match name {
-        Some(name) => (Words(words), Bytes(name.bytes())),
-        None => (Words(""), Words("")),
-    }
-}
-
-// Adds the entity that an instruction refers to, and its class.
-fn add_reference(
-    page: &mut Page,
-    machine: &Machine,
-    guide: &Guide,
-    words: &str,
-    reference: Option<Reference>,
-) -> Result<(), AllocError> {
-    let Some(reference) = reference else {
-        return Ok(());
-    };
-    let Some(found) = number(machine, &reference.address) else {
-        return Ok(());
-    };
-    let (wanted, other) = match reference.class {
-        Some(class) => (
-            guide.class_name(class),
-            other_class(machine, guide, reference),
-        ),
-        None => (None, None),
-    };
-    let (blank, class) = class_parts(" ", &wanted);
-    let (which, class_found) = class_parts(", which is of the class ", &other);
-    page.line(
-        "{}{}{} has the number {}{}{}.",
-        &[Words(words), blank, class, Whole(found), which, class_found],
-    )
-}
-
-// The references of the instruction at which the run rests: to an entity, and to the owner of a set.
-fn references_at(machine: &Machine) -> (Option<Reference>, Option<Reference>) {
-    let code = machine.code();
-    match instruction(machine) {
-        Some(instruction) => references_of(code.layout(), code.statistics(), &instruction),
-        None => (None, None),
-    }
-}
-
 // The class of the entity that a reference is to, where it is another than it has to be.
-fn other_class(machine: &Machine, guide: &Guide, reference: Reference) -> Option<Name> {
+fn other_class(machine: &Machine, guide: &Guide<'_>, reference: &Reference) -> Option<Name> {
     let entity = number(machine, &reference.address)?;
     let found = class_of(machine, entity)?;
     if Some(found) == reference.class {
@@ -97,6 +46,35 @@ fn other_class(machine: &Machine, guide: &Guide, reference: Reference) -> Option
     } else {
         guide.class_name(found)
     }
+}
+
+// Adds the entity that an instruction refers to, and its class.
+fn add_reference(
+    page: &mut Page<'_>,
+    machine: &Machine,
+    guide: &Guide<'_>,
+    words: &str,
+    reference: Option<Reference>,
+) -> Made<()> {
+    let Some(reference) = reference else {
+        return Ok(());
+    };
+    let Some(found) = number(machine, &reference.address) else {
+        return Ok(());
+    };
+    page.say(words, &[])?;
+    if let Some(class) = reference.class {
+        if let Some(name) = guide.class_name(class) {
+            page.say(" {}", &[Bytes(name.bytes())])?;
+        }
+    }
+    page.say(" has the number {}", &[Whole(found)])?;
+    if reference.class.is_some() {
+        if let Some(name) = other_class(machine, guide, &reference) {
+            page.say(", which is of the class {}", &[Bytes(name.bytes())])?;
+        }
+    }
+    page.line(".", &[])
 }
 
 // Whether a fault is of an entity or a set.
@@ -114,74 +92,59 @@ fn has_entity(kind: FaultKind) -> bool {
     )
 }
 
-// Whether a reference is to a notice.
-fn is_notice(guide: &Guide, reference: Option<Reference>) -> bool {
-    match reference {
-        Some(
-            Reference {
-                class: Some(class),
-                ..
-            },
-        ) => matches!(
-            guide.names.classes.values().get(class),
-            Some(ClassKind::Notice)
-        ),
-        _ => false,
-    }
+fn is_notice(guide: &Guide<'_>, class: Option<usize>) -> bool {
+    let kind = guide
+        .names
+        .classes
+        .values()
+        .get(class.unwrap_or(usize::MAX));
+    matches!(kind, Some(ClassKind::Notice))
 }
 
-// Whether the instruction at which a run rests asks for a statistic.
-fn asks_statistic(machine: &Machine) -> bool {
-    matches!(
+// Adds what helps against a fault, by what the instruction does at which the run rests.
+fn add_cure(
+    page: &mut Page<'_>,
+    machine: &Machine,
+    guide: &Guide<'_>,
+    kind: FaultKind,
+    subject: Option<Reference>,
+) -> Made<()> {
+    let asks_statistic = matches!(
         instruction(machine),
         Some(Instruction::Figure { .. } | Instruction::LookMean { .. })
-    )
-}
-
-// Adds what helps against a fault, by what the instruction does.
-fn add_cure(
-    page: &mut Page,
-    machine: &Machine,
-    guide: &Guide,
-    kind: FaultKind,
-) -> Result<(), AllocError> {
-    let (subject, _) = references_at(machine);
-    let other = match subject {
+    );
+    let class = subject.and_then(|subject| subject.class);
+    let other = match &subject {
         Some(subject) => other_class(machine, guide, subject),
         None => None,
     };
     match (kind, other) {
-        (FaultKind::DestroyedEntity, _) if is_notice(guide, subject) => page.cure(
+        (FaultKind::DestroyedEntity, _) if is_notice(guide, class) => page.cure(
             "An event destroys its notice as it begins. Write SCHEDULE A or AN for a new notice, or SAVING THE EVENT NOTICE in the head of its EVENT.",
             &[],
         ),
-        (FaultKind::DestroyedEntity | FaultKind::NoEntity, _) if asks_statistic(machine) => {
-            page.cure(
-                "This statistic is of an attribute, so each entity has its own, which goes with it. For figures of all, TALLY a variable that is no attribute.",
-                &[],
-            )
-        }
+        (FaultKind::DestroyedEntity | FaultKind::NoEntity, _) if asks_statistic => page.cure(
+            "This statistic is of an attribute, so each entity has its own, which goes with it. For figures of all, TALLY a variable that is no attribute.",
+            &[],
+        ),
         (FaultKind::Index | FaultKind::WrongClass, Some(name)) => page.cure(
             "The number is that of a {}. Look whether values are GIVEN in the order in which they are taken, and which variable holds the reference here.",
             &[Bytes(name.bytes())],
         ),
-        _ => page.cure(fault_words(kind.number()).1, &[]),
+        _ => page.cure(fault_cure(kind.number()), &[]),
     }
 }
 
-/// Adds what is known of a run whose ticks are used up.
-pub fn add_pause<R: FaultyRead, W: FaultyWrite>(
-    page: &mut Page,
+// Adds what is known of a run whose ticks are used up.
+fn add_pause<R: FaultyRead, W: FaultyWrite>(
+    page: &mut Page<'_>,
     session: &mut Session<R, W>,
-    guide: &Guide,
-    text: &[u8],
-) -> Result<(), AllocError> {
-    let tick = next_tick(session, guide);
-    page.line(
-        "The ticks are used up, and the next would be due in line {}:",
-        &[Part::Line(tick.line)],
-    )?;
-    show_line(page, text, tick.line)?;
+    guide: &Guide<'_>,
+) -> Made<()> {
+    let line = next_tick(session, guide).line;
+    let words = "The ticks are used up, and the next would be due in line {}:";
+    page.line(words, &[Line(line)])?;
+    page.show(line)?;
     add_place(page, session.machine(), guide)?;
     if let Some(Instruction::Turn | Instruction::Take { .. }) = instruction(session.machine()) {
         return page.cure(
@@ -190,11 +153,9 @@ pub fn add_pause<R: FaultyRead, W: FaultyWrite>(
         );
     }
     for (name, line) in &guide.returning {
-        page.line(
-            "EVENT {} schedules itself each time:",
-            &[Bytes(name.bytes())],
-        )?;
-        show_line(page, text, line.0)?;
+        let words = "EVENT {} schedules itself each time:";
+        page.line(words, &[Bytes(name.bytes())])?;
+        page.show(line.0)?;
     }
     page.cure(
         "Give more --ticks. If the run should have ended, look for an event that schedules itself each time: put its SCHEDULE into an IF, as IF TIME.V LT 480 .. ALWAYS.",
@@ -202,29 +163,49 @@ pub fn add_pause<R: FaultyRead, W: FaultyWrite>(
     )
 }
 
-/// Adds what is known of a fault to which a run came.
-pub fn add_fault<R: FaultyRead, W: FaultyWrite>(
-    page: &mut Page,
+// Adds what is known of a fault to which a run came in a line.
+fn add_fault<R: FaultyRead, W: FaultyWrite>(
+    page: &mut Page<'_>,
     session: &Session<Kept<R>, W>,
-    guide: &Guide,
-    text: &[u8],
+    guide: &Guide<'_>,
     kind: FaultKind,
-    line: Line,
-) -> Result<(), AllocError> {
+    line: u32,
+) -> Made<()> {
     let (name, number) = (Words(kind.text()), kind.number());
-    let meaning = Words(fault_words(number).0);
-    page.line("line {}, {}: {}", &[Part::Line(line.0), name, meaning])?;
-    show_line(page, text, line.0)?;
-    add_place(page, session.machine(), guide)?;
+    let meaning = Words(fault_meaning(number));
+    page.line("line {}, {}: {}", &[Line(line), name, meaning])?;
+    page.show(line)?;
+    let machine = session.machine();
+    add_place(page, machine, guide)?;
+    let code = machine.code();
+    let (subject, owner) = match instruction(machine) {
+        Some(instruction) => (
+            subject_of(code.layout(), code.statistics(), &instruction),
+            owner_of(code.layout(), &instruction),
+        ),
+        None => (None, None),
+    };
     if has_entity(kind) {
-        let (subject, owner) = references_at(session.machine());
-        add_reference(page, session.machine(), guide, "The entity", subject)?;
-        add_reference(page, session.machine(), guide, "The owner", owner)?;
+        add_reference(page, machine, guide, "The entity", subject)?;
+        add_reference(page, machine, guide, "The owner", owner)?;
     }
     add_word(page, session)?;
-    add_cure(page, session.machine(), guide, kind)?;
-    page.line(
-        "Read: docs/LANGUAGE.md, {} {}",
-        &[Count(u64::from(number)), name],
-    )
+    add_cure(page, machine, guide, kind, subject)?;
+    let parts = [Count(u64::from(number)), name];
+    page.line("Read: docs/LANGUAGE.md, {} {}", &parts)
+}
+
+/// A page with what is known of how a run ended: of a fault, or of ticks that are used up.
+pub fn ending_of<'a, R: FaultyRead, W: FaultyWrite>(
+    guide: &Guide<'a>,
+    session: &mut Session<Kept<R>, W>,
+    stop: Stop,
+) -> Made<Page<'a>> {
+    let mut page = Page::about(guide.alloc, guide.text);
+    match stop {
+        Stop::Fault(kind, line) => add_fault(&mut page, session, guide, kind, line.0)?,
+        Stop::Paused => add_pause(&mut page, session, guide)?,
+        _ => {}
+    }
+    Ok(page)
 }

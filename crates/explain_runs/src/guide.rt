@@ -1,22 +1,25 @@
 //! What a run is read by: the model, and the names of its program.
 
+use explain_texts::Made;
 use ss_base::{Line, Name};
 use ss_code::code::Code;
 use ss_code::model::Model;
 use ss_engine::{Refusal, compile};
-use ss_lex::{LexError, tokens};
+use ss_lex::tokens;
 use ss_names::Names;
-use ss_parse::{ParseError, parse};
+use ss_parse::parse;
 use ss_tables::{TableError, Tables};
 use ss_tree::program::{Program, SectionKind};
 use ss_tree::release::release_tree;
 use ss_tree::statement::Statement;
 use std::alloc::{AllocError, Global};
 
-/// The names of a program, the lines of its sections, and the events that schedule themselves each time, with the lines where
-/// they do.
+/// A text with the names of its program, the lines of its sections, and the events that schedule themselves each time, with the
+/// lines where they do.
 #[derive(Drop)]
-pub struct Guide {
+pub struct Guide<'a> {
+    pub alloc: Global,
+    pub text: &'a [u8],
     pub names: Names,
     lines: Vec<Line>,
     pub returning: Vec<(Name, Line)>,
@@ -30,8 +33,7 @@ pub enum Section {
     Event(usize),
 }
 
-// The lines of the sections.
-fn lines_of(alloc: Global, program: &Program) -> Result<Vec<Line>, AllocError> {
+fn lines_of(alloc: Global, program: &Program) -> Made<Vec<Line>> {
     let mut lines = Vec::new(alloc);
     for section in &program.sections {
         lines.push(section.line)?;
@@ -54,7 +56,7 @@ fn line_of_return(name: &Name, body: &[Statement]) -> Option<Line> {
 }
 
 // The events that schedule themselves each time, with the lines where they do.
-fn returning_events(alloc: Global, program: &Program) -> Result<Vec<(Name, Line)>, AllocError> {
+fn returning_events(alloc: Global, program: &Program) -> Made<Vec<(Name, Line)>> {
     let mut found = Vec::new(alloc);
     for section in &program.sections {
         if let SectionKind::Event { name, .. } = &section.kind {
@@ -66,10 +68,12 @@ fn returning_events(alloc: Global, program: &Program) -> Result<Vec<(Name, Line)
     Ok(found)
 }
 
-// The names of a program, which breaks no rule.
-fn guide_of(alloc: Global, program: &Program) -> Result<Option<Guide>, AllocError> {
+// What the run of a text is read by, from its program; None where it breaks a rule.
+fn guide_of<'a>(alloc: Global, text: &'a [u8], program: &Program) -> Made<Option<Guide<'a>>> {
     match Tables::of(alloc, program) {
         Ok(tables) => Ok(Some(Guide {
+            alloc,
+            text,
             names: tables.into_names(),
             lines: lines_of(alloc, program)?,
             returning: returning_events(alloc, program)?,
@@ -79,29 +83,29 @@ fn guide_of(alloc: Global, program: &Program) -> Result<Option<Guide>, AllocErro
     }
 }
 
-// The names of a text; None where it is no program.
-fn read_guide(alloc: Global, text: &[u8]) -> Result<Option<Guide>, AllocError> {
-    let all = match tokens(alloc, text) {
-        Ok(all) => all,
-        Err(LexError::Memory) => return Err(AllocError),
-        Err(_) => return Ok(None),
+// What the run of a text is read by; None where it is no program.
+fn read_guide<'a>(alloc: Global, text: &'a [u8]) -> Made<Option<Guide<'a>>> {
+    let Ok(all) = tokens(alloc, text) else {
+        return Ok(None);
     };
     match parse(alloc, &all) {
         Ok(program) => {
-            let guide = guide_of(alloc, &program);
+            let guide = guide_of(alloc, text, &program);
             release_tree(program);
             guide
         }
-        Err(ParseError::Memory) => Err(AllocError),
         Err(_) => Ok(None),
     }
 }
 
-/// The model of a text, with the names of its program.
+/// The model of a text, with what its run is read by.
 ///
 /// # Errors
 /// The refusal of `compile`.
-pub fn compile_with_names(alloc: Global, text: &[u8]) -> Result<(Model, Guide), Refusal> {
+pub fn compile_with_names<'a>(
+    alloc: Global,
+    text: &'a [u8],
+) -> Result<(Model, Guide<'a>), Refusal> {
     let model = compile(alloc, text)?;
     match read_guide(alloc, text) {
         Ok(Some(guide)) => Ok((model, guide)),
@@ -112,7 +116,7 @@ pub fn compile_with_names(alloc: Global, text: &[u8]) -> Result<(Model, Guide), 
     }
 }
 
-impl Guide {
+impl Guide<'_> {
     /// The name of a section; None for MAIN.
     pub fn section_name(&self, section: Section) -> Option<Name> {
         match section {
@@ -132,11 +136,8 @@ impl Guide {
 
     /// The rank of a class of notices.
     pub fn rank_of(&self, class: usize) -> Option<usize> {
-        self.names
-            .ranks
-            .as_slice()
-            .iter()
-            .position(|ranked| *ranked == class)
+        let mut ranks = self.names.ranks.as_slice().iter();
+        ranks.position(|ranked| *ranked == class)
     }
 
     /// The line of the section of an event.
@@ -168,8 +169,5 @@ pub fn section_at(code: &Code, place: usize) -> Section {
 
 /// The line of the statement at a place of the code; 0 where there is none.
 pub fn line_at(code: &Code, place: usize) -> u32 {
-    match code.lines().get(place) {
-        Some(line) => line.0,
-        None => 0,
-    }
+    code.lines().get(place).map_or(0, |line| line.0)
 }

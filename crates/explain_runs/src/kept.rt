@@ -28,22 +28,20 @@ pub struct DataWord<'a> {
 }
 
 fn is_separator(byte: u8) -> bool {
-    byte == b' ' || byte == b'\t' || byte == b'\r' || byte == b'\n'
+    matches!(byte, b' ' | b'\t' | b'\r' | b'\n')
 }
 
 // The line and the column after some bytes, from those before them.
 fn place_after(bytes: &[u8], line: u64, column: u64) -> (u64, u64) {
-    let mut line = line;
-    let mut column = column;
-    for byte in bytes {
-        if *byte == b'\n' {
-            line = line.saturating_add(1);
-            column = 1;
-        } else {
-            column = column.saturating_add(1);
-        }
+    let lines = bytes.iter().filter(|byte| **byte == b'\n').count() as u64;
+    let passed = bytes.len() as u64;
+    match bytes.iter().rposition(|byte| *byte == b'\n') {
+        Some(last) => (
+            line.saturating_add(lines),
+            passed.saturating_sub(last as u64),
+        ),
+        None => (line, column.saturating_add(passed)),
     }
-    (line, column)
 }
 
 impl<R> Kept<R> {
@@ -64,11 +62,8 @@ impl<R> Kept<R> {
         let (line, column) = place_after(&self.room[..count], self.line, self.column);
         self.line = line;
         self.column = column;
-        let left = self.count.min(ROOM) - count;
-        for at in 0..left {
-            self.room[at] = self.room[at + count];
-        }
-        self.count = left;
+        self.room.rotate_left(count);
+        self.count = self.count.saturating_sub(count);
     }
 
     // Keeps these bytes, the last of them where they are too many.
@@ -76,9 +71,9 @@ impl<R> Kept<R> {
         let wanted = self.count.saturating_add(bytes.len());
         self.forget(wanted.saturating_sub(ROOM));
         for byte in bytes {
-            if self.count < ROOM {
-                self.room[self.count] = *byte;
-                self.count += 1;
+            if let Some(place) = self.room.get_mut(self.count) {
+                *place = *byte;
+                self.count = self.count.saturating_add(1);
             }
         }
     }
@@ -86,25 +81,14 @@ impl<R> Kept<R> {
     /// The last word before a place, which so many of the bytes that were given come after. None where there is none.
     pub fn word_before(&self, unread: usize) -> Option<DataWord<'_>> {
         let passed = self.count.min(ROOM).saturating_sub(unread);
-        let bytes = &self.room[..passed];
-        let gap = bytes
-            .iter()
-            .rev()
-            .take_while(|byte| is_separator(**byte))
-            .count();
-        let end = passed.saturating_sub(gap);
-        let length = bytes[..end]
-            .iter()
-            .rev()
-            .take_while(|byte| !is_separator(**byte))
-            .count();
-        if length == 0 {
-            return None;
-        }
-        let start = end.saturating_sub(length);
-        let (line, column) = place_after(&bytes[..start], self.line, self.column);
+        let bytes = self.room.get(..passed)?;
+        let last = bytes.iter().rposition(|byte| !is_separator(*byte))?;
+        let word = bytes.get(..last.saturating_add(1))?;
+        let gap = word.iter().rposition(|byte| is_separator(*byte));
+        let start = gap.map_or(0, |gap| gap.saturating_add(1));
+        let (line, column) = place_after(bytes.get(..start)?, self.line, self.column);
         Some(DataWord {
-            bytes: &bytes[start..end],
+            bytes: word.get(start..)?,
             line,
             column,
         })

@@ -48,15 +48,8 @@ pub fn attribute(machine: &Machine, class: usize, field: usize, entity: i64) -> 
 
 /// NUMBER, SUM, MAXIMUM or MINIMUM of a statistic of an entity, 0 where it has none. None where a sum is an OVERFLOW too.
 pub fn figure(machine: &Machine, fold: Fold, statistic: usize, entity: i64) -> Option<i64> {
-    match machine
-        .state()
-        .scene
-        .timeline
-        .figure(fold, statistic, entity)
-    {
-        Some(Ok(figure)) => Some(figure),
-        _ => None,
-    }
+    let timeline = &machine.state().scene.timeline;
+    timeline.figure(fold, statistic, entity)?.ok()
 }
 
 /// The exact sum and the number of which a statistic of an entity is the mean.

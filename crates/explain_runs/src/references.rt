@@ -12,36 +12,24 @@ pub struct Reference {
     pub class: Option<usize>,
 }
 
-// A reference to an entity of a class.
-fn of_class(address: Address, class: u32) -> Option<Reference> {
+fn of_class(address: Address, class: usize) -> Option<Reference> {
     Some(Reference {
         address,
-        class: Some(class as usize),
+        class: Some(class),
     })
 }
 
-// A reference to a member of a set.
 fn of_member(layout: &Layout, address: Address, set: u32) -> Option<Reference> {
-    let set = layout.sets.get(set as usize)?;
-    Some(Reference {
-        address,
-        class: Some(set.member),
-    })
+    of_class(address, layout.sets.get(set as usize)?.member)
 }
 
-// A reference to the owner of a set.
-fn of_owner(layout: &Layout, address: Address, set: u32) -> Option<Reference> {
-    let set = layout.sets.get(set as usize)?;
-    match set.owner {
+fn of_owner(layout: &Layout, address: Address, set: usize) -> Option<Reference> {
+    match layout.sets.get(set)?.owner {
         Owner::System => None,
-        Owner::Class(class) => Some(Reference {
-            address,
-            class: Some(class),
-        }),
+        Owner::Class(class) => of_class(address, class),
     }
 }
 
-// A reference to what has a statistic.
 fn of_statistic(
     layout: &Layout,
     statistics: &[Statistic],
@@ -50,16 +38,13 @@ fn of_statistic(
 ) -> Option<Reference> {
     match statistics.get(statistic as usize)?.subject {
         Subject::OfVariable { .. } => None,
-        Subject::OfAttribute { class, .. } => Some(Reference {
-            address,
-            class: Some(class),
-        }),
-        Subject::OfCount { set } => of_owner(layout, address, u32::try_from(set).ok()?),
+        Subject::OfAttribute { class, .. } => of_class(address, class),
+        Subject::OfCount { set } => of_owner(layout, address, set),
     }
 }
 
-// The reference of an instruction to an entity, a notice or a member, if it has one.
-fn subject_of(
+/// The reference of an instruction to an entity, a notice or a member, if it has one.
+pub fn subject_of(
     layout: &Layout,
     statistics: &[Statistic],
     instruction: &Instruction,
@@ -71,10 +56,10 @@ fn subject_of(
         | Instruction::SetAttribute { class, entity, .. }
         | Instruction::SetTextAttribute { class, entity, .. }
         | Instruction::ChangeAttribute { class, entity, .. }
-        | Instruction::Destroy { class, entity } => of_class(*entity, *class),
+        | Instruction::Destroy { class, entity } => of_class(*entity, *class as usize),
         Instruction::FileNotice { class, notice, .. }
         | Instruction::Reschedule { class, notice, .. }
-        | Instruction::Cancel { class, notice } => of_class(*notice, *class),
+        | Instruction::Cancel { class, notice } => of_class(*notice, *class as usize),
         Instruction::Predecessor { set, member, .. }
         | Instruction::Successor { set, member, .. }
         | Instruction::Membership { set, member, .. }
@@ -102,8 +87,8 @@ fn subject_of(
     }
 }
 
-// The reference of an instruction to the owner of a set, if it has one.
-fn owner_of(layout: &Layout, instruction: &Instruction) -> Option<Reference> {
+/// The reference of an instruction to the owner of a set, if it has one.
+pub fn owner_of(layout: &Layout, instruction: &Instruction) -> Option<Reference> {
     match instruction {
         Instruction::FirstMember { set, owner, .. }
         | Instruction::LastMember { set, owner, .. }
@@ -120,19 +105,7 @@ fn owner_of(layout: &Layout, instruction: &Instruction) -> Option<Reference> {
         | Instruction::FileBeside { set, owner, .. }
         | Instruction::Remove { set, owner, .. }
         | Instruction::RemoveFirst { set, owner, .. }
-        | Instruction::RemoveLast { set, owner, .. } => of_owner(layout, *owner, *set),
+        | Instruction::RemoveLast { set, owner, .. } => of_owner(layout, *owner, *set as usize),
         _ => None,
     }
-}
-
-/// The references of an instruction: to an entity, and to the owner of a set.
-pub fn references_of(
-    layout: &Layout,
-    statistics: &[Statistic],
-    instruction: &Instruction,
-) -> (Option<Reference>, Option<Reference>) {
-    (
-        subject_of(layout, statistics, instruction),
-        owner_of(layout, instruction),
-    )
 }

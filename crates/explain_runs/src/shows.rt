@@ -1,179 +1,98 @@
-//! Runs, one tick at a time, with what is shown of them.
-
-ghost use Rattle.std.specs.Prelude.{◌≡◌};
+//! Runs in pieces, with what is shown of them.
 
 use crate::guide::Guide;
 use crate::looks::{living_count, time};
-use crate::progress::Progress;
-use crate::ticks::{add_heads, add_tick, next_tick};
+use crate::ticks::{HEADS, next_tick, tick_page};
 use crate::watches::{Watch, add_changes};
 use explain_texts::Page;
 use ss_base::{FaultyRead, FaultyWrite};
 use ss_engine::{Session, Stop};
-use ss_machine::Machine;
-use std::alloc::{AllocError, Global};
-use std::io::{ErrorKind, Write};
+use std::io;
+use std::io::Write;
 
-/// What is shown of a run.
+/// The ticks that a run is given, and what is shown of them: a line for each tick, or for each event.
 #[derive(Clone, Copy, Debug, PartialEq, Eq)]
 pub struct Shown {
-    /// A line for each tick.
+    pub count: u64,
     pub ticks: bool,
-    /// A line for each event.
     pub events: bool,
 }
 
-/// The ticks that a run is given, and what is shown of them.
-#[derive(Clone, Copy, Debug, PartialEq, Eq)]
-pub struct Parts {
-    pub ticks: u64,
-    pub shown: Shown,
-}
-
-/// Why a run was not shown to its end.
-#[derive(Clone, Copy, Debug, PartialEq, Eq)]
-pub enum Unshown {
-    Memory,
-    /// What is shown can't be written.
-    Output,
-}
-
-impl From<AllocError> for Unshown {
-    ghost use Rattle.explain_runs.specs.declared.shows.Unshown.TheVariants.{Memory};
-
-    ghost from_gives = { λ _ error. error ≡ Memory };
-
-    fn from(_error: AllocError) -> Unshown {
-        Unshown::Memory
-    }
-}
-
-/// A text with what its run is read by.
-#[derive(Clone, Copy)]
-pub struct Subject<'a> {
-    pub alloc: Global,
-    pub text: &'a [u8],
-    pub guide: &'a Guide,
+/// What is told from time to time how far a run is.
+pub trait Progress {
+    /// The ticks used, TIME.V, and how many entities are alive.
+    fn report(&mut self, used: u64, time: i64, living: u64);
 }
 
 /// The ticks of a piece where nothing is shown of each.
 const PIECE: u64 = 100_000;
 
-// Writes a page.
-fn send<O: Write>(output: &mut O, page: &Page) -> Result<(), Unshown> {
-    match output.write_all(page.text.as_slice()) {
-        Ok(()) => Ok(()),
-        Err(error) => {
-            if error.kind() == ErrorKind::OutOfMemory {
-                Err(Unshown::Memory)
-            } else {
-                Err(Unshown::Output)
-            }
-        }
-    }
-}
-
 // Shows the tick that comes next, if it is to be shown.
 fn show_tick<R: FaultyRead, W: FaultyWrite, O: Write>(
-    subject: &Subject<'_>,
+    guide: &Guide<'_>,
     session: &mut Session<R, W>,
     shown: Shown,
     output: &mut O,
-) -> Result<(), Unshown> {
+) -> io::Result<()> {
     if !shown.ticks && !shown.events {
         return Ok(());
     }
-    let tick = next_tick(session, subject.guide);
+    let tick = next_tick(session, guide);
     if !shown.ticks && !tick.is_event {
         return Ok(());
     }
     let number = session.used().saturating_add(1);
-    let mut page = Page::new(subject.alloc);
-    add_tick(&mut page, subject.guide, subject.text, number, tick)?;
-    send(output, &page)
+    output.write_all(tick_page(guide, number, tick)?.bytes())
 }
 
 // Shows what has another value than before.
 fn show_changes<R: FaultyRead, W: FaultyWrite, O: Write>(
-    subject: &Subject<'_>,
+    guide: &Guide<'_>,
     session: &mut Session<R, W>,
     watches: &mut Vec<Watch>,
     output: &mut O,
-) -> Result<(), Unshown> {
+) -> io::Result<()> {
     if watches.is_empty() {
         return Ok(());
     }
-    let mut page = Page::new(subject.alloc);
+    let mut page = Page::of(guide.alloc, "", &[])?;
     add_changes(&mut page, session, watches)?;
-    if page.is_empty() {
+    if page.text.is_empty() {
         return Ok(());
     }
-    send(output, &page)
+    output.write_all(page.bytes())
 }
 
-// Shows the heads of the columns.
-fn show_heads<O: Write>(
-    subject: &Subject<'_>,
-    shown: Shown,
-    output: &mut O,
-) -> Result<(), Unshown> {
-    if !shown.ticks && !shown.events {
-        return Ok(());
-    }
-    let mut page = Page::new(subject.alloc);
-    add_heads(&mut page)?;
-    send(output, &page)
-}
-
-// Tells how far a run is.
-fn tell<P: Progress>(machine: &Machine, progress: &mut P) {
-    progress.report(machine.used(), time(machine), living_count(machine));
-}
-
-/// Runs a session with so many ticks, one after another, and shows what each does. It answers why the run stopped. Its report
-/// and its ending are those of one run with all ticks: it is the same session, with the same ticks in pieces.
+/// Runs a session in pieces, and shows what each does: one tick after another where ticks or values are shown. It answers why the
+/// run stopped; the error is that of the output, or comes where memory was refused. Its report and its ending are those of one run with all ticks: it is the same session, with the same ticks.
 pub fn run_shown<R: FaultyRead, W: FaultyWrite, O: Write, P: Progress>(
-    subject: &Subject<'_>,
+    guide: &Guide<'_>,
     session: &mut Session<R, W>,
-    parts: Parts,
+    shown: Shown,
     watches: &mut Vec<Watch>,
     output: &mut O,
     progress: &mut P,
-) -> Result<Stop, Unshown> {
-    let Parts { ticks, shown } = parts;
-    show_heads(subject, shown, output)?;
-    let mut stop = session.run(0);
-    show_changes(subject, session, watches, output)?;
-    for _ in 0..ticks {
-        if stop != Stop::Paused {
-            break;
-        }
-        show_tick(subject, session, shown, output)?;
-        stop = session.run(1);
-        show_changes(subject, session, watches, output)?;
-        if session.used() % 1024 == 0 {
-            tell(session.machine(), progress);
-        }
+) -> io::Result<Stop> {
+    if shown.ticks || shown.events {
+        output.write_all(HEADS.as_bytes())?;
     }
-    Ok(stop)
-}
-
-/// Runs a session with so many ticks, in pieces, and shows nothing but how far it is.
-pub fn run_in_pieces<R: FaultyRead, W: FaultyWrite, P: Progress>(
-    session: &mut Session<R, W>,
-    ticks: u64,
-    progress: &mut P,
-) -> Stop {
-    let mut left = ticks;
+    let is_single = shown.ticks || shown.events || !watches.is_empty();
+    let piece = if is_single { 1 } else { PIECE };
+    let mut left = shown.count;
     let mut stop = session.run(0);
-    for _ in 0..u64::MAX {
+    show_changes(guide, session, watches, output)?;
+    for _ in 0..shown.count {
         if stop != Stop::Paused || left == 0 {
             break;
         }
-        let piece = left.min(PIECE);
-        stop = session.run(piece);
-        left -= piece;
-        tell(session.machine(), progress);
+        show_tick(guide, session, shown, output)?;
+        stop = session.run(piece.min(left));
+        left = left.saturating_sub(piece);
+        show_changes(guide, session, watches, output)?;
+        if !is_single || session.used() % 1024 == 0 {
+            let machine = session.machine();
+            progress.report(machine.used(), time(machine), living_count(machine));
+        }
     }
-    stop
+    Ok(stop)
 }

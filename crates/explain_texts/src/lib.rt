@@ -1,8 +1,15 @@
-//! What is wrong with a text, in words for who wrote it.
+//! What is wrong with a text, in words for who wrote it; and what looks odd in one that is right.
 #![tactic(auto)]
 
+mod counts;
+mod declared;
 mod explanation;
+mod locals;
+mod modes;
+mod needs;
+mod notes;
+mod sections;
+mod used;
 
-pub use explain_pages::page::{Page, Part};
-pub use explain_pages::places::{line_bytes, show_line, unindented};
+pub use explain_pages::{Made, Page, Part, line_bytes, unindented};
 pub use explanation::{Wrong, explain_text};

@@ -1,42 +1,41 @@
-//! The sections of a program with what they use, and what names mean there.
+//! A program whose names are looked at, and what names mean in its sections.
 
-use ss_base::{ClassKind, Mode, Owner};
+use explain_pages::Made;
+use ss_base::{ClassKind, Mode};
 use ss_names::{Meaning, Names};
-use ss_names_scopes::{Locals, Scope, all_locals, mode_of};
+use ss_names_scopes::{Locals, Scope, mode_of};
 use ss_names_uses::{ModeOf, Use, uses_of};
 use ss_tree::expression::Designator;
 use ss_tree::program::Program;
-use std::alloc::{AllocError, Global};
+use std::alloc::Global;
 
-/// The uses of each section, and its local variables.
-#[derive(Drop)]
-pub struct Sections {
-    pub uses: Vec<Vec<Use>>,
-    pub locals: Vec<Locals>,
+/// A program, with its table, and the uses and the local variables of its sections.
+#[derive(Clone, Copy)]
+pub struct Read<'a> {
+    pub program: &'a Program,
+    pub names: &'a Names,
+    pub uses: &'a [Vec<Use>],
+    pub locals: &'a [Locals],
 }
 
-impl Sections {
-    /// The sections of a program with this table.
-    pub fn of(alloc: Global, program: &Program, names: &Names) -> Result<Sections, AllocError> {
-        let mut uses = Vec::new(alloc);
-        for section in &program.sections {
-            uses.push(uses_of(alloc, section)?)?;
-        }
-        let locals = all_locals(alloc, names, uses.as_slice())?;
-        Ok(Sections { uses, locals })
-    }
-
+impl<'a> Read<'a> {
     /// What names mean in a section.
-    pub fn scope<'a>(&'a self, names: &'a Names, section: usize) -> Option<Scope<'a>> {
-        match self.locals.get(section) {
-            Some(locals) => Some(Scope {
-                names,
-                locals,
-                sections: self.locals.as_slice(),
-            }),
-            None => None,
-        }
+    pub fn scope(&self, section: usize) -> Option<Scope<'a>> {
+        Some(Scope {
+            names: self.names,
+            locals: self.locals.get(section)?,
+            sections: self.locals,
+        })
     }
+}
+
+/// The uses of each section.
+pub fn all_uses(alloc: Global, program: &Program) -> Made<Vec<Vec<Use>>> {
+    let mut uses = Vec::new(alloc);
+    for section in &program.sections {
+        uses.push(uses_of(alloc, section)?)?;
+    }
+    Ok(uses)
 }
 
 /// The spelling of what is named.
@@ -52,18 +51,11 @@ pub fn spelling_of_place<'a>(place: &'a Designator) -> &'a [u8] {
 pub fn meaning_words(meaning: Meaning) -> &'static str {
     match meaning {
         Meaning::Variable { .. } => "a variable",
-        Meaning::Class {
-            kind: ClassKind::Permanent,
-            ..
-        } => "a class of permanent entities",
-        Meaning::Class {
-            kind: ClassKind::Temporary,
-            ..
-        } => "a class of temporary entities",
-        Meaning::Class {
-            kind: ClassKind::Notice,
-            ..
-        } => "an event notice",
+        Meaning::Class { kind, .. } => match kind {
+            ClassKind::Permanent => "a class of permanent entities",
+            ClassKind::Temporary => "a class of temporary entities",
+            ClassKind::Notice => "an event notice",
+        },
         Meaning::Count { .. } => "the number of a class",
         Meaning::Attribute { .. } => "an attribute",
         Meaning::Set { .. } => "a set",
@@ -98,9 +90,4 @@ pub fn mode_in(scope: &Scope<'_>, what: &ModeOf) -> Option<Mode> {
             Some(scope.names.attributes.get(name)?.mode)
         }
     }
-}
-
-/// Whether THE SYSTEM has what a name means, and no entity.
-pub fn is_of_system(scope: &Scope<'_>, meaning: Meaning) -> bool {
-    scope.names.owner_of(meaning) == Owner::System
 }

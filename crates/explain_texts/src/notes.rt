@@ -1,0 +1,291 @@
+//! Notes on a text that is accepted: names and statements that are right, and look like a mistake.
+
+use crate::locals::{add_implied, add_locals};
+use crate::sections::Read;
+use explain_pages::Part::{Bytes, Line};
+use explain_pages::{Made, Page, bytes_of, has_field, indentation, line_from, line_starts};
+use ss_base::{ClassKind, Name};
+use ss_lex::{LexError, TokenKind, Word, tokens};
+use ss_names::{Meaning, Names};
+use ss_names_scopes::is_main;
+use ss_parse::{Reach, reach_of};
+use ss_tree::preamble::PreambleStatement;
+use ss_tree::program::{Program, SectionKind};
+use ss_tree::statement::Statement;
+use std::alloc::{AllocError, Global};
+
+/// The most notes of a kind, or on the names of a section; and the most bytes of notes after which no section more is noted.
+pub const NOTED: usize = 20;
+
+const LONGEST: usize = 20_000;
+
+fn parts_of(statement: &Statement) -> (&[Statement], &[Statement]) {
+    match statement {
+        Statement::If {
+            then,
+            otherwise,
+            ..
+        }
+        | Statement::FindIf {
+            then,
+            otherwise,
+            ..
+        } => (then.as_slice(), otherwise.as_slice()),
+        Statement::Loop { body, .. } => (body.as_slice(), &[]),
+        _ => (&[], &[]),
+    }
+}
+
+// Some statements and the lists of statements inside them, each list before those inside it.
+fn lists_of(alloc: Global, body: &[Statement]) -> Made<Vec<&[Statement]>> {
+    let mut lists = Vec::new(alloc);
+    lists.push(body)?;
+    for next in 0..u64::MAX {
+        let Some(list) = lists.get(next as usize).copied() else {
+            break;
+        };
+        for statement in list {
+            let (first, second) = parts_of(statement);
+            if !first.is_empty() {
+                lists.push(first)?;
+            }
+            if !second.is_empty() {
+                lists.push(second)?;
+            }
+        }
+    }
+    Ok(lists)
+}
+
+// The line of the first STOP of some statements, those inside others too; or that of the first START SIMULATION.
+fn first_line(alloc: Global, body: &[Statement], is_stop: bool) -> Made<Option<u32>> {
+    for list in &lists_of(alloc, body)? {
+        for statement in *list {
+            match statement {
+                Statement::Stop { line } if is_stop => return Ok(Some(line.0)),
+                Statement::StartSimulation { line } if !is_stop => return Ok(Some(line.0)),
+                _ => {}
+            }
+        }
+    }
+    Ok(None)
+}
+
+// Whether the section of this number is that of an event.
+fn is_event(program: &Program, number: usize) -> bool {
+    match program.sections.get(number) {
+        Some(section) => matches!(&section.kind, SectionKind::Event { .. }),
+        None => false,
+    }
+}
+
+// A note on a program with events that are never started.
+fn add_start(page: &mut Page<'_>, program: &Program) -> Made<()> {
+    let mut numbers = 0..program.sections.len();
+    if !numbers.any(|number| is_event(program, number)) {
+        return Ok(());
+    }
+    for section in &program.sections {
+        if first_line(page.alloc(), section.body.as_slice(), false)?.is_some() {
+            return Ok(());
+        }
+    }
+    for section in program.sections.iter().filter(|section| is_main(section)) {
+        page.note(
+            section.line.0,
+            ", MAIN: there are events, and no START SIMULATION, so none of them comes. Write START SIMULATION in MAIN, after what it schedules",
+            &[],
+        )?;
+    }
+    Ok(())
+}
+
+// Whether a line of picture is a statement, or closes one.
+fn is_statement(alloc: Global, bytes: &[u8]) -> Made<bool> {
+    if has_field(bytes) {
+        return Ok(false);
+    }
+    let page = Page::of(alloc, "MAIN {} END", &[Bytes(bytes)])?;
+    match tokens(alloc, page.bytes()) {
+        Ok(all) => Ok(all.list().len() > 2 && reach_of(alloc, all.list())? == Reach::Whole),
+        Err(LexError::Memory) => Err(AllocError),
+        Err(_) => Ok(false),
+    }
+}
+
+// Notes on lines that are printed and look like statements.
+fn add_pictures(page: &mut Page<'_>) -> Made<()> {
+    let all = match tokens(page.alloc(), page.about) {
+        Ok(all) => all,
+        Err(LexError::Memory) => return Err(AllocError),
+        Err(_) => return Ok(()),
+    };
+    let mut print = 0;
+    let mut count: usize = 0;
+    for token in all.list() {
+        match &token.kind {
+            TokenKind::Word(Word::Print) => print = token.line.0,
+            TokenKind::Picture(line)
+                if count < NOTED && is_statement(page.alloc(), line.bytes())? => {
+                count = count.saturating_add(1);
+                page.note(
+                    token.line.0,
+                    ": it looks like a statement, and it is printed: the PRINT of line {} counts it as one of its pictures. Write a smaller number of LINES there, if it is to be carried out",
+                    &[Line(print)],
+                )?;
+            }
+            _ => {}
+        }
+    }
+    Ok(())
+}
+
+fn line_of(statement: &Statement) -> u32 {
+    match statement {
+        Statement::Let { line, .. }
+        | Statement::Add { line, .. }
+        | Statement::Subtract { line, .. }
+        | Statement::Call { line, .. }
+        | Statement::Return { line }
+        | Statement::Stop { line }
+        | Statement::Read { line, .. }
+        | Statement::StartSimulation { line }
+        | Statement::If { line, .. }
+        | Statement::Loop { line, .. }
+        | Statement::Find { line, .. }
+        | Statement::FindIf { line, .. }
+        | Statement::Create { line, .. }
+        | Statement::CreateEvery { line, .. }
+        | Statement::Destroy { line, .. }
+        | Statement::File { line, .. }
+        | Statement::RemoveEnd { line, .. }
+        | Statement::Remove { line, .. }
+        | Statement::ScheduleNew { line, .. }
+        | Statement::Schedule { line, .. }
+        | Statement::Cancel { line, .. }
+        | Statement::Reset { line, .. }
+        | Statement::Print { line, .. }
+        | Statement::Skip { line, .. } => line.0,
+    }
+}
+
+// Whether a loop has one statement in a further line, and the statement after the loop is indented as if it belonged to it.
+fn looks_longer(text: &[u8], starts: &[usize], one: &Statement, next: &Statement) -> bool {
+    let Statement::Loop { line, body, .. } = one else {
+        return false;
+    };
+    let [only] = body.as_slice() else {
+        return false;
+    };
+    let depth = |line| indentation(bytes_of(text, line_from(text, starts, line)));
+    let (inner, after) = (line_of(only), line_of(next));
+    inner > line.0 && after > inner && depth(inner) > depth(line.0) && depth(after) == depth(inner)
+}
+
+// Notes on loops without DO that look as if they had more than one statement.
+fn add_loops(page: &mut Page<'_>, program: &Program) -> Made<()> {
+    let starts = line_starts(page.alloc(), page.about)?;
+    let mut count: usize = 0;
+    for section in &program.sections {
+        for list in &lists_of(page.alloc(), section.body.as_slice())? {
+            for (one, next) in list.iter().zip(list.iter().skip(1)) {
+                if count < NOTED && looks_longer(page.about, starts.as_slice(), one, next) {
+                    count = count.saturating_add(1);
+                    page.note(
+                        line_of(one),
+                        ", FOR or WHILE without DO: only the statement of the next line belongs to the loop, and line {} is indented as if it did too. Write DO at the end of the head, and LOOP after the last statement",
+                        &[Line(line_of(next))],
+                    )?;
+                }
+            }
+        }
+    }
+    Ok(())
+}
+
+// Whether a DEFINE as a variable names this.
+fn is_defined(program: &Program, name: &Name) -> bool {
+    program.preamble.iter().any(|statement| match statement {
+        PreambleStatement::DefineVariables { names, .. } => names.contains(name),
+        _ => false,
+    })
+}
+
+/// Whether a name means an attribute of entities that come and go, or else of permanent ones; None where it means something else.
+pub fn is_of_passing(names: &Names, name: &Name) -> Option<bool> {
+    match names.meaning(name) {
+        Some(Meaning::Attribute { class, .. }) => {
+            let kind = names.classes.values().get(class)?;
+            Some(*kind != ClassKind::Permanent)
+        }
+        _ => None,
+    }
+}
+
+// Notes on statistics of an attribute that a DEFINE as a variable names.
+fn add_subjects(page: &mut Page<'_>, read: &Read<'_>) -> Made<()> {
+    for statement in &read.program.preamble {
+        match statement {
+            PreambleStatement::Statistics { line, subject, .. }
+                if is_of_passing(read.names, subject) == Some(true)
+                    && is_defined(read.program, subject) => {
+                page.note(
+                    line.0,
+                    ", {}: it is an attribute, so each entity has figures of its own, which go with it. A DEFINE of an attribute gives its mode and makes no variable. For figures of all take another name for the variable",
+                    &[Bytes(subject.bytes())],
+                )?;
+            }
+            _ => {}
+        }
+    }
+    Ok(())
+}
+
+// Whether MAIN has statements after START SIMULATION.
+fn reports_after_start(program: &Program) -> bool {
+    let mut mains = program.sections.iter().filter(|section| is_main(section));
+    mains.any(|section| {
+        let mut before = section.body.iter().rev().skip(1);
+        before.any(|statement| matches!(statement, Statement::StartSimulation { .. }))
+    })
+}
+
+// Notes on STOPs in events, where MAIN has something to do after them.
+fn add_stops(page: &mut Page<'_>, program: &Program) -> Made<()> {
+    if !reports_after_start(program) {
+        return Ok(());
+    }
+    for section in program.sections.iter().take(2000) {
+        let SectionKind::Event { name, .. } = &section.kind else {
+            continue;
+        };
+        if let Some(line) = first_line(page.alloc(), section.body.as_slice(), true)? {
+            page.note(
+                line,
+                ", STOP: it ends the whole run in EVENT {}, so what MAIN does after START SIMULATION is left out. RETURN ends the event alone; without further notices MAIN goes on.",
+                &[Bytes(name.bytes())],
+            )?;
+        }
+    }
+    Ok(())
+}
+
+/// Adds notes on a program that breaks no rule. There are none where nothing looks like a mistake.
+pub fn add_notes(page: &mut Page<'_>, read: &Read<'_>) -> Made<()> {
+    for (number, uses) in read.uses.iter().enumerate() {
+        if page.text.len() > LONGEST {
+            return Ok(());
+        }
+        if let Some(locals) = read.locals.get(number) {
+            add_locals(page, read, locals, uses.as_slice())?;
+            if is_event(read.program, number) {
+                add_implied(page, read, locals, uses.as_slice())?;
+            }
+        }
+    }
+    add_stops(page, read.program)?;
+    add_start(page, read.program)?;
+    add_pictures(page)?;
+    add_loops(page, read.program)?;
+    add_subjects(page, read)
+}
