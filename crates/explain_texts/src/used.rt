@@ -85,10 +85,7 @@ static LIKE: [(&str, &str); 12] = [
 fn word_for(misused: &Misused<'_>) -> Option<&'static str> {
     let mut rows = LIKE.iter();
     let row = rows.find(|(short, _)| misused.name == short.as_bytes())?;
-    match misused.meaning {
-        Some(_) => None,
-        None => Some(row.1),
-    }
+    Some(row.1).filter(|_| misused.meaning.is_none())
 }
 
 // Says that a name is not what its place needs, and what helps: another word, a walk through a set, or what `explain_kind` says.
@@ -130,49 +127,28 @@ fn misused_in<'a>(scope: &Scope<'_>, one: &'a Use) -> Option<Misused<'a>> {
     })
 }
 
-// A name that the program says outside of the bodies of sections.
-fn misused_name<'a>(names: &Names, line: u32, name: &'a Name) -> Misused<'a> {
-    Misused {
-        line,
-        name: name.bytes(),
-        meaning: names.meaning(name),
-    }
-}
-
-// Whether the head of an event in this line names what is no notice, which is then explained.
-fn explain_head(page: &mut Page<'_>, read: &Read<'_>, line: u32) -> Made<bool> {
+// The name of this line that is no notice, in the head of an event, or the subject of a statistic; and what it has to be.
+fn misused_outside<'a>(read: &Read<'a>, line: u32) -> Option<(&'a Name, Need)> {
     for section in &read.program.sections {
         match &section.kind {
             SectionKind::Event { name, .. }
                 if section.line.0 == line && !read.names.is_notice(name) => {
-                let misused = misused_name(read.names, line, name);
-                let need = Need::Class(ClassNeed::Notice);
-                explain_kind(page, read.names, &misused, need)?;
-                return Ok(true);
+                return Some((name, Need::Class(ClassNeed::Notice)));
             }
             _ => {}
         }
     }
-    Ok(false)
-}
-
-// Whether a statistic in this line is of what is unknown, which is then explained.
-fn explain_statistic(page: &mut Page<'_>, read: &Read<'_>, line: u32) -> Made<bool> {
     for statement in &read.program.preamble {
         match statement {
             PreambleStatement::Statistics {
                 line: here,
                 subject,
                 ..
-            } if here.0 == line => {
-                let misused = misused_name(read.names, line, subject);
-                explain_kind(page, read.names, &misused, Need::Subject)?;
-                return Ok(true);
-            }
+            } if here.0 == line => return Some((subject, Need::Subject)),
             _ => {}
         }
     }
-    Ok(false)
+    None
 }
 
 fn heads_of(alloc: Global, read: &Read<'_>) -> Made<Vec<Name>> {
@@ -394,8 +370,13 @@ pub fn explain_used(page: &mut Page<'_>, read: &Read<'_>, error: &CheckError) ->
         CheckError::Fields(_) => return explain_fields(page, line),
         CheckError::Memory => return Ok(()),
         CheckError::Unknown(_) => {
-            if explain_head(page, read, line)? || explain_statistic(page, read, line)? {
-                return Ok(());
+            if let Some((name, need)) = misused_outside(read, line) {
+                let misused = Misused {
+                    line,
+                    name: name.bytes(),
+                    meaning: read.names.meaning(name),
+                };
+                return explain_kind(page, read.names, &misused, need);
             }
         }
         _ => {}
