@@ -1,7 +1,6 @@
 //! The commands of `explain`, over any files and streams.
 #![tactic(auto)]
 
-mod command;
 mod order;
 mod pace;
 mod program;

@@ -4,7 +4,7 @@
 mod fixes;
 mod frames;
 mod moves;
+mod place;
 mod prints;
 pub mod syntax;
-mod trouble;
 mod words;

@@ -2,8 +2,8 @@
 
 use crate::fixes::{Fixes, Window, left_after};
 use crate::frames::add_frames;
+use crate::place::Place;
 use crate::prints::{add_further_lines, add_prints};
-use crate::trouble::Trouble;
 use crate::words::{add_likely, add_missing, add_unlikely};
 use explain_grammar::{
     Candidate, Construct, STATEMENT, candidates_after, expected_words, form_of, has_group,
@@ -17,27 +17,27 @@ use std::alloc::Global;
 /// How many kinds of changes there are, the likeliest first.
 const KINDS: usize = 3;
 
-fn add_fixes(fixes: &mut Fixes<'_>, trouble: &Trouble<'_>, kind: usize) -> Made<()> {
+fn add_fixes(fixes: &mut Fixes<'_>, here: &Place<'_>, kind: usize) -> Made<()> {
     match kind {
-        0 => add_likely(fixes, trouble),
+        0 => add_likely(fixes, here),
         1 => {
-            add_prints(fixes, trouble)?;
-            if is_frame_word(trouble.tokens, trouble.at) {
-                add_frames(fixes, trouble)?;
+            add_prints(fixes, here)?;
+            if is_frame_word(here.tokens, here.at) {
+                add_frames(fixes, here)?;
             }
-            add_missing(fixes, trouble)
+            add_missing(fixes, here)
         }
         _ => {
-            add_unlikely(fixes, trouble)?;
-            add_further_lines(fixes, trouble)
+            add_unlikely(fixes, here)?;
+            add_further_lines(fixes, here)
         }
     }
 }
 
 // How many bytes of a window may be left, and one more, where a change is good: it is read past the token after the place.
-fn good_enough(trouble: &Trouble<'_>, window: Window<'_>, left: usize) -> usize {
+fn good_enough(here: &Place<'_>, window: Window<'_>, left: usize) -> usize {
     let end = window.start.saturating_add(window.bytes.len());
-    let past = match trouble.tokens.get(trouble.at.saturating_add(2)) {
+    let past = match here.tokens.get(here.at.saturating_add(2)) {
         Some(token) => end.saturating_sub(token.span.start).saturating_add(1),
         None => 0,
     };
@@ -45,17 +45,17 @@ fn good_enough(trouble: &Trouble<'_>, window: Window<'_>, left: usize) -> usize 
 }
 
 // Adds the cure that was found by trial, and says whether there is one.
-fn add_cure(page: &mut Page<'_>, trouble: &Trouble<'_>) -> Made<bool> {
-    let Some(window) = trouble.window() else {
+fn add_cure(page: &mut Page<'_>, here: &Place<'_>) -> Made<bool> {
+    let Some(window) = here.window() else {
         return Ok(false);
     };
     let Some(left) = left_after(page.alloc(), window.bytes)? else {
         return Ok(false);
     };
-    let most = good_enough(trouble, window, left);
+    let most = good_enough(here, window, left);
     for kind in 0..KINDS {
         let mut fixes = Fixes::new(page.alloc(), window, most);
-        add_fixes(&mut fixes, trouble, kind)?;
+        add_fixes(&mut fixes, here, kind)?;
         if let Some(said) = &fixes.best {
             page.cure("{}", &[Bytes(said.bytes())])?;
             return Ok(true);
@@ -65,46 +65,46 @@ fn add_cure(page: &mut Page<'_>, trouble: &Trouble<'_>) -> Made<bool> {
 }
 
 // The form of what begins last before the place.
-fn form_at(trouble: &Trouble<'_>) -> Option<&'static str> {
-    let leader = leader_before(trouble.tokens, trouble.section, trouble.at)?;
-    form_of(trouble.word(leader)?)
+fn form_at(here: &Place<'_>) -> Option<&'static str> {
+    let leader = leader_before(here.tokens, here.section, here.at)?;
+    form_of(here.word(leader)?)
 }
 
 // Adds the form of the statement or the declaration in which the place is.
-fn add_form(page: &mut Page<'_>, trouble: &Trouble<'_>) -> Made<()> {
-    if has_group(trouble.candidates, &STATEMENT) && trouble.begins_line() {
+fn add_form(page: &mut Page<'_>, here: &Place<'_>) -> Made<()> {
+    if has_group(here.candidates, &STATEMENT) && here.begins_line() {
         return page.line(
             "Form: a statement begins with LET, ADD, SUBTRACT, READ, PRINT, SKIP, IF, FOR, WHILE, UNTIL, CALL, RETURN, STOP, START, CREATE, DESTROY, FILE, REMOVE, SCHEDULE, CANCEL or RESET",
             &[],
         );
     }
-    match form_at(trouble) {
+    match form_at(here) {
         Some(form) => page.line("Form: {}", &[Words(form)]),
         None => Ok(()),
     }
 }
 
 // Adds the constructs that are open at the place, each with its line, the last first.
-fn add_opens(page: &mut Page<'_>, trouble: &Trouble<'_>) -> Made<()> {
-    let candidates = trouble.candidates;
+fn add_opens(page: &mut Page<'_>, here: &Place<'_>) -> Made<()> {
+    let candidates = here.candidates;
     let is_between = candidates.is_empty() || has_group(candidates, &STATEMENT);
-    if !is_frame_word(trouble.tokens, trouble.at) || trouble.opens.is_empty() || !is_between {
+    if !is_frame_word(here.tokens, here.at) || here.opens.is_empty() || !is_between {
         return Ok(());
     }
     page.line("Open there, the last first:", &[])?;
-    for open in trouble.opens.iter().rev() {
-        page.show(trouble.line_of(open.token))?;
+    for open in here.opens.iter().rev() {
+        page.show(here.line_of(open.token))?;
     }
     Ok(())
 }
 
 // Adds the place and what was expected there.
-fn add_place(page: &mut Page<'_>, trouble: &Trouble<'_>) -> Made<()> {
-    let expected = expected_words(page.alloc(), trouble.candidates)?;
-    let (line, found) = (trouble.line(), trouble.called(trouble.at));
+fn add_place(page: &mut Page<'_>, here: &Place<'_>) -> Made<()> {
+    let expected = expected_words(page.alloc(), here.candidates)?;
+    let (line, found) = (here.line(), here.called(here.at));
     let parts = [Line(line), found, Bytes(expected.bytes())];
     page.line("line {}, {}: {}", &parts)?;
-    page.show_marked(line, trouble.stretch(trouble.at))
+    page.show_marked(line, here.stretch(here.at))
 }
 
 // What may come at a token, in the section that it is in.
@@ -134,7 +134,7 @@ pub fn explain_syntax(page: &mut Page<'_>, tokens: &[Token], at: usize) -> Made<
     let section = section_before(tokens, at);
     let opens = opens_at(page.alloc(), tokens, section, at)?;
     let starts = line_starts(page.alloc(), page.about)?;
-    let trouble = Trouble {
+    let here = Place {
         text: page.about,
         starts: starts.as_slice(),
         tokens,
@@ -143,10 +143,10 @@ pub fn explain_syntax(page: &mut Page<'_>, tokens: &[Token], at: usize) -> Made<
         candidates: candidates.as_slice(),
         opens: opens.as_slice(),
     };
-    add_place(page, &trouble)?;
-    add_opens(page, &trouble)?;
-    if !add_cure(page, &trouble)? {
-        add_form(page, &trouble)?;
+    add_place(page, &here)?;
+    add_opens(page, &here)?;
+    if !add_cure(page, &here)? {
+        add_form(page, &here)?;
     }
     Ok(())
 }

@@ -1,13 +1,242 @@
-//! What was expected at a place, in words.
+//! What may come at a place of a text, each tried there, and what is expected, in words.
 
-use crate::candidates::{
-    Candidate, DECLARATION, PHRASE, RELATION, STATEMENT, has_group, has_word, is_grouped,
-};
-use crate::spellings::{is_among, spelling_of};
+use crate::forms::{WORDS, begins_statement, is_among, is_value_word, spelling_of};
 use explain_pages::Part::{Bytes, Words};
 use explain_pages::{Made, Page, Part};
-use ss_lex::{Symbol, Word};
-use std::alloc::Global;
+use ss_base::{Alpha, Line, Name, PictureLine};
+use ss_lex::{LexError, Span, Symbol, Token, TokenKind, Word, tokens};
+use ss_parse::{Reach, reach_of};
+use std::alloc::{AllocError, Global};
+
+/// What may come at a place.
+#[derive(Clone, Copy, Debug, PartialEq, Eq)]
+pub enum Candidate {
+    Word(Word),
+    Name,
+    Number,
+    Text,
+    Symbol(Symbol),
+    /// A comma or AND, and a name after it.
+    Separator,
+    Picture,
+    /// The end of the text.
+    End,
+}
+
+/// The most tokens before a place at which candidates are tried.
+const TRIED_AFTER: usize = 1500;
+
+/// The most words that can fit at a place.
+const MOST_WORDS: usize = 100;
+
+static OTHERS: [Candidate; 11] = [
+    Candidate::Name,
+    Candidate::Number,
+    Candidate::Text,
+    Candidate::Symbol(Symbol::OpenParenthesis),
+    Candidate::Symbol(Symbol::CloseParenthesis),
+    Candidate::Symbol(Symbol::Plus),
+    Candidate::Symbol(Symbol::Minus),
+    Candidate::Symbol(Symbol::Star),
+    Candidate::Symbol(Symbol::Equals),
+    Candidate::Separator,
+    Candidate::Picture,
+];
+
+/// A group of words of which two show that all are expected: these two, what all are called, and all.
+pub type Group = (Word, Word, &'static str, &'static str);
+
+pub static RELATION: Group = (
+    Word::Eq,
+    Word::Ge,
+    "a relation as =, NE, LT, GT, LE or GE",
+    "EQ NE LT GT LE GE EQUALS EQUAL LESS GREATER NOT",
+);
+
+pub static STATEMENT: Group = (
+    Word::Let,
+    Word::Print,
+    "a statement",
+    "LET ADD SUBTRACT CALL RETURN STOP READ START IF FOR WHILE UNTIL CREATE DESTROY FILE REMOVE SCHEDULE CANCEL RESET PRINT SKIP",
+);
+
+pub static DECLARATION: Group = (
+    Word::Define,
+    Word::Tally,
+    "a declaration as EVERY, DEFINE or TALLY",
+    "DEFINE TALLY ACCUMULATE NORMALLY THE PRIORITY BREAK PERMANENT TEMPORARY EVENT EVERY",
+);
+
+pub static PHRASE: Group = (
+    Word::With,
+    Word::Unless,
+    "a phrase as WITH or WHILE",
+    "WITH WHEN UNLESS WHILE UNTIL",
+);
+
+// A token of a kind, with no spelling in the text and no line.
+fn token(kind: TokenKind) -> Token {
+    Token {
+        kind,
+        span: Span {
+            start: 0,
+            length: 0,
+        },
+        line: Line(0),
+    }
+}
+
+// The kind of a name that no text has for another.
+fn any_name() -> TokenKind {
+    match Name::of(b"A.NAME") {
+        Some(name) => TokenKind::Name(name),
+        None => TokenKind::Number(1),
+    }
+}
+
+fn copied(alloc: Global, original: &Token) -> Made<Token> {
+    let kind = match &original.kind {
+        TokenKind::Word(word) => TokenKind::Word(*word),
+        TokenKind::Name(name) => TokenKind::Name(*name),
+        TokenKind::Number(number) => TokenKind::Number(*number),
+        TokenKind::Text(text) => TokenKind::Text(*text),
+        TokenKind::Symbol(symbol) => TokenKind::Symbol(*symbol),
+        TokenKind::Picture(line) => TokenKind::Picture(PictureLine::of(alloc, line.bytes())?),
+    };
+    Ok(Token {
+        kind,
+        span: original.span,
+        line: original.line,
+    })
+}
+
+// Adds the tokens of a candidate.
+fn add(alloc: Global, tokens: &mut Vec<Token>, candidate: Candidate) -> Made<()> {
+    let kind = match candidate {
+        Candidate::Word(word) => TokenKind::Word(word),
+        Candidate::Name => any_name(),
+        Candidate::Number => TokenKind::Number(1),
+        Candidate::Text => TokenKind::Text(Alpha::empty()),
+        Candidate::Symbol(symbol) => TokenKind::Symbol(symbol),
+        Candidate::Separator => {
+            tokens.push(token(TokenKind::Symbol(Symbol::Comma)))?;
+            any_name()
+        }
+        Candidate::Picture => TokenKind::Picture(PictureLine::of(alloc, b"*")?),
+        Candidate::End => return Ok(()),
+    };
+    tokens.push(token(kind))?;
+    Ok(())
+}
+
+// Adds a candidate to those that were found, if it may come after these tokens, which are left as they were.
+fn find(
+    alloc: Global,
+    found: &mut Vec<Candidate>,
+    tokens: &mut Vec<Token>,
+    candidate: Candidate,
+) -> Made<()> {
+    let before = tokens.len();
+    add(alloc, tokens, candidate)?;
+    let is_read = match reach_of(alloc, tokens.as_slice())? {
+        Reach::Whole => true,
+        Reach::Stopped(index) | Reach::TooDeep(index) => index >= tokens.len(),
+    };
+    tokens.truncate(before);
+    if is_read {
+        found.push(candidate)?;
+    }
+    Ok(())
+}
+
+// Finds the reserved words that may come after these tokens.
+fn find_words(alloc: Global, found: &mut Vec<Candidate>, tried: &mut Vec<Token>) -> Made<()> {
+    match tokens(alloc, WORDS.as_bytes()) {
+        Ok(words) => {
+            for token in words.list() {
+                if let TokenKind::Word(word) = &token.kind {
+                    find(alloc, found, tried, Candidate::Word(*word))?;
+                }
+            }
+            Ok(())
+        }
+        Err(LexError::Memory) => Err(AllocError),
+        Err(_) => Ok(()),
+    }
+}
+
+// Whether a candidate fits, where a value is due or else the one statement of a loop.
+fn fits(candidate: &Candidate, is_value: bool) -> bool {
+    match candidate {
+        Candidate::Word(word) if is_value => is_value_word(*word),
+        Candidate::Word(word) => {
+            begins_statement(*word) || is_among(*word, "DO FIND WITH WHEN UNLESS AND OR BY")
+        }
+        _ => true,
+    }
+}
+
+/// What may come after these tokens, each tried by reading them with it: with a candidate of the list the tokens are read
+/// further. Nothing is tried where the tokens are too many.
+pub fn candidates_after(alloc: Global, tokens: &[Token]) -> Made<Vec<Candidate>> {
+    let mut found = Vec::new(alloc);
+    if tokens.len() > TRIED_AFTER {
+        return Ok(found);
+    }
+    let mut tried = Vec::new(alloc);
+    for one in tokens {
+        tried.push(copied(alloc, one)?)?;
+    }
+    find_words(alloc, &mut found, &mut tried)?;
+    for candidate in &OTHERS {
+        find(alloc, &mut found, &mut tried, *candidate)?;
+    }
+    // Where a value is due, or the one statement of a loop, the reading stops after a word that is none, so each word seems to fit.
+    if found.len() > MOST_WORDS {
+        let is_value = found.contains(&Candidate::Number);
+        found.retain(|candidate| fits(candidate, is_value));
+    }
+    if reach_of(alloc, tried.as_slice())? == Reach::Whole {
+        found.push(Candidate::End)?;
+    }
+    Ok(found)
+}
+
+/// Whether a token is among the candidates.
+pub fn has_token(candidates: &[Candidate], token: &Token) -> bool {
+    candidates.contains(&match &token.kind {
+        TokenKind::Word(word) => Candidate::Word(*word),
+        TokenKind::Name(_) => Candidate::Name,
+        TokenKind::Number(_) => Candidate::Number,
+        TokenKind::Text(_) => Candidate::Text,
+        TokenKind::Symbol(symbol) => Candidate::Symbol(*symbol),
+        TokenKind::Picture(_) => Candidate::Picture,
+    })
+}
+
+/// Whether a word is among the candidates.
+pub fn has_word(candidates: &[Candidate], word: Word) -> bool {
+    candidates.contains(&Candidate::Word(word))
+}
+
+/// Whether the words of a group are among them.
+pub fn has_group(candidates: &[Candidate], group: &Group) -> bool {
+    has_word(candidates, group.0) && has_word(candidates, group.1)
+}
+
+// Whether the word is of this group, whose words are among the candidates.
+fn is_of(candidates: &[Candidate], group: &Group, word: Word) -> bool {
+    has_group(candidates, group) && is_among(word, group.3)
+}
+
+/// Whether the word is one that is called by the name of its group, or as a value.
+pub fn is_grouped(candidates: &[Candidate], word: Word) -> bool {
+    is_of(candidates, &RELATION, word)
+        || is_of(candidates, &STATEMENT, word)
+        || is_of(candidates, &DECLARATION, word)
+        || is_of(candidates, &PHRASE, word)
+        || (is_value_word(word) && candidates.contains(&Candidate::Name))
+}
 
 /// What is expected, by names.
 type Expected = Vec<Part<'static>>;

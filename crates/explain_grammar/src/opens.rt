@@ -1,6 +1,6 @@
 //! Constructs that are open at a place of a text: sections, IFs and loops that begin before it and end after it.
 
-use crate::spellings::begins_statement;
+use crate::forms::begins_statement;
 use explain_pages::{Made, is_first_of_line, word_at};
 use ss_lex::{Token, Word};
 use std::alloc::Global;

@@ -1,12 +1,12 @@
-//! What is said of a line that breaks a rule: what is wrong with a name of it, and a name that is spelled alike.
+//! What is said of a line: what is wrong with a name of it, and a name that is spelled alike.
 
 use crate::page::Part::{Bytes, Line};
 use crate::page::{Made, Page, Part};
-use crate::places::stretch_of;
-use crate::similar::nearest;
-use crate::tokens::is_named;
+use crate::places::{is_named, stretch_of};
 use ss_base::Name;
 use ss_lex::tokens;
+use std::alloc::Global;
+use strsim::osa_distance;
 
 impl Page<'_> {
     // Shows a line, with this name of it marked, or the first line below that has it.
@@ -52,4 +52,49 @@ impl Page<'_> {
         self.cure("Write {} in place of {}.", &parts)?;
         Ok(true)
     }
+}
+
+// The most letters in which a spelling of this length may differ.
+fn allowed(length: usize) -> usize {
+    match length {
+        0..=2 => 0,
+        3..=4 => 1,
+        5..=8 => 2,
+        _ => 3,
+    }
+}
+
+// How far a spelling is from another one, if they are alike: how many letters differ, a change of place counted once.
+fn likeness(alloc: Global, left: &[u8], right: &[u8]) -> Made<Option<usize>> {
+    if left.len().abs_diff(right.len()) > 3 {
+        return Ok(None);
+    }
+    let most = allowed(left.len().min(right.len()));
+    match (str::from_utf8(left), str::from_utf8(right)) {
+        (Ok(left), Ok(right)) => {
+            let count = osa_distance(alloc, left, right)?;
+            Ok(Some(count).filter(|count| *count > 0 && *count <= most))
+        }
+        _ => Ok(None),
+    }
+}
+
+/// Whether two spellings, both in capitals, are alike and not the same.
+pub fn is_like(alloc: Global, left: &[u8], right: &[u8]) -> Made<bool> {
+    Ok(likeness(alloc, left, right)?.is_some())
+}
+
+/// The name that is spelled most like this, the first of several. None where none is alike.
+pub fn nearest(alloc: Global, spelling: &[u8], all: &[Name]) -> Made<Option<Name>> {
+    let mut best = None;
+    let mut least = usize::MAX;
+    for name in all {
+        if let Some(count) = likeness(alloc, spelling, name.bytes())? {
+            if count < least {
+                least = count;
+                best = Some(*name);
+            }
+        }
+    }
+    Ok(best)
 }

@@ -1,7 +1,7 @@
-//! Places in a text: its lines, and the spellings of tokens.
+//! Places in a text: its lines, and its tokens.
 
 use crate::page::{Made, Page};
-use ss_lex::Token;
+use ss_lex::{Token, TokenKind, Word};
 use std::alloc::Global;
 
 /// A part of a text, from one byte up to another.
@@ -147,4 +147,38 @@ impl Page<'_> {
         self.repeat(b'^', length.min(SHOWN - BEFORE).max(1))?;
         self.line("", &[])
     }
+}
+
+/// What a token is.
+pub fn kind_at(tokens: &[Token], index: usize) -> Option<&TokenKind> {
+    Some(&tokens.get(index)?.kind)
+}
+
+/// The reserved word that a token is.
+pub fn word_at(tokens: &[Token], index: usize) -> Option<Word> {
+    match kind_at(tokens, index)? {
+        TokenKind::Word(word) => Some(*word),
+        _ => None,
+    }
+}
+
+/// Whether a token is this name.
+pub fn is_named(token: &Token, wanted: &[u8]) -> bool {
+    match &token.kind {
+        TokenKind::Name(name) => name.bytes() == wanted,
+        _ => false,
+    }
+}
+
+/// The line of a token, or of the last one where there are not so many; 0 where there is none.
+pub fn line_of(tokens: &[Token], index: usize) -> u32 {
+    let token = tokens.get(index).or(tokens.last());
+    token.map_or(0, |token| token.line.0)
+}
+
+/// Whether a token is the first of its line.
+pub fn is_first_of_line(tokens: &[Token], index: usize) -> bool {
+    index == 0
+        || index >= tokens.len()
+        || line_of(tokens, index.saturating_sub(1)) != line_of(tokens, index)
 }

@@ -2,13 +2,11 @@
 #![tactic(auto)]
 
 mod endings;
-mod faults;
 mod guide;
 mod kept;
 mod looks;
 mod references;
 mod shows;
-mod ticks;
 mod watches;
 
 pub use endings::ending_of;

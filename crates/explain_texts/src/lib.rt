@@ -4,9 +4,6 @@
 mod counts;
 mod declared;
 mod explanation;
-mod locals;
-mod modes;
-mod needs;
 mod notes;
 mod sections;
 mod used;

@@ -11,7 +11,7 @@ use ss_lex::{Symbol, Token, TokenKind, Word};
 
 /// The place at which a text is not read further, and what is known of it.
 #[derive(Clone, Copy)]
-pub struct Trouble<'a> {
+pub struct Place<'a> {
     pub text: &'a [u8],
     /// Where each of its lines begins.
     pub starts: &'a [usize],
@@ -26,7 +26,7 @@ pub struct Trouble<'a> {
     pub opens: &'a [Open],
 }
 
-impl<'a> Trouble<'a> {
+impl<'a> Place<'a> {
     /// What a token is.
     pub fn kind(&self, index: usize) -> Option<&'a TokenKind> {
         kind_at(self.tokens, index)
