@@ -1,13 +1,15 @@
 //! Counts that don't fit: values that are given, and fields of a PRINT.
 
+use crate::notes::lists_of;
 use explain_pages::Part::{Bytes, Count, Line, Words};
-use explain_pages::{Made, Page, Part, kind_at, line_of, word_at};
-use ss_base::Name;
-use ss_lex::{Symbol, Token, TokenKind, Word, tokens};
+use explain_pages::{Made, Page, Part, line_bytes};
+use ss_base::{Name, PictureLine};
 use ss_names::{Meaning, Names};
 use ss_names_uses::CountNeed;
 use ss_picture::Picture;
 use ss_tree::expression::Function;
+use ss_tree::program::Program;
+use ss_tree::statement::Statement;
 use std::alloc::Global;
 
 /// How many values are wanted, of what, and the words for that.
@@ -68,63 +70,33 @@ pub fn explain_arguments(
     Ok(true)
 }
 
-// How many items a PRINT has: those after its WITH, up to what calls for its pictures.
-fn item_count(list: &[Token], print: usize) -> usize {
-    let mut depth: usize = 0;
+/// A PRINT: how many values it has, and its pictures.
+type Print<'a> = (usize, &'a [PictureLine]);
+
+fn field_count(alloc: Global, pictures: &[PictureLine]) -> Made<usize> {
     let mut count: usize = 0;
-    let mut separated = false;
-    for token in list.iter().skip(print) {
-        let mut separates = false;
-        match &token.kind {
-            TokenKind::Word(Word::Thus | Word::Like | Word::As) => break,
-            TokenKind::Word(Word::With) if count == 0 => count = 1,
-            TokenKind::Symbol(Symbol::OpenParenthesis) => depth = depth.saturating_add(1),
-            TokenKind::Symbol(Symbol::CloseParenthesis) => depth = depth.saturating_sub(1),
-            TokenKind::Symbol(Symbol::Comma) | TokenKind::Word(Word::And) => {
-                separates = depth == 0;
-            }
-            _ => {}
-        }
-        if count > 0 && separates && !separated {
-            count = count.saturating_add(1);
-        }
-        separated = separates;
-    }
-    count
-}
-
-fn is_picture(list: &[Token], index: usize) -> bool {
-    matches!(kind_at(list, index), Some(TokenKind::Picture(_)))
-}
-
-fn pictures_of(list: &[Token], print: usize) -> &[Token] {
-    let count = list.len();
-    let first = (print..count).find(|index| is_picture(list, *index));
-    let first = first.unwrap_or(count);
-    let last = (first..count).find(|index| !is_picture(list, *index));
-    list.get(first..last.unwrap_or(count)).unwrap_or(&[])
-}
-
-fn field_count(alloc: Global, list: &[Token], print: usize) -> Made<usize> {
-    let mut count: usize = 0;
-    for token in pictures_of(list, print) {
-        if let TokenKind::Picture(line) = &token.kind {
-            count = count.saturating_add(Picture::of(alloc, line.bytes())?.fields().len());
-        }
+    for picture in pictures {
+        count = count.saturating_add(Picture::of(alloc, picture.bytes())?.fields().len());
     }
     Ok(count)
 }
 
-// The first field with decimals of the pictures of a PRINT, as it is written.
-fn decimal_field(list: &[Token], print: usize) -> Option<&[u8]> {
-    for token in pictures_of(list, print) {
-        if let TokenKind::Picture(line) = &token.kind {
-            if let Some(field) = decimals_in(line.bytes()) {
-                return Some(field);
+// The PRINTs of a line.
+fn prints_in<'a>(alloc: Global, program: &'a Program, line: u32) -> Made<Vec<Print<'a>>> {
+    let mut found = Vec::new(alloc);
+    for list in &lists_of(alloc, program.sections.as_slice())? {
+        for statement in *list {
+            match statement {
+                Statement::Print {
+                    line: here,
+                    items,
+                    pictures,
+                } if here.0 == line => found.push((items.len(), pictures.as_slice()))?,
+                _ => {}
             }
         }
     }
-    None
+    Ok(found)
 }
 
 // The first field with decimals of a line.
@@ -157,11 +129,23 @@ fn field_cure(items: usize, fields: usize) -> &'static str {
     }
 }
 
+// Shows the lines of the pictures of a PRINT in this line. Between the two there may be lines with more values.
+fn show_pictures(page: &mut Page<'_>, pictures: &[PictureLine], line: u32) -> Made<()> {
+    let text = page.about;
+    let mut next = line.saturating_add(1);
+    for picture in pictures {
+        let mut near = next..next.saturating_add(100);
+        let found = near.find(|line| line_bytes(text, *line) == picture.bytes());
+        let line = found.unwrap_or(next);
+        page.show(line)?;
+        next = line.saturating_add(1);
+    }
+    Ok(())
+}
+
 // Says how many fields and values a PRINT has.
-fn explain_print(page: &mut Page<'_>, list: &[Token], print: usize) -> Made<()> {
-    let items = item_count(list, print);
-    let fields = field_count(page.alloc(), list, print)?;
-    let line = line_of(list, print);
+fn explain_print(page: &mut Page<'_>, line: u32, print: Print<'_>, fields: usize) -> Made<()> {
+    let (items, pictures) = print;
     page.line(
         "line {}, PRINT: {}{}{}{}",
         &[
@@ -173,10 +157,11 @@ fn explain_print(page: &mut Page<'_>, list: &[Token], print: usize) -> Made<()> 
         ],
     )?;
     page.show(line)?;
-    for token in pictures_of(list, print) {
-        page.show(token.line.0)?;
-    }
-    match decimal_field(list, print) {
+    show_pictures(page, pictures, line)?;
+    let mut decimals = pictures
+        .iter()
+        .filter_map(|picture| decimals_in(picture.bytes()));
+    match decimals.next() {
         Some(field) if items > fields => page.cure(
             "{} is one field, for a MEAN alone. For two numbers write a blank or a colon between the asterisks, as **:**.",
             &[Bytes(field)],
@@ -186,22 +171,13 @@ fn explain_print(page: &mut Page<'_>, list: &[Token], print: usize) -> Made<()> 
 }
 
 /// Explains a PRINT whose fields don't fit its values: 77.
-pub fn explain_fields(page: &mut Page<'_>, line: u32) -> Made<()> {
-    let Ok(all) = tokens(page.alloc(), page.about) else {
-        return Ok(());
-    };
-    let list = all.list();
-    let mut last = None;
-    for index in 0..list.len() {
-        if line_of(list, index) == line && word_at(list, index) == Some(Word::Print) {
-            last = Some(index);
-            if item_count(list, index) != field_count(page.alloc(), list, index)? {
-                break;
-            }
+pub fn explain_fields(page: &mut Page<'_>, program: &Program, line: u32) -> Made<()> {
+    let prints = prints_in(page.alloc(), program, line)?;
+    for (place, print) in prints.iter().enumerate() {
+        let fields = field_count(page.alloc(), print.1)?;
+        if print.0 != fields || place.saturating_add(1) == prints.len() {
+            return explain_print(page, line, *print, fields);
         }
     }
-    match last {
-        Some(print) => explain_print(page, list, print),
-        None => page.show(line),
-    }
+    page.show(line)
 }

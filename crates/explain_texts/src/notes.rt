@@ -14,9 +14,10 @@ use ss_names_uses::{Role, Use, Used};
 use ss_parse::{Reach, reach_of};
 use ss_tree::expression::Designator;
 use ss_tree::preamble::PreambleStatement;
-use ss_tree::program::{Program, SectionKind};
+use ss_tree::program::{Program, Section, SectionKind};
 use ss_tree::statement::Statement;
 use std::alloc::{AllocError, Global};
+use std::slice::from_ref;
 
 /// The most notes of a kind, or on the names of a section; and the most bytes of notes after which no section more is noted.
 pub const NOTED: usize = 20;
@@ -40,10 +41,12 @@ fn parts_of(statement: &Statement) -> (&[Statement], &[Statement]) {
     }
 }
 
-// Some statements and the lists of statements inside them, each list before those inside it.
-fn lists_of(alloc: Global, body: &[Statement]) -> Made<Vec<&[Statement]>> {
+/// The statements of some sections in lists, each list before those inside its statements.
+pub fn lists_of(alloc: Global, sections: &[Section]) -> Made<Vec<&[Statement]>> {
     let mut lists = Vec::new(alloc);
-    lists.push(body)?;
+    for section in sections {
+        lists.push(section.body.as_slice())?;
+    }
     for next in 0..u64::MAX {
         let Some(list) = lists.get(next as usize).copied() else {
             break;
@@ -61,9 +64,9 @@ fn lists_of(alloc: Global, body: &[Statement]) -> Made<Vec<&[Statement]>> {
     Ok(lists)
 }
 
-// The line of the first STOP of some statements, those inside others too; or that of the first START SIMULATION.
-fn first_line(alloc: Global, body: &[Statement], is_stop: bool) -> Made<Option<u32>> {
-    for list in &lists_of(alloc, body)? {
+// The line of the first STOP of some sections, or that of the first START SIMULATION.
+fn first_line(alloc: Global, sections: &[Section], is_stop: bool) -> Made<Option<u32>> {
+    for list in &lists_of(alloc, sections)? {
         for statement in *list {
             match statement {
                 Statement::Stop { line } if is_stop => return Ok(Some(line.0)),
@@ -75,26 +78,17 @@ fn first_line(alloc: Global, body: &[Statement], is_stop: bool) -> Made<Option<u
     Ok(None)
 }
 
-// Whether the section of this number is that of an event.
-fn is_event(program: &Program, number: usize) -> bool {
-    match program.sections.get(number) {
-        Some(section) => matches!(&section.kind, SectionKind::Event { .. }),
-        None => false,
-    }
+fn is_event(section: &Section) -> bool {
+    matches!(&section.kind, SectionKind::Event { .. })
 }
 
 // A note on a program with events that are never started.
 fn add_start(page: &mut Page<'_>, program: &Program) -> Made<()> {
-    let mut numbers = 0..program.sections.len();
-    if !numbers.any(|number| is_event(program, number)) {
+    let sections = program.sections.as_slice();
+    if !sections.iter().any(is_event) || first_line(page.alloc(), sections, false)?.is_some() {
         return Ok(());
     }
-    for section in &program.sections {
-        if first_line(page.alloc(), section.body.as_slice(), false)?.is_some() {
-            return Ok(());
-        }
-    }
-    for section in program.sections.iter().filter(|section| is_main(section)) {
+    for section in sections.iter().filter(|section| is_main(section)) {
         page.note(
             section.line.0,
             ", MAIN: there are events, and no START SIMULATION, so none of them comes. Write START SIMULATION in MAIN, after what it schedules",
@@ -190,17 +184,15 @@ fn looks_longer(text: &[u8], starts: &[usize], one: &Statement, next: &Statement
 fn add_loops(page: &mut Page<'_>, program: &Program) -> Made<()> {
     let starts = line_starts(page.alloc(), page.about)?;
     let mut count: usize = 0;
-    for section in &program.sections {
-        for list in &lists_of(page.alloc(), section.body.as_slice())? {
-            for (one, next) in list.iter().zip(list.iter().skip(1)) {
-                if count < NOTED && looks_longer(page.about, starts.as_slice(), one, next) {
-                    count = count.saturating_add(1);
-                    page.note(
-                        line_of(one),
-                        ", FOR or WHILE without DO: only the statement of the next line belongs to the loop, and line {} is indented as if it did too. Write DO at the end of the head, and LOOP after the last statement",
-                        &[Line(line_of(next))],
-                    )?;
-                }
+    for list in &lists_of(page.alloc(), program.sections.as_slice())? {
+        for (one, next) in list.iter().zip(list.iter().skip(1)) {
+            if count < NOTED && looks_longer(page.about, starts.as_slice(), one, next) {
+                count = count.saturating_add(1);
+                page.note(
+                    line_of(one),
+                    ", FOR or WHILE without DO: only the statement of the next line belongs to the loop, and line {} is indented as if it did too. Write DO at the end of the head, and LOOP after the last statement",
+                    &[Line(line_of(next))],
+                )?;
             }
         }
     }
@@ -263,7 +255,7 @@ fn add_stops(page: &mut Page<'_>, program: &Program) -> Made<()> {
         let SectionKind::Event { name, .. } = &section.kind else {
             continue;
         };
-        if let Some(line) = first_line(page.alloc(), section.body.as_slice(), true)? {
+        if let Some(line) = first_line(page.alloc(), from_ref(section), true)? {
             page.note(
                 line,
                 ", STOP: it ends the whole run in EVENT {}, so what MAIN does after START SIMULATION is left out. RETURN ends the event alone; without further notices MAIN goes on.",
@@ -280,9 +272,12 @@ pub fn add_notes(page: &mut Page<'_>, read: &Read<'_>) -> Made<()> {
         if page.text.len() > LONGEST {
             return Ok(());
         }
-        if let Some(locals) = read.locals.get(number) {
+        if let (Some(locals), Some(section)) = (
+            read.locals.get(number),
+            read.program.sections.get(number),
+        ) {
             add_locals(page, read, locals, uses.as_slice())?;
-            if is_event(read.program, number) {
+            if is_event(section) {
                 add_implied(page, read, locals, uses.as_slice())?;
             }
         }

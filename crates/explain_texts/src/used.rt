@@ -367,7 +367,7 @@ pub fn explain_used(page: &mut Page<'_>, read: &Read<'_>, error: &CheckError) ->
             );
         }
         CheckError::NoEventRoutine(_) => return explain_event(page, read, line),
-        CheckError::Fields(_) => return explain_fields(page, line),
+        CheckError::Fields(_) => return explain_fields(page, read.program, line),
         CheckError::Memory => return Ok(()),
         CheckError::Unknown(_) => {
             if let Some((name, need)) = misused_outside(read, line) {
