@@ -89,7 +89,11 @@ fn obey<F: FileStore, C: Clock + Drop, O: Write, E: Write, T: Write>(
             run_with(&job, model, watches, data, (output, errors, terminal)).map(Some)
         }
         Err(Refusal::Memory) => Err(ProgramFailure::Memory),
-        Err(refusal) => refuse(alloc, text.as_slice(), refusal, output).map(Some),
+        Err(refusal) => {
+            let (page, _wrong) = explained(alloc, text.as_slice())?;
+            write_whole(output, page.bytes())?;
+            Ok(Some(Outcome::Refused(refusal)))
+        }
     }
 }
 
@@ -109,18 +113,6 @@ fn explained<'a>(
     text: &'a [u8],
 ) -> Result<(Page<'a>, Option<Wrong>), ProgramFailure> {
     explain_text(alloc, text).map_err(|_| ProgramFailure::Memory)
-}
-
-// Explains why a text is refused, of which a compilation said so.
-fn refuse<O: Write>(
-    alloc: Global,
-    text: &[u8],
-    refusal: Refusal,
-    output: &mut O,
-) -> Result<Outcome, ProgramFailure> {
-    let (page, _wrong) = explained(alloc, text)?;
-    write_whole(output, page.bytes())?;
-    Ok(Outcome::Refused(refusal))
 }
 
 // Explains a text. It is compiled only where nothing else is wrong with it.

@@ -219,16 +219,6 @@ fn add_all_before_place(fixes: &mut Fixes<'_>, here: &Place<'_>) -> Made<()> {
     )
 }
 
-// A DO at the end of the line of a loop's head.
-fn add_do(fixes: &mut Fixes<'_>, here: &Place<'_>, token: usize) -> Made<()> {
-    fixes.insert(
-        here.stretch(here.last_of_line(token)).end,
-        &[Words(" DO")],
-        "A loop over more than one statement is DO .. LOOP: write DO at the end of line {}.",
-        &[Line(here.line_of(token))],
-    )
-}
-
 // Changes for the IFs of the section, the last first.
 fn add_ifs(fixes: &mut Fixes<'_>, here: &Place<'_>) -> Made<()> {
     for index in (here.section..here.end()).rev() {
@@ -250,7 +240,7 @@ fn add_ifs(fixes: &mut Fixes<'_>, here: &Place<'_>) -> Made<()> {
     Ok(())
 }
 
-// Changes for the loops of the section, the last first.
+// Changes for the loops of the section, the last first: what closes them, or a DO at the end of a head's line.
 fn add_loops(fixes: &mut Fixes<'_>, here: &Place<'_>) -> Made<()> {
     for open in here.opens.iter().rev() {
         if open.construct == Construct::Loop {
@@ -262,7 +252,12 @@ fn add_loops(fixes: &mut Fixes<'_>, here: &Place<'_>) -> Made<()> {
     }
     for index in (here.section..here.end()).rev() {
         if let Some(Word::For | Word::While | Word::Until) = here.word(index) {
-            add_do(fixes, here, index)?;
+            fixes.insert(
+                here.stretch(here.last_of_line(index)).end,
+                &[Words(" DO")],
+                "A loop over more than one statement is DO .. LOOP: write DO at the end of line {}.",
+                &[Line(here.line_of(index))],
+            )?;
         }
     }
     Ok(())

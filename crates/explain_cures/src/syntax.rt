@@ -64,12 +64,6 @@ fn add_cure(page: &mut Page<'_>, here: &Place<'_>) -> Made<bool> {
     Ok(false)
 }
 
-// The form of what begins last before the place.
-fn form_at(here: &Place<'_>) -> Option<&'static str> {
-    let leader = leader_before(here.tokens, here.section, here.at)?;
-    form_of(here.word(leader)?)
-}
-
 // Adds the form of the statement or the declaration in which the place is.
 fn add_form(page: &mut Page<'_>, here: &Place<'_>) -> Made<()> {
     if has_group(here.candidates, &STATEMENT) && here.begins_line() {
@@ -78,7 +72,8 @@ fn add_form(page: &mut Page<'_>, here: &Place<'_>) -> Made<()> {
             &[],
         );
     }
-    match form_at(here) {
+    let leader = leader_before(here.tokens, here.section, here.at);
+    match leader.and_then(|leader| form_of(here.word(leader)?)) {
         Some(form) => page.line("Form: {}", &[Words(form)]),
         None => Ok(()),
     }

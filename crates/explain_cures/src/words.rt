@@ -263,15 +263,6 @@ fn add_expected(fixes: &mut Fixes<'_>, here: &Place<'_>, replaces: bool) -> Made
     Ok(())
 }
 
-fn add_left_out(fixes: &mut Fixes<'_>, here: &Place<'_>) -> Made<()> {
-    fixes.replace(
-        here.stretch(here.at),
-        &[Words("  ")],
-        "Leave {} out in line {}.",
-        &[here.called(here.at), Line(here.line())],
-    )
-}
-
 fn add_signs(fixes: &mut Fixes<'_>, here: &Place<'_>) -> Made<()> {
     for candidate in here.candidates {
         let (called, with) = match candidate {
@@ -464,8 +455,13 @@ pub fn add_unlikely(fixes: &mut Fixes<'_>, here: &Place<'_>) -> Made<()> {
         add_renamed(fixes, here, here.before())?;
     }
     add_earlier(fixes, here)?;
-    if here.kind(here.at).is_some() {
-        add_left_out(fixes, here)?;
+    if here.kind(here.at).is_none() {
+        return Ok(());
     }
-    Ok(())
+    fixes.replace(
+        here.stretch(here.at),
+        &[Words("  ")],
+        "Leave {} out in line {}.",
+        &[here.called(here.at), Line(here.line())],
+    )
 }

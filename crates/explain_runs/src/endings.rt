@@ -130,7 +130,7 @@ fn add_cure(
             "The number is that of a {}. Look whether values are GIVEN in the order in which they are taken, and which variable holds the reference here.",
             &[Bytes(name.bytes())],
         ),
-        _ => page.cure(fault_cure(kind.number()), &[]),
+        _ => page.cure(words_of(&CURES, kind.number()), &[]),
     }
 }
 
@@ -171,7 +171,7 @@ fn add_fault<R: FaultyRead, W: FaultyWrite>(
     line: u32,
 ) -> Made<()> {
     let (name, number) = (Words(kind.text()), kind.number());
-    let meaning = Words(fault_meaning(number));
+    let meaning = Words(words_of(&MEANINGS, number));
     page.line("line {}, {}: {}", &[Line(line), name, meaning])?;
     page.show(line)?;
     let machine = session.machine();
@@ -264,14 +264,4 @@ static CURES: [&str; 22] = [
 fn words_of(all: &[&'static str], number: u32) -> &'static str {
     let place = (number as usize).saturating_sub(1);
     all.get(place).copied().unwrap_or("")
-}
-
-/// What a fault means, by its number.
-pub fn fault_meaning(number: u32) -> &'static str {
-    words_of(&MEANINGS, number)
-}
-
-/// What helps against a fault, by its number.
-pub fn fault_cure(number: u32) -> &'static str {
-    words_of(&CURES, number)
 }

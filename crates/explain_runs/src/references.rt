@@ -19,10 +19,6 @@ fn of_class(address: Address, class: usize) -> Option<Reference> {
     })
 }
 
-fn of_member(layout: &Layout, address: Address, set: u32) -> Option<Reference> {
-    of_class(address, layout.sets.get(set as usize)?.member)
-}
-
 fn of_owner(layout: &Layout, address: Address, set: usize) -> Option<Reference> {
     match layout.sets.get(set)?.owner {
         Owner::System => None,
@@ -69,7 +65,9 @@ pub fn subject_of(
         | Instruction::FileLast { set, member, .. }
         | Instruction::FileRanked { set, member, .. }
         | Instruction::FileBeside { set, member, .. }
-        | Instruction::Remove { set, member, .. } => of_member(layout, *member, *set),
+        | Instruction::Remove { set, member, .. } => {
+            of_class(*member, layout.sets.get(*set as usize)?.member)
+        },
         Instruction::TimeOf { notice, .. } => Some(Reference {
             address: *notice,
             class: None,
