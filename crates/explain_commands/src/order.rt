@@ -106,8 +106,8 @@ fn line_with_file<'a>(alloc: Global) -> Result<Command<'a>, AllocError> {
         )
 }
 
-/// The whole command line. The error comes where memory was refused.
-pub fn whole_command<'a>(alloc: Global) -> Result<Command<'a>, AllocError> {
+// The whole command line. The error comes where memory was refused.
+fn whole_command<'a>(alloc: Global) -> Result<Command<'a>, AllocError> {
     let input = "Run the model with the input data in this file";
     let ticks = "Run the model with at most so many ticks, 1,000,000 where it is run without this";
     let trace = "Run the model, and write a line for each tick";

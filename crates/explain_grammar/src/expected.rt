@@ -46,7 +46,7 @@ static OTHERS: [Candidate; 11] = [
 /// A group of words of which two show that all are expected: these two, what all are called, and all.
 pub type Group = (Word, Word, &'static str, &'static str);
 
-pub static RELATION: Group = (
+static RELATION: Group = (
     Word::Eq,
     Word::Ge,
     "a relation as =, NE, LT, GT, LE or GE",
@@ -60,14 +60,14 @@ pub static STATEMENT: Group = (
     "LET ADD SUBTRACT CALL RETURN STOP READ START IF FOR WHILE UNTIL CREATE DESTROY FILE REMOVE SCHEDULE CANCEL RESET PRINT SKIP",
 );
 
-pub static DECLARATION: Group = (
+static DECLARATION: Group = (
     Word::Define,
     Word::Tally,
     "a declaration as EVERY, DEFINE or TALLY",
     "DEFINE TALLY ACCUMULATE NORMALLY THE PRIORITY BREAK PERMANENT TEMPORARY EVENT EVERY",
 );
 
-pub static PHRASE: Group = (
+static PHRASE: Group = (
     Word::With,
     Word::Unless,
     "a phrase as WITH or WHILE",
@@ -229,8 +229,8 @@ fn is_of(candidates: &[Candidate], group: &Group, word: Word) -> bool {
     has_group(candidates, group) && is_among(word, group.3)
 }
 
-/// Whether the word is one that is called by the name of its group, or as a value.
-pub fn is_grouped(candidates: &[Candidate], word: Word) -> bool {
+// Whether the word is one that is called by the name of its group, or as a value.
+fn is_grouped(candidates: &[Candidate], word: Word) -> bool {
     is_of(candidates, &RELATION, word)
         || is_of(candidates, &STATEMENT, word)
         || is_of(candidates, &DECLARATION, word)

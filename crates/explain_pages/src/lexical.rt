@@ -2,26 +2,9 @@
 
 use crate::page::Part::{Bytes, Line, Words};
 use crate::page::{Made, Page};
-use crate::places::{Stretch, bytes_of, line_at, line_bytes};
-use ss_lex::{LexError, NAME_LIMIT};
-
-/// What a piece of a line is.
-#[derive(Clone, Copy, Debug, PartialEq, Eq)]
-enum Kind {
-    /// Letters, digits and periods.
-    Word,
-    /// A text with both its quotes.
-    Closed,
-    /// A text without its second quote, up to the end of the line.
-    Open,
-    Comment,
-    Blank,
-    Sign,
-}
-
-fn is_word_byte(byte: u8) -> bool {
-    byte.is_ascii_alphanumeric() || byte == b'.'
-}
+use crate::places::{Stretch, bytes_of, line_at, line_bytes, word_at};
+use ss_lex::{LexError, Word, tokens};
+use std::alloc::Global;
 
 // A comment, which begins here: to its next two apostrophes, or to the end.
 fn comment_length(bytes: &[u8]) -> usize {
@@ -32,55 +15,46 @@ fn comment_length(bytes: &[u8]) -> usize {
     }
 }
 
-// The length and the kind of the piece that begins a line.
-fn first_piece(rest: &[u8]) -> (usize, Kind) {
+// The length of the piece that begins a line: a comment, a text with its quotes, a word, or a sign or a blank.
+fn piece_length(rest: &[u8]) -> usize {
     match rest {
-        [] => (1, Kind::Blank),
-        [b'\'', b'\'', ..] => (comment_length(rest), Kind::Comment),
+        [b'\'', b'\'', ..] => comment_length(rest),
         [b'"', after @ ..] => match after.iter().position(|byte| *byte == b'"') {
-            Some(count) => (count.saturating_add(2), Kind::Closed),
-            None => (rest.len(), Kind::Open),
+            Some(count) => count.saturating_add(2),
+            None => rest.len(),
         },
-        [b' ' | b'\t', ..] => (1, Kind::Blank),
-        _ => match rest.iter().take_while(|byte| is_word_byte(**byte)).count() {
-            0 => (1, Kind::Sign),
-            count => (count, Kind::Word),
-        },
+        _ => {
+            let word = rest
+                .iter()
+                .take_while(|byte| byte.is_ascii_alphanumeric() || **byte == b'.');
+            word.count().max(1)
+        }
     }
 }
 
-fn is_bad_number(word: &[u8]) -> bool {
-    let cut = word.iter().rev().take_while(|byte| **byte == b'.').count();
-    let whole = word.len().saturating_sub(cut);
-    !word.iter().any(|byte| byte.is_ascii_alphabetic())
-        && (word.len() > 18 || word.iter().take(whole).any(|byte| *byte == b'.'))
-}
-
-// Whether a piece is what the refusal is of.
-fn is_wrong(error: &LexError, bytes: &[u8], kind: Kind) -> bool {
-    match error {
-        LexError::BadNumber(_) => kind == Kind::Word && is_bad_number(bytes),
-        LexError::OpenText(_) => kind == Kind::Open,
-        LexError::AlphaTooLong(_) => kind == Kind::Closed && bytes.len() > 18,
-        LexError::NameTooLong(_) => kind == Kind::Word && bytes.len() > NAME_LIMIT,
-        LexError::PictureCut(_) => {
-            kind == Kind::Word
-                && ["THUS", "FOLLOWS", "THIS"]
-                    .iter()
-                    .any(|word| bytes.eq_ignore_ascii_case(word.as_bytes()))
+// Whether a piece is refused by itself as the text is, or is the word that calls for pictures.
+fn is_wrong(alloc: Global, error: &LexError, piece: &[u8]) -> bool {
+    match tokens(alloc, piece) {
+        Err(found) => found.number() == error.number(),
+        Ok(all) => {
+            let word = word_at(all.list(), 0);
+            matches!(error, LexError::PictureCut(_))
+                && matches!(word, Some(Word::Thus | Word::Follows | Word::This))
         }
-        _ => false,
     }
 }
 
 // The first piece of a line that the refusal is of.
-fn wrong_piece(error: &LexError, line: &[u8]) -> Option<Stretch> {
+fn wrong_piece(alloc: Global, error: &LexError, line: &[u8]) -> Option<Stretch> {
     let mut start: usize = 0;
     for _ in 0..line.len() {
-        let (length, kind) = first_piece(&line[start.min(line.len())..]);
-        let end = start.saturating_add(length);
-        if is_wrong(error, bytes_of(line, Stretch { start, end }), kind) {
-            return Some(Stretch { start, end });
+        let Some(rest) = line.get(start..) else {
+            break;
+        };
+        let end = start.saturating_add(piece_length(rest));
+        let piece = Stretch { start, end };
+        if is_wrong(alloc, error, bytes_of(line, piece)) {
+            return Some(piece);
         }
         start = end;
     }
@@ -150,7 +124,7 @@ impl Page<'_> {
         let piece = if is_foreign {
             foreign_piece(line)
         } else {
-            wrong_piece(error, line)
+            wrong_piece(self.alloc(), error, line)
         };
         self.say("line {}, ", &[Line(number)])?;
         let Some(piece) = piece else {

@@ -158,10 +158,10 @@ pub fn section_page(guide: &Guide<'_>, section: Section) -> Made<Page<'static>> 
 }
 
 /// The heads of the columns of a trace.
-pub const HEADS: &str = "    tick      time  section                line  text\n";
+const HEADS: &str = "    tick      time  section                line  text\n";
 
-/// A page with the line of a tick: its number from 1, the time, the section, the line and its text.
-pub fn tick_page(guide: &Guide<'_>, number: u64, tick: Tick) -> Made<Page<'static>> {
+// A page with the line of a tick: its number from 1, the time, the section, the line and its text.
+fn tick_page(guide: &Guide<'_>, number: u64, tick: Tick) -> Made<Page<'static>> {
     let section = section_page(guide, tick.section)?;
     let mut page = Page::of(guide.alloc, "", &[])?;
     page.padded(number, 8)?;

@@ -20,7 +20,7 @@ use std::alloc::{AllocError, Global};
 use std::slice::from_ref;
 
 /// The most notes of a kind, or on the names of a section; and the most bytes of notes after which no section more is noted.
-pub const NOTED: usize = 20;
+const NOTED: usize = 20;
 
 const LONGEST: usize = 20_000;
 
@@ -207,8 +207,8 @@ fn is_defined(program: &Program, name: &Name) -> bool {
     })
 }
 
-/// Whether a name means an attribute of entities that come and go, or else of permanent ones; None where it means something else.
-pub fn is_of_passing(names: &Names, name: &Name) -> Option<bool> {
+// Whether a name means an attribute of entities that come and go, or else of permanent ones; None where it means something else.
+fn is_of_passing(names: &Names, name: &Name) -> Option<bool> {
     match names.meaning(name) {
         Some(Meaning::Attribute { class, .. }) => {
             let kind = names.classes.values().get(class)?;
@@ -386,8 +386,8 @@ fn likely_name(
     nearest(alloc, name.bytes(), near.as_slice())
 }
 
-/// Adds notes on the local names of a section: those that are assigned and never used, or used and never assigned.
-pub fn add_locals(page: &mut Page<'_>, read: &Read<'_>, locals: &Locals, uses: &[Use]) -> Made<()> {
+// Adds notes on the local names of a section: those that are assigned and never used, or used and never assigned.
+fn add_locals(page: &mut Page<'_>, read: &Read<'_>, locals: &Locals, uses: &[Use]) -> Made<()> {
     let usages = usages_of(page.alloc(), locals, uses)?;
     let mut count: usize = 0;
     for usage in usages.iter().flatten() {
@@ -453,13 +453,8 @@ fn first_parameter(uses: &[Use]) -> Option<Name> {
     })
 }
 
-/// Adds a note on an attribute without its subscript in an event that is given something else.
-pub fn add_implied(
-    page: &mut Page<'_>,
-    read: &Read<'_>,
-    locals: &Locals,
-    uses: &[Use],
-) -> Made<()> {
+// Adds a note on an attribute without its subscript in an event that is given something else.
+fn add_implied(page: &mut Page<'_>, read: &Read<'_>, locals: &Locals, uses: &[Use]) -> Made<()> {
     let Some(parameter) = first_parameter(uses) else {
         return Ok(());
     };

@@ -69,8 +69,8 @@ pub fn meaning_words(meaning: Meaning) -> &'static str {
     }
 }
 
-/// The mode of a value in a section, where it is known.
-pub fn mode_in(scope: &Scope<'_>, what: &ModeOf) -> Option<Mode> {
+// The mode of a value in a section, where it is known.
+fn mode_in(scope: &Scope<'_>, what: &ModeOf) -> Option<Mode> {
     match what {
         ModeOf::Integer => Some(Mode::Integer),
         ModeOf::Alpha => Some(Mode::Alpha),

@@ -400,8 +400,8 @@ pub enum Need {
     Subject,
 }
 
-/// What a name has to be in its place, in words.
-pub fn need_words(need: Need) -> &'static str {
+// What a name has to be in its place, in words.
+fn need_words(need: Need) -> &'static str {
     match need {
         Need::Class(ClassNeed::Single) => "a class of temporary entities or an event notice",
         Need::Class(ClassNeed::Permanent) => "a class of permanent entities",
@@ -413,8 +413,8 @@ pub fn need_words(need: Need) -> &'static str {
     }
 }
 
-/// Whether what a name means may be in its place.
-pub fn serves(need: Need, meaning: Meaning) -> bool {
+// Whether what a name means may be in its place.
+fn serves(need: Need, meaning: Meaning) -> bool {
     match (need, meaning) {
         (Need::Class(need), Meaning::Class { kind, .. }) => is_kind(need, kind),
         (Need::Routine, Meaning::Routine { .. }) | (Need::Set, Meaning::Set { .. }) => true,
@@ -469,8 +469,8 @@ fn fits(used: &Used, meaning: Meaning) -> bool {
     }
 }
 
-/// What helps where a name is not what it has to be, with the name in place of `{}`.
-pub fn help_for(need: Need, meaning: Option<Meaning>) -> &'static str {
+// What helps where a name is not what it has to be, with the name in place of `{}`.
+fn help_for(need: Need, meaning: Option<Meaning>) -> &'static str {
     match (need, meaning) {
         (Need::Class(ClassNeed::Single), _) => {
             "{} has to be an EVERY under TEMPORARY ENTITIES, or under EVENT NOTICES."
@@ -509,8 +509,8 @@ pub fn help_for(need: Need, meaning: Option<Meaning>) -> &'static str {
     }
 }
 
-/// What the name of a use has to mean, where it means something else.
-pub fn unmet_need(used: &Used, meaning: Option<Meaning>) -> Option<Need> {
+// What the name of a use has to mean, where it means something else.
+fn unmet_need(used: &Used, meaning: Option<Meaning>) -> Option<Need> {
     match meaning {
         Some(meaning) if fits(used, meaning) => None,
         _ => Some(need_of(used)),
