@@ -3,8 +3,8 @@
 use crate::forms::{WORDS, begins_statement, is_among, is_value_word, spelling_of};
 use explain_pages::Part::{Bytes, Words};
 use explain_pages::{Made, Page, Part};
-use ss_base::{Alpha, Line, Name, PictureLine};
-use ss_lex::{LexError, Span, Symbol, Token, TokenKind, Word, tokens};
+use ss_base::PictureLine;
+use ss_lex::{LexError, Symbol, Token, TokenKind, Word, tokens};
 use ss_parse::{Reach, reach_of};
 use std::alloc::{AllocError, Global};
 
@@ -29,19 +29,8 @@ const TRIED_AFTER: usize = 1500;
 /// The most words that can fit at a place.
 const MOST_WORDS: usize = 100;
 
-static OTHERS: [Candidate; 11] = [
-    Candidate::Name,
-    Candidate::Number,
-    Candidate::Text,
-    Candidate::Symbol(Symbol::OpenParenthesis),
-    Candidate::Symbol(Symbol::CloseParenthesis),
-    Candidate::Symbol(Symbol::Plus),
-    Candidate::Symbol(Symbol::Minus),
-    Candidate::Symbol(Symbol::Star),
-    Candidate::Symbol(Symbol::Equals),
-    Candidate::Separator,
-    Candidate::Picture,
-];
+/// What is tried beside the reserved words: a name, a number, a text, the signs, and a comma with a name after it.
+const OTHERS: &str = "A.NAME 1 \"X\" ( ) + - * = ,A.NAME";
 
 /// A group of words of which two show that all are expected: these two, what all are called, and all.
 pub type Group = (Word, Word, &'static str, &'static str);
@@ -74,26 +63,6 @@ static PHRASE: Group = (
     "WITH WHEN UNLESS WHILE UNTIL",
 );
 
-// A token of a kind, with no spelling in the text and no line.
-fn token(kind: TokenKind) -> Token {
-    Token {
-        kind,
-        span: Span {
-            start: 0,
-            length: 0,
-        },
-        line: Line(0),
-    }
-}
-
-// The kind of a name that no text has for another.
-fn any_name() -> TokenKind {
-    match Name::of(b"A.NAME") {
-        Some(name) => TokenKind::Name(name),
-        None => TokenKind::Number(1),
-    }
-}
-
 fn copied(alloc: Global, original: &Token) -> Made<Token> {
     let kind = match &original.kind {
         TokenKind::Word(word) => TokenKind::Word(*word),
@@ -110,59 +79,49 @@ fn copied(alloc: Global, original: &Token) -> Made<Token> {
     })
 }
 
-// Adds the tokens of a candidate.
-fn add(alloc: Global, tokens: &mut Vec<Token>, candidate: Candidate) -> Made<()> {
-    let kind = match candidate {
-        Candidate::Word(word) => TokenKind::Word(word),
-        Candidate::Name => any_name(),
-        Candidate::Number => TokenKind::Number(1),
-        Candidate::Text => TokenKind::Text(Alpha::empty()),
-        Candidate::Symbol(symbol) => TokenKind::Symbol(symbol),
-        Candidate::Separator => {
-            tokens.push(token(TokenKind::Symbol(Symbol::Comma)))?;
-            any_name()
-        }
-        Candidate::Picture => TokenKind::Picture(PictureLine::of(alloc, b"*")?),
-        Candidate::End => return Ok(()),
-    };
-    tokens.push(token(kind))?;
-    Ok(())
+// What a token is among candidates.
+fn candidate_of(token: &Token) -> Candidate {
+    match &token.kind {
+        TokenKind::Word(word) => Candidate::Word(*word),
+        TokenKind::Name(_) => Candidate::Name,
+        TokenKind::Number(_) => Candidate::Number,
+        TokenKind::Text(_) => Candidate::Text,
+        TokenKind::Symbol(symbol) => Candidate::Symbol(*symbol),
+        TokenKind::Picture(_) => Candidate::Picture,
+    }
 }
 
-// Adds a candidate to those that were found, if it may come after these tokens, which are left as they were.
+// Adds what a text has after so many of its tokens to the candidates that were found, if it may come after the tokens that are tried, which are left as they were.
 fn find(
     alloc: Global,
     found: &mut Vec<Candidate>,
-    tokens: &mut Vec<Token>,
-    candidate: Candidate,
+    tried: &mut Vec<Token>,
+    text: &[u8],
+    skipped: usize,
 ) -> Made<()> {
-    let before = tokens.len();
-    add(alloc, tokens, candidate)?;
-    let is_read = match reach_of(alloc, tokens.as_slice())? {
-        Reach::Whole => true,
-        Reach::Stopped(index) | Reach::TooDeep(index) => index >= tokens.len(),
+    let all = match tokens(alloc, text) {
+        Ok(all) => all,
+        Err(LexError::Memory) => return Err(AllocError),
+        Err(_) => return Ok(()),
     };
-    tokens.truncate(before);
+    let before = tried.len();
+    let mut candidate = Candidate::End;
+    for token in all.list().iter().skip(skipped) {
+        candidate = match candidate {
+            Candidate::End => candidate_of(token),
+            _ => Candidate::Separator,
+        };
+        tried.push(copied(alloc, token)?)?;
+    }
+    let is_read = match reach_of(alloc, tried.as_slice())? {
+        Reach::Whole => true,
+        Reach::Stopped(index) | Reach::TooDeep(index) => index >= tried.len(),
+    };
+    tried.truncate(before);
     if is_read {
         found.push(candidate)?;
     }
     Ok(())
-}
-
-// Finds the reserved words that may come after these tokens.
-fn find_words(alloc: Global, found: &mut Vec<Candidate>, tried: &mut Vec<Token>) -> Made<()> {
-    match tokens(alloc, WORDS.as_bytes()) {
-        Ok(words) => {
-            for token in words.list() {
-                if let TokenKind::Word(word) = &token.kind {
-                    find(alloc, found, tried, Candidate::Word(*word))?;
-                }
-            }
-            Ok(())
-        }
-        Err(LexError::Memory) => Err(AllocError),
-        Err(_) => Ok(()),
-    }
 }
 
 // Whether a candidate fits, where a value is due or else the one statement of a loop.
@@ -178,19 +137,21 @@ fn fits(candidate: &Candidate, is_value: bool) -> bool {
 
 /// What may come after these tokens, each tried by reading them with it: with a candidate of the list the tokens are read
 /// further. Nothing is tried where the tokens are too many.
-pub fn candidates_after(alloc: Global, tokens: &[Token]) -> Made<Vec<Candidate>> {
+pub fn candidates_after(alloc: Global, before: &[Token]) -> Made<Vec<Candidate>> {
     let mut found = Vec::new(alloc);
-    if tokens.len() > TRIED_AFTER {
+    if before.len() > TRIED_AFTER {
         return Ok(found);
     }
     let mut tried = Vec::new(alloc);
-    for one in tokens {
+    for one in before {
         tried.push(copied(alloc, one)?)?;
     }
-    find_words(alloc, &mut found, &mut tried)?;
-    for candidate in &OTHERS {
-        find(alloc, &mut found, &mut tried, *candidate)?;
+    for words in [WORDS, OTHERS] {
+        for word in words.as_bytes().split(|byte| *byte == b' ') {
+            find(alloc, &mut found, &mut tried, word, 0)?;
+        }
     }
+    find(alloc, &mut found, &mut tried, b"PRINT 1 LINE THUS\n*", 4)?;
     // Where a value is due, or the one statement of a loop, the reading stops after a word that is none, so each word seems to fit.
     if found.len() > MOST_WORDS {
         let is_value = found.contains(&Candidate::Number);
@@ -204,14 +165,7 @@ pub fn candidates_after(alloc: Global, tokens: &[Token]) -> Made<Vec<Candidate>>
 
 /// Whether a token is among the candidates.
 pub fn has_token(candidates: &[Candidate], token: &Token) -> bool {
-    candidates.contains(&match &token.kind {
-        TokenKind::Word(word) => Candidate::Word(*word),
-        TokenKind::Name(_) => Candidate::Name,
-        TokenKind::Number(_) => Candidate::Number,
-        TokenKind::Text(_) => Candidate::Text,
-        TokenKind::Symbol(symbol) => Candidate::Symbol(*symbol),
-        TokenKind::Picture(_) => Candidate::Picture,
-    })
+    candidates.contains(&candidate_of(token))
 }
 
 /// Whether a word is among the candidates.
