@@ -7,6 +7,4 @@ pub use program::{perform, report_ending};
 pub use simscript_order::{
     Disk, FileStore, Misuse, Order, ProgramFailure, Streams, without_words, words,
 };
-pub use ss_engine::{
-    Model, Outcome, Refusal, Stop, compile, outcome_line, outcome_status, simulate,
-};
+pub use ss_engine::Outcome;

@@ -40,7 +40,7 @@ pub enum ClassKind {
 /// A class: its kind, and the mode of each of its fields, which are numbered from 0.
 ///
 /// A contract sees it as plain data: two classes with the same contents are equal.
-#[derive(Debug, Drop)]
+#[derive(Clone, Debug, Drop)]
 pub struct ClassLayout {
     pub kind: ClassKind,
     pub fields: Vec<Mode>,
@@ -60,17 +60,6 @@ impl ClassLayout {
         ensures { result ≡ is_narrow self.now }
     {
         self.fields.len() <= LAYOUT_LIMIT
-    }
-
-    /// A class that is equal, in memory of its own. The error comes where memory was refused.
-    pub fn copied(&self, alloc: Global) -> Result<ClassLayout, AllocError>
-        ensures { IfOk result (λ c. c ≡ self.now) }
-    {
-        let fields = Vec::from_slice(alloc, &self.fields)?;
-        Ok(ClassLayout {
-            kind: self.kind,
-            fields,
-        })
     }
 }
 
@@ -97,7 +86,7 @@ const LAYOUT_LIMIT: usize = 1048576;
 /// there are at most 1,048,576 classes, sets, and attributes of a class.
 ///
 /// A contract sees it as plain data: two layouts with the same contents are equal.
-#[derive(Debug, Drop)]
+#[derive(Clone, Debug, Drop)]
 pub struct Layout {
     pub classes: Vec<ClassLayout>,
     pub sets: Vec<SetLayout>,
@@ -134,15 +123,6 @@ impl Layout {
     {
         let _ = &self.classes;
     }
-
-    /// A layout that is equal, in memory of its own. The error comes where memory was refused.
-    pub fn copied(&self, alloc: Global) -> Result<Layout, AllocError>
-        ensures { IfOk result (λ l. l ≡ self.now) }
-    {
-        let classes = copied_classes(alloc, &self.classes)?;
-        let sets = Vec::from_slice(alloc, &self.sets)?;
-        Ok(Layout { classes, sets })
-    }
 }
 
 // Whether these sets name classes among these.
@@ -170,18 +150,6 @@ fn fit_together(classes: &[ClassLayout], sets: &[SetLayout]) -> bool
         && are_narrow(classes)
 }
 
-// Classes that are equal, one by one.
-fn copied_classes(alloc: Global, classes: &[ClassLayout]) -> Result<Vec<ClassLayout>, AllocError>
-    ensures { IfOk result (λ copies. copies.items ≡ classes.now) }
-{
-    let mut copies = Vec::new(alloc);
-    for class in classes {
-        let copy = class.copied(alloc)?;
-        copies.push(copy)?;
-    }
-    Ok(copies)
-}
-
 impl SetLayout {
     /// Whether its owner and its member are among so many classes.
     pub fn names_classes(&self, classes: usize) -> bool
@@ -205,7 +173,7 @@ pub struct RankKey {
 /// What a ranked set ranks its members by: the first key counts most.
 ///
 /// A contract sees it as the list of its keys.
-#[derive(Debug, Drop)]
+#[derive(Clone, Debug, Drop)]
 pub struct RankKeys {
     keys: Vec<RankKey>,
 }
@@ -233,20 +201,12 @@ impl RankKeys {
     {
         &self.keys
     }
-
-    /// A copy of the keys, in memory of its own. The error comes where memory was refused.
-    pub fn copied(&self, alloc: Global) -> Result<RankKeys, AllocError>
-        ensures { IfOk result (λ r. r ≡ self.now) }
-    {
-        let keys = Vec::from_slice(alloc, &self.keys)?;
-        Ok(RankKeys { keys })
-    }
 }
 
 /// Where FILE puts a member.
 ///
 /// A contract sees it as plain data: two disciplines with the same contents are equal.
-#[derive(Debug, PartialEq, Eq, Drop)]
+#[derive(Clone, Debug, PartialEq, Eq, Drop)]
 pub enum Discipline {
     /// Last.
     Fifo,
@@ -254,36 +214,4 @@ pub enum Discipline {
     Lifo,
     /// Before the first member that ranks after it by these keys.
     Ranked(RankKeys),
-}
-
-impl Discipline {
-    /// A discipline that is equal, in memory of its own. The error comes where memory was refused.
-    pub fn copied(&self, alloc: Global) -> Result<Discipline, AllocError>
-        ensures { IfOk result (λ d. d ≡ self.now) }
-    {
-        match self {
-            Discipline::Fifo => Ok(Discipline::Fifo),
-            Discipline::Lifo => Ok(Discipline::Lifo),
-            Discipline::Ranked(keys) => {
-                let same = keys.copied(alloc)?;
-                Ok(Discipline::Ranked(same))
-            }
-        }
-    }
-}
-
-/// Disciplines that are equal, one by one, in memory of their own. The error comes where memory was
-/// refused.
-pub fn copied_disciplines(
-    alloc: Global,
-    disciplines: &[Discipline],
-) -> Result<Vec<Discipline>, AllocError>
-    ensures { IfOk result (λ copies. copies.items ≡ disciplines.now) }
-{
-    let mut copies = Vec::new(alloc);
-    for discipline in disciplines {
-        let copy = discipline.copied(alloc)?;
-        copies.push(copy)?;
-    }
-    Ok(copies)
 }

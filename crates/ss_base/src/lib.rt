@@ -24,7 +24,6 @@ pub use fault::{FaultKind, Refused};
 pub use faulty::{Faulty, FaultyRead, FaultyWrite};
 pub use layout::{
     ClassKind, ClassLayout, Discipline, Layout, Mode, Owner, RankKey, RankKeys, SetLayout,
-    copied_disciplines,
 };
 pub use line::Line;
 pub use memory::{MemoryRead, MemoryWrite, WriteFailure};

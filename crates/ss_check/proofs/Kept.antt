@@ -1,6 +1,6 @@
 -- The resolved form of a program that breaks no rule.
 use Rattle.std.proofs.Common.{◌≡◌, ◌≤◌, List, map, Option, Some, None, sym, ap, subst, ◌∙◌}
-use Rattle.ss_tree.specs.Nodes.{nodes as tree_nodes}
+use Rattle.ss_tree.specs.Nodes.{tree_nodes}
 use Rattle.ss_tree.specs.Tree.{ProgramTree}
 use Rattle.ss_tables_rules.specs.Broken.{refusal_of_declarations as declared_refusal}
 use Rattle.ss_check_rules.specs.declared.error.CheckError.{CheckError}
@@ -9,12 +9,13 @@ use Rattle.ss_names.specs.Table.{Table, table}
 use Rattle.ss_names_scopes.specs.Locals.{Moded, locals_of}
 use Rattle.ss_program.specs.declared.sections.Program.{Program as ProgramValue}
 use Rattle.ss_program.specs.Nodes.{nodes}
-use Rattle.ss_program.specs.View.{view_option, view_program}
+use Rattle.ss_program.specs.View.{view_program}
 use Rattle.ss_program.specs.WellTyped.{WellTyped}
 use Rattle.ss_names_meaning.specs.Resolved.{resolved, resolved_with_locals}
 use Rattle.ss_check_laws.specs.ProgramLaws.{ProgramsResolve}
 use Rattle.ss_check_laws.specs.SizeLaws.{ProgramsStaySmall}
-use Rattle.ss_check.specs.Checking.{Becomes, ReportsCheckError, program_of, refusal_of}
+use Rattle.ss_check.specs.Checking.{Becomes, ReportsCheckError, resolved_program, refusal_of}
+use Rattle.std.specs.Option.{option_map}
 
 -- a breach that is found is reported
 pub reports : (e : CheckError) (found : Option CheckError) → found ≡ Some e → ReportsCheckError e found
@@ -23,34 +24,34 @@ reports e found h = h
 
 -- resolving by the table and the local variables that were found is resolving by the tree
 pub found_so : (t : Table) (p : ProgramTree) (locals : List Moded) (found : Option ProgramValue) → locals ≡ map (locals_of t) p.sections → t ≡ table p →
-    view_option view_program found ≡ resolved_with_locals t locals p.sections → view_option view_program found ≡ program_of p
+    option_map view_program found ≡ resolved_with_locals t locals p.sections → option_map view_program found ≡ resolved_program p
 found_so t p locals found e f h =
     h ∙ ap (λ z. resolved_with_locals t z p.sections) e ∙ ap (λ (z : Table). resolved z p.sections) f
 
 pub typed : ProgramsResolve → (p : ProgramTree) (found : Option ProgramValue) (r : ProgramValue) → declared_refusal p ≡ None → refusal_of p ≡ None →
-    view_option view_program found ≡ program_of p → found ≡ Some r → WellTyped (view_program r)
+    option_map view_program found ≡ resolved_program p → found ≡ Some r → WellTyped (view_program r)
 typed law p found r declared kept h g =
     let known = law p declared kept in
-    let same : Some known.0 ≡ Some (view_program r) = sym known.1 ∙ sym h ∙ ap (view_option view_program) g in
+    let same : Some known.0 ≡ Some (view_program r) = sym known.1 ∙ sym h ∙ ap (option_map view_program) g in
     let one : known.0 ≡ view_program r = cc in
     subst WellTyped one known.2
 
 pub not_missing : ProgramsResolve → (p : ProgramTree) (found : Option ProgramValue) → declared_refusal p ≡ None → refusal_of p ≡ None →
-    view_option view_program found ≡ program_of p → found ≡ None → ⊥
+    option_map view_program found ≡ resolved_program p → found ≡ None → ⊥
 not_missing law p found declared kept h g =
     let known = law p declared kept in
-    let same : None ≡ Some known.0 = sym (ap (view_option view_program) g) ∙ h ∙ known.1 in
+    let same : None ≡ Some known.0 = sym (ap (option_map view_program) g) ∙ h ∙ known.1 in
     cc
 
 pub small : ProgramsStaySmall → (p : ProgramTree) (found : Option ProgramValue) (r made : ProgramValue) →
-    view_option view_program found ≡ program_of p → found ≡ Some r → made ≡ r → nodes (view_program made) ≤ tree_nodes p
+    option_map view_program found ≡ resolved_program p → found ≡ Some r → made ≡ r → nodes (view_program made) ≤ tree_nodes p
 small law p found r made h g same =
-    subst (λ z. nodes (view_program z) ≤ tree_nodes p) (sym same) (law p (view_program r) (sym h ∙ ap (view_option view_program) g))
+    subst (λ z. nodes (view_program z) ≤ tree_nodes p) (sym same) (law p (view_program r) (sym h ∙ ap (option_map view_program) g))
 
 -- a program that breaks no rule becomes what it is resolved to
 pub becomes : (p : ProgramTree) (found : Option ProgramValue) (r made : ProgramValue) → refusal_of p ≡ None →
-    view_option view_program found ≡ program_of p → found ≡ Some r → made ≡ r → Becomes p made
+    option_map view_program found ≡ resolved_program p → found ≡ Some r → made ≡ r → Becomes p made
 becomes p found r made kept h g same = record {
   kept = kept;
-  resolved = sym h ∙ ap (view_option view_program) g ∙ ap (λ (z : ProgramValue). Some (view_program z)) (sym same);
+  resolved = sym h ∙ ap (option_map view_program) g ∙ ap (λ (z : ProgramValue). Some (view_program z)) (sym same);
 }

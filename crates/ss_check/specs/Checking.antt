@@ -11,8 +11,8 @@ use Rattle.ss_program.specs.View.{view_program}
 use Rattle.ss_names_meaning.specs.Resolved.{resolved}
 
 -- the program of a tree, with its names resolved
-abbrev pub program_of : ProgramTree → Option Program
-program_of p = resolved (table p) p.sections
+abbrev pub resolved_program : ProgramTree → Option Program
+resolved_program p = resolved (table p) p.sections
 
 -- the first rule on what is done with names that a program breaks
 abbrev pub refusal_of : ProgramTree → Option CheckError
@@ -21,7 +21,7 @@ refusal_of p = refusal_of_uses p
 -- the program of a tree that breaks none of the rules
 pub record Becomes (p : ProgramTree) (r : ProgramValue) : Type 0 where
   pub kept : refusal_of p ≡ None
-  pub resolved : program_of p ≡ Some (view_program r)
+  pub resolved : resolved_program p ≡ Some (view_program r)
 
 -- the error is the first breach, unless memory was refused
 abbrev pub ReportsCheckError : CheckError → Option CheckError → Type 0

@@ -9,8 +9,8 @@ use Rattle.ss_base.specs.declared.line.Line.{Line}
 use Rattle.ss_base.specs.declared.value.Value.TheVariants.{Whole}
 use Rattle.ss_base.specs.Plain.{PlainLayout}
 use Rattle.ss_tree.specs.declared.expression.Designator.TheVariants.{Name}
-use Rattle.ss_tree.specs.declared.preamble.Key.{Key}
-use Rattle.ss_tree.specs.declared.preamble.Mode.TheVariants as mode_words
+use Rattle.ss_tree.specs.declared.preamble.NamedKey.{NamedKey}
+use Rattle.ss_tree.specs.declared.preamble.ModeWord.TheVariants as mode_words
 use Rattle.ss_tree.specs.declared.preamble.StatisticKind.TheVariants as folds
 use Rattle.ss_tree.specs.Tree.{ExpressionTree, number, named, no_expression, StatementTree, let_statement, has, owns, belongs_to, lifo, ranked, permanent_entities, temporary_entities, event_notices, every, normally, system_owns, define_variables, define_sets, priority_order, break_ties, statistics, main, routine, event, ProgramTree, SectionTree}
 use Rattle.ss_tree.specs.Names.{NameBytes}
@@ -28,7 +28,7 @@ use Rattle.ss_names_meaning.specs.Resolved.{resolved, resolved_with_locals}
 abbrev line : ℕ → Line
 line n = record { 0 = n }
 
-abbrev key : Bool → NameBytes → Key
+abbrev key : Bool → NameBytes → NamedKey
 key high name = record { high = high; name = name }
 
 -- LET a = b

@@ -12,8 +12,8 @@ use Rattle.ss_check.specs.declared.sections.ProgramSections.{ProgramSections}
 abbrev pub view_parts : PartsValue → Parts
 view_parts p = record { line = p.line; modes = p.modes.items; body = view_body p.body.items }
 
-abbrev pub table_in : ProgramSections → Table
-table_in p = p.names.now
+abbrev pub table_of_sections : ProgramSections → Table
+table_of_sections p = p.names.now
 
 abbrev pub locals_in : ProgramSections → List Moded
 locals_in p = p.locals.now
@@ -23,4 +23,4 @@ sections_in p = map view_section p.sections.now
 
 -- the section of a number
 abbrev pub parts_in : ProgramSections → ℕ → Option Parts
-parts_in p = parts_with_locals (table_in p) (locals_in p) (sections_in p)
+parts_in p = parts_with_locals (table_of_sections p) (locals_in p) (sections_in p)

@@ -1,12 +1,12 @@
 //! The check of a program.
 
 ghost use Rattle.std.specs.Prelude.{◌≡◌, ◌≤◌, map, None, IfOk, IfErr, OnOk};
-ghost use Rattle.ss_tree.specs.Nodes.{nodes as tree_nodes};
-ghost use Rattle.ss_tree.specs.View.{view_program, view_section};
+ghost use Rattle.ss_tree.specs.Nodes.{tree_nodes};
+ghost use Rattle.ss_tree.specs.View.{view_program_tree, view_section};
 ghost use Rattle.ss_tables_rules.specs.Broken.{refusal_of_declarations as declared_refusal};
 ghost use Rattle.ss_names.specs.Table.{table};
 ghost use Rattle.ss_names_scopes.specs.Locals.{locals_of};
-ghost use Rattle.ss_program.specs.Checking.{program_in};
+ghost use Rattle.ss_program.specs.Checking.{checked_program};
 ghost use Rattle.ss_program.specs.Nodes.{nodes};
 ghost use Rattle.ss_program.specs.View.{view_program as program_seen};
 ghost use Rattle.ss_tables.specs.Tables.{AreTablesOf};
@@ -26,10 +26,10 @@ use std::alloc::Global;
 
 // The local variables of each section, if the program breaks no rule on what it does with its names.
 fn keep_rules(alloc: Global, program: &Program, names: &Names) -> Result<Vec<Locals>, CheckError>
-    requires { names.now ≡ table (view_program program.now) }
+    requires { names.now ≡ table (view_program_tree program.now) }
     ensures locals { IfOk result (λ found. found.items ≡ map (locals_of names.now) (map view_section program.now.sections.items)) }
-    ensures kept { OnOk result (refusal_of (view_program program.now) ≡ None) }
-    ensures refused { IfErr result (λ e. ReportsCheckError e (refusal_of (view_program program.now))) }
+    ensures kept { OnOk result (refusal_of (view_program_tree program.now) ≡ None) }
+    ensures refused { IfErr result (λ e. ReportsCheckError e (refusal_of (view_program_tree program.now))) }
 {
     let (broken, locals) = judge(alloc, program, names)?;
     match broken {
@@ -40,11 +40,11 @@ fn keep_rules(alloc: Global, program: &Program, names: &Names) -> Result<Vec<Loc
 
 // The resolved program, by its table, if it breaks no rule.
 fn checked(alloc: Global, program: &Program, names: &Names) -> Result<Checked, CheckError>
-    requires names { names.now ≡ table (view_program program.now) }
-    requires declared { declared_refusal (view_program program.now) ≡ None }
-    ensures checked { IfOk result (λ c. Becomes (view_program program.now) (program_in c)) }
-    ensures nodes { IfOk result (λ c. nodes (program_seen (program_in c)) ≤ tree_nodes (view_program program.now)) }
-    ensures refused { IfErr result (λ e. ReportsCheckError e (refusal_of (view_program program.now))) }
+    requires names { names.now ≡ table (view_program_tree program.now) }
+    requires declared { declared_refusal (view_program_tree program.now) ≡ None }
+    ensures checked { IfOk result (λ c. Becomes (view_program_tree program.now) (checked_program c)) }
+    ensures nodes { IfOk result (λ c. nodes (program_seen (checked_program c)) ≤ tree_nodes (view_program_tree program.now)) }
+    ensures refused { IfErr result (λ e. ReportsCheckError e (refusal_of (view_program_tree program.now))) }
 {
     programs_resolve();
     laws_of_sizes();
@@ -64,10 +64,10 @@ fn checked(alloc: Global, program: &Program, names: &Names) -> Result<Checked, C
 /// The first rule that the program breaks, in the order 71, 72, 78, 79, 75, 76, 74, 73, 77, with the line of
 /// the first place where it does, 0 for `NoMain`; `Memory` where memory is refused.
 pub fn check(alloc: Global, program: Program, tables: Tables) -> Result<Checked, CheckError>
-    requires tables { AreTablesOf (view_program program) tables }
-    ensures checked { IfOk result (λ c. Becomes (view_program program) (program_in c)) }
-    ensures nodes { IfOk result (λ c. nodes (program_seen (program_in c)) ≤ tree_nodes (view_program program)) }
-    ensures refused { IfErr result (λ e. ReportsCheckError e (refusal_of (view_program program))) }
+    requires tables { AreTablesOf (view_program_tree program) tables }
+    ensures checked { IfOk result (λ c. Becomes (view_program_tree program) (checked_program c)) }
+    ensures nodes { IfOk result (λ c. nodes (program_seen (checked_program c)) ≤ tree_nodes (view_program_tree program)) }
+    ensures refused { IfErr result (λ e. ReportsCheckError e (refusal_of (view_program_tree program))) }
 {
     let names = tables.into_names();
     let result = checked(alloc, &program, &names);

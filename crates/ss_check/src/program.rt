@@ -3,11 +3,12 @@
 ghost use Rattle.std.specs.Prelude.{◌≡◌, map, IfOk};
 ghost use Rattle.std.specs.List.{list_all, position};
 ghost use Rattle.ss_tree.specs.View.{view_section};
-ghost use Rattle.ss_program.specs.View.{view_option, view_program};
+ghost use Rattle.ss_program.specs.View.{view_program};
+ghost use Rattle.std.specs.Option.{option_map};
 ghost use Rattle.ss_names_meaning.specs.Answers.{Gives};
 ghost use Rattle.ss_names_meaning.specs.Resolved.{is_known, main_from, resolved_with_locals};
 ghost use Rattle.ss_names_scopes.specs.Scopes.{is_main_section};
-ghost use Rattle.ss_check.specs.View.{locals_in, parts_in, sections_in, table_in, view_parts};
+ghost use Rattle.ss_check.specs.View.{locals_in, parts_in, sections_in, table_of_sections, view_parts};
 
 use crate::sections::{Parts, ProgramSections};
 use ss_names::Names;
@@ -61,7 +62,7 @@ impl ProgramSections<'_> {
     // The program.
     #[tactic(auto, unfolding(ss_names_meaning::specs::Resolved::resolved_with_locals))]
     fn resolve_program(&self) -> Result<Resolved, ResolveError>
-        ensures { Gives view_program result (resolved_with_locals (table_in self.now) (locals_in self.now) (sections_in self.now)) }
+        ensures { Gives view_program result (resolved_with_locals (table_of_sections self.now) (locals_in self.now) (sections_in self.now)) }
     {
         let laid = lay_out(self.alloc, self.names)?;
         if !all_known(self.names, self.sections) {
@@ -96,7 +97,7 @@ pub(crate) fn resolve(
     names: &Names,
     locals: &[Locals],
 ) -> Result<Option<Resolved>, AllocError>
-    ensures { IfOk result (λ p. view_option view_program p ≡ resolved_with_locals names.now locals.now (map view_section program.now.sections.items)) }
+    ensures { IfOk result (λ p. option_map view_program p ≡ resolved_with_locals names.now locals.now (map view_section program.now.sections.items)) }
 {
     let all = ProgramSections {
         alloc,

@@ -5,7 +5,7 @@ ghost use Rattle.std.specs.Map.{values_of};
 ghost use Rattle.ss_program.specs.View.{view_routine};
 ghost use Rattle.ss_names_meaning.specs.Answers.{Gives, each};
 ghost use Rattle.ss_names_meaning.specs.Resolved.{routine_from, routine_of};
-ghost use Rattle.ss_check.specs.View.{parts_in, table_in, view_parts};
+ghost use Rattle.ss_check.specs.View.{parts_in, table_of_sections, view_parts};
 
 use crate::sections::{Parts, ProgramSections, split};
 use ss_names::RoutineSection;
@@ -59,7 +59,7 @@ impl ProgramSections<'_> {
 
     /// The routines, by their numbers.
     pub(crate) fn resolve_routines(&self) -> Result<Vec<Routine>, ResolveError>
-        ensures { Gives (λ v. map view_routine v.items) result (each (routine_from (parts_in self.now)) (values_of (table_in self.now).routines)) }
+        ensures { Gives (λ v. map view_routine v.items) result (each (routine_from (parts_in self.now)) (values_of (table_of_sections self.now).routines)) }
     {
         let names = self.names;
         self.routines_of(names.routines.values())

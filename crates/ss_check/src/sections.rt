@@ -5,8 +5,8 @@ ghost use Rattle.ss_tree.specs.View.{view_section};
 ghost use Rattle.ss_program.specs.View.{view_body};
 ghost use Rattle.ss_names_meaning.specs.Answers.{Gives};
 ghost use Rattle.ss_names_scopes.specs.Scopes.{local_mode};
-ghost use Rattle.ss_names_meaning.specs.Resolved.{body_with, local_modes, parts_with};
-ghost use Rattle.ss_check.specs.View.{locals_in, parts_in, table_in, view_parts};
+ghost use Rattle.ss_names_meaning.specs.Resolved.{resolved_body, local_modes, parts_with};
+ghost use Rattle.ss_check.specs.View.{locals_in, parts_in, table_of_sections, view_parts};
 
 use ss_base::{Line, Mode};
 use ss_check_bodies::Resolver;
@@ -67,7 +67,7 @@ impl ProgramSections<'_> {
         locals: &Locals,
         section: &Section,
     ) -> Result<Vec<Statement>, ResolveError>
-        ensures { Gives (λ v. view_body v.items) result (body_with (table_in self.now) (locals_in self.now) locals.now (view_section section.now)) }
+        ensures { Gives (λ v. view_body v.items) result (resolved_body (table_of_sections self.now) (locals_in self.now) locals.now (view_section section.now)) }
     {
         let scope = Scope {
             names: self.names,
@@ -83,7 +83,7 @@ impl ProgramSections<'_> {
 
     // A section with these local variables.
     fn parts_with(&self, locals: &Locals, section: &Section) -> Result<Parts, ResolveError>
-        ensures { Gives view_parts result (parts_with (table_in self.now) (locals_in self.now) locals.now (view_section section.now)) }
+        ensures { Gives view_parts result (parts_with (table_of_sections self.now) (locals_in self.now) locals.now (view_section section.now)) }
     {
         let modes = local_modes(self.alloc, locals)?;
         let body = self.resolve_statements(locals, section)?;

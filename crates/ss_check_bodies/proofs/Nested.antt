@@ -11,8 +11,8 @@ use Rattle.ss_tree.specs.declared.statement.FindOutcome.{FindOutcome}
 use Rattle.ss_tree.specs.declared.statement.Statement.{Statement as Parsed}
 use Rattle.ss_tree.specs.declared.statement.Statement.TheVariants as parsed
 use Rattle.ss_tree.specs.Tree.{StatementTree, statement_row, HeadTree, LoopHeadTree, guarded, GuardTree}
-use Rattle.ss_tree.specs.View.{view_condition, view_expression, view_head, view_loop_head, view_statement}
-use Rattle.ss_tree.specs.Views.{view_if_made, view_loop_made, view_find_if_made}
+use Rattle.ss_tree.specs.View.{view_condition_tree, view_expression_tree, view_head_tree, view_loop_head, view_statement_tree}
+use Rattle.ss_tree.specs.Views.{view_if_tree_made, view_loop_tree_made, view_find_if_made}
 use Rattle.ss_program.specs.declared.condition.Condition.{Condition as ConditionMade}
 use Rattle.ss_program.specs.declared.head.Guard.{Guard}
 use Rattle.ss_program.specs.declared.head.Head.{Head}
@@ -57,48 +57,48 @@ lines_of ls = map (λ p. p.items) ls.items
 
 -- a PRINT, by the items of its vectors
 pub print_made : (c : Scope) (t : Parsed) (line : Line) (v : Vec ExpressionParsed) (ps : Vec (List ℕ)) (es : List ExpressionParsed) (qs : List (List ℕ)) (xs : Vec ItemMade) (ls : Vec (Vec ℕ)) →
-    t ≡ parsed.Print line v ps → es ≡ v.items → qs ≡ ps.items → each (item c) (map view_expression es) ≡ Some (map view_item xs.items) → lines_of ls ≡ qs →
-    simple_statement c (view_statement t) ≡ Some (view_made (made.Print line xs ls))
-unfolding simple_statement view_statement view_made
+    t ≡ parsed.Print line v ps → es ≡ v.items → qs ≡ ps.items → each (item c) (map view_expression_tree es) ≡ Some (map view_item xs.items) → lines_of ls ≡ qs →
+    simple_statement c (view_statement_tree t) ≡ Some (view_made (made.Print line xs ls))
+unfolding simple_statement view_statement_tree view_made
 print_made c t line v ps es qs xs ls is e f h g =
-    let shown : each (item c) (map view_expression v.items) ≡ Some (map view_item xs.items) = subst (λ l. each (item c) (map view_expression l) ≡ Some (map view_item xs.items)) e h in
+    let shown : each (item c) (map view_expression_tree v.items) ≡ Some (map view_item xs.items) = subst (λ l. each (item c) (map view_expression_tree l) ≡ Some (map view_item xs.items)) e h in
     let lines : lines_of ls ≡ ps.items = g ∙ f in
     rw (is, shown, lines) refl
 
 pub print_fails : (c : Scope) (t : Parsed) (line : Line) (v : Vec ExpressionParsed) (ps : Vec (List ℕ)) (es : List ExpressionParsed) (e : ResolveError) →
-    t ≡ parsed.Print line v ps → es ≡ v.items → Fails e (each (item c) (map view_expression es)) → Fails e (simple_statement c (view_statement t))
-unfolding simple_statement view_statement
+    t ≡ parsed.Print line v ps → es ≡ v.items → Fails e (each (item c) (map view_expression_tree es)) → Fails e (simple_statement c (view_statement_tree t))
+unfolding simple_statement view_statement_tree
 print_fails c t line v ps es e is f h =
-    let shown : Fails e (each (item c) (map view_expression v.items)) = subst (λ l. Fails e (each (item c) (map view_expression l))) f h in
-    rw is (fails_then (each (item c) (map view_expression v.items)) _ e shown)
+    let shown : Fails e (each (item c) (map view_expression_tree v.items)) = subst (λ l. Fails e (each (item c) (map view_expression_tree l))) f h in
+    rw is (fails_then (each (item c) (map view_expression_tree v.items)) _ e shown)
 
 -- FIND without an IF
 pub find_is : (c : Scope) (t : Parsed) (line : Line) (x : HeadParsed) (a b : Vec Made) → t ≡ parsed.Find line x → a.items ≡ [] → b.items ≡ [] →
-    find line c (view_head x) (view_body a.items) (view_body b.items) ≡ simple_statement c (view_statement t)
-unfolding simple_statement view_statement
+    find line c (view_head_tree x) (view_body a.items) (view_body b.items) ≡ simple_statement c (view_statement_tree t)
+unfolding simple_statement view_statement_tree
 find_is c t line x a b is e f = rw (is, e, f) refl
 
 pub if_made : (line : Line) (c : Scope) (x : ConditionParsed) (y : ConditionMade) (xs ys : Vec Made) →
-    condition c (view_condition x) ≡ Some (condition_seen y) → if_over line c (view_condition x) (view_body xs.items) (view_body ys.items) ≡ Some (view_made (made.If line y xs ys))
+    condition c (view_condition_tree x) ≡ Some (condition_seen y) → if_over line c (view_condition_tree x) (view_body xs.items) (view_body ys.items) ≡ Some (view_made (made.If line y xs ys))
 if_made line c x y xs ys h = rw h (ap (λ z. Some z) (sym (if_seen line y xs ys)))
 
 -- ---- the bodies in a statement
 
 pub if_is : (c : Scope) (t : Parsed) (line : Line) (x : ConditionParsed) (a b : Vec Parsed) (ts us : List Parsed) →
     t ≡ parsed.If line x a b → ts ≡ a.items → us ≡ b.items →
-    statement c (view_statement t) ≡ (statements c (statement_row (map view_statement ts)) >>= λ p. statements c (statement_row (map view_statement us)) >>= λ q. if_over line c (view_condition x) p q)
+    statement c (view_statement_tree t) ≡ (statements c (statement_row (map view_statement_tree ts)) >>= λ p. statements c (statement_row (map view_statement_tree us)) >>= λ q. if_over line c (view_condition_tree x) p q)
 unfolding statement
-if_is c t line x a b ts us is e f = rw (is, e, f) (ap (statement c) (view_if_made line x a b))
+if_is c t line x a b ts us is e f = rw (is, e, f) (ap (statement c) (view_if_tree_made line x a b))
 
 pub loop_is : (c : Scope) (t : Parsed) (line : Line) (x : LoopHead) (a : Vec Parsed) (ts : List Parsed) →
     t ≡ parsed.Loop line x a → ts ≡ a.items →
-    statement c (view_statement t) ≡ (statements c (statement_row (map view_statement ts)) >>= λ p. resolved_loop line c (view_loop_head x) p)
+    statement c (view_statement_tree t) ≡ (statements c (statement_row (map view_statement_tree ts)) >>= λ p. resolved_loop line c (view_loop_head x) p)
 unfolding statement
-loop_is c t line x a ts is e = rw (is, e) (ap (statement c) (view_loop_made line x a))
+loop_is c t line x a ts is e = rw (is, e) (ap (statement c) (view_loop_tree_made line x a))
 
 pub find_if_is : (c : Scope) (t : Parsed) (line : Line) (x : HeadParsed) (o : FindOutcome) (a b : Vec Parsed) (ts us : List Parsed) →
     t ≡ parsed.FindIf line x o a b → ts ≡ a.items → us ≡ b.items →
-    statement c (view_statement t) ≡ (statements c (statement_row (map view_statement ts)) >>= λ p. statements c (statement_row (map view_statement us)) >>= λ q. find_by o line c (view_head x) p q)
+    statement c (view_statement_tree t) ≡ (statements c (statement_row (map view_statement_tree ts)) >>= λ p. statements c (statement_row (map view_statement_tree us)) >>= λ q. find_by o line c (view_head_tree x) p q)
 unfolding statement
 find_if_is c t line x o a b ts us is e f = rw (is, e, f) (ap (statement c) (view_find_if_made line x o a b))
 
@@ -109,18 +109,18 @@ unfolding statement statements
 no_statements c xs e = rw e refl
 
 statements_none : (c : Scope) (xs : List Parsed) (i : ℕ) (d : Parsed) → i < length xs →
-    statement c (view_statement (get_or xs i d)) ≡ None → statements c (statement_row (map view_statement xs)) ≡ None
+    statement c (view_statement_tree (get_or xs i d)) ≡ None → statements c (statement_row (map view_statement_tree xs)) ≡ None
 unfolding statement statements
 statements_none c [] i d lt h = absurd (omega (arith, lt))
 statements_none c (x ∷ xs) zero d lt h = rw h refl
 statements_none c (x ∷ xs) (suc i) d lt h =
-    let rest : statements c (statement_row (map view_statement xs)) ≡ None = statements_none c xs i d (omega (arith, lt)) h in
-    none_after (statement c (view_statement x)) (λ y. statements c (statement_row (map view_statement xs)) >>= λ ys. Some (Then y ys)) (λ y. rw rest refl)
+    let rest : statements c (statement_row (map view_statement_tree xs)) ≡ None = statements_none c xs i d (omega (arith, lt)) h in
+    none_after (statement c (view_statement_tree x)) (λ y. statements c (statement_row (map view_statement_tree xs)) >>= λ ys. Some (Then y ys)) (λ y. rw rest refl)
 
 pub statements_fail : (c : Scope) (xs : List Parsed) (i : ℕ) (x : Parsed) (e : ResolveError) → i < length xs → x ≡ get_or xs i x →
-    Fails e (statement c (view_statement x)) → Fails e (statements c (statement_row (map view_statement xs)))
+    Fails e (statement c (view_statement_tree x)) → Fails e (statements c (statement_row (map view_statement_tree xs)))
 statements_fail c xs i x Memory lt is h = tt
-statements_fail c xs i x Unresolved lt is h = statements_none c xs i x lt (subst (λ y. statement c (view_statement y) ≡ None) is h)
+statements_fail c xs i x Unresolved lt is h = statements_none c xs i x lt (subst (λ y. statement c (view_statement_tree y) ≡ None) is h)
 
 abbrev then_of : Option Statement → Option Block → Option Block
 then_of r q = r >>= λ x. q >>= λ rest. Some (Then x rest)
@@ -151,11 +151,11 @@ statements_more c (s ∷ ss) t (d ∷ ds) b h k =
 
 pub statements_next : (c : Scope) (xs : List Parsed) (i : ℕ) (x : Parsed) (old new : List Made) (y : Made) →
     i < length xs → x ≡ get_or xs i x → new ≡ old ++ y ∷ [] →
-    statements c (statement_row (map view_statement (take i xs))) ≡ Some (view_body old) → statement c (view_statement x) ≡ Some (view_made y) →
-    statements c (statement_row (map view_statement (take (i + 1) xs))) ≡ Some (view_body new)
+    statements c (statement_row (map view_statement_tree (take i xs))) ≡ Some (view_body old) → statement c (view_statement_tree x) ≡ Some (view_made y) →
+    statements c (statement_row (map view_statement_tree (take (i + 1) xs))) ≡ Some (view_body new)
 statements_next c xs i x old new y lt is e h g =
-    let before = map view_statement (take i xs) in
-    let taken : map view_statement (take (i + 1) xs) ≡ before ++ view_statement x ∷ [] =
-    ap (map view_statement) (take_more xs i x lt) ∙ map-append view_statement (take i xs) (get_or xs i x ∷ []) ∙ ap (λ z. before ++ view_statement z ∷ []) (sym is) in
+    let before = map view_statement_tree (take i xs) in
+    let taken : map view_statement_tree (take (i + 1) xs) ≡ before ++ view_statement_tree x ∷ [] =
+    ap (map view_statement_tree) (take_more xs i x lt) ∙ map-append view_statement_tree (take i xs) (get_or xs i x ∷ []) ∙ ap (λ z. before ++ view_statement_tree z ∷ []) (sym is) in
     let grown : view_body new ≡ block_of (map view_made old ++ view_made y ∷ []) = ap view_body e ∙ ap block_of (map-append view_made old (y ∷ [])) in
-    rw (taken, grown) (statements_more c before (view_statement x) (map view_made old) (view_made y) h g)
+    rw (taken, grown) (statements_more c before (view_statement_tree x) (map view_made old) (view_made y) h g)

@@ -1,8 +1,11 @@
 -- Answers of calls, seen through a view.
-use Rattle.std.proofs.Common.{◌≡◌, Bool, true, false, Option, Some, None, Result, Ok, Err, ap, subst}
+use Rattle.std.proofs.Common.{◌≡◌, Bool, true, false, Option, Some, None, Result, Ok, Err, ap, subst, inl, inr}
 use Rattle.ss_names_meaning.specs.declared.error.ResolveError.{ResolveError}
 use Rattle.ss_names_meaning.specs.declared.error.ResolveError.TheVariants.{Memory, Unresolved}
-use Rattle.ss_names_meaning.specs.Answers.{Fails, Gives, where_holds}
+use Rattle.ss_names_meaning.specs.Answers.{◌>>=◌, Fails, Gives, where_holds}
+use Rattle.ss_names_meaning.proofs.Steps.{fails_then}
+use Rattle.ss_check_bodies.specs.Results.{MadeAfter, MadeBoth}
+use Rattle.std.specs.Global.{Vec}
 
 -- ---- another view
 
@@ -27,3 +30,14 @@ next_made w r found q h e = subst (λ z. Gives w z found) e h
 -- what was made next failed
 pub next_failed : {B Y : Type 0} (w : B → Y) (r : Result B ResolveError) (found : Option Y) (e : ResolveError) → Gives w r found → r ≡ Err e → Fails e found
 next_failed w r found e h is = subst (λ z. Gives w z found) is h
+
+-- one of two that were made failed
+pub both_fail : {A B X Y Z : Type 0} (view : A → X) (w : B → Y) (first : Result A ResolveError) (next : Result B ResolveError) (p : Option X) (q : Option Y) (k : X → Y → Option Z) (e : ResolveError) →
+    Gives view first p → Gives w next q → MadeBoth first next (Err e) → Fails e (p >>= λ x. q >>= λ y. k x y)
+both_fail view w first next p q k e h g (inl is) = fails_then p (λ x. q >>= λ y. k x y) e (next_failed view first p e h is)
+both_fail view w first next p q k e h g (inr z) = rw (next_made view first p z.0 h z.1) (fails_then q (λ y. k (view z.0) y) e (next_failed w next q e g z.2))
+
+-- what was to follow failed
+pub after_failed : {A X : Type 0} (view : A → X) (made : Vec A) (next : Result A ResolveError) (p : Option X) (e : ResolveError) → Gives view next p → MadeAfter made next (Err e) → Fails e p
+after_failed view made next p Memory h after = tt
+after_failed view made next p Unresolved h after = next_failed view next p Unresolved h after

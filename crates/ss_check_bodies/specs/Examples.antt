@@ -9,7 +9,7 @@ use Rattle.ss_base.specs.declared.words.Weighting.TheVariants.{Tally, Accumulate
 use Rattle.ss_tree.specs.declared.expression.Designator.{Designator}
 use Rattle.ss_tree.specs.declared.expression.Designator.TheVariants.{Name, TimeV, TimeA}
 use Rattle.ss_tree.specs.declared.expression.Function.TheVariants.{Two}
-use Rattle.ss_tree.specs.declared.preamble.Mode.TheVariants.{Integer}
+use Rattle.ss_tree.specs.declared.preamble.ModeWord.TheVariants.{Integer}
 use Rattle.ss_tree.specs.declared.preamble.StatisticKind.TheVariants as figures
 use Rattle.ss_tree.specs.declared.statement.FindOutcome.TheVariants as outcomes
 use Rattle.ss_tree.specs.Tree.{ExpressionTree, number, named, call, parenthesised, sum, product, no_expression, and_expression, no_term, and_term, NamedTree, over_class, by_discipline, at_time, call_statement, read_statement, stop_statement, find_if_statement, create_statement, create_every, file_statement, schedule_new, reset_statement, print_statement, no_statement, and_statement, has, owns, belongs_to, permanent_entities, temporary_entities, event_notices, every, normally, system_owns, define_variables, statistics, routine, ProgramTree}

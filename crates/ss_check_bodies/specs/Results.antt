@@ -1,5 +1,5 @@
 -- The scope that names are resolved by, and what calls answer for steps one after the other.
-use Rattle.std.specs.Prelude.{◌≡◌, List, map, Option, Some, Result, Ok, Err}
+use Rattle.std.specs.Prelude.{◌≡◌, ◌⊎◌, List, [], ◌∷◌, ◌++◌, map, Option, Some, Result, Ok, Err}
 use Rattle.std.specs.Global.{Vec}
 use Rattle.ss_tree.specs.Tree.{ExpressionRow, HeadTree}
 use Rattle.ss_base.specs.declared.words.Operator.{Operator}
@@ -10,6 +10,7 @@ use Rattle.ss_program.specs.View.{view_head, view_phrase}
 use Rattle.ss_names_scopes.specs.Scopes.{Scope}
 use Rattle.ss_names_scopes.specs.Seen.{view_scope}
 use Rattle.ss_names_meaning.specs.declared.error.ResolveError.{ResolveError}
+use Rattle.ss_names_meaning.specs.declared.error.ResolveError.TheVariants.{Memory, Unresolved}
 use Rattle.ss_names_meaning.specs.Answers.{◌>>=◌, each}
 use Rattle.ss_names_meaning.specs.Expressions.{two}
 use Rattle.ss_names_meaning.specs.Heads.{head, resolved_phrase, phrases_of}
@@ -23,6 +24,17 @@ scope_in r = view_scope r.scope
 abbrev pub MadeBeside : {A B : Type 0} → A → Result B ResolveError → Result (A × B) ResolveError → Type 0
 MadeBeside first next (Ok p) = (p.0 ≡ first) × (next ≡ Ok p.1)
 MadeBeside first next (Err e) = next ≡ Err e
+
+-- what was made first, beside what was made next, unless one of them failed
+abbrev pub MadeBoth : {A B : Type 0} → Result A ResolveError → Result B ResolveError → Result (A × B) ResolveError → Type 0
+MadeBoth first next (Ok p) = (first ≡ Ok p.0) × (next ≡ Ok p.1)
+MadeBoth first next (Err e) = (first ≡ Err e) ⊎ ((x : _) × (first ≡ Ok x) × (next ≡ Err e))
+
+-- what was made first, and then what was made next, unless that failed
+abbrev pub MadeAfter : {A : Type 0} → Vec A → Result A ResolveError → Result (Vec A) ResolveError → Type 0
+MadeAfter made next (Ok all) = (x : _) × (next ≡ Ok x) × (all.items ≡ made.items ++ x ∷ [])
+MadeAfter made next (Err Memory) = Unit {0}
+MadeAfter made next (Err Unresolved) = next ≡ Err Unresolved
 
 -- what a FOR goes over, and its phrases
 abbrev pub resolved_over : Scope → HeadTree → Option (Head × List Phrase)

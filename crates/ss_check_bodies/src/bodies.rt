@@ -1,7 +1,7 @@
 //! Statements with their names resolved.
 
 ghost use Rattle.std.specs.Prelude.{map};
-ghost use Rattle.ss_tree.specs.View.{view_condition, view_head, view_statement};
+ghost use Rattle.ss_tree.specs.View.{view_condition_tree, view_head_tree, view_statement_tree};
 ghost use Rattle.ss_tree.specs.Tree.{statement_row};
 ghost use Rattle.ss_program.specs.View.{view_body, view_statement as view_resolved};
 ghost use Rattle.ss_names_meaning.specs.Answers.{Gives};
@@ -9,6 +9,7 @@ ghost use Rattle.ss_names_meaning.specs.Statements.{find_by, if_over, statement,
 ghost use Rattle.ss_check_bodies.specs.Results.{scope_in};
 
 use crate::resolver::Resolver;
+use crate::results::{both, followed};
 use ss_base::Line;
 use ss_names_meaning::ResolveError;
 use ss_program::statement::Statement as Resolved;
@@ -26,7 +27,7 @@ impl Resolver<'_> {
         then: Vec<Resolved>,
         otherwise: Vec<Resolved>,
     ) -> Result<Resolved, ResolveError>
-        ensures { Gives view_resolved result (if_over line (scope_in self.now) (view_condition condition.now) (view_body then.items) (view_body otherwise.items)) }
+        ensures { Gives view_resolved result (if_over line (scope_in self.now) (view_condition_tree condition.now) (view_body then.items) (view_body otherwise.items)) }
     {
         let condition = self.resolve_condition(condition)?;
         Ok(Resolved::If {
@@ -46,7 +47,7 @@ impl Resolver<'_> {
         first: Vec<Resolved>,
         second: Vec<Resolved>,
     ) -> Result<Resolved, ResolveError>
-        ensures { Gives view_resolved result (find_by outcome line (scope_in self.now) (view_head head.now) (view_body first.items) (view_body second.items)) }
+        ensures { Gives view_resolved result (find_by outcome line (scope_in self.now) (view_head_tree head.now) (view_body first.items) (view_body second.items)) }
     {
         match outcome {
             FindOutcome::Found => self.resolve_find(line, head, first, second),
@@ -56,9 +57,9 @@ impl Resolver<'_> {
 
     // A statement.
     #[cycle(nesting)]
-    #[tactic(auto, unfolding(ss_names_meaning::specs::Statements::statement, ss_tree::specs::View::view_statement))]
+    #[tactic(auto, unfolding(ss_names_meaning::specs::Statements::statement, ss_tree::specs::View::view_statement_tree))]
     fn resolve_statement(&self, tree: &Statement) -> Result<Resolved, ResolveError>
-        ensures { Gives view_resolved result (statement (scope_in self.now) (view_statement tree.now)) }
+        ensures { Gives view_resolved result (statement (scope_in self.now) (view_statement_tree tree.now)) }
     {
         match tree {
             Statement::If {
@@ -67,9 +68,9 @@ impl Resolver<'_> {
                 then,
                 otherwise,
             } => {
-                let first = self.resolve_body(then)?;
-                let second = self.resolve_body(otherwise)?;
-                self.resolve_if(*line, condition, first, second)
+                let first = self.resolve_body(then);
+                let (then, otherwise) = both(first, self.resolve_body(otherwise))?;
+                self.resolve_if(*line, condition, then, otherwise)
             }
             Statement::FindIf {
                 line,
@@ -78,9 +79,9 @@ impl Resolver<'_> {
                 then,
                 otherwise,
             } => {
-                let first = self.resolve_body(then)?;
-                let second = self.resolve_body(otherwise)?;
-                self.resolve_find_by(*line, head, *outcome, first, second)
+                let first = self.resolve_body(then);
+                let (then, otherwise) = both(first, self.resolve_body(otherwise))?;
+                self.resolve_find_by(*line, head, *outcome, then, otherwise)
             }
             Statement::Loop { line, head, body } => {
                 let first = self.resolve_body(body)?;
@@ -113,12 +114,11 @@ impl Resolver<'_> {
     /// Statements one after the other.
     #[cycle(nesting)]
     pub fn resolve_body(&self, trees: &[Statement]) -> Result<Vec<Resolved>, ResolveError>
-        ensures { Gives (λ v. view_body v.items) result (statements (scope_in self.now) (statement_row (map view_statement trees.now))) }
+        ensures { Gives (λ v. view_body v.items) result (statements (scope_in self.now) (statement_row (map view_statement_tree trees.now))) }
     {
         let mut resolved = Vec::new(self.alloc);
         for tree in trees {
-            let one = self.resolve_statement(tree)?;
-            resolved.push(one)?;
+            resolved = followed(resolved, self.resolve_statement(tree))?;
         }
         Ok(resolved)
     }

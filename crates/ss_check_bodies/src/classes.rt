@@ -6,6 +6,7 @@ ghost use Rattle.ss_names_meaning.specs.Classes.{class_named, class_number, coun
 ghost use Rattle.ss_check_bodies.specs.Results.{scope_in};
 
 use crate::resolver::Resolver;
+use crate::results::followed;
 use ss_base::{Name, Spelling};
 use ss_names::Meaning;
 use ss_names_meaning::{NamedClass, ResolveError};
@@ -87,8 +88,7 @@ impl Resolver<'_> {
     {
         let mut resolved = Vec::new(self.alloc);
         for tree in trees {
-            let one = self.counted(tree)?;
-            resolved.push(one)?;
+            resolved = followed(resolved, self.counted(tree))?;
         }
         Ok(resolved)
     }

@@ -1,14 +1,14 @@
 //! Conditions with their names resolved.
 
 ghost use Rattle.std.specs.Prelude.{map};
-ghost use Rattle.ss_tree.specs.View.{view_condition, view_conjunction, view_test};
+ghost use Rattle.ss_tree.specs.View.{view_condition_tree, view_conjunction_tree, view_test_tree};
 ghost use Rattle.ss_program.specs.View.{view_condition as condition_seen, view_conjunction as conjunction_seen, view_test as test_seen};
 ghost use Rattle.ss_names_meaning.specs.Answers.{Gives};
 ghost use Rattle.ss_names_meaning.specs.Conditions.{condition, conjunction, one_test};
 ghost use Rattle.ss_check_bodies.specs.Results.{scope_in};
 
 use crate::resolver::Resolver;
-use crate::results::beside;
+use crate::results::{both, followed};
 use ss_names_meaning::ResolveError;
 use ss_program::condition::{
     Condition as ResolvedCondition, Conjunction as ResolvedConjunction, Test as ResolvedTest,
@@ -19,7 +19,7 @@ impl Resolver<'_> {
     // A test.
     #[tactic(auto, unfolding(ss_names_meaning::specs::Conditions::one_test))]
     fn resolve_test(&self, tree: &Test) -> Result<ResolvedTest, ResolveError>
-        ensures { Gives test_seen result (one_test (scope_in self.now) (view_test tree.now)) }
+        ensures { Gives test_seen result (one_test (scope_in self.now) (view_test_tree tree.now)) }
     {
         match tree {
             Test::Compare {
@@ -27,8 +27,8 @@ impl Resolver<'_> {
                 relation,
                 right,
             } => {
-                let left = self.resolve_expression(left)?;
-                let (left, right) = beside(left, self.resolve_expression(right))?;
+                let left = self.resolve_expression(left);
+                let (left, right) = both(left, self.resolve_expression(right))?;
                 Ok(ResolvedTest::Compare {
                     left,
                     relation: *relation,
@@ -48,8 +48,8 @@ impl Resolver<'_> {
                 set,
                 negated,
             } => {
-                let member = self.resolve_expression(member)?;
-                let (member, (set, owner)) = beside(member, self.resolve_set(set))?;
+                let member = self.resolve_expression(member);
+                let (member, (set, owner)) = both(member, self.resolve_set(set))?;
                 Ok(ResolvedTest::Member {
                     negated: *negated,
                     set,
@@ -63,19 +63,18 @@ impl Resolver<'_> {
 
     // Tests joined by AND.
     fn resolve_tests(&self, trees: &[Test]) -> Result<Vec<ResolvedTest>, ResolveError>
-        ensures { Gives (λ v. map test_seen v.items) result (conjunction (scope_in self.now) (map view_test trees.now)) }
+        ensures { Gives (λ v. map test_seen v.items) result (conjunction (scope_in self.now) (map view_test_tree trees.now)) }
     {
         let mut resolved = Vec::new(self.alloc);
         for tree in trees {
-            let one = self.resolve_test(tree)?;
-            resolved.push(one)?;
+            resolved = followed(resolved, self.resolve_test(tree))?;
         }
         Ok(resolved)
     }
 
     // A conjunction.
     fn resolve_conjunction(&self, tree: &Conjunction) -> Result<ResolvedConjunction, ResolveError>
-        ensures { Gives conjunction_seen result (conjunction (scope_in self.now) (view_conjunction tree.now)) }
+        ensures { Gives conjunction_seen result (conjunction (scope_in self.now) (view_conjunction_tree tree.now)) }
     {
         let tests = self.resolve_tests(&tree.tests)?;
         Ok(ResolvedConjunction { tests })
@@ -86,12 +85,11 @@ impl Resolver<'_> {
         &self,
         trees: &[Conjunction],
     ) -> Result<Vec<ResolvedConjunction>, ResolveError>
-        ensures { Gives (λ v. map conjunction_seen v.items) result (condition (scope_in self.now) (map view_conjunction trees.now)) }
+        ensures { Gives (λ v. map conjunction_seen v.items) result (condition (scope_in self.now) (map view_conjunction_tree trees.now)) }
     {
         let mut resolved = Vec::new(self.alloc);
         for tree in trees {
-            let one = self.resolve_conjunction(tree)?;
-            resolved.push(one)?;
+            resolved = followed(resolved, self.resolve_conjunction(tree))?;
         }
         Ok(resolved)
     }
@@ -101,7 +99,7 @@ impl Resolver<'_> {
         &self,
         tree: &Condition,
     ) -> Result<ResolvedCondition, ResolveError>
-        ensures { Gives condition_seen result (condition (scope_in self.now) (view_condition tree.now)) }
+        ensures { Gives condition_seen result (condition (scope_in self.now) (view_condition_tree tree.now)) }
     {
         let alternatives = self.resolve_alternatives(&tree.alternatives)?;
         Ok(ResolvedCondition { alternatives })

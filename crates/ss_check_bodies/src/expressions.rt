@@ -2,17 +2,18 @@
 
 ghost use Rattle.std.specs.Prelude.{◌≡◌, map, Some};
 ghost use Rattle.std.specs.List.{fold};
-ghost use Rattle.ss_tree.specs.View.{view_expression, view_term};
+ghost use Rattle.ss_tree.specs.View.{view_expression_tree, view_term};
 ghost use Rattle.ss_tree.specs.Tree.{call, expression_row, named, term_row};
 ghost use Rattle.ss_program.specs.Program.{Calculate};
-ghost use Rattle.ss_program.specs.View.{view_expression as view_resolved, view_option};
+ghost use Rattle.ss_program.specs.View.{view_expression as view_resolved};
+ghost use Rattle.std.specs.Option.{option_map};
 ghost use Rattle.ss_program.specs.Views.{with_operation};
 ghost use Rattle.ss_names_meaning.specs.Answers.{Gives, each};
-ghost use Rattle.ss_names_meaning.specs.Expressions.{entity_implied, entity_of, expression, factors, of_class, of_owner, one, place_named, resolved_operator, resolved_value, subscript, terms, two, value_alone, value_of_entity, with_entity};
+ghost use Rattle.ss_names_meaning.specs.Expressions.{entity_implied, entity_of, expression, factors, entity_or_implied, of_owner, one, place_named, resolved_operator, resolved_value, subscript, terms, two, value_alone, value_of_entity, meaning_with_entity};
 ghost use Rattle.ss_check_bodies.specs.Results.{operation, scope_in};
 
 use crate::resolver::Resolver;
-use crate::results::unresolved;
+use crate::results::{followed, unresolved};
 use ss_base::{Owner, Sign, Value};
 use ss_names::Meaning;
 use ss_names_meaning::ResolveError;
@@ -87,7 +88,7 @@ pub(crate) fn resolved_value(
     meaning: Meaning,
     entity: Option<Resolved>,
 ) -> Result<Resolved, ResolveError>
-    ensures { Gives view_resolved result (resolved_value meaning (view_option view_resolved entity)) }
+    ensures { Gives view_resolved result (resolved_value meaning (option_map view_resolved entity)) }
 {
     match entity {
         Some(entity) => value_of_entity(alloc, meaning, entity),
@@ -145,7 +146,7 @@ impl Resolver<'_> {
         class: usize,
         subscript: Option<Resolved>,
     ) -> Result<Option<Resolved>, ResolveError>
-        ensures { Gives (view_option view_resolved) result (of_class (scope_in self.now) class (view_option view_resolved subscript)) }
+        ensures { Gives (option_map view_resolved) result (entity_or_implied (scope_in self.now) class (option_map view_resolved subscript)) }
     {
         match subscript {
             Some(entity) => Ok(Some(entity)),
@@ -162,7 +163,7 @@ impl Resolver<'_> {
         owner: Owner,
         subscript: Option<Resolved>,
     ) -> Result<Option<Resolved>, ResolveError>
-        ensures { Gives (view_option view_resolved) result (of_owner (scope_in self.now) owner (view_option view_resolved subscript)) }
+        ensures { Gives (option_map view_resolved) result (of_owner (scope_in self.now) owner (option_map view_resolved subscript)) }
     {
         match owner {
             Owner::Class(class) => self.of_class(class, subscript),
@@ -180,7 +181,7 @@ impl Resolver<'_> {
         meaning: Meaning,
         subscript: Option<Resolved>,
     ) -> Result<Option<Resolved>, ResolveError>
-        ensures { Gives (view_option view_resolved) result (entity_of (scope_in self.now) meaning (view_option view_resolved subscript)) }
+        ensures { Gives (option_map view_resolved) result (entity_of (scope_in self.now) meaning (option_map view_resolved subscript)) }
     {
         match meaning {
             Meaning::NoticeTime => Ok(subscript),
@@ -194,7 +195,7 @@ impl Resolver<'_> {
         place: Designator,
         subscript: Option<Resolved>,
     ) -> Result<(Meaning, Option<Resolved>), ResolveError>
-        ensures { Gives (λ p. (p.0, view_option view_resolved p.1)) result (with_entity (scope_in self.now) place (view_option view_resolved subscript)) }
+        ensures { Gives (λ p. (p.0, option_map view_resolved p.1)) result (meaning_with_entity (scope_in self.now) place (option_map view_resolved subscript)) }
     {
         match self.scope.meaning(place) {
             Some(meaning) => {
@@ -211,7 +212,7 @@ impl Resolver<'_> {
         place: Designator,
         subscripts: &[Expression],
     ) -> Result<(Meaning, Option<Resolved>), ResolveError>
-        ensures { Gives (λ p. (p.0, view_option view_resolved p.1)) result (place_named (scope_in self.now) place (expression_row (map view_expression subscripts.now))) }
+        ensures { Gives (λ p. (p.0, option_map view_resolved p.1)) result (place_named (scope_in self.now) place (expression_row (map view_expression_tree subscripts.now))) }
     {
         let subscript = self.resolve_subscript(subscripts)?;
         self.with_entity(place, subscript)
@@ -221,9 +222,9 @@ impl Resolver<'_> {
 
     // The expression with its names resolved.
     #[cycle(resolving)]
-    #[tactic(auto, unfolding(ss_tree::specs::View::view_expression, ss_program::specs::View::view_expression, ss_names_meaning::specs::Expressions::expression))]
+    #[tactic(auto, unfolding(ss_tree::specs::View::view_expression_tree, ss_program::specs::View::view_expression, ss_names_meaning::specs::Expressions::expression))]
     pub(crate) fn resolve_expression(&self, tree: &Expression) -> Result<Resolved, ResolveError>
-        ensures { Gives view_resolved result (expression (scope_in self.now) (view_expression tree.now)) }
+        ensures { Gives view_resolved result (expression (scope_in self.now) (view_expression_tree tree.now)) }
     {
         match tree {
             Expression::Number(number) => Ok(Resolved::Constant {
@@ -266,7 +267,7 @@ impl Resolver<'_> {
         designator: Designator,
         subscripts: &[Expression],
     ) -> Result<Resolved, ResolveError>
-        ensures { Gives view_resolved result (expression (scope_in self.now) (named designator (expression_row (map view_expression subscripts.now)))) }
+        ensures { Gives view_resolved result (expression (scope_in self.now) (named designator (expression_row (map view_expression_tree subscripts.now)))) }
     {
         let subscript = self.resolve_subscript(subscripts)?;
         let (meaning, entity) = self.with_entity(designator, subscript)?;
@@ -280,7 +281,7 @@ impl Resolver<'_> {
         &self,
         subscripts: &[Expression],
     ) -> Result<Option<Resolved>, ResolveError>
-        ensures { Gives (view_option view_resolved) result (subscript (scope_in self.now) (expression_row (map view_expression subscripts.now))) }
+        ensures { Gives (option_map view_resolved) result (subscript (scope_in self.now) (expression_row (map view_expression_tree subscripts.now))) }
     {
         match subscripts {
             [] => Ok(None),
@@ -300,7 +301,7 @@ impl Resolver<'_> {
         function: Function,
         arguments: &[Expression],
     ) -> Result<Resolved, ResolveError>
-        ensures { Gives view_resolved result (expression (scope_in self.now) (call function (expression_row (map view_expression arguments.now)))) }
+        ensures { Gives view_resolved result (expression (scope_in self.now) (call function (expression_row (map view_expression_tree arguments.now)))) }
     {
         match function {
             Function::One(operator) => {
@@ -319,7 +320,7 @@ impl Resolver<'_> {
         operator: Operator,
         arguments: &[Expression],
     ) -> Result<Resolved, ResolveError>
-        ensures { Gives view_resolved result (operation (scope_in self.now) operator (expression_row (map view_expression arguments.now))) }
+        ensures { Gives view_resolved result (operation (scope_in self.now) operator (expression_row (map view_expression_tree arguments.now))) }
     {
         let (left, right) = self.resolve_two(arguments)?;
         calculate(self.alloc, left, operator, right)
@@ -329,7 +330,7 @@ impl Resolver<'_> {
     #[cycle(resolving)]
     #[tactic(auto, unfolding(ss_names_meaning::specs::Expressions::one))]
     fn resolve_one(&self, arguments: &[Expression]) -> Result<Resolved, ResolveError>
-        ensures { Gives view_resolved result (one (scope_in self.now) (expression_row (map view_expression arguments.now))) }
+        ensures { Gives view_resolved result (one (scope_in self.now) (expression_row (map view_expression_tree arguments.now))) }
     {
         match arguments {
             [only] => self.resolve_expression(only),
@@ -345,7 +346,7 @@ impl Resolver<'_> {
         &self,
         arguments: &[Expression],
     ) -> Result<(Box<Resolved>, Resolved), ResolveError>
-        ensures { Gives (λ p. (view_resolved p.0.value, view_resolved p.1)) result (two (scope_in self.now) (expression_row (map view_expression arguments.now))) }
+        ensures { Gives (λ p. (view_resolved p.0.value, view_resolved p.1)) result (two (scope_in self.now) (expression_row (map view_expression_tree arguments.now))) }
     {
         match arguments {
             [left, right] => {
@@ -363,7 +364,7 @@ impl Resolver<'_> {
     // The further factors of a product.
     #[cycle(resolving)]
     fn resolve_factors(&self, trees: &[Expression]) -> Result<Vec<Operation>, ResolveError>
-        ensures { (left : _) → Gives (λ v. fold with_operation left v.items) result (factors (scope_in self.now) left (expression_row (map view_expression trees.now))) }
+        ensures { (left : _) → Gives (λ v. fold with_operation left v.items) result (factors (scope_in self.now) left (expression_row (map view_expression_tree trees.now))) }
     {
         let mut operations = Vec::new(self.alloc);
         for tree in trees {
@@ -394,12 +395,11 @@ impl Resolver<'_> {
 
     /// Expressions.
     pub(crate) fn resolve_all(&self, trees: &[Expression]) -> Result<Vec<Resolved>, ResolveError>
-        ensures { Gives (λ v. map view_resolved v.items) result (each (expression (scope_in self.now)) (map view_expression trees.now)) }
+        ensures { Gives (λ v. map view_resolved v.items) result (each (expression (scope_in self.now)) (map view_expression_tree trees.now)) }
     {
         let mut resolved = Vec::new(self.alloc);
         for tree in trees {
-            let one = self.resolve_expression(tree)?;
-            resolved.push(one)?;
+            resolved = followed(resolved, self.resolve_expression(tree))?;
         }
         Ok(resolved)
     }

@@ -1,15 +1,17 @@
 //! Heads of loops with their names resolved.
 
 ghost use Rattle.std.specs.Prelude.{◌≡◌, map};
-ghost use Rattle.ss_tree.specs.View.{view_expression, view_guard, view_head, view_option, view_phrase, view_start};
-ghost use Rattle.ss_program.specs.View.{view_expression as view_resolved, view_guard as guard_seen, view_head as head_seen, view_option as option_seen, view_phrase as phrase_seen, view_start as start_seen};
+ghost use Rattle.ss_tree.specs.View.{view_expression_tree, view_guard_tree, view_head_tree, view_phrase_tree, view_start_tree};
+ghost use Rattle.std.specs.Option.{option_map};
+ghost use Rattle.ss_program.specs.View.{view_expression as view_resolved, view_guard as guard_seen, view_head as head_seen, view_phrase as phrase_seen, view_start as start_seen};
+ghost use Rattle.std.specs.Option.{option_map as option_seen};
 ghost use Rattle.ss_names_meaning.specs.Answers.{Gives, each, if_there};
 ghost use Rattle.ss_names_meaning.specs.Expressions.{expression};
 ghost use Rattle.ss_names_meaning.specs.Heads.{called_variable, guard, head, phrases_of, resolved_phrase, resolved_start};
 ghost use Rattle.ss_check_bodies.specs.Results.{scope_in};
 
 use crate::resolver::Resolver;
-use crate::results::beside;
+use crate::results::{both, followed};
 use ss_base::Name;
 use ss_names_meaning::ResolveError;
 use ss_names_uses::ClassNeed;
@@ -22,7 +24,7 @@ use ss_tree::head::{Guard, Head, MemberStart, Phrase};
 
 /// The phrases of a FOR.
 pub(crate) fn phrases_of(head: &Head) -> &[Phrase]
-    ensures { map view_phrase result.now ≡ phrases_of (view_head head.now) }
+    ensures { map view_phrase_tree result.now ≡ phrases_of (view_head_tree head.now) }
 {
     match head {
         Head::Range { phrases, .. } | Head::Members { phrases, .. } | Head::Class { phrases, .. } =>
@@ -35,7 +37,7 @@ impl Resolver<'_> {
 
     // A phrase.
     fn resolve_phrase(&self, tree: &Phrase) -> Result<ResolvedPhrase, ResolveError>
-        ensures { Gives phrase_seen result (resolved_phrase (scope_in self.now) (view_phrase tree.now)) }
+        ensures { Gives phrase_seen result (resolved_phrase (scope_in self.now) (view_phrase_tree tree.now)) }
     {
         let condition = self.resolve_condition(&tree.condition)?;
         Ok(ResolvedPhrase {
@@ -49,19 +51,18 @@ impl Resolver<'_> {
         &self,
         trees: &[Phrase],
     ) -> Result<Vec<ResolvedPhrase>, ResolveError>
-        ensures { Gives (λ v. map phrase_seen v.items) result (each (resolved_phrase (scope_in self.now)) (map view_phrase trees.now)) }
+        ensures { Gives (λ v. map phrase_seen v.items) result (each (resolved_phrase (scope_in self.now)) (map view_phrase_tree trees.now)) }
     {
         let mut resolved = Vec::new(self.alloc);
         for tree in trees {
-            let one = self.resolve_phrase(tree)?;
-            resolved.push(one)?;
+            resolved = followed(resolved, self.resolve_phrase(tree))?;
         }
         Ok(resolved)
     }
 
     // A condition of a loop that begins with WHILE or UNTIL.
     fn resolve_guard(&self, tree: &Guard) -> Result<ResolvedGuard, ResolveError>
-        ensures { Gives guard_seen result (guard (scope_in self.now) (view_guard tree.now)) }
+        ensures { Gives guard_seen result (guard (scope_in self.now) (view_guard_tree tree.now)) }
     {
         let condition = self.resolve_condition(&tree.condition)?;
         Ok(ResolvedGuard {
@@ -72,12 +73,11 @@ impl Resolver<'_> {
 
     /// The conditions of a loop that begins with WHILE or UNTIL.
     pub(crate) fn resolve_guards(&self, trees: &[Guard]) -> Result<Vec<ResolvedGuard>, ResolveError>
-        ensures { Gives (λ v. map guard_seen v.items) result (each (guard (scope_in self.now)) (map view_guard trees.now)) }
+        ensures { Gives (λ v. map guard_seen v.items) result (each (guard (scope_in self.now)) (map view_guard_tree trees.now)) }
     {
         let mut resolved = Vec::new(self.alloc);
         for tree in trees {
-            let one = self.resolve_guard(tree)?;
-            resolved.push(one)?;
+            resolved = followed(resolved, self.resolve_guard(tree))?;
         }
         Ok(resolved)
     }
@@ -100,7 +100,7 @@ impl Resolver<'_> {
 
     // The member with which a FOR over a set begins.
     fn resolve_start(&self, tree: &MemberStart) -> Result<Start, ResolveError>
-        ensures { Gives start_seen result (resolved_start (scope_in self.now) (view_start tree.now)) }
+        ensures { Gives start_seen result (resolved_start (scope_in self.now) (view_start_tree tree.now)) }
     {
         match tree {
             MemberStart::End => Ok(Start::AtEnd),
@@ -117,7 +117,7 @@ impl Resolver<'_> {
 
     // The step of a FOR, where one is written.
     fn resolve_step(&self, tree: &Option<Expression>) -> Result<Option<Resolved>, ResolveError>
-        ensures { Gives (option_seen view_resolved) result (if_there (expression (scope_in self.now)) (view_option view_expression tree.now)) }
+        ensures { Gives (option_seen view_resolved) result (if_there (expression (scope_in self.now)) (option_map view_expression_tree tree.now)) }
     {
         match tree {
             None => Ok(None),
@@ -131,7 +131,7 @@ impl Resolver<'_> {
     /// What a FOR goes over.
     #[tactic(auto, unfolding(ss_names_meaning::specs::Heads::head))]
     pub(crate) fn resolve_head(&self, tree: &Head) -> Result<ResolvedHead, ResolveError>
-        ensures { Gives head_seen result (head (scope_in self.now) (view_head tree.now)) }
+        ensures { Gives head_seen result (head (scope_in self.now) (view_head_tree tree.now)) }
     {
         match tree {
             Head::Range {
@@ -142,9 +142,9 @@ impl Resolver<'_> {
                 ..
             } => {
                 let variable = self.variable_named(variable)?;
-                let first = self.resolve_expression(from)?;
-                let bounds = beside(first, self.resolve_expression(to))?;
-                let ((first, limit), step) = beside(bounds, self.resolve_step(step))?;
+                let first = self.resolve_expression(from);
+                let bounds = both(first, self.resolve_expression(to));
+                let ((first, limit), step) = both(bounds, self.resolve_step(step))?;
                 Ok(ResolvedHead::Numbers {
                     variable,
                     first,
@@ -160,8 +160,8 @@ impl Resolver<'_> {
                 ..
             } => {
                 let variable = self.variable_named(variable)?;
-                let set = self.resolve_set(set)?;
-                let ((set, owner), start) = beside(set, self.resolve_start(start))?;
+                let set = self.resolve_set(set);
+                let ((set, owner), start) = both(set, self.resolve_start(start))?;
                 Ok(ResolvedHead::Members {
                     variable,
                     set,

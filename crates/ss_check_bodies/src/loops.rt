@@ -1,6 +1,6 @@
 //! Loops around resolved statements.
 
-ghost use Rattle.ss_tree.specs.View.{view_head, view_loop_head};
+ghost use Rattle.ss_tree.specs.View.{view_head_tree, view_loop_head};
 ghost use Rattle.ss_program.specs.View.{view_body, view_statement as view_resolved};
 ghost use Rattle.ss_names_meaning.specs.Answers.{Gives};
 ghost use Rattle.ss_names_meaning.specs.Statements.{find, for_over, resolved_loop};
@@ -8,7 +8,7 @@ ghost use Rattle.ss_check_bodies.specs.Results.{over_seen, resolved_over, scope_
 
 use crate::heads::phrases_of;
 use crate::resolver::Resolver;
-use crate::results::beside;
+use crate::results::{beside, both};
 use ss_base::Line;
 use ss_names_meaning::ResolveError;
 use ss_program::head::{Head as ResolvedHead, Phrase};
@@ -18,10 +18,10 @@ use ss_tree::head::{Head, LoopHead};
 impl Resolver<'_> {
     // What a FOR goes over, and its phrases.
     fn resolve_over(&self, head: &Head) -> Result<(ResolvedHead, Vec<Phrase>), ResolveError>
-        ensures { Gives over_seen result (resolved_over (scope_in self.now) (view_head head.now)) }
+        ensures { Gives over_seen result (resolved_over (scope_in self.now) (view_head_tree head.now)) }
     {
-        let over = self.resolve_head(head)?;
-        beside(over, self.resolve_phrases(phrases_of(head)))
+        let over = self.resolve_head(head);
+        both(over, self.resolve_phrases(phrases_of(head)))
     }
 
     // A FOR with its body.
@@ -31,7 +31,7 @@ impl Resolver<'_> {
         head: &Head,
         body: Vec<Resolved>,
     ) -> Result<Resolved, ResolveError>
-        ensures { Gives view_resolved result (for_over line (scope_in self.now) (view_head head.now) (view_body body.items)) }
+        ensures { Gives view_resolved result (for_over line (scope_in self.now) (view_head_tree head.now) (view_body body.items)) }
     {
         let (head, phrases) = self.resolve_over(head)?;
         Ok(Resolved::For {
@@ -68,9 +68,9 @@ impl Resolver<'_> {
         found: Vec<Resolved>,
         none: Vec<Resolved>,
     ) -> Result<Resolved, ResolveError>
-        ensures { Gives view_resolved result (find line (scope_in self.now) (view_head head.now) (view_body found.items) (view_body none.items)) }
+        ensures { Gives view_resolved result (find line (scope_in self.now) (view_head_tree head.now) (view_body found.items) (view_body none.items)) }
     {
-        let (head, phrases) = self.resolve_over(head)?;
+        let ((found, none), (head, phrases)) = beside((found, none), self.resolve_over(head))?;
         Ok(Resolved::Find {
             line,
             head,

@@ -1,20 +1,22 @@
 //! Targets, sets and statistics with their names resolved.
 
 ghost use Rattle.std.specs.Prelude.{◌≡◌, map, None};
-ghost use Rattle.ss_tree.specs.View.{view_expression, view_named, view_option, view_position};
-ghost use Rattle.ss_program.specs.View.{view_expression as view_resolved, view_option as option_seen, view_owner, view_place, view_position as position_seen, view_restart, view_target};
+ghost use Rattle.ss_tree.specs.View.{view_expression_tree, view_named, view_position_tree};
+ghost use Rattle.std.specs.Option.{option_map};
+ghost use Rattle.ss_program.specs.View.{view_expression as view_resolved, view_owner, view_place, view_position as position_seen, view_restart, view_target};
+ghost use Rattle.std.specs.Option.{option_map as option_seen};
 ghost use Rattle.ss_names_meaning.specs.Answers.{Gives, each};
 ghost use Rattle.ss_names_meaning.specs.Expressions.{set_owner, place_of, set_named, set_number, set_of_name, target};
 ghost use Rattle.ss_names_meaning.specs.Statements.{entity_called, new_place, position, reader, restart};
 ghost use Rattle.ss_check_bodies.specs.Results.{scope_in};
 
 use crate::resolver::Resolver;
-use crate::results::unresolved;
+use crate::results::{followed, unresolved};
 use ss_names::Meaning;
 use ss_names_meaning::ResolveError;
 use ss_names_scopes::mode_of;
 use ss_program::expression::{Expression as Resolved, SetOwner, Variable};
-use ss_program::statement::{Place, Position as ResolvedPosition, Restart, Target};
+use ss_program::statement::{InputTarget, Place, Position as ResolvedPosition, Restart};
 use ss_tree::expression::{Designator, Expression, Named};
 use ss_tree::statement::Position;
 
@@ -80,32 +82,30 @@ impl Resolver<'_> {
     {
         let mut resolved = Vec::new(self.alloc);
         for tree in trees {
-            let one = self.resolve_target(tree)?;
-            resolved.push(one)?;
+            resolved = followed(resolved, self.resolve_target(tree))?;
         }
         Ok(resolved)
     }
 
     // A target of READ.
-    fn resolve_reader(&self, tree: &Named) -> Result<Target, ResolveError>
+    fn resolve_reader(&self, tree: &Named) -> Result<InputTarget, ResolveError>
         ensures { Gives view_target result (reader (scope_in self.now) (view_named tree.now)) }
     {
         let (meaning, entity) = self.resolve_place(tree.designator, &tree.subscripts)?;
         let place = place_of(meaning, entity)?;
         match mode_of(meaning) {
-            Some(mode) => Ok(Target { place, mode }),
+            Some(mode) => Ok(InputTarget { place, mode }),
             None => Err(unresolved(place)),
         }
     }
 
     /// The targets of READ.
-    pub(crate) fn resolve_readers(&self, trees: &[Named]) -> Result<Vec<Target>, ResolveError>
+    pub(crate) fn resolve_readers(&self, trees: &[Named]) -> Result<Vec<InputTarget>, ResolveError>
         ensures { Gives (λ v. map view_target v.items) result (each (reader (scope_in self.now)) (map view_named trees.now)) }
     {
         let mut resolved = Vec::new(self.alloc);
         for tree in trees {
-            let one = self.resolve_reader(tree)?;
-            resolved.push(one)?;
+            resolved = followed(resolved, self.resolve_reader(tree))?;
         }
         Ok(resolved)
     }
@@ -116,7 +116,7 @@ impl Resolver<'_> {
         variable: Variable,
         called: &Option<Named>,
     ) -> Result<Place, ResolveError>
-        ensures { Gives view_place result (new_place (scope_in self.now) variable (view_option view_named called.now)) }
+        ensures { Gives view_place result (new_place (scope_in self.now) variable (option_map view_named called.now)) }
     {
         match called {
             None => Ok(Place::ToVariable { variable }),
@@ -131,7 +131,7 @@ impl Resolver<'_> {
         variable: Variable,
         called: &Option<Expression>,
     ) -> Result<Resolved, ResolveError>
-        ensures { Gives view_resolved result (entity_called (scope_in self.now) variable (view_option view_expression called.now)) }
+        ensures { Gives view_resolved result (entity_called (scope_in self.now) variable (option_map view_expression_tree called.now)) }
     {
         match called {
             None => Ok(Resolved::Fetch { variable }),
@@ -164,7 +164,7 @@ impl Resolver<'_> {
 
     /// Where a member is filed.
     pub(crate) fn resolve_position(&self, tree: &Position) -> Result<ResolvedPosition, ResolveError>
-        ensures { Gives position_seen result (position (scope_in self.now) (view_position tree.now)) }
+        ensures { Gives position_seen result (position (scope_in self.now) (view_position_tree tree.now)) }
     {
         match tree {
             Position::Discipline => Ok(ResolvedPosition::ByDiscipline),
@@ -200,8 +200,7 @@ impl Resolver<'_> {
     {
         let mut resolved = Vec::new(self.alloc);
         for tree in trees {
-            let one = self.resolve_restart(tree)?;
-            resolved.push(one)?;
+            resolved = followed(resolved, self.resolve_restart(tree))?;
         }
         Ok(resolved)
     }

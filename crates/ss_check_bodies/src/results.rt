@@ -3,7 +3,7 @@
 ghost use Rattle.std.specs.Prelude.{◌≡◌};
 ghost use Rattle.ss_names_meaning.specs.declared.error.ResolveError.TheVariants.{Unresolved};
 ghost use Rattle.ss_names_meaning.specs.Answers.{Gives, where_holds};
-ghost use Rattle.ss_check_bodies.specs.Results.{MadeBeside};
+ghost use Rattle.ss_check_bodies.specs.Results.{MadeAfter, MadeBeside, MadeBoth};
 
 use ss_names_meaning::ResolveError;
 
@@ -18,6 +18,27 @@ pub(crate) fn beside<A: Drop, B>(
         Ok(next) => Ok((first, next)),
         Err(e) => Err(e),
     }
+}
+
+/// What was made first, beside what was made next, unless one of them failed.
+pub(crate) fn both<A: Drop, B: Drop>(
+    first: Result<A, ResolveError>,
+    next: Result<B, ResolveError>,
+) -> Result<(A, B), ResolveError>
+    ensures { MadeBoth first next result }
+{
+    beside(first?, next)
+}
+
+/// What was made first, and then what was made next, unless that failed.
+pub(crate) fn followed<T: Drop>(
+    mut made: Vec<T>,
+    next: Result<T, ResolveError>,
+) -> Result<Vec<T>, ResolveError>
+    ensures { MadeAfter made next result }
+{
+    made.push(next?)?;
+    Ok(made)
 }
 
 /// A value, where a test holds.

@@ -1,48 +1,26 @@
 //! Statements without statements in them, with their names resolved.
 
-ghost use Rattle.std.specs.Prelude.{◌≡◌, ◌==◌, ◌&&◌, length, map, IfOk};
-ghost use Rattle.ss_tree.specs.View.{view_statement};
-ghost use Rattle.ss_program.specs.View.{view_expression as expression_seen, view_place, view_statement as view_resolved};
-ghost use Rattle.ss_program.specs.Program.{Call};
-ghost use Rattle.ss_names_meaning.specs.Answers.{Gives, where_holds};
+ghost use Rattle.std.specs.Prelude.{◌≡◌, map, IfOk};
+ghost use Rattle.ss_tree.specs.Tree.{call_statement};
+ghost use Rattle.ss_tree.specs.View.{view_expression_tree, view_named, view_statement_tree};
+ghost use Rattle.ss_program.specs.View.{view_statement as view_resolved};
+ghost use Rattle.ss_program.specs.Program.{Change};
+ghost use Rattle.ss_names_meaning.specs.Answers.{Gives, of_two};
+ghost use Rattle.ss_names_meaning.specs.Expressions.{expression, target};
 ghost use Rattle.ss_names_meaning.specs.Statements.{routine_named, routine_number, simple_statement};
 ghost use Rattle.ss_check_bodies.specs.Results.{scope_in};
 
-use crate::notices::{new_notice, old_notice};
 use crate::resolver::Resolver;
-use crate::results::beside;
+use crate::results::{beside, both};
 use ss_base::{Line, Name, PictureLine, Sign};
 use ss_names::{Meaning, RoutineSection};
 use ss_names_declarations::value_at;
 use ss_names_meaning::ResolveError;
 use ss_names_uses::ClassNeed;
-use ss_program::expression::Expression as Value;
-use ss_program::statement::{Place, Statement as Resolved};
+use ss_program::statement::Statement as Resolved;
+use ss_tree::expression::{Expression, Named};
 use ss_tree::statement::Statement;
 use std::alloc::{AllocError, Global};
-
-// A CALL, if the routine is given and yields as many values.
-#[tactic(auto, unfolding(ss_program::specs::View::view_statement))]
-fn call_of(
-    line: Line,
-    routine: usize,
-    section: RoutineSection,
-    given: Vec<Value>,
-    yielding: Vec<Place>,
-) -> Result<Resolved, ResolveError>
-    ensures { Gives view_resolved result (where_holds ((length (map expression_seen given.items) == section.given) && (length (map view_place yielding.items) == section.yielding)) (Call line routine (map expression_seen given.items) (map view_place yielding.items))) }
-{
-    if given.len() == section.given && yielding.len() == section.yielding {
-        Ok(Resolved::Call {
-            line,
-            routine,
-            given,
-            yielding,
-        })
-    } else {
-        Err(ResolveError::Unresolved)
-    }
-}
 
 // The number of a routine.
 fn routine_number(meaning: Option<Meaning>) -> Option<usize>
@@ -80,10 +58,57 @@ impl Resolver<'_> {
         }
     }
 
+    // A CALL, if the routine is given and yields as many values.
+    #[tactic(auto, unfolding(ss_names_meaning::specs::Statements::simple_statement, ss_program::specs::View::view_statement))]
+    fn resolve_call_statement(
+        &self,
+        line: Line,
+        routine: &Name,
+        given: &[Expression],
+        yielding: &[Named],
+    ) -> Result<Resolved, ResolveError>
+        ensures { Gives view_resolved result (simple_statement (scope_in self.now) (call_statement line routine.now (map view_expression_tree given.now) (map view_named yielding.now))) }
+    {
+        let (routine, section) = self.routine_named(routine)?;
+        let values = self.resolve_all(given);
+        let (given, yielding) = both(values, self.resolve_targets(yielding))?;
+        if given.len() == section.given && yielding.len() == section.yielding {
+            Ok(Resolved::Call {
+                line,
+                routine,
+                given,
+                yielding,
+            })
+        } else {
+            Err(ResolveError::Unresolved)
+        }
+    }
+
+    // An ADD or a SUBTRACT.
+    #[tactic(auto, unfolding(ss_program::specs::View::view_statement))]
+    fn resolve_change(
+        &self,
+        line: Line,
+        sign: Sign,
+        amount: &Expression,
+        place: &Named,
+    ) -> Result<Resolved, ResolveError>
+        ensures { Gives view_resolved result (of_two (expression (scope_in self.now) (view_expression_tree amount.now)) (target (scope_in self.now) (view_named place.now)) (λ x p. Change line sign p x)) }
+    {
+        let value = self.resolve_expression(amount);
+        let (value, target) = both(value, self.resolve_target(place))?;
+        Ok(Resolved::Change {
+            line,
+            sign,
+            target,
+            value,
+        })
+    }
+
     /// A statement without statements in it. `Unresolved` for another.
-    #[tactic(auto, unfolding(ss_names_meaning::specs::Statements::simple_statement, ss_tree::specs::View::view_statement, ss_program::specs::View::view_statement))]
+    #[tactic(auto, unfolding(ss_names_meaning::specs::Statements::simple_statement, ss_tree::specs::View::view_statement_tree, ss_program::specs::View::view_statement))]
     pub(crate) fn resolve_simple(&self, tree: &Statement) -> Result<Resolved, ResolveError>
-        ensures { Gives view_resolved result (simple_statement (scope_in self.now) (view_statement tree.now)) }
+        ensures { Gives view_resolved result (simple_statement (scope_in self.now) (view_statement_tree tree.now)) }
     {
         match tree {
             Statement::Let {
@@ -91,8 +116,8 @@ impl Resolver<'_> {
                 target,
                 value,
             } => {
-                let target = self.resolve_target(target)?;
-                let (target, value) = beside(target, self.resolve_expression(value))?;
+                let target = self.resolve_target(target);
+                let (target, value) = both(target, self.resolve_expression(value))?;
                 Ok(Resolved::Let {
                     line: *line,
                     target,
@@ -103,41 +128,18 @@ impl Resolver<'_> {
                 line,
                 amount,
                 target,
-            } => {
-                let value = self.resolve_expression(amount)?;
-                let (value, target) = beside(value, self.resolve_target(target))?;
-                Ok(Resolved::Change {
-                    line: *line,
-                    sign: Sign::Plus,
-                    target,
-                    value,
-                })
-            }
+            } => self.resolve_change(*line, Sign::Plus, amount, target),
             Statement::Subtract {
                 line,
                 amount,
                 target,
-            } => {
-                let value = self.resolve_expression(amount)?;
-                let (value, target) = beside(value, self.resolve_target(target))?;
-                Ok(Resolved::Change {
-                    line: *line,
-                    sign: Sign::Minus,
-                    target,
-                    value,
-                })
-            }
+            } => self.resolve_change(*line, Sign::Minus, amount, target),
             Statement::Call {
                 line,
                 routine,
                 given,
                 yielding,
-            } => {
-                let (number, section) = self.routine_named(routine)?;
-                let values = self.resolve_all(given)?;
-                let (values, places) = beside(values, self.resolve_targets(yielding))?;
-                call_of(*line, number, section, values, places)
-            }
+            } => self.resolve_call_statement(*line, routine, given, yielding),
             Statement::Read { line, targets } => {
                 let readers = self.resolve_readers(targets)?;
                 Ok(Resolved::Read {
@@ -201,9 +203,9 @@ impl Resolver<'_> {
                 position,
                 set,
             } => {
-                let member = self.resolve_expression(member)?;
-                let filed = beside(member, self.resolve_position(position))?;
-                let ((member, position), (set, owner)) = beside(filed, self.resolve_set(set))?;
+                let member = self.resolve_expression(member);
+                let filed = both(member, self.resolve_position(position));
+                let ((member, position), (set, owner)) = both(filed, self.resolve_set(set))?;
                 Ok(Resolved::File {
                     line: *line,
                     set,
@@ -218,8 +220,8 @@ impl Resolver<'_> {
                 target,
                 set,
             } => {
-                let into = self.resolve_target(target)?;
-                let (into, (set, owner)) = beside(into, self.resolve_set(set))?;
+                let into = self.resolve_target(target);
+                let (into, (set, owner)) = both(into, self.resolve_set(set))?;
                 Ok(Resolved::RemoveEnd {
                     line: *line,
                     end: *end,
@@ -229,8 +231,8 @@ impl Resolver<'_> {
                 })
             }
             Statement::Remove { line, member, set } => {
-                let member = self.resolve_expression(member)?;
-                let (member, (set, owner)) = beside(member, self.resolve_set(set))?;
+                let member = self.resolve_expression(member);
+                let (member, (set, owner)) = both(member, self.resolve_set(set))?;
                 Ok(Resolved::Remove {
                     line: *line,
                     set,
@@ -244,26 +246,14 @@ impl Resolver<'_> {
                 called,
                 given,
                 when,
-            } => {
-                let class = self.class_named(ClassNeed::Notice, class)?;
-                let into = self.resolve_new_place(class.variable, called)?;
-                let with = beside(into, self.resolve_all(given))?;
-                let ((into, given), when) = beside(with, self.resolve_when(when))?;
-                new_notice(*line, class, into, given, when)
-            }
+            } => self.schedule_new(*line, class, called, given, when),
             Statement::Schedule {
                 line,
                 class,
                 called,
                 given,
                 when,
-            } => {
-                let class = self.class_named(ClassNeed::Notice, class)?;
-                let notice = self.resolve_entity_called(class.variable, called)?;
-                let with = beside(notice, self.resolve_all(given))?;
-                let ((notice, given), when) = beside(with, self.resolve_when(when))?;
-                old_notice(*line, class, notice, given, when)
-            }
+            } => self.schedule_old(*line, class, called, given, when),
             Statement::Cancel {
                 line,
                 class,

@@ -7,9 +7,9 @@ use Rattle.ss_tree.specs.Tree.{ConditionTree, HeadTree, LoopHeadTree, for_head, 
 use Rattle.ss_names_uses.specs.Uses as uses
 use Rattle.ss_names_scopes.specs.Scopes.{Scope}
 use Rattle.ss_program.specs.Program.{For, Find, Block, Done}
-use Rattle.ss_program.specs.WellTyped.{Scope as Place, Good, GoodBlock}
+use Rattle.ss_program.specs.WellTyped.{TypedScope as Place, Good, GoodBlock}
 use Rattle.ss_names_meaning.specs.Statements.{find_by, statement, statements}
-use Rattle.ss_check_laws.specs.Links.{IsLinked, Kept}
+use Rattle.ss_check_laws.specs.Links.{IsLinked, AreValid}
 use Rattle.ss_check_laws.specs.BodyLaws.{BodiesResolve, ConditionResolves, ForResolves, HeadResolves}
 use Rattle.ss_check_laws.proofs.Steps.{GoesWell, two_parts, three_parts}
 use Rattle.ss_check_laws.proofs.Lists.{after, after_one, after_two}
@@ -62,7 +62,7 @@ module _ (s : Scope) (g : Place) where
 
 module _ (s : Scope) (g : Place) (linked : IsLinked s g) where
   mutual
-    statement_resolves : (t : StatementTree) → Kept s g.is_main (uses.in_itself t) → Kept s g.is_main (uses.in_inner t) → Resolved s g t
+    statement_resolves : (t : StatementTree) → AreValid s g.is_main (uses.in_itself t) → AreValid s g.is_main (uses.in_inner t) → Resolved s g t
     statement_resolves (if_statement line test first second) k j =
         let p = two_parts s g.is_main (uses.in_row first) (uses.in_row second) j in
         if_made s g line test first second (conditions_resolve s g linked line test k) (row_resolves first p.0) (row_resolves second p.1)
@@ -72,11 +72,11 @@ module _ (s : Scope) (g : Place) (linked : IsLinked s g) where
         find_if_made s g line over outcome first second (heads_resolve s g linked line (for_head over) k) (row_resolves first p.0) (row_resolves second p.1)
     statement_resolves t k j = alone_resolves s g linked t k
 
-    row_resolves : (row : StatementRow) → Kept s g.is_main (uses.in_row row) → RowResolved s g row
+    row_resolves : (row : StatementRow) → AreValid s g.is_main (uses.in_row row) → RowResolved s g row
     row_resolves no_statement k = none_made s g
     row_resolves (and_statement t ts) k =
         let p = three_parts s g.is_main (uses.in_itself t) (uses.in_inner t) (uses.in_row ts) k in
         row_made s g t ts (statement_resolves t p.0 p.1) (row_resolves ts p.2)
 
 pub bodies_resolve : BodiesResolve
-bodies_resolve s g linked body k = row_resolves s g linked (statement_row body) (subst (Kept s g.is_main) (sym (in_row_of body)) k)
+bodies_resolve s g linked body k = row_resolves s g linked (statement_row body) (subst (AreValid s g.is_main) (sym (in_row_of body)) k)

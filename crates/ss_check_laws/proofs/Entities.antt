@@ -22,14 +22,14 @@ use Rattle.ss_check_rules.specs.Refusal.{use_breaks}
 use Rattle.ss_program.specs.declared.expression.Variable.{Variable}
 use Rattle.ss_program.specs.declared.statement.CountedClass.{CountedClass}
 use Rattle.ss_program.specs.Program.{Fetch, ToVariable, ByDiscipline, AsFirst, AsLast}
-use Rattle.ss_program.specs.WellTyped.{Scope as Place, HasMode, TakesMode, GoodPosition, Good, is_created_singly}
+use Rattle.ss_program.specs.WellTyped.{TypedScope as Place, HasMode, TakesMode, GoodPosition, Good, is_created_singly}
 use Rattle.ss_names_meaning.specs.declared.classes.NamedClass.{NamedClass}
 use Rattle.ss_names_meaning.specs.Answers.{◌>>=◌, each}
 use Rattle.ss_names_meaning.specs.Classes.{class_named, class_number, count_of, counted, variable_named}
 use Rattle.ss_names_meaning.specs.Statements.{entity_called, new_place, position, simple_statement}
 use Rattle.ss_names_laws.proofs.Results.{held}
 use Rattle.ss_names_laws.proofs.Steps.{got}
-use Rattle.ss_check_laws.specs.Links.{IsLinked, Kept}
+use Rattle.ss_check_laws.specs.Links.{IsLinked, AreValid}
 use Rattle.ss_check_laws.specs.BodyLaws.{ClassResolves}
 use Rattle.ss_check_laws.proofs.Steps.{GoesWell, two_parts, three_parts}
 use Rattle.ss_check_laws.proofs.Expressions.{number_kept}
@@ -73,24 +73,24 @@ module _ (s : Scope) (g : Place) (linked : IsLinked s g) (line : Line) where
   -- ---- what follows CALLED
 
   pub new_resolves : (need : ClassNeed) (name : NameBytes) (called : Option NamedTree) (c : ClassResolves s g need name (is_some called)) →
-      Kept s g.is_main (uses.in_option (uses.in_named line roles.Target true) called) → GoesWell (λ x. TakesMode g x Integer) (new_place s c.0.variable called)
+      AreValid s g.is_main (uses.in_option (uses.in_named line roles.Target true) called) → GoesWell (λ x. TakesMode g x Integer) (new_place s c.0.variable called)
   new_resolves need name None c k = (ToVariable c.0.variable, refl, c.5 refl)
   new_resolves need name (Some n) c k = takes_number s g linked line n k
 
   pub old_resolves : (need : ClassNeed) (name : NameBytes) (called : Option ExpressionTree) (c : ClassResolves s g need name (is_some called)) →
-      Kept s g.is_main (uses.in_option (uses.in_expression line true) called) → GoesWell (λ x. HasMode g x Integer) (entity_called s c.0.variable called)
+      AreValid s g.is_main (uses.in_option (uses.in_expression line true) called) → GoesWell (λ x. HasMode g x Integer) (entity_called s c.0.variable called)
   old_resolves need name None c k = (Fetch c.0.variable, refl, (c.5 refl).0)
   old_resolves need name (Some e) c k = number_kept s g linked line e k
 
   -- ---- CREATE and DESTROY
 
-  pub create_resolves : (name : NameBytes) (called : Option NamedTree) → Kept s g.is_main (uses.in_new line needs.Single name called) → GoesWell (Good g) (simple_statement s (create_statement line name called))
+  pub create_resolves : (name : NameBytes) (called : Option NamedTree) → AreValid s g.is_main (uses.in_new line needs.Single name called) → GoesWell (Good g) (simple_statement s (create_statement line name called))
   unfolding simple_statement
   create_resolves name called k =
       let c = classes_resolve s g linked line needs.Single name (is_some called) (k.0, tt) in
       after (Good g) _ _ c.0 c.2 (after_one (Good g) _ _ (new_resolves needs.Single name called c k.1) (λ x h. (ap is_created_singly c.3 ∙ single_kind c.1 c.4, h)))
 
-  pub destroy_resolves : (name : NameBytes) (called : Option ExpressionTree) → Kept s g.is_main (uses.in_old line needs.Single name called) → GoesWell (Good g) (simple_statement s (destroy_statement line name called))
+  pub destroy_resolves : (name : NameBytes) (called : Option ExpressionTree) → AreValid s g.is_main (uses.in_old line needs.Single name called) → GoesWell (Good g) (simple_statement s (destroy_statement line name called))
   unfolding simple_statement
   destroy_resolves name called k =
       let c = classes_resolve s g linked line needs.Single name (is_some called) (k.0, tt) in
@@ -106,26 +106,26 @@ module _ (s : Scope) (g : Place) (linked : IsLinked s g) (line : Line) where
       let meant = linked.table.meanings (count_name name) (meanings.Count count.0) count.1 in
       (count.0, ap count_of count.1, subst (λ (all : List CountedClass). Contains all count.0) (sym linked.counts) meant.0)
 
-  all_counted : (names : List NameBytes) → Kept s g.is_main (map (λ (name : NameBytes). uses.class_used line needs.Permanent name true) names) → GoesWell (Every (Contains g.program.counts)) (each (counted s) names)
+  all_counted : (names : List NameBytes) → AreValid s g.is_main (map (λ (name : NameBytes). uses.class_used line needs.Permanent name true) names) → GoesWell (Every (Contains g.program.counts)) (each (counted s) names)
   unfolding each
   all_counted [] k = ([], refl, tt)
   all_counted (name ∷ names) k =
       after_two (Every (Contains g.program.counts)) _ _ _ (counted_there name k.0) (all_counted names k.1) (λ y ys h hs. (h, hs))
 
-  pub create_every_resolves : (names : List NameBytes) → Kept s g.is_main (map (λ (name : NameBytes). uses.class_used line needs.Permanent name true) names) → GoesWell (Good g) (simple_statement s (create_every line names))
+  pub create_every_resolves : (names : List NameBytes) → AreValid s g.is_main (map (λ (name : NameBytes). uses.class_used line needs.Permanent name true) names) → GoesWell (Good g) (simple_statement s (create_every line names))
   unfolding simple_statement
   create_every_resolves names k = after_one (Good g) _ _ (all_counted names k) (λ ys h. h)
 
   -- ---- FILE and REMOVE
 
-  position_resolves : (t : PositionTree) → Kept s g.is_main (uses.in_position line t) → GoesWell (GoodPosition g) (position s t)
+  position_resolves : (t : PositionTree) → AreValid s g.is_main (uses.in_position line t) → GoesWell (GoodPosition g) (position s t)
   position_resolves by_discipline k = (ByDiscipline, refl, tt)
   position_resolves at_first k = (AsFirst, refl, tt)
   position_resolves at_last k = (AsLast, refl, tt)
   position_resolves (before e) k = after_one (GoodPosition g) _ _ (number_kept s g linked line e k) (λ x h. h)
   position_resolves (after_member e) k = after_one (GoodPosition g) _ _ (number_kept s g linked line e k) (λ x h. h)
 
-  pub file_resolves : (e : ExpressionTree) (t : PositionTree) (n : NamedTree) → Kept s g.is_main (uses.in_expression line true e ++ uses.in_position line t ++ uses.in_named line roles.Set false n) →
+  pub file_resolves : (e : ExpressionTree) (t : PositionTree) (n : NamedTree) → AreValid s g.is_main (uses.in_expression line true e ++ uses.in_position line t ++ uses.in_named line roles.Set false n) →
       GoesWell (Good g) (simple_statement s (file_statement line e t n))
   unfolding simple_statement
   file_resolves e t n k =
@@ -133,14 +133,14 @@ module _ (s : Scope) (g : Place) (linked : IsLinked s g) (line : Line) where
       let x = number_kept s g linked line e p.0 in
       after (Good g) _ _ x.0 x.1 (after_two (Good g) _ _ _ (position_resolves t p.1) (sets_resolve s g linked line n p.2) (λ u v h f. (x.2, h, f)))
 
-  pub remove_end_resolves : (end : End) (n set : NamedTree) → Kept s g.is_main (uses.in_named line roles.Target true n ++ uses.in_named line roles.Set false set) →
+  pub remove_end_resolves : (end : End) (n set : NamedTree) → AreValid s g.is_main (uses.in_named line roles.Target true n ++ uses.in_named line roles.Set false set) →
       GoesWell (Good g) (simple_statement s (remove_end line end n set))
   unfolding simple_statement
   remove_end_resolves end n set k =
       let p = two_parts s g.is_main (uses.in_named line roles.Target true n) (uses.in_named line roles.Set false set) k in
       after_two (Good g) _ _ _ (takes_number s g linked line n p.0) (sets_resolve s g linked line set p.1) (λ x v h f. (h, f))
 
-  pub remove_resolves : (e : ExpressionTree) (n : NamedTree) → Kept s g.is_main (uses.in_expression line true e ++ uses.in_named line roles.Set false n) →
+  pub remove_resolves : (e : ExpressionTree) (n : NamedTree) → AreValid s g.is_main (uses.in_expression line true e ++ uses.in_named line roles.Set false n) →
       GoesWell (Good g) (simple_statement s (remove_statement line e n))
   unfolding simple_statement
   remove_resolves e n k =

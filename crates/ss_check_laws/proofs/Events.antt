@@ -29,7 +29,7 @@ use Rattle.ss_names.specs.declared.entry.EventSection.{EventSection}
 use Rattle.ss_names.specs.declared.meaning.Meaning.{Meaning}
 use Rattle.ss_names.specs.declared.meaning.Meaning.TheVariants as m
 use Rattle.ss_names.specs.Entries.{event_by, given_by}
-use Rattle.ss_names.specs.Table.{Table, field_mode, table}
+use Rattle.ss_names.specs.Table.{Table, mode_of_attribute, table}
 use Rattle.ss_names_scopes.specs.Locals.{defined, local_used, locals_of, moded_in}
 use Rattle.ss_names_scopes.specs.Scopes.{Scope, hidden_by, is_main, known_mode, local_mode, scope_of}
 use Rattle.ss_program.specs.declared.expression.Variable.TheVariants.{Global}
@@ -219,10 +219,10 @@ module _ (p : tree.ProgramTree) (x : ResolvedLayout) (k : IsUnbroken p x) where
         let named : mode_of_use sc (modes.Named g.0) ≡ Some mode.0 =
         (λ j. meaning_mode (hidden_by locals g.0 (place j) (value_for t.meanings g.0))) ∙ ap (λ (o : Option (Option Mode)). Some (known_mode o)) (value ∙ ap Some known) in
         let a = there (get_or t.fields class []) i (omega (arith, leb-true (length given) (length (get_or t.fields class [])) limit)) in
-        let field = each_at (field_mode t) (get_or t.fields class []) n.laid.fields i a.0 n.named.fields a.1 in
-        let attribute : mode_of_use sc (modes.Attribute name i) ≡ Some field.0 = ap (λ o. attribute_mode t o i) placed ∙ ap (option_and_then (field_mode t)) a.1 ∙ field.2 in
+        let field = each_at (mode_of_attribute t) (get_or t.fields class []) n.laid.fields i a.0 n.named.fields a.1 in
+        let attribute : mode_of_use sc (modes.Attribute name i) ≡ Some field.0 = ap (λ o. attribute_mode t o i) placed ∙ ap (option_and_then (mode_of_attribute t)) a.1 ∙ field.2 in
         let same_place : 0 + i ≡ i = omega arith in
-        let places = in_parts holds (map (uses.parameter s.line) given) (uses.in_places (uses.as_attribute s.line name) 0 given) head.1.1 in
+        let places = in_parts holds (map (uses.parameter_use s.line) given) (uses.in_places (uses.as_attribute s.line name) 0 given) head.1.1 in
         let used = subst (λ j. Every holds (uses.as_attribute s.line name j g.0)) same_place (places_at holds (uses.as_attribute s.line name) 0 given i g.0 places.1 g.1) in
         let same = agree (mode_of_use sc (modes.Named g.0)) (mode_of_use sc (modes.Attribute name i)) mode.0 field.0 (errors.Mode s.line) used.0 named attribute in
         (mode.0, mode.1, field.1 ∙ ap Some (sym same))

@@ -12,10 +12,10 @@ use Rattle.ss_program.specs.Nodes.{option_nodes, unless_plain, expression_nodes,
 use Rattle.ss_program.specs.Program.{Expression, Fetch, Calculate, AValue, SetOwner}
 use Rattle.ss_names.specs.declared.meaning.Meaning.{Meaning}
 use Rattle.ss_names.specs.declared.meaning.Meaning.TheVariants as meanings
-use Rattle.ss_names.specs.Table.{owner_of}
-use Rattle.ss_names_scopes.specs.Scopes.{Scope, meaning, meaning_of_class, variable_of}
+use Rattle.ss_names.specs.Table.{owner_of_meaning}
+use Rattle.ss_names_scopes.specs.Scopes.{Scope, meaning_of, meaning_of_class, variable_of}
 use Rattle.ss_names_meaning.specs.Answers.{of_one}
-use Rattle.ss_names_meaning.specs.Expressions.{entity_implied, entity_of, expression, factors, item, of_owner, one, set_owner, place_named, place_of, resolved_item, resolved_operator, resolved_value, set_named, set_of_name, subscript, target, terms, two, value_alone, value_of_entity, with_entity}
+use Rattle.ss_names_meaning.specs.Expressions.{entity_implied, entity_of, expression, factors, item, of_owner, one, set_owner, place_named, place_of, resolved_item, resolved_operator, resolved_value, set_named, set_of_name, subscript, target, terms, two, value_alone, value_of_entity, meaning_with_entity}
 use Rattle.ss_check_laws.proofs.Within.{Within, so, followed, looked}
 
 plain_less : (e : Expression) (n : ℕ) → unless_plain e n ≤ n
@@ -103,17 +103,17 @@ module _ (s : Scope) where
 
   entity_small : (m : Meaning) (e : Option Expression) → Within (of_nodes m) (option_nodes expression_nodes e) (entity_of s m e)
   entity_small meanings.NoticeTime e = omega arith
-  entity_small m e = owned_small (owner_of s.table m) e
+  entity_small m e = owned_small (owner_of_meaning s.table m) e
 
-  named_small : (d : Designator) (e : Option Expression) → Within found_nodes (option_nodes expression_nodes e) (with_entity s d e)
-  named_small d e = looked (meaning s d) (λ m. followed (entity_small m e) (λ of p. omega arith))
+  named_small : (d : Designator) (e : Option Expression) → Within found_nodes (option_nodes expression_nodes e) (meaning_with_entity s d e)
+  named_small d e = looked (meaning_of s d) (λ m. followed (entity_small m e) (λ of p. omega arith))
 
   -- ---- expressions
 
   mutual
     unfolding expression
 
-    pub small : (e : ExpressionTree) → Within expression_nodes (tree.expression_nodes e) (expression s e)
+    pub small : (e : ExpressionTree) → Within expression_nodes (tree.expression_tree_nodes e) (expression s e)
     small (named d es) = followed (subscript_small es) (λ e p. followed (named_small d e) (λ q r. so (value_small q.0 q.1) (λ x t. omega arith)))
     small (call (One op) es) = followed (one_small es) (λ x p. omega arith)
     small (call (Two op) es) = followed (two_small es) (λ x p. omega arith)
@@ -146,7 +146,7 @@ module _ (s : Scope) where
   pub place_named_small : (d : Designator) (es : ExpressionRow) → Within found_nodes (tree.row_nodes es) (place_named s d es)
   place_named_small d es = followed (subscript_small es) (λ e p. so (named_small d e) (λ q r. omega arith))
 
-  pub item_small : (e : ExpressionTree) → Within item_nodes (tree.expression_nodes e) (item s e)
+  pub item_small : (e : ExpressionTree) → Within item_nodes (tree.expression_tree_nodes e) (item s e)
   item_small (parenthesised e) = item_small e
   item_small (named d es) = followed (place_named_small d es) (λ p q. so (shown_small p.0 p.1) (λ x r. omega arith))
   item_small e = shown (small e)

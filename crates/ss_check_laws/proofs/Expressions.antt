@@ -12,25 +12,25 @@ use Rattle.ss_tree.specs.declared.expression.Designator.{Designator}
 use Rattle.ss_tree.specs.declared.expression.Function.{Function}
 use Rattle.ss_tree.specs.declared.expression.Function.TheVariants.{One, Two}
 use Rattle.ss_program.specs.Program.{Expression, Constant, Fetch, Attribute, OfSystemSet, OfSet, OfMember, Clock, TimeOf, Figure, FigureOf, Signed, Unary, Calculate}
-use Rattle.ss_program.specs.WellTyped.{Scope as Place, HasMode}
+use Rattle.ss_program.specs.WellTyped.{TypedScope as Place, HasMode}
 use Rattle.ss_base.specs.declared.words.Operator.{Operator}
 use Rattle.ss_base.specs.declared.words.Operator.TheVariants.{Multiply}
 use Rattle.ss_program.specs.declared.expression.Variable.TheVariants.{Global}
 use Rattle.ss_names_uses.specs.Uses as uses
-use Rattle.ss_names_uses.specs.Uses.{place, row_length}
+use Rattle.ss_names_uses.specs.Uses.{place_use, row_length}
 use Rattle.ss_names_uses.specs.declared.used.Role.TheVariants as roles
 use Rattle.ss_names.specs.declared.meaning.Meaning.{Meaning}
 use Rattle.ss_names.specs.declared.meaning.Meaning.TheVariants as meanings
-use Rattle.ss_names_scopes.specs.Scopes.{Scope, mode_of}
+use Rattle.ss_names_scopes.specs.Scopes.{Scope, mode_of_meaning}
 use Rattle.ss_check_rules.specs.Counts.{argument_count}
 use Rattle.ss_check_rules.specs.Kinds.{has_value, is_mean}
 use Rattle.ss_check_rules.specs.Modes.{meaning_mode, mode_of_use}
 use Rattle.ss_check_rules.specs.Refusal.{use_breaks}
 use Rattle.ss_check_rules.specs.declared.error.CheckError.TheVariants as errors
 use Rattle.ss_names_meaning.specs.Answers.{◌>>=◌}
-use Rattle.ss_names_meaning.specs.Expressions.{expression, factors, one, resolved_operator, resolved_value, subscript, terms, two, with_entity}
+use Rattle.ss_names_meaning.specs.Expressions.{expression, factors, one, resolved_operator, resolved_value, subscript, terms, two, meaning_with_entity}
 use Rattle.ss_check_laws.specs.BodyLaws.{ExpressionsResolve, Resolves}
-use Rattle.ss_check_laws.specs.Links.{IsLinked, Kept}
+use Rattle.ss_check_laws.specs.Links.{IsLinked, AreValid}
 use Rattle.ss_check_laws.proofs.Steps.{goes, holds_unless, two_parts, two_steps}
 use Rattle.ss_check_laws.proofs.Linked.{IsHere}
 use Rattle.ss_check_laws.proofs.Places.{EntityFits, Number, Numbers, NumberTerms, OwnerHas, in_role, named_statistic_fits, named_with, number_mode, owner_fits, said_is}
@@ -39,7 +39,7 @@ module _ (s : Scope) (g : Place) where
   -- ---- numbers
 
   -- a number has the mode of a number
-  from_number : (b : Bool) (e : ExpressionTree) → Number s g e → mode_of_use s (uses.expression_mode e) ≡ Some Integer → Resolves s g b e
+  from_number : (b : Bool) (e : ExpressionTree) → Number s g e → mode_of_use s (uses.expression_tree_mode e) ≡ Some Integer → Resolves s g b e
   from_number b e n h = (n.0, Integer, n.1, n.2, h, λ t. refl)
 
   pub as_number : (e : ExpressionTree) → Resolves s g true e → Number s g e
@@ -49,7 +49,7 @@ module _ (s : Scope) (g : Place) where
   unfolding expression
   number_resolves b z = (Constant (Whole z), Integer, refl, refl, refl, λ t. refl)
 
-  text_resolves : (line : Line) (b : Bool) (t : List ℕ) → Kept s g.is_main (uses.in_expression line b (text t)) → Resolves s g b (text t)
+  text_resolves : (line : Line) (b : Bool) (t : List ℕ) → AreValid s g.is_main (uses.in_expression line b (text t)) → Resolves s g b (text t)
   unfolding expression
   text_resolves line true t h = absurd (none-some (errors.Mode line) (sym h.0))
   text_resolves line false t h = (Constant (Text t), Alpha, refl, refl, refl, λ f. absurd (false≢true f))
@@ -129,7 +129,7 @@ module _ (s : Scope) (g : Place) (k : IsLinked s g) where
   -- ---- what is named
 
   abbrev pub HasValue : Meaning → Option Expression → Type 0
-  HasValue m of = (x : Expression) × (mode : Mode) × (resolved_value m of ≡ Some x) × (mode_of m ≡ Some mode) × HasMode g x mode
+  HasValue m of = (x : Expression) × (mode : Mode) × (resolved_value m of ≡ Some x) × (mode_of_meaning m ≡ Some mode) × HasMode g x mode
 
   -- all but sets, routines and MEANs have a value
   pub meant_value : (m : Meaning) (of : Option Expression) → IsHere s g k m → EntityFits s g m of → has_value m ≡ true → is_mean m ≡ false → HasValue m of
@@ -159,7 +159,7 @@ module _ (s : Scope) (g : Place) (k : IsLinked s g) where
   meant_value _ of i f h n = absurd cc
 
   module _ (line : Line) where
-    named_resolves : (b : Bool) (d : Designator) (es : ExpressionRow) → use_breaks s g.is_main (place line roles.Value b d (row_length es)) ≡ None → Numbers s g es → Resolves s g b (named d es)
+    named_resolves : (b : Bool) (d : Designator) (es : ExpressionRow) → use_breaks s g.is_main (place_use line roles.Value b d (row_length es)) ≡ None → Numbers s g es → Resolves s g b (named d es)
     unfolding expression
     named_resolves b d es h n =
         let p = in_role s g k line roles.Value has_value d es b refl refl h n in
@@ -168,8 +168,8 @@ module _ (s : Scope) (g : Place) (k : IsLinked s g) where
         let q : Meaning × Option Expression = (p.0, of) in (
           v.0,
           v.1,
-          goes (subscript s es) (λ e. with_entity s d e >>= λ r. resolved_value r.0 r.1) p.5.0 v.0 p.5.2
-              (goes (with_entity s d p.5.0) (λ r. resolved_value r.0 r.1) q v.0 (named_with s g d p.5.0 p.0 of p.1 p.5.3) v.2),
+          goes (subscript s es) (λ e. meaning_with_entity s d e >>= λ r. resolved_value r.0 r.1) p.5.0 v.0 p.5.2
+              (goes (meaning_with_entity s d p.5.0) (λ r. resolved_value r.0 r.1) q v.0 (named_with s g d p.5.0 p.0 of p.1 p.5.3) v.2),
           v.4,
           said_is s d ∙ ap meaning_mode p.1 ∙ v.3,
           number_mode b p.0 v.1 v.3 p.4.mode,
@@ -178,7 +178,7 @@ module _ (s : Scope) (g : Place) (k : IsLinked s g) where
     -- ---- expressions
 
     mutual
-      pub resolves : (b : Bool) (e : ExpressionTree) → Kept s g.is_main (uses.in_expression line b e) → Resolves s g b e
+      pub resolves : (b : Bool) (e : ExpressionTree) → AreValid s g.is_main (uses.in_expression line b e) → Resolves s g b e
       resolves b (number z) h = number_resolves s g b z
       resolves b (text t) h = text_resolves s g line b t h
       resolves b (named d es) h = named_resolves b d es h.0 (numbers es h.1)
@@ -194,20 +194,20 @@ module _ (s : Scope) (g : Place) (k : IsLinked s g) where
           let p = two_parts s g.is_main (uses.in_expression line true e) (uses.in_terms line es) h in
           from_number s g b (sum e es) (sum_number s g e es (as_number s g e (resolves true e p.0)) (number_terms es p.1)) refl
 
-      pub numbers : (es : ExpressionRow) → Kept s g.is_main (uses.in_numbers line es) → Numbers s g es
+      pub numbers : (es : ExpressionRow) → AreValid s g.is_main (uses.in_numbers line es) → Numbers s g es
       numbers no_expression h = tt
       numbers (and_expression e es) h =
           let p = two_parts s g.is_main (uses.in_expression line true e) (uses.in_numbers line es) h in
           (as_number s g e (resolves true e p.0), numbers es p.1)
 
-      number_terms : (es : TermRow) → Kept s g.is_main (uses.in_terms line es) → NumberTerms s g es
+      number_terms : (es : TermRow) → AreValid s g.is_main (uses.in_terms line es) → NumberTerms s g es
       number_terms no_term h = tt
       number_terms (and_term sign e es) h =
           let p = two_parts s g.is_main (uses.in_expression line true e) (uses.in_terms line es) h in
           (as_number s g e (resolves true e p.0), number_terms es p.1)
 
     -- an expression that has to be a number
-    pub number_kept : (e : ExpressionTree) → Kept s g.is_main (uses.in_expression line true e) → Number s g e
+    pub number_kept : (e : ExpressionTree) → AreValid s g.is_main (uses.in_expression line true e) → Number s g e
     number_kept e h = as_number s g e (resolves true e h)
 
 pub expressions_resolve : ExpressionsResolve

@@ -8,20 +8,20 @@ use Rattle.ss_picture.specs.declared.field.Field.{Field}
 use Rattle.ss_tree.specs.Tree.{ExpressionTree, named, parenthesised, ExpressionRow}
 use Rattle.ss_tree.specs.declared.expression.Designator.{Designator}
 use Rattle.ss_program.specs.Program.{Expression, PrintItem, AValue, AMean, AMeanOf}
-use Rattle.ss_program.specs.WellTyped.{Scope as Place, TakesItem}
-use Rattle.ss_names_uses.specs.Uses.{as_mean, in_item, place, row_length, with_decimals}
+use Rattle.ss_program.specs.WellTyped.{TypedScope as Place, TakesItem}
+use Rattle.ss_names_uses.specs.Uses.{as_mean, in_item, place_use, row_length, with_decimals}
 use Rattle.ss_names_uses.specs.declared.used.Role.TheVariants as roles
 use Rattle.ss_names_uses.specs.declared.used.Used.{Used}
 use Rattle.ss_names_uses.specs.declared.used.Used.TheVariants.{Mean, Unfit}
 use Rattle.ss_names.specs.declared.meaning.Meaning.{Meaning}
 use Rattle.ss_names.specs.declared.meaning.Meaning.TheVariants as meanings
-use Rattle.ss_names_scopes.specs.Scopes.{Scope, meaning}
+use Rattle.ss_names_scopes.specs.Scopes.{Scope, meaning_of}
 use Rattle.ss_check_rules.specs.Kinds.{has_value, if_means, is_mean}
 use Rattle.ss_check_rules.specs.Refusal.{use_breaks, used_breaks}
 use Rattle.ss_check_rules.specs.declared.error.CheckError.TheVariants as errors
 use Rattle.ss_names_meaning.specs.Expressions.{expression, item, place_named, resolved_item}
 use Rattle.ss_check_laws.specs.BodyLaws.{ItemResolves, ItemsResolve, Resolves}
-use Rattle.ss_check_laws.specs.Links.{IsLinked, Kept}
+use Rattle.ss_check_laws.specs.Links.{IsLinked, AreValid}
 use Rattle.ss_check_laws.proofs.Steps.{goes, holds_unless}
 use Rattle.ss_check_laws.proofs.Linked.{IsHere}
 use Rattle.ss_check_laws.proofs.Places.{EntityFits, Numbers, in_role, named_statistic_fits, placed}
@@ -51,15 +51,15 @@ module _ (s : Scope) (in_main : Bool) (line : Line) where
   mean_kept true u h = (refl, h)
   mean_kept false u h = absurd (no_mean h)
 
-  decimals_kept : (e : ExpressionTree) (n : ℕ) → Kept s in_main (with_decimals line e n) → FewDecimals n (IsMeanKept (as_mean e))
+  decimals_kept : (e : ExpressionTree) (n : ℕ) → AreValid s in_main (with_decimals line e n) → FewDecimals n (IsMeanKept (as_mean e))
   decimals_kept e zero h = inl refl
   decimals_kept e (suc more) h =
       let m = mean_kept (nat_le (suc more) 9) (as_mean e) h.0 in
       inr (leb-true (suc more) 9 m.0, m.1)
 
-  decimals_meant : (d : Designator) (m : Meaning) (n : ℕ) → meaning s d ≡ Some m → FewDecimals n (IsMeanKept (Mean d)) → FewDecimals n (is_mean m ≡ true)
+  decimals_meant : (d : Designator) (m : Meaning) (n : ℕ) → meaning_of s d ≡ Some m → FewDecimals n (IsMeanKept (Mean d)) → FewDecimals n (is_mean m ≡ true)
   decimals_meant d m n e (inl none) = inl none
-  decimals_meant d m n e (inr few) = inr (few.0, subst (λ o. if_means is_mean o ≡ true) e (holds_unless (if_means is_mean (meaning s d)) (errors.Fields line) few.1))
+  decimals_meant d m n e (inr few) = inr (few.0, subst (λ o. if_means is_mean o ≡ true) e (holds_unless (if_means is_mean (meaning_of s d)) (errors.Fields line) few.1))
 
 module _ (s : Scope) (g : Place) (k : IsLinked s g) (line : Line) (field : Field) where
   abbrev HasItem : Meaning → Option Expression → Type 0
@@ -75,7 +75,7 @@ module _ (s : Scope) (g : Place) (k : IsLinked s g) (line : Line) (field : Field
       let v = meant_value s g k m of i f h refl in
       (AValue v.0, ap (option_map AValue) v.2, ((v.1, v.4), none_unless field.decimals (is_mean m ≡ true) (both_ways (is_mean m) refl) d))
 
-  named_item : (d : Designator) (es : ExpressionRow) → FewDecimals field.decimals (IsMeanKept s g.is_main line (Mean d)) → use_breaks s g.is_main (place line roles.Item false d (row_length es)) ≡ None → Numbers s g es → ItemResolves s g field (named d es)
+  named_item : (d : Designator) (es : ExpressionRow) → FewDecimals field.decimals (IsMeanKept s g.is_main line (Mean d)) → use_breaks s g.is_main (place_use line roles.Item false d (row_length es)) ≡ None → Numbers s g es → ItemResolves s g field (named d es)
   named_item d es few h n =
       let p = in_role s g k line roles.Item has_value d es false refl refl h n in
       let r = meant_item p.0 p.5.1 p.3 p.5.4 p.2 (decimals_meant s g.is_main line d p.0 field.decimals p.1 few) in
@@ -86,7 +86,7 @@ module _ (s : Scope) (g : Place) (k : IsLinked s g) (line : Line) (field : Field
   valued_item : (e : ExpressionTree) → item s e ≡ option_map AValue (expression s e) → (IsMeanKept s g.is_main line (as_mean e) → ⊥) → FewDecimals field.decimals (IsMeanKept s g.is_main line (as_mean e)) → Resolves s g false e → ItemResolves s g field e
   valued_item e same never few r = (AValue r.0, same ∙ ap (option_map AValue) r.2, ((r.1, r.3), none_unless field.decimals (IsMeanKept s g.is_main line (as_mean e)) never few))
 
-  item_resolves : (e : ExpressionTree) → FewDecimals field.decimals (IsMeanKept s g.is_main line (as_mean e)) → Kept s g.is_main (in_item line e) → ItemResolves s g field e
+  item_resolves : (e : ExpressionTree) → FewDecimals field.decimals (IsMeanKept s g.is_main line (as_mean e)) → AreValid s g.is_main (in_item line e) → ItemResolves s g field e
   item_resolves (named d es) few h = named_item d es few h.0 (numbers s g k line es h.1)
   item_resolves (parenthesised e) few h = item_resolves e few h
   item_resolves e few h = valued_item e refl (no_mean s g.is_main line) few (resolves s g k line false e h)

@@ -20,7 +20,7 @@ use Rattle.ss_tree.specs.Names.{NameBytes}
 use Rattle.ss_tree.specs.declared.expression.Designator.{Designator}
 use Rattle.ss_tree.specs.declared.expression.Designator.TheVariants as designators
 use Rattle.ss_program.specs.Program.{ToVariable}
-use Rattle.ss_program.specs.WellTyped.{Scope as Place, TakesMode, field_mode, kind_of_class}
+use Rattle.ss_program.specs.WellTyped.{TypedScope as Place, TakesMode, field_mode, kind_of_class}
 use Rattle.ss_program.specs.declared.expression.SetQuery.TheVariants.{MemberCount}
 use Rattle.ss_program.specs.declared.expression.Variable.{Variable}
 use Rattle.ss_program.specs.declared.expression.Variable.TheVariants.{Global, Local}
@@ -33,8 +33,8 @@ use Rattle.ss_names_declarations.proofs.Entries.{there as item_at, value_at, val
 use Rattle.ss_names.specs.declared.entry.Set.{Set}
 use Rattle.ss_names.specs.declared.meaning.Meaning.{Meaning}
 use Rattle.ss_names.specs.declared.meaning.Meaning.TheVariants as meanings
-use Rattle.ss_names.specs.Table.{Table, owner_of, owner_of_member, owner_of_set, owner_of_statistic, owner_of_subject, subject_of}
-use Rattle.ss_names_scopes.specs.Scopes.{Scope, hidden_by, known_mode, local_mode, meaning, meaning_of_class, meaning_of_name, mode_of, variable_of}
+use Rattle.ss_names.specs.Table.{Table, owner_of_meaning, owner_kind_of_member, owner_kind_of_set, owner_of_statistic, owner_of_subject, subject_of}
+use Rattle.ss_names_scopes.specs.Scopes.{Scope, hidden_by, known_mode, local_mode, meaning_of, meaning_of_class, meaning_of_name, mode_of_meaning, variable_of}
 use Rattle.ss_check_rules.specs.Kinds.{is_variable}
 use Rattle.ss_names_meaning.specs.Answers.{◌>>=◌, each, upto}
 use Rattle.ss_names_meaning.specs.Layouts.{ResolvedLayout, class_layout, counts, disciplines, resolved_layout, layout, set_layout, statistics}
@@ -84,8 +84,8 @@ module _ (s : Scope) (g : Place) (k : IsLinked s g) where
   pub record IsSetHere (set : ℕ) : Type 0 where
     pub laid : SetLayout
     pub there : slice_get g.program.layout.sets set ≡ Some laid
-    pub owner : owner_of_set (slice_get s.table.sets set) ≡ laid.owner
-    pub member : owner_of_member (slice_get s.table.sets set) ≡ owners.Class laid.member
+    pub owner : owner_kind_of_set (slice_get s.table.sets set) ≡ laid.owner
+    pub member : owner_kind_of_member (slice_get s.table.sets set) ≡ owners.Class laid.member
     pub owner_there : IsOwner laid.owner
     pub member_there : IsClassHere laid.member
 
@@ -108,13 +108,13 @@ module _ (s : Scope) (g : Place) (k : IsLinked s g) where
       record {
         laid = i.laid;
         there = ap (λ (l : PlainLayout). slice_get l.sets set) k.layout ∙ i.laid_there;
-        owner = ap owner_of_set i.there ∙ ap (λ (o : Option Owner). unwrap_or o owners.System) parts.0;
-        member = ap owner_of_member i.there ∙ ap (λ (o : Option ℕ). unwrap_or (option_map owners.Class o) owners.System) parts.1;
+        owner = ap owner_kind_of_set i.there ∙ ap (λ (o : Option Owner). unwrap_or o owners.System) parts.0;
+        member = ap owner_kind_of_member i.there ∙ ap (λ (o : Option ℕ). unwrap_or (option_map owners.Class o) owners.System) parts.1;
         owner_there = is_owner i.laid.owner both.0;
         member_there = item_at k.laid.layout.classes i.laid.member (ltb-true i.laid.member classes both.1);
       }
 
-  set_owned : (set : ℕ) → IsSetHere set → IsOwner (owner_of_set (slice_get s.table.sets set))
+  set_owned : (set : ℕ) → IsSetHere set → IsOwner (owner_kind_of_set (slice_get s.table.sets set))
   set_owned set i = subst IsOwner (sym i.owner) i.owner_there
 
   -- ---- statistics
@@ -213,7 +213,7 @@ module _ (s : Scope) (g : Place) (k : IsLinked s g) where
           let local : Meaning = meanings.Variable (Local n) (known_mode (lookup (same_name name) s.locals)) in
           subst IsHere (same_Some local m (sym (seen name (Some n) f) ∙ e)) (local_here name n f, tt)
 
-  pub meaning_here : (d : Designator) (m : Meaning) → meaning s d ≡ Some m → IsHere m
+  pub meaning_here : (d : Designator) (m : Meaning) → meaning_of s d ≡ Some m → IsHere m
   meaning_here (designators.Name name) m e = named_here name m e
   meaning_here designators.TimeV m e = subst IsHere (same_Some meanings.Clock m e) tt
   meaning_here designators.TimeA m e = subst IsHere (same_Some meanings.NoticeTime m e) tt
@@ -226,7 +226,7 @@ module _ (s : Scope) (g : Place) (k : IsLinked s g) where
   subject_owner (subjects.OfCount set) i = set_owned set i
 
   -- who has what a name means is there
-  pub owner_here : (m : Meaning) → IsHere m → IsOwner (owner_of s.table m)
+  pub owner_here : (m : Meaning) → IsHere m → IsOwner (owner_of_meaning s.table m)
   owner_here (meanings.Attribute class field mode) i = i.1
   owner_here (meanings.Set set) i = set_owned set i
   owner_here (meanings.OfSet query set) i = set_owned set i
@@ -238,7 +238,7 @@ module _ (s : Scope) (g : Place) (k : IsLinked s g) where
 
   -- the variable of what a name means
   abbrev pub IsVariable : Meaning → Type 0
-  IsVariable m = (v : Variable) × (mode : Mode) × (variable_of m ≡ Some v) × (mode_of m ≡ Some mode) × TakesMode g (ToVariable v) mode
+  IsVariable m = (v : Variable) × (mode : Mode) × (variable_of m ≡ Some v) × (mode_of_meaning m ≡ Some mode) × TakesMode g (ToVariable v) mode
 
   pub variable_here : (m : Meaning) → IsHere m → is_variable m ≡ true → IsVariable m
   variable_here (meanings.Variable v mode) i h = (v, mode, refl, refl, i)

@@ -17,18 +17,18 @@ use Rattle.ss_names_uses.specs.declared.used.ModeOf.TheVariants as modes
 use Rattle.ss_names_uses.specs.declared.used.Role.TheVariants as roles
 use Rattle.ss_names_uses.specs.Uses as uses
 use Rattle.ss_names.specs.declared.meaning.Meaning.TheVariants as meanings
-use Rattle.ss_names.specs.Table.{Table, field_mode}
+use Rattle.ss_names.specs.Table.{Table, mode_of_attribute}
 use Rattle.ss_names_scopes.specs.Scopes.{Scope, is_kind}
 use Rattle.ss_check_rules.specs.declared.error.CheckError.TheVariants as errors
 use Rattle.ss_check_rules.specs.Modes.{attribute_mode}
 use Rattle.ss_program.specs.Program.{Expression, Now, When, Restart, Statement, ScheduleNew, Schedule}
-use Rattle.ss_program.specs.WellTyped.{Scope as Place, HasMode, HaveModes, GoodWhen, GoodGiven, GoodRestart, Good}
+use Rattle.ss_program.specs.WellTyped.{TypedScope as Place, HasMode, HaveModes, GoodWhen, GoodGiven, GoodRestart, Good}
 use Rattle.ss_names_meaning.specs.declared.classes.NamedClass.{NamedClass}
 use Rattle.ss_names_meaning.specs.Answers.{◌>>=◌, each, where_holds}
 use Rattle.ss_names_meaning.specs.Expressions.{expression}
 use Rattle.ss_names_meaning.specs.Statements.{restart, simple_statement, when}
 use Rattle.ss_names_laws.proofs.Steps.{each_at}
-use Rattle.ss_check_laws.specs.Links.{IsLinked, Kept}
+use Rattle.ss_check_laws.specs.Links.{IsLinked, AreValid}
 use Rattle.ss_check_laws.specs.BodyLaws.{ClassResolves}
 use Rattle.ss_check_laws.proofs.Steps.{GoesWell, each_resolves, holds_unless, three_parts}
 use Rattle.ss_check_laws.proofs.Expressions.{number_kept}
@@ -44,16 +44,16 @@ notice_kind kinds.Permanent h = absurd cc
 notice_kind kinds.Temporary h = absurd cc
 
 -- the mode of an attribute, by its place in its class
-field_there : (t : Table) (names : List NameBytes) (fields : List Mode) (i : ℕ) (m : Mode) → each (field_mode t) names ≡ Some fields → slice_get fields i ≡ Some m → option_and_then (field_mode t) (slice_get names i) ≡ Some m
+field_there : (t : Table) (names : List NameBytes) (fields : List Mode) (i : ℕ) (m : Mode) → each (mode_of_attribute t) names ≡ Some fields → slice_get fields i ≡ Some m → option_and_then (mode_of_attribute t) (slice_get names i) ≡ Some m
 field_there t names fields i m h e =
     let within = slice_get_within fields i m e in
-    let lt : i < length names = omega (arith, within, each_length (field_mode t) names fields h) in
+    let lt : i < length names = omega (arith, within, each_length (mode_of_attribute t) names fields h) in
     let name = there names i lt in
-    let at = each_at (field_mode t) names fields i name.0 h name.1 in
-    ap (option_and_then (field_mode t)) name.1 ∙ at.2 ∙ (sym at.1 ∙ e)
+    let at = each_at (mode_of_attribute t) names fields i name.0 h name.1 in
+    ap (option_and_then (mode_of_attribute t)) name.1 ∙ at.2 ∙ (sym at.1 ∙ e)
 
 module _ (s : Scope) (g : Place) (linked : IsLinked s g) (line : Line) where
-  when_resolves : (t : WhenTree) → Kept s g.is_main (uses.in_when line t) → GoesWell (GoodWhen g) (when s t)
+  when_resolves : (t : WhenTree) → AreValid s g.is_main (uses.in_when line t) → GoesWell (GoodWhen g) (when s t)
   when_resolves (at_time e) k = after_one (GoodWhen g) _ _ (number_kept s g linked line e k) (λ x h. h)
   when_resolves (in_units e) k = after_one (GoodWhen g) _ _ (number_kept s g linked line e k) (λ x h. h)
   when_resolves now k = (Now, refl, tt)
@@ -62,7 +62,7 @@ module _ (s : Scope) (g : Place) (linked : IsLinked s g) (line : Line) where
   abbrev GivenTo : NamedClass → List Expression → Type 0
   GivenTo c xs = (nat_le (length xs) c.attributes ≡ true) × GoodGiven g c.class xs
 
-  given_resolve : (name : NameBytes) (is_called : Bool) (c : ClassResolves s g needs.Notice name is_called) (given : List ExpressionTree) → Kept s g.is_main (uses.in_given line name given) →
+  given_resolve : (name : NameBytes) (is_called : Bool) (c : ClassResolves s g needs.Notice name is_called) (given : List ExpressionTree) → AreValid s g.is_main (uses.in_given line name given) →
       GoesWell (GivenTo c.0) (each (expression s) given)
   given_resolve name is_called c given k =
       let class = c.0.class in
@@ -79,7 +79,7 @@ module _ (s : Scope) (g : Place) (linked : IsLinked s g) (line : Line) where
       let xs = in_order s g.is_main (expression s) (λ (i : ℕ). uses.in_value line (modes.Attribute name i)) (HasMode g) given laid.0.fields
       (λ i e w f h. value_resolves s g linked line (modes.Attribute name i) w e
       (ap (λ (o : Option ℕ). attribute_mode s.table o i) place ∙ field_there s.table names laid.0.fields i w fields f) h)
-      (omega (arith, few, each_length (field_mode s.table) names laid.0.fields fields)) k.1 in (
+      (omega (arith, few, each_length (mode_of_attribute s.table) names laid.0.fields fields)) k.1 in (
         xs.0,
         xs.1,
         (
@@ -93,7 +93,7 @@ module _ (s : Scope) (g : Place) (linked : IsLinked s g) (line : Line) where
 
   -- what both forms of SCHEDULE end with
   scheduled : (name : NameBytes) (is_called : Bool) (c : ClassResolves s g needs.Notice name is_called) (given : List ExpressionTree) (time : WhenTree) (f : List Expression → When → Statement) →
-      Kept s g.is_main (uses.in_given line name given) → Kept s g.is_main (uses.in_when line time) → ((xs : List Expression) (due : When) → GoodGiven g c.0.class xs → GoodWhen g due → Good g (f xs due)) →
+      AreValid s g.is_main (uses.in_given line name given) → AreValid s g.is_main (uses.in_when line time) → ((xs : List Expression) (due : When) → GoodGiven g c.0.class xs → GoodWhen g due → Good g (f xs due)) →
       GoesWell (Good g) (each (expression s) given >>= λ xs. when s time >>= λ due. where_holds (nat_le (length xs) c.0.attributes) (f xs due))
   scheduled name is_called c given time f k j good =
       let us = given_resolve name is_called c given k in
@@ -102,7 +102,7 @@ module _ (s : Scope) (g : Place) (linked : IsLinked s g) (line : Line) where
       (f us.0 t.0, holds (nat_le (length us.0) c.0.attributes) (f us.0 t.0) us.2.0, good us.0 t.0 us.2.1 t.2))
 
   pub schedule_new_resolves : (name : NameBytes) (called : Option NamedTree) (given : List ExpressionTree) (time : WhenTree) →
-      Kept s g.is_main (uses.in_new line needs.Notice name called ++ uses.in_given line name given ++ uses.in_when line time) →
+      AreValid s g.is_main (uses.in_new line needs.Notice name called ++ uses.in_given line name given ++ uses.in_when line time) →
       GoesWell (Good g) (simple_statement s (schedule_new line name called given time))
   unfolding simple_statement
   schedule_new_resolves name called given time k =
@@ -113,7 +113,7 @@ module _ (s : Scope) (g : Place) (linked : IsLinked s g) (line : Line) where
       (scheduled name (is_some called) c given time (λ xs due. ScheduleNew line c.0.class x.0 xs due) p.1 p.2 (λ xs due h f. (h, x.2, f))))
 
   pub schedule_resolves : (name : NameBytes) (called : Option ExpressionTree) (given : List ExpressionTree) (time : WhenTree) →
-      Kept s g.is_main (uses.in_old line needs.Notice name called ++ uses.in_given line name given ++ uses.in_when line time) →
+      AreValid s g.is_main (uses.in_old line needs.Notice name called ++ uses.in_given line name given ++ uses.in_when line time) →
       GoesWell (Good g) (simple_statement s (schedule_statement line name called given time))
   unfolding simple_statement
   schedule_resolves name called given time k =
@@ -123,13 +123,13 @@ module _ (s : Scope) (g : Place) (linked : IsLinked s g) (line : Line) where
       after (Good g) _ _ c.0 c.2 (after (Good g) _ _ x.0 x.1
       (scheduled name (is_some called) c given time (λ xs due. Schedule line c.0.class x.0 xs due) p.1 p.2 (λ xs due h f. (h, x.2, f))))
 
-  pub cancel_resolves : (name : NameBytes) (called : Option ExpressionTree) → Kept s g.is_main (uses.in_old line needs.Notice name called) → GoesWell (Good g) (simple_statement s (cancel_statement line name called))
+  pub cancel_resolves : (name : NameBytes) (called : Option ExpressionTree) → AreValid s g.is_main (uses.in_old line needs.Notice name called) → GoesWell (Good g) (simple_statement s (cancel_statement line name called))
   unfolding simple_statement
   cancel_resolves name called k =
       let c = classes_resolve s g linked line needs.Notice name (is_some called) (k.0, tt) in
       after (Good g) _ _ c.0 c.2 (after_one (Good g) _ _ (old_resolves s g linked line needs.Notice name called c k.1) (λ x h. (c.3 ∙ ap Some (notice_kind c.1 c.4), h)))
 
-  pub reset_resolves : (ns : List NamedTree) → Kept s g.is_main (uses.in_all_named line roles.Reset ns) → GoesWell (Good g) (simple_statement s (reset_statement line ns))
+  pub reset_resolves : (ns : List NamedTree) → AreValid s g.is_main (uses.in_all_named line roles.Reset ns) → GoesWell (Good g) (simple_statement s (reset_statement line ns))
   unfolding simple_statement
   reset_resolves ns k =
       after_one (Good g) _ _ (each_resolves s g.is_main (restart s) (uses.in_named line roles.Reset false) (λ (r : Restart). GoodRestart g r.statistic r.of) (restarts_resolve s g linked line) ns k) (λ xs h. h)

@@ -12,7 +12,7 @@ use Rattle.ss_tree.specs.Tree.{ExpressionTree, ExpressionRow, no_expression, and
 use Rattle.ss_tree.specs.declared.expression.Designator.{Designator}
 use Rattle.ss_tree.specs.declared.expression.Designator.TheVariants as designators
 use Rattle.ss_program.specs.Program.{Expression, Fetch}
-use Rattle.ss_program.specs.WellTyped.{Scope as Place, GoodRestart, HasMode, IsAlone, IsOfEntities, OwnerFits, mode_at, owner_of_set as owner_in_program}
+use Rattle.ss_program.specs.WellTyped.{TypedScope as Place, GoodRestart, HasMode, IsAlone, IsOfEntities, OwnerFits, mode_at, owner_of_set as owner_in_program}
 use Rattle.ss_program.specs.declared.expression.Variable.{Variable}
 use Rattle.ss_program.specs.declared.sections.Statistic.{Statistic}
 use Rattle.ss_program.specs.declared.sections.Subject.{Subject}
@@ -21,15 +21,15 @@ use Rattle.ss_names_uses.specs.Uses.{designated, row_length}
 use Rattle.ss_names_uses.specs.declared.used.Role.{Role}
 use Rattle.ss_names.specs.declared.meaning.Meaning.{Meaning}
 use Rattle.ss_names.specs.declared.meaning.Meaning.TheVariants as meanings
-use Rattle.ss_names.specs.Table.{owner_of, owner_of_set, owner_of_statistic, owner_of_subject}
-use Rattle.ss_names_scopes.specs.Scopes.{Scope, implied, meaning, meaning_of_class, mode_of, meaning_of_owner as implied_of, variable_of}
+use Rattle.ss_names.specs.Table.{owner_of_meaning, owner_kind_of_set, owner_of_statistic, owner_of_subject}
+use Rattle.ss_names_scopes.specs.Scopes.{Scope, implied, meaning_of, meaning_of_class, mode_of_meaning, meaning_of_owner as implied_of, variable_of}
 use Rattle.ss_check_rules.specs.Kinds.{if_means, is_target, may_have, meaning_in_role, suits, suits_subscripts, takes_values}
 use Rattle.ss_check_rules.specs.Modes.{is_mean_as_value, is_text, mixes_modes, meaning_mode, mode_of_use}
 use Rattle.ss_names_declarations.specs.Earliest.{unless}
 use Rattle.ss_check_rules.specs.Refusal.{meaning_breaks, place_breaks}
 use Rattle.ss_check_rules.specs.declared.error.CheckError.TheVariants as errors
 use Rattle.ss_names_meaning.specs.Answers.{◌>>=◌, of_one}
-use Rattle.ss_names_meaning.specs.Expressions.{entity_of, expression, of_owner, set_owner, place_named, subscript, with_entity}
+use Rattle.ss_names_meaning.specs.Expressions.{entity_of, expression, of_owner, set_owner, place_named, subscript, meaning_with_entity}
 use Rattle.ss_check_laws.specs.Links.{IsLinked}
 use Rattle.ss_check_laws.proofs.Steps.{alike, first_fails, first_holds, goes, holds_unless, meant}
 use Rattle.ss_check_laws.proofs.Linked.{IsHere, IsOwner, IsSetHere, IsStatisticHere, IsSubjectHere, implied_here, meaning_here, owner_here}
@@ -37,13 +37,13 @@ use Rattle.ss_check_laws.proofs.Linked.{IsHere, IsOwner, IsSetHere, IsStatisticH
 -- ---- modes
 
 -- the mode that a use says of what is named is that of its meaning
-pub said_is : (s : Scope) (d : Designator) → mode_of_use s (designated d) ≡ meaning_mode (meaning s d)
+pub said_is : (s : Scope) (d : Designator) → mode_of_use s (designated d) ≡ meaning_mode (meaning_of s d)
 said_is s (designators.Name name) = refl
 said_is s designators.TimeV = refl
 said_is s designators.TimeA = refl
 
-pub number_mode : (b : Bool) (m : Meaning) (mode : Mode) → mode_of m ≡ Some mode → (b && is_text (Some m)) ≡ false → b ≡ true → mode ≡ Integer
-number_mode b m mode e h t = alike (mode_of m) (Some Integer) mode Integer (subst (λ c. (c && is_text (Some m)) ≡ false) t h) e refl
+pub number_mode : (b : Bool) (m : Meaning) (mode : Mode) → mode_of_meaning m ≡ Some mode → (b && is_text (Some m)) ≡ false → b ≡ true → mode ≡ Integer
+number_mode b m mode e h t = alike (mode_of_meaning m) (Some Integer) mode Integer (subst (λ c. (c && is_text (Some m)) ≡ false) t h) e refl
 
 -- ---- rules
 
@@ -100,17 +100,17 @@ module _ (s : Scope) (g : Place) where
   abbrev pub EntityFits : Meaning → Option Expression → Type 0
   EntityFits meanings.NoticeTime None = ⊥
   EntityFits meanings.NoticeTime (Some e) = HasMode g e Integer
-  EntityFits m e = OwnerHas (owner_of s.table m) e
+  EntityFits m e = OwnerHas (owner_of_meaning s.table m) e
 
   -- what is named, with its subscripts, and the entity that has it
   abbrev pub HasEntity : ExpressionRow → Meaning → Type 0
   HasEntity es m = (e : Option Expression) × (of : Option Expression) × (subscript s es ≡ Some e) × (entity_of s m e ≡ Some of) × EntityFits m of
 
-  pub named_with : (d : Designator) (e : Option Expression) (m : Meaning) (of : Option Expression) → meaning s d ≡ Some m → entity_of s m e ≡ Some of → with_entity s d e ≡ Some (m, of)
+  pub named_with : (d : Designator) (e : Option Expression) (m : Meaning) (of : Option Expression) → meaning_of s d ≡ Some m → entity_of s m e ≡ Some of → meaning_with_entity s d e ≡ Some (m, of)
   named_with d e m of h f = rw (h, f) refl
 
-  pub placed : (d : Designator) (es : ExpressionRow) (m : Meaning) (p : HasEntity es m) → meaning s d ≡ Some m → place_named s d es ≡ Some (m, p.1)
-  placed d es m p h = goes (subscript s es) (λ e. with_entity s d e) p.0 (m, p.1) p.2 (named_with d p.0 m p.1 h p.3)
+  pub placed : (d : Designator) (es : ExpressionRow) (m : Meaning) (p : HasEntity es m) → meaning_of s d ≡ Some m → place_named s d es ≡ Some (m, p.1)
+  placed d es m p h = goes (subscript s es) (λ e. meaning_with_entity s d e) p.0 (m, p.1) p.2 (named_with d p.0 m p.1 h p.3)
 
   -- ---- rules
 
@@ -149,13 +149,13 @@ module _ (s : Scope) (g : Place) (k : IsLinked s g) where
 
   few_subscripts : (m : Meaning) (n : ℕ) → suits_subscripts s.table m n ≡ true → n ≤ 1
   few_subscripts meanings.NoticeTime n h = omega (arith, eqb-true n 1 h)
-  few_subscripts m n h = at_most_one (owner_of s.table m) n h
+  few_subscripts m n h = at_most_one (owner_of_meaning s.table m) n h
 
   meant_entity : (m : Meaning) → IsHere s g k m → (n : ℕ) (e : Option Expression) → IsSubscript s g n e → suits_subscripts s.table m n ≡ true → ((n == 0) && is_text (implied s m)) ≡ false →
       (of : Option Expression) × (entity_of s m e ≡ Some of) × EntityFits s g m of
   meant_entity meanings.NoticeTime i n None f h t = absurd (omega (arith, eqb-true n 1 h, f))
   meant_entity meanings.NoticeTime i n (Some x) f h t = (Some x, refl, f.1)
-  meant_entity m i n e f h t = owner_entity (owner_of s.table m) (owner_here s g k m i) n e f h t
+  meant_entity m i n e f h t = owner_entity (owner_of_meaning s.table m) (owner_here s g k m i) n e f h t
 
   has_entity : (es : ExpressionRow) (m : Meaning) → IsHere s g k m → Numbers s g es → suits_subscripts s.table m (row_length es) ≡ true → ((row_length es == 0) && is_text (implied s m)) ≡ false → HasEntity s g es m
   has_entity es m i n h t =
@@ -165,7 +165,7 @@ module _ (s : Scope) (g : Place) (k : IsLinked s g) where
 
   -- a place in a role that asks for a kind of what its name means
   abbrev pub InRole : Role → (kind : Meaning → Bool) → Designator → ExpressionRow → Bool → Type 0
-  InRole role kind d es b = (m : Meaning) × (meaning s d ≡ Some m) × (kind m ≡ true) × IsHere s g k m × IsUnbroken s g role (row_length es) b m × HasEntity s g es m
+  InRole role kind d es b = (m : Meaning) × (meaning_of s d ≡ Some m) × (kind m ≡ true) × IsHere s g k m × IsUnbroken s g role (row_length es) b m × HasEntity s g es m
 
   pub in_place : (line : Line) (role : Role) (d : Designator) (es : ExpressionRow) (b : Bool) (m : Meaning) → IsHere s g k m → meaning_in_role s role d ≡ Some m → place_breaks s line role d (row_length es) b ≡ None → Numbers s g es →
       IsUnbroken s g role (row_length es) b m × HasEntity s g es m
@@ -173,10 +173,10 @@ module _ (s : Scope) (g : Place) (k : IsLinked s g) where
       let u = unbroken s g line role (row_length es) b m (subst (λ o. meaning_breaks s line role (row_length es) b o ≡ None) e (place_kept s line role d (row_length es) b h).1) in
       (u, has_entity es m i n u.subscripts u.entity)
 
-  pub in_role : (line : Line) (role : Role) (kind : Meaning → Bool) (d : Designator) (es : ExpressionRow) (b : Bool) → suits s role d ≡ if_means kind (meaning s d) → meaning_in_role s role d ≡ meaning s d →
+  pub in_role : (line : Line) (role : Role) (kind : Meaning → Bool) (d : Designator) (es : ExpressionRow) (b : Bool) → suits s role d ≡ if_means kind (meaning_of s d) → meaning_in_role s role d ≡ meaning_of s d →
       place_breaks s line role d (row_length es) b ≡ None → Numbers s g es → InRole role kind d es b
   in_role line role kind d es b asked means h n =
-      let m = meant (meaning s d) kind (sym asked ∙ (place_kept s line role d (row_length es) b h).0) in
+      let m = meant (meaning_of s d) kind (sym asked ∙ (place_kept s line role d (row_length es) b h).0) in
       let i = meaning_here s g k d m.0 m.1 in
       let p = in_place line role d es b m.0 i (means ∙ m.1) h n in
       (m.0, m.1, m.2, i, p.0, p.1)
@@ -184,7 +184,7 @@ module _ (s : Scope) (g : Place) (k : IsLinked s g) where
   -- ---- sets and statistics
 
   -- the entity of a set is an owner such as its sets have
-  pub owner_fits : (set : ℕ) → IsSetHere s g k set → (of : Option Expression) → OwnerHas s g (owner_of_set (slice_get s.table.sets set)) of → OwnerFits g set (set_owner of)
+  pub owner_fits : (set : ℕ) → IsSetHere s g k set → (of : Option Expression) → OwnerHas s g (owner_kind_of_set (slice_get s.table.sets set)) of → OwnerFits g set (set_owner of)
   owner_fits set i of f = by i.laid.owner of (ap (option_map (λ (l : SetLayout). l.owner)) i.there) (subst (λ o. OwnerHas s g o of) i.owner f)
     where
       by : (o : Owner) (of : Option Expression) → owner_in_program g.program set ≡ Some o → OwnerHas s g o of → OwnerFits g set (set_owner of)

@@ -10,11 +10,11 @@ use Rattle.ss_names_uses.specs.Uses as uses
 use Rattle.ss_names_scopes.specs.Scopes.{Scope}
 use Rattle.ss_check_rules.specs.declared.error.CheckError.TheVariants as errors
 use Rattle.ss_program.specs.Program.{PrintItem}
-use Rattle.ss_program.specs.WellTyped.{Scope as Place, TakesItem, Good}
+use Rattle.ss_program.specs.WellTyped.{TypedScope as Place, TakesItem, Good}
 use Rattle.ss_names_meaning.specs.Answers.{each}
 use Rattle.ss_names_meaning.specs.Expressions.{item}
 use Rattle.ss_names_meaning.specs.Statements.{simple_statement}
-use Rattle.ss_check_laws.specs.Links.{IsLinked, Kept}
+use Rattle.ss_check_laws.specs.Links.{IsLinked, AreValid}
 use Rattle.ss_check_laws.proofs.Steps.{GoesWell, two_parts}
 use Rattle.ss_check_laws.proofs.Lists.{after_one, in_order}
 use Rattle.ss_check_laws.proofs.Parts.{items_resolve}
@@ -25,7 +25,7 @@ turned Q [] (y ∷ ys) h = absurd h
 turned Q (x ∷ xs) [] h = absurd h
 turned Q (x ∷ xs) (y ∷ ys) h = (h.0, turned Q xs ys h.1)
 
-fits : (s : Scope) (in_main : Bool) (line : Line) (b : Bool) → Kept s in_main (uses.of_fit line b) → b ≡ true
+fits : (s : Scope) (in_main : Bool) (line : Line) (b : Bool) → AreValid s in_main (uses.of_fit line b) → b ≡ true
 fits s in_main line true k = refl
 fits s in_main line false k = absurd (none-some (errors.Fields line) (sym k.0))
 
@@ -34,18 +34,18 @@ module _ (s : Scope) (g : Place) (linked : IsLinked s g) (line : Line) where
   abbrev Shown : PrintItem → Field → Type 0
   Shown x field = TakesItem g field x
 
-  items_shown : (items : List ExpressionTree) (fields : List Field) → Kept s g.is_main (uses.in_items line items fields) → GoesWell (AllZip (TakesItem g) fields) (each (item s) items)
+  items_shown : (items : List ExpressionTree) (fields : List Field) → AreValid s g.is_main (uses.in_items line items fields) → GoesWell (AllZip (TakesItem g) fields) (each (item s) items)
   items_shown items fields k =
       let p = two_parts s g.is_main (uses.of_fit line (length items == length fields)) (uses.in_places (uses.in_item_at line fields) 0 items) k in
       let long : length items ≡ length fields = eqb-true (length items) (length fields) (fits s g.is_main line (length items == length fields) p.0) in
       let xs = in_order s g.is_main (item s) (uses.in_item_at line fields) Shown items fields
       (λ i e field f h.
       let q = two_parts s g.is_main (uses.in_field_at line fields i e) (uses.in_item line e) h in
-      items_resolve s g linked line field e (subst (λ (o : Option Field). Kept s g.is_main (uses.in_option (uses.in_field line e) o)) f q.0) q.1)
+      items_resolve s g linked line field e (subst (λ (o : Option Field). AreValid s g.is_main (uses.in_option (uses.in_field line e) o)) f q.0) q.1)
       (omega (arith, long)) p.1 in
       (xs.0, xs.1, turned Shown xs.0 fields (subst (AllZip Shown xs.0) (take_all (length items) fields (omega (arith, long))) xs.2.1))
 
-  pub print_resolves : (items : List ExpressionTree) (pictures : List (List ℕ)) → Kept s g.is_main (uses.in_items line items (uses.fields_of pictures)) → GoesWell (Good g) (simple_statement s (print_statement line items pictures))
+  pub print_resolves : (items : List ExpressionTree) (pictures : List (List ℕ)) → AreValid s g.is_main (uses.in_items line items (uses.fields_of_pictures pictures)) → GoesWell (Good g) (simple_statement s (print_statement line items pictures))
   unfolding simple_statement
   print_resolves items pictures k =
-      after_one (Good g) _ _ (items_shown items (uses.fields_of pictures) k) (λ xs h. h)
+      after_one (Good g) _ _ (items_shown items (uses.fields_of_pictures pictures) k) (λ xs h. h)

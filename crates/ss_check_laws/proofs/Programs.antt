@@ -14,7 +14,7 @@ use Rattle.ss_names_declarations.proofs.Entries.{value_by_place}
 use Rattle.ss_names_uses.specs.declared.used.ClassNeed.TheVariants as needs
 use Rattle.ss_names.specs.declared.meaning.Meaning.{Meaning}
 use Rattle.ss_names.specs.declared.meaning.Meaning.TheVariants as m
-use Rattle.ss_names.specs.Entries.{is_notice}
+use Rattle.ss_names.specs.Entries.{is_notice_class}
 use Rattle.ss_names.specs.Table.{Table, table}
 use Rattle.ss_names_scopes.specs.Locals.{Moded, locals_of}
 use Rattle.ss_names_scopes.specs.Scopes.{is_main, is_main_section}
@@ -22,7 +22,7 @@ use Rattle.ss_program.specs.Program.{Event, Program, Routine}
 use Rattle.ss_program.specs.WellTyped.{GoodBlock, GoodEvent, GoodRoutine, WellTyped, kind_of_class}
 use Rattle.ss_check_rules.specs.declared.error.CheckError.{CheckError}
 use Rattle.ss_check_rules.specs.Kinds.{suits_class}
-use Rattle.ss_check_rules.specs.Order.{order_of}
+use Rattle.ss_check_rules.specs.Order.{check_error_order}
 use Rattle.ss_check_rules.specs.Refusal.{breaches}
 use Rattle.ss_names_meaning.specs.Answers.{each}
 use Rattle.ss_names_meaning.specs.Layouts.{ResolvedLayout, resolved_layout}
@@ -97,7 +97,7 @@ module _ (p : tree.ProgramTree) (x : ResolvedLayout) (k : IsUnbroken p x) where
       let entry = value_by_place t.classes name c.0 (k.valid.numbered name c.0 kinds.Notice c.1 c.2) in
       let known = class_there p x k c.0 name entry.0 entry.2 in
       let kind : entry.0 ≡ kinds.Notice = sym known.2 ∙ ap (λ (z : PlainClass). z.kind) (same_Some known.0 laid.0 (sym known.1 ∙ laid.1)) ∙ laid.2 in
-      ap is_notice (entry.1 ∙ ap Some kind)
+      ap is_notice_class (entry.1 ∙ ap Some kind)
 
   all_known : list_all (is_known t) p.sections ≡ true
   all_known =
@@ -152,7 +152,7 @@ programs_resolve bodies there valid typed sections routines p declared used =
     let x = there p declared used in
     let k : IsUnbroken p x.0 = record {
       valid = valid p x.0 declared x.1;
-      kept = nothing_found order_of (breaches (table p) p) used;
+      kept = nothing_found check_error_order (breaches (table p) p) used;
       sections = sections p declared;
       routines = routines p declared;
       typed = λ r h. typed p x.0 r declared used x.1 h;

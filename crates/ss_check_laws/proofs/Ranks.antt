@@ -12,34 +12,34 @@ use Rattle.ss_names_declarations.specs.declared.declaration.Declared.TheVariants
 use Rattle.ss_names_declarations.specs.declared.declaration.Declaration.{Declaration}
 use Rattle.ss_names_declarations.proofs.Entries.{firsts_once, place_from, value_by_place, value_from_place}
 use Rattle.std.specs.Prelude.{option_to_list}
-use Rattle.ss_names.specs.Entries.{class_by, classes, given_by, is_notice, notice_by, notice_number, priority_by, ranks, with_number}
+use Rattle.ss_names.specs.Entries.{class_by, classes, given_by, is_notice_class, notice_by, notice_number, priority_by, ranks, number_added}
 use Rattle.ss_names_laws.proofs.Each.{at_place, every_first, every_piece, joined}
 use Rattle.ss_names_laws.proofs.Items.{at_item, each_item}
 
 -- ---- numbers, each once
 
-numbers_every : (P : ℕ → Type 0) (acc ns : List ℕ) → Every P acc → Every P ns → Every P (fold with_number acc ns)
+numbers_every : (P : ℕ → Type 0) (acc ns : List ℕ) → Every P acc → Every P ns → Every P (fold number_added acc ns)
 numbers_every P acc [] h k = h
-numbers_every P acc (n ∷ ns) h k = numbers_every P (with_number acc n) ns (by (list_any (nat_eq n) acc)) k.1
+numbers_every P acc (n ∷ ns) h k = numbers_every P (number_added acc n) ns (by (list_any (nat_eq n) acc)) k.1
   where
     by : (b : Bool) → Every P (cond b acc (acc ++ n ∷ []))
     by true = h
     by false = joined P acc (n ∷ []) h (k.0, tt)
 
-kept : (n : ℕ) (acc ns : List ℕ) → list_any (nat_eq n) acc ≡ true → list_any (nat_eq n) (fold with_number acc ns) ≡ true
+kept : (n : ℕ) (acc ns : List ℕ) → list_any (nat_eq n) acc ≡ true → list_any (nat_eq n) (fold number_added acc ns) ≡ true
 kept n acc [] h = h
-kept n acc (m ∷ ns) h = kept n (with_number acc m) ns (by (list_any (nat_eq m) acc))
+kept n acc (m ∷ ns) h = kept n (number_added acc m) ns (by (list_any (nat_eq m) acc))
   where
     by : (b : Bool) → list_any (nat_eq n) (cond b acc (acc ++ m ∷ [])) ≡ true
     by true = h
     by false = list_any-append (nat_eq n) acc (m ∷ []) ∙ or_left (list_any (nat_eq n) acc) (nat_eq n m || false) h
 
-taken : (n : ℕ) (acc ns : List ℕ) → list_any (nat_eq n) ns ≡ true → list_any (nat_eq n) (fold with_number acc ns) ≡ true
+taken : (n : ℕ) (acc ns : List ℕ) → list_any (nat_eq n) ns ≡ true → list_any (nat_eq n) (fold number_added acc ns) ≡ true
 taken n acc [] h = absurd (false≢true h)
 taken n acc (m ∷ ns) h =
     ⊎_elim
-    (λ (e : nat_eq n m ≡ true). kept n (with_number acc m) ns (by (list_any (nat_eq m) acc) refl e))
-    (λ (e : list_any (nat_eq n) ns ≡ true). taken n (with_number acc m) ns e)
+    (λ (e : nat_eq n m ≡ true). kept n (number_added acc m) ns (by (list_any (nat_eq m) acc) refl e))
+    (λ (e : list_any (nat_eq n) ns ≡ true). taken n (number_added acc m) ns e)
     (or_cases (nat_eq n m) (list_any (nat_eq n) ns) h)
   where
     by : (b : Bool) → list_any (nat_eq m) acc ≡ b → nat_eq n m ≡ true → list_any (nat_eq n) (cond b acc (acc ++ m ∷ [])) ≡ true
@@ -53,20 +53,20 @@ module _ (cs : List (NameBytes × ClassKind)) where
   abbrev pub IsNotice : ℕ → Type 0
   IsNotice class = (name : NameBytes) × (slice_get cs class ≡ Some (name, Notice))
 
-  notice_kind : (kind : ClassKind) → is_notice (Some kind) ≡ true → kind ≡ Notice
+  notice_kind : (kind : ClassKind) → is_notice_class (Some kind) ≡ true → kind ≡ Notice
   notice_kind Notice e = refl
   notice_kind _ e = absurd cc
 
-  number_is : (name : NameBytes) (b : Bool) (o : Option ℕ) → is_notice (value_for cs name) ≡ b → place_in cs name ≡ o → Every IsNotice (cond b (option_to_list o) [])
+  number_is : (name : NameBytes) (b : Bool) (o : Option ℕ) → is_notice_class (value_for cs name) ≡ b → place_in cs name ≡ o → Every IsNotice (cond b (option_to_list o) [])
   number_is name false o e f = tt
   number_is name true None e f = tt
   number_is name true (Some class) e f =
       let v = value_by_place cs name class f in
-      let kind = notice_kind v.0 (sym (ap is_notice v.1) ∙ e) in
+      let kind = notice_kind v.0 (sym (ap is_notice_class v.1) ∙ e) in
       ((name, v.2 ∙ ap (λ k. Some (name, k)) kind), tt)
 
   all_notices : (name : NameBytes) → Every IsNotice (notice_number cs name)
-  all_notices name = number_is name (is_notice (value_for cs name)) (place_in cs name) refl refl
+  all_notices name = number_is name (is_notice_class (value_for cs name)) (place_in cs name) refl refl
 
   priorities : (w : Declared) → Every IsNotice (priority_by cs w)
   priorities (d.Priority class) = all_notices class
@@ -111,6 +111,6 @@ module _ (ds : List Declaration) where
       let once = firsts_once (given_by class_by ds) in
       let value = value_from_place cs class h.0 Notice once h.1 in
       let place = place_from cs class h.0 Notice once h.1 in
-      let number : notice_number cs h.0 ≡ class ∷ [] = λ i. cond (is_notice (value i)) (option_to_list (place i)) [] in
+      let number : notice_number cs h.0 ≡ class ∷ [] = λ i. cond (is_notice_class (value i)) (option_to_list (place i)) [] in
       let among = at_place (IsAmong cs rest) cs class (h.0, Notice) (every_first (IsAmong cs rest) (given_by class_by ds) (all_among cs ds)) h.1 in
       taken class [] (first ++ rest) (list_any-append (nat_eq class) first rest ∙ or_right (list_any (nat_eq class) first) (list_any (nat_eq class) rest) (among class number))

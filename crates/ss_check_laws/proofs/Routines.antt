@@ -17,11 +17,11 @@ use Rattle.std.specs.Prelude.{option_to_list}
 use Rattle.ss_names_scopes.specs.Locals.{Moded, locals_of}
 use Rattle.ss_names_scopes.specs.Scopes.{is_main, local_mode, scope_of}
 use Rattle.ss_program.specs.Program.{Block, Done, Event, Program, Routine}
-use Rattle.ss_program.specs.WellTyped.{Scope as Place, GoodBlock, GoodRoutine}
-use Rattle.ss_check_rules.specs.Refusal.{breaches, breaks, in_preamble, in_program, in_section, use_breaks}
+use Rattle.ss_program.specs.WellTyped.{TypedScope as Place, GoodBlock, GoodRoutine}
+use Rattle.ss_check_rules.specs.Refusal.{breaches, breaks, in_preamble, in_program, breaches_in_section, use_breaks}
 use Rattle.ss_names_meaning.specs.Answers.{◌>>=◌, each}
 use Rattle.ss_names_meaning.specs.Layouts.{ResolvedLayout}
-use Rattle.ss_names_meaning.specs.Resolved.{Parts, body_with, local_modes, parts_with_locals, routine_from, routine_of}
+use Rattle.ss_names_meaning.specs.Resolved.{Parts, resolved_body, local_modes, parts_with_locals, routine_from, routine_of}
 use Rattle.ss_names_laws.specs.Laws.{HasLayout, IsWellLaid}
 use Rattle.ss_names_laws.specs.ValidTables.{HasRoutines, IsValidSection, IsValidTable}
 use Rattle.ss_names_laws.proofs.Each.{at_place, each_empty, every_first, from_places, in_parts}
@@ -31,7 +31,7 @@ use Rattle.ss_names_laws.proofs.Parts.{numbers_length}
 use Rattle.ss_names_laws.proofs.Results.{each_made}
 use Rattle.ss_names_laws.proofs.Steps.{each_at}
 use Rattle.ss_check_laws.specs.BodyLaws.{BodiesResolve}
-use Rattle.ss_check_laws.specs.Links.{IsLinked, Kept}
+use Rattle.ss_check_laws.specs.Links.{IsLinked, AreValid}
 use Rattle.ss_check_laws.proofs.TableSections.{every_declared, head_of, routines_quiet}
 
 -- what is known of a program that breaks no rule
@@ -54,7 +54,7 @@ mapped_from f None b e = absurd (none-some b e)
 mapped_from f (Some a) b e = (a, refl, same_Some (f a) b e)
 
 resolved_part : (t : Table) (all : List Moded) (sections : List tree.SectionTree) (n : ℕ) (s : tree.SectionTree) (locals : Moded) (modes : List Mode) (body : Block) → slice_get sections n ≡ Some s → slice_get all n ≡ Some locals →
-    local_modes locals ≡ Some modes → body_with t all locals s ≡ Some body → parts_with_locals t all sections n ≡ Some (record { line = s.line; modes = modes; body = body })
+    local_modes locals ≡ Some modes → resolved_body t all locals s ≡ Some body → parts_with_locals t all sections n ≡ Some (record { line = s.line; modes = modes; body = body })
 resolved_part t all sections n s locals modes body e f g h = rw (e, f, g, h) refl
 
 -- a section without statements
@@ -73,24 +73,24 @@ module _ (p : tree.ProgramTree) (x : ResolvedLayout) (k : IsUnbroken p x) where
 
   -- ---- what breaks no rule
 
-  after_preamble : (flat_map (in_preamble t) p.preamble ≡ []) × (in_program p.sections ++ flat_map (in_section t p.sections) p.sections ≡ [])
-  after_preamble = both_empty (flat_map (in_preamble t) p.preamble) (in_program p.sections ++ flat_map (in_section t p.sections) p.sections) k.kept
+  after_preamble : (flat_map (in_preamble t) p.preamble ≡ []) × (in_program p.sections ++ flat_map (breaches_in_section t p.sections) p.sections ≡ [])
+  after_preamble = both_empty (flat_map (in_preamble t) p.preamble) (in_program p.sections ++ flat_map (breaches_in_section t p.sections) p.sections) k.kept
 
   pub preamble_kept : Every (λ s. in_preamble t s ≡ []) p.preamble
   preamble_kept = each_empty (in_preamble t) p.preamble after_preamble.0
 
-  in_sections : (in_program p.sections ≡ []) × (flat_map (in_section t p.sections) p.sections ≡ [])
-  in_sections = both_empty (in_program p.sections) (flat_map (in_section t p.sections) p.sections) after_preamble.1
+  in_sections : (in_program p.sections ≡ []) × (flat_map (breaches_in_section t p.sections) p.sections ≡ [])
+  in_sections = both_empty (in_program p.sections) (flat_map (breaches_in_section t p.sections) p.sections) after_preamble.1
 
   pub main_kept : in_program p.sections ≡ []
   main_kept = in_sections.0
 
   abbrev pub Keeps : tree.SectionTree → List Use → Type 0
-  Keeps s = Kept (scope_of t p.sections s) (is_main s.kind)
+  Keeps s = AreValid (scope_of t p.sections s) (is_main s.kind)
 
   section_kept : (n : ℕ) (s : tree.SectionTree) → slice_get p.sections n ≡ Some s → Keeps s (uses.uses s)
   section_kept n s e =
-      let here = at_place (λ z. in_section t p.sections z ≡ []) p.sections n s (each_empty (in_section t p.sections) p.sections in_sections.1) e in
+      let here = at_place (λ z. breaches_in_section t p.sections z ≡ []) p.sections n s (each_empty (breaches_in_section t p.sections) p.sections in_sections.1) e in
       let sc = scope_of t p.sections s in
       each_item (λ u. use_breaks sc (is_main s.kind) u ≡ None) (uses.uses s)
       (λ u a. none_listed (use_breaks sc (is_main s.kind) u) (at_item (λ v. breaks sc (is_main s.kind) v ≡ []) (uses.uses s) u (each_empty (breaks sc (is_main s.kind)) (uses.uses s) here) a))
@@ -100,7 +100,7 @@ module _ (p : tree.ProgramTree) (x : ResolvedLayout) (k : IsUnbroken p x) where
   uses_kept n s e =
       let holds = λ (u : Use). use_breaks (scope_of t p.sections s) (is_main s.kind) u ≡ None in
       let head = uses.in_kind s.line s.kind in
-      let definitions = flat_map uses.in_definition s.definitions in
+      let definitions = flat_map uses.in_local_definition s.definitions in
       let parts = in_parts holds (head ++ definitions) (uses.in_body s.body) (section_kept n s e) in
       ((in_parts holds head definitions parts.0).0, parts.1)
 

@@ -20,7 +20,7 @@ use Rattle.ss_names_declarations.specs.declared.declaration.Declared.{Declared}
 use Rattle.ss_names_declarations.proofs.Entries.{entry_of_key, firsts_once, place_from, there}
 use Rattle.ss_names.specs.declared.entry.EventSection.{EventSection}
 use Rattle.ss_names.specs.declared.entry.RoutineSection.{RoutineSection}
-use Rattle.ss_names.specs.Entries.{class_by, event_by, given_by, notice_by, priority_by, routine_by, with_number}
+use Rattle.ss_names.specs.Entries.{class_by, event_by, given_by, notice_by, priority_by, routine_by, number_added}
 use Rattle.ss_names.specs.Table.{table}
 use Rattle.ss_names_scopes.specs.Locals.{Moded, locals_of}
 use Rattle.ss_names_scopes.specs.Scopes.{is_main, is_main_section}
@@ -40,15 +40,15 @@ use Rattle.ss_check_laws.proofs.TableSections.{Fits, IsAny, events_quiet, head_o
 abbrev weight : SectionTree → ℕ
 weight s = 1 + tree.statements_nodes (statement_row s.body)
 
-row_nodes : (ss : List StatementTree) → tree.statements_nodes (statement_row ss) ≡ sum_by tree.statement_nodes ss
+row_nodes : (ss : List StatementTree) → tree.statements_nodes (statement_row ss) ≡ sum_by tree.statement_tree_nodes ss
 row_nodes [] = refl
-row_nodes (s ∷ ss) = let e = row_nodes ss in omega (arith, sum_by-cons tree.statement_nodes s ss)
+row_nodes (s ∷ ss) = let e = row_nodes ss in omega (arith, sum_by-cons tree.statement_tree_nodes s ss)
 
--- the same, for each entry that its head gives
+-- this weight, for each entry that its head gives
 abbrev part : {V : Type 0} → (Declared → List (NameBytes × V)) → SectionTree → ℕ
 part {V} f s = sum_by (λ (e : NameBytes × V). weight s) (f (head_of 0 s.kind))
 
--- the same, if it is MAIN
+-- this weight, if it is MAIN
 abbrev main_part : SectionTree → ℕ
 main_part s = cond (is_main_section s) (weight s) 0
 
@@ -192,9 +192,9 @@ module _ {V : Type 0} (h : V → ℕ) (key : ℕ → Option NameBytes) (one : (i
           let rest = next (remove_entry (same_name name) es) in
           omega (arith, sum_by-cons (λ i. named h es (key i)) n ns, same_sum name es ns apart, sum_by-remove_entry h (same_name name) es, known_nodes (value_for es name))
 
-distinct_numbers : (acc ns : List ℕ) → IsDistinct nat_eq acc → IsDistinct nat_eq (fold with_number acc ns)
+distinct_numbers : (acc ns : List ℕ) → IsDistinct nat_eq acc → IsDistinct nat_eq (fold number_added acc ns)
 distinct_numbers acc [] d = d
-distinct_numbers acc (n ∷ ns) d = distinct_numbers (with_number acc n) ns (by (list_any (nat_eq n) acc) refl)
+distinct_numbers acc (n ∷ ns) d = distinct_numbers (number_added acc n) ns (by (list_any (nat_eq n) acc) refl)
   where
     by : (b : Bool) → list_any (nat_eq n) acc ≡ b → IsDistinct nat_eq (cond b acc (acc ++ n ∷ []))
     by true e = d
@@ -234,7 +234,7 @@ module _ (p : ProgramTree) (all : List Moded) where
       looked (tie_keys (table p) class name) (λ keys.
       looked (saved (table p) name k.saving) (λ variable. followed (parts_small k.section) (λ parts q. omega arith))))))
 
-  program_small : Within nodes (tree.nodes p) (resolved_with_locals (table p) all p.sections)
+  program_small : Within nodes (tree.tree_nodes p) (resolved_with_locals (table p) all p.sections)
   unfolding resolved_with_locals
   program_small =
       let t = table p in
@@ -252,4 +252,4 @@ module _ (p : ProgramTree) (all : List Moded) where
 pub programs_stay_small : ProgramsStaySmall
 programs_stay_small p r h =
     let all = map (locals_of (table p)) p.sections in
-    at_most nodes (tree.nodes p) (resolved_with_locals (table p) all p.sections) r (program_small p all) h
+    at_most nodes (tree.tree_nodes p) (resolved_with_locals (table p) all p.sections) r (program_small p all) h

@@ -25,17 +25,17 @@ module _ (s : Scope) where
       followed (head_small s over) (λ h p. followed (each_small (phrase_small s) (phrases_of over)) (λ ps q. omega (arith, own_and_phrases over)))
   loop_small line (guarded guards) body = followed (each_small (guard_small s) guards) (λ gs p. omega arith)
 
-  find_small : (line : Line) (over : HeadTree) (found missing : Block) → Within statement_nodes (1 + tree.head_nodes over + block_nodes found + block_nodes missing) (find line s over found missing)
+  find_small : (line : Line) (over : HeadTree) (found missing : Block) → Within statement_nodes (1 + tree.head_tree_nodes over + block_nodes found + block_nodes missing) (find line s over found missing)
   find_small line over found missing =
       followed (head_small s over) (λ h p. followed (each_small (phrase_small s) (phrases_of over)) (λ ps q. omega (arith, own_and_phrases over)))
 
-  find_by_small : (o : FindOutcome) (line : Line) (over : HeadTree) (first second : Block) → Within statement_nodes (1 + tree.head_nodes over + block_nodes first + block_nodes second) (find_by o line s over first second)
+  find_by_small : (o : FindOutcome) (line : Line) (over : HeadTree) (first second : Block) → Within statement_nodes (1 + tree.head_tree_nodes over + block_nodes first + block_nodes second) (find_by o line s over first second)
   find_by_small outcomes.Found line over first second = find_small line over first second
   find_by_small outcomes.None line over first second = so (find_small line over second first) (λ x p. omega arith)
 
   -- ---- statements without statements in them
 
-  simple_small : (t : StatementTree) → Within statement_nodes (tree.statement_nodes t) (simple_statement s t)
+  simple_small : (t : StatementTree) → Within statement_nodes (tree.statement_tree_nodes t) (simple_statement s t)
   unfolding simple_statement
   simple_small (let_statement line n e) = followed (target_small s n) (λ x p. followed (small s e) (λ y q. omega arith))
   simple_small (add_statement line e n) = followed (small s e) (λ x p. followed (target_small s n) (λ y q. omega arith))
@@ -74,7 +74,7 @@ module _ (s : Scope) where
   mutual
     unfolding statement
 
-    statement_small : (t : StatementTree) → Within statement_nodes (tree.statement_nodes t) (statement s t)
+    statement_small : (t : StatementTree) → Within statement_nodes (tree.statement_tree_nodes t) (statement s t)
     statement_small (if_statement line test first second) =
         followed (row_small first) (λ a p. followed (row_small second) (λ b q. followed (condition_small s test) (λ x r. omega arith)))
     statement_small (loop_statement line over row) = followed (row_small row) (λ b p. so (loop_small line over b) (λ x q. omega arith))

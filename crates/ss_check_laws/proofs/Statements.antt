@@ -7,11 +7,11 @@ use Rattle.ss_names_uses.specs.Uses as uses
 use Rattle.ss_names_scopes.specs.Scopes.{Scope}
 use Rattle.ss_check_rules.specs.declared.error.CheckError.TheVariants as errors
 use Rattle.ss_program.specs.Program.{Head, Phrase, Statement, Find, Return, Simulate, Stop, Done}
-use Rattle.ss_program.specs.WellTyped.{Scope as Place, Good, GoodHead, GoodPhrase}
+use Rattle.ss_program.specs.WellTyped.{TypedScope as Place, Good, GoodHead, GoodPhrase}
 use Rattle.ss_names_meaning.specs.Answers.{◌>>=◌, each}
 use Rattle.ss_names_meaning.specs.Heads.{head, phrases_of, resolved_phrase}
 use Rattle.ss_names_meaning.specs.Statements.{simple_statement, statement}
-use Rattle.ss_check_laws.specs.Links.{IsLinked, Kept}
+use Rattle.ss_check_laws.specs.Links.{IsLinked, AreValid}
 use Rattle.ss_check_laws.specs.BodyLaws.{ForResolves}
 use Rattle.ss_check_laws.proofs.Steps.{GoesWell, holds_unless}
 use Rattle.ss_check_laws.proofs.Expressions.{number_kept}
@@ -39,7 +39,7 @@ module _ (s : Scope) (g : Place) where
   AloneResolves t = GoesWell (Good g) (statement s t)
 
 module _ (s : Scope) (g : Place) (linked : IsLinked s g) where
-  pub alone_resolves : (t : StatementTree) → Kept s g.is_main (uses.in_itself t) → AloneResolves s g t
+  pub alone_resolves : (t : StatementTree) → AreValid s g.is_main (uses.in_itself t) → AloneResolves s g t
   unfolding statement simple_statement
   alone_resolves (if_statement line test first second) k = tt
   alone_resolves (loop_statement line over body) k = tt

@@ -13,7 +13,7 @@ use Rattle.ss_check_rules.specs.Modes.{differ}
 use Rattle.ss_check_rules.specs.declared.error.CheckError.{CheckError}
 use Rattle.ss_names_meaning.specs.Answers.{◌>>=◌, each}
 use Rattle.ss_names_declarations.specs.Earliest.{unless}
-use Rattle.ss_check_laws.specs.Links.{Kept}
+use Rattle.ss_check_laws.specs.Links.{AreValid}
 
 -- ---- tests that break nothing
 
@@ -63,21 +63,21 @@ two_steps o p next a b x h e f = rw (h, e) f
 -- ---- lists of uses
 
 module _ (s : Scope) (in_main : Bool) where
-  pub two_parts : (xs ys : List Use) → Kept s in_main (xs ++ ys) → Kept s in_main xs × Kept s in_main ys
+  pub two_parts : (xs ys : List Use) → AreValid s in_main (xs ++ ys) → AreValid s in_main xs × AreValid s in_main ys
   two_parts [] ys h = (tt, h)
   two_parts (x ∷ xs) ys h =
       let r = two_parts xs ys h.1 in
       ((h.0, r.0), r.1)
 
-  pub three_parts : (xs ys zs : List Use) → Kept s in_main (xs ++ ys ++ zs) → Kept s in_main xs × Kept s in_main ys × Kept s in_main zs
+  pub three_parts : (xs ys zs : List Use) → AreValid s in_main (xs ++ ys ++ zs) → AreValid s in_main xs × AreValid s in_main ys × AreValid s in_main zs
   three_parts xs ys zs h =
       let r = two_parts (xs ++ ys) zs h in
       let q = two_parts xs ys r.0 in
       (q.0, q.1, r.1)
 
   -- the items of a list
-  pub each_resolves : {A B : Type 0} (act : A → Option B) (uses : A → List Use) (Q : B → Type 0) → ((a : A) → Kept s in_main (uses a) → GoesWell Q (act a)) →
-      (xs : List A) → Kept s in_main (flat_map uses xs) → GoesWell (Every Q) (each act xs)
+  pub each_resolves : {A B : Type 0} (act : A → Option B) (uses : A → List Use) (Q : B → Type 0) → ((a : A) → AreValid s in_main (uses a) → GoesWell Q (act a)) →
+      (xs : List A) → AreValid s in_main (flat_map uses xs) → GoesWell (Every Q) (each act xs)
   unfolding each
   each_resolves act uses Q good [] h = ([], refl, tt)
   each_resolves act uses Q good (a ∷ xs) h =

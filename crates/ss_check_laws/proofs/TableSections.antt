@@ -7,9 +7,9 @@ use Rattle.ss_base.specs.declared.layout.ClassKind.{ClassKind}
 use Rattle.ss_base.specs.declared.layout.ClassKind.TheVariants.{Notice}
 use Rattle.ss_tree.specs.Names.{NameBytes}
 use Rattle.ss_tree.specs.Tree as tree
-use Rattle.ss_tree.specs.declared.preamble.Key.{Key}
-use Rattle.ss_tree.specs.declared.preamble.Mode.{Mode}
-use Rattle.ss_tree.specs.declared.preamble.Statistic.{Statistic}
+use Rattle.ss_tree.specs.declared.preamble.NamedKey.{NamedKey}
+use Rattle.ss_tree.specs.declared.preamble.ModeWord.{ModeWord}
+use Rattle.ss_tree.specs.declared.preamble.NamedStatistic.{NamedStatistic}
 use Rattle.ss_names_declarations.specs.Declarations as said
 use Rattle.ss_names_declarations.specs.Declarations.{declarations, flat_map_from}
 use Rattle.ss_names_declarations.specs.declared.declaration.Declared.{Declared}
@@ -44,12 +44,12 @@ module _ (P : NameBytes → ClassKind → Type 0) where
   clause line class (tree.owns names) = every_image IsFit (λ (set : NameBytes). said.at_line line (d.Owner set (Some class))) names (λ n a. tt)
   clause line class (tree.belongs_to names) = every_image IsFit (λ (set : NameBytes). said.at_line line (d.Member set class)) names (λ n a. tt)
 
-  order : (line : Line) (number : ℕ) (o : tree.OrderTree) → Every IsFit (said.in_order line number o)
+  order : (line : Line) (number : ℕ) (o : tree.OrderTree) → Every IsFit (said.in_set_order line number o)
   order line number tree.fifo = tt
   order line number tree.lifo = tt
-  order line number (tree.ranked keys) = every_image IsFit (λ (key : Key). said.at_line line (d.RankKey key.name key.high number)) keys (λ k a. tt)
+  order line number (tree.ranked keys) = every_image IsFit (λ (key : NamedKey). said.at_line line (d.RankKey key.name key.high number)) keys (λ k a. tt)
 
-  statement : (number : ℕ) (s : tree.PreambleTree) → ClassesFit P s → Every IsFit (said.in_statement number s)
+  statement : (number : ℕ) (s : tree.PreambleTree) → ClassesFit P s → Every IsFit (said.in_preamble_statement number s)
   statement number (tree.permanent_entities line) h = tt
   statement number (tree.temporary_entities line) h = tt
   statement number (tree.event_notices line names) h = every_image IsFit (λ (name : NameBytes). said.at_line line (d.Class name Notice)) names h
@@ -58,15 +58,15 @@ module _ (P : NameBytes → ClassKind → Type 0) where
   statement number (tree.system_owns line sets) h = every_image IsFit (λ (set : NameBytes). said.at_line line (d.Owner set None)) sets (λ n a. tt)
   statement number (tree.define_variables line names mode) h = every_image IsFit (λ (name : NameBytes). said.at_line line (d.Variable name mode)) names (λ n a. tt)
   statement number (tree.define_sets line names o) h =
-      joined IsFit (map (λ (set : NameBytes). said.at_line line (d.Order set (said.rule_of o) number)) names) (said.in_order line number o)
+      joined IsFit (map (λ (set : NameBytes). said.at_line line (d.Order set (said.rule_of o) number)) names) (said.in_set_order line number o)
       (every_image IsFit (λ (set : NameBytes). said.at_line line (d.Order set (said.rule_of o) number)) names (λ n a. tt)) (order line number o)
   statement number (tree.priority_order line classes) h = (tt, every_image IsFit (λ (class : NameBytes). said.at_line line (d.Priority class)) classes (λ n a. tt))
-  statement number (tree.break_ties line class keys) h = (tt, every_image IsFit (λ (key : Key). said.at_line line (d.TieKey class key.name key.high)) keys (λ k a. tt))
+  statement number (tree.break_ties line class keys) h = (tt, every_image IsFit (λ (key : NamedKey). said.at_line line (d.TieKey class key.name key.high)) keys (λ k a. tt))
   statement number (tree.statistics line weighting found subject) h =
-      joined IsFit (map (λ (s : Statistic). said.at_line line (d.Statistic s.name s.kind subject)) found) (said.at_line line (d.Subject subject weighting) ∷ []) (every_image IsFit (λ (s : Statistic). said.at_line line (d.Statistic s.name s.kind subject)) found (λ k a. tt)) (tt, tt)
+      joined IsFit (map (λ (s : NamedStatistic). said.at_line line (d.Statistic s.name s.kind subject)) found) (said.at_line line (d.Subject subject weighting) ∷ []) (every_image IsFit (λ (s : NamedStatistic). said.at_line line (d.Statistic s.name s.kind subject)) found (λ k a. tt)) (tt, tt)
 
-  pub preamble_fits : (ss : List tree.PreambleTree) → ((i : ℕ) (s : tree.PreambleTree) → slice_get ss i ≡ Some s → ClassesFit P s) → Every IsFit (flat_map_from said.in_statement 0 ss)
-  preamble_fits ss h = every_numbered said.in_statement IsFit ss (λ i s e. statement i s (h i s e))
+  pub preamble_fits : (ss : List tree.PreambleTree) → ((i : ℕ) (s : tree.PreambleTree) → slice_get ss i ≡ Some s → ClassesFit P s) → Every IsFit (flat_map_from said.in_preamble_statement 0 ss)
+  preamble_fits ss h = every_numbered said.in_preamble_statement IsFit ss (λ i s e. statement i s (h i s e))
 
 -- ---- sections
 
@@ -97,27 +97,27 @@ module _ {B : Type 0} (f : Declared → List B) where
   none_given quiet (x ∷ ds) h = λ i. quiet x.what h.0 i ++ none_given quiet ds h.1 i
 
   -- what gives nothing of parameters and local variables
-  module _ (parameters : (name : NameBytes) (n : ℕ) → f (d.Parameter name n) ≡ []) (locals : (name : NameBytes) (n : ℕ) (mode : Mode) → f (d.Local name n mode) ≡ []) where
-    head_given : (line : Line) (n : ℕ) (k : tree.SectionKindTree) → given_by f (said.in_head line n k) ≡ f (head_of n k)
+  module _ (parameters : (name : NameBytes) (n : ℕ) → f (d.Parameter name n) ≡ []) (locals : (name : NameBytes) (n : ℕ) (mode : ModeWord) → f (d.Local name n mode) ≡ []) where
+    head_given : (line : Line) (n : ℕ) (k : tree.SectionKindTree) → given_by f (said.in_section_head line n k) ≡ f (head_of n k)
     head_given line n tree.main = append-nil (f d.Main)
     head_given line n (tree.routine name given yielding) =
-        let of = said.parameter line n in
+        let of = said.parameter_declaration line n in
         ap (λ l. f (head_of n (tree.routine name given yielding)) ++ l)
         (flat_map-append of_declaration (map of given) (map of yielding) ∙ (λ i. none_mapped of (λ x. parameters x n) given i ++ none_mapped of (λ x. parameters x n) yielding i))
         ∙ append-nil (f (head_of n (tree.routine name given yielding)))
     head_given line n (tree.event name given saving) =
-        ap (λ l. f (head_of n (tree.event name given saving)) ++ l) (none_mapped (said.parameter line n) (λ x. parameters x n) given)
+        ap (λ l. f (head_of n (tree.event name given saving)) ++ l) (none_mapped (said.parameter_declaration line n) (λ x. parameters x n) given)
         ∙ append-nil (f (head_of n (tree.event name given saving)))
 
     definitions_given : (n : ℕ) (ds : List tree.DefinitionTree) → given_by f (flat_map (said.in_definition n) ds) ≡ []
     definitions_given n [] = refl
     definitions_given n (x ∷ ds) =
         flat_map-append of_declaration (said.in_definition n x) (flat_map (said.in_definition n) ds)
-        ∙ (λ i. none_mapped (said.local x.line n x.mode) (λ name. locals name n x.mode) x.names i ++ definitions_given n ds i)
+        ∙ (λ i. none_mapped (said.local_declaration x.line n x.mode) (λ name. locals name n x.mode) x.names i ++ definitions_given n ds i)
 
     section_given : (n : ℕ) (s : tree.SectionTree) → given_by f (said.in_section n s) ≡ f (head_of n s.kind)
     section_given n s =
-        flat_map-append of_declaration (said.in_head s.line n s.kind) (flat_map (said.in_definition n) s.definitions)
+        flat_map-append of_declaration (said.in_section_head s.line n s.kind) (flat_map (said.in_definition n) s.definitions)
         ∙ (λ i. head_given s.line n s.kind i ++ definitions_given n s.definitions i)
         ∙ append-nil (f (head_of n s.kind))
 
@@ -129,7 +129,7 @@ module _ {B : Type 0} (f : Declared → List B) where
   -- what gives something of sections alone
   pub of_sections : ((x : Declared) → Fits IsAny x → f x ≡ []) → (p : tree.ProgramTree) → given_by f (declarations p) ≡ flat_map_from (λ m s. f (head_of m s.kind)) 0 p.sections
   of_sections quiet p =
-      let before = flat_map_from said.in_statement 0 p.preamble in
+      let before = flat_map_from said.in_preamble_statement 0 p.preamble in
       flat_map-append of_declaration before (flat_map_from said.in_section 0 p.sections)
       ∙ (λ i. none_given quiet before (preamble_fits IsAny p.preamble (λ j s e. any_fits s)) i
       ++ sections_given (λ name n. quiet (d.Parameter name n) tt) (λ name n mode. quiet (d.Local name n mode) tt) 0 p.sections i)
@@ -169,7 +169,7 @@ module _ (P : NameBytes → ClassKind → Type 0) where
 
   pub classes_declared : (p : tree.ProgramTree) → ((i : ℕ) (s : tree.PreambleTree) → slice_get p.preamble i ≡ Some s → ClassesFit P s) → Every Holds (classes (declarations p))
   classes_declared p h =
-      let before = flat_map_from said.in_statement 0 p.preamble in
+      let before = flat_map_from said.in_preamble_statement 0 p.preamble in
       let after = flat_map_from said.in_section 0 p.sections in
       let given = sections_given class_by (λ name n. refl) (λ name n mode. refl) 0 p.sections in
       let sections = every_numbered (λ n (s : tree.SectionTree). class_by (head_of n s.kind)) Holds p.sections (λ i s e. no_class i s.kind) in

@@ -9,8 +9,8 @@ use Rattle.ss_base.specs.declared.layout.Mode.TheVariants.{Integer}
 use Rattle.ss_tree.specs.Tree.{ExpressionRow, NamedTree}
 use Rattle.ss_tree.specs.declared.expression.Designator.{Designator}
 use Rattle.ss_tree.specs.declared.expression.Designator.TheVariants.{Name, TimeV, TimeA}
-use Rattle.ss_program.specs.Program.{Expression, Place as Target, ToVariable, ToAttribute, ToCount, Target as ReadTarget, SetOwner, Restart}
-use Rattle.ss_program.specs.WellTyped.{Scope as Place, TakesMode}
+use Rattle.ss_program.specs.Program.{Expression, Place as Target, ToVariable, ToAttribute, ToCount, InputTarget as ReadTarget, SetOwner, Restart}
+use Rattle.ss_program.specs.WellTyped.{TypedScope as Place, TakesMode}
 use Rattle.ss_program.specs.declared.expression.SetQuery.TheVariants.{MemberCount}
 use Rattle.ss_program.specs.declared.expression.Variable.TheVariants.{Global}
 use Rattle.ss_program.specs.declared.sections.Subject.{Subject}
@@ -20,7 +20,7 @@ use Rattle.ss_names_uses.specs.declared.used.Role.TheVariants as roles
 use Rattle.ss_names.specs.declared.meaning.Meaning.{Meaning}
 use Rattle.ss_names.specs.declared.meaning.Meaning.TheVariants as meanings
 use Rattle.ss_names.specs.Table.{owner_of_subject, subject_of}
-use Rattle.ss_names_scopes.specs.Scopes.{Scope, history_of, meaning_of_name, mode_of, unless_hidden}
+use Rattle.ss_names_scopes.specs.Scopes.{Scope, history_of, meaning_of_name, mode_of_meaning, unless_hidden}
 use Rattle.ss_check_rules.specs.Kinds.{has_value, is_set, takes_values}
 use Rattle.ss_check_rules.specs.Modes.{meaning_mode}
 use Rattle.ss_check_rules.specs.Refusal.{place_breaks}
@@ -28,7 +28,7 @@ use Rattle.ss_check_rules.specs.declared.error.CheckError.TheVariants as errors
 use Rattle.ss_names_meaning.specs.Answers.{◌>>=◌}
 use Rattle.ss_names_meaning.specs.Expressions.{entity_of, set_owner, place_named, place_of, set_number, set_of_name, subscript}
 use Rattle.ss_check_laws.specs.BodyLaws.{RestartResolves, RestartsResolve, SetResolves, SetsResolve, TargetResolves, TargetsResolve}
-use Rattle.ss_check_laws.specs.Links.{IsLinked, Kept}
+use Rattle.ss_check_laws.specs.Links.{IsLinked, AreValid}
 use Rattle.ss_check_laws.proofs.Steps.{goes, meant, two_steps}
 use Rattle.ss_check_laws.proofs.Linked.{IsHere, meant_here, named_here, seen, watched_here}
 use Rattle.ss_check_laws.proofs.Places.{EntityFits, Numbers, OwnerHas, in_place, in_role, number_mode, owner_fits, place_kept, placed, said_is, statistic_fits}
@@ -53,7 +53,7 @@ module _ (s : Scope) (g : Place) (k : IsLinked s g) where
   -- ---- targets
 
   abbrev HasPlace : Meaning → Option Expression → Type 0
-  HasPlace m of = (x : Target) × (mode : Mode) × (place_of m of ≡ Some x) × (mode_of m ≡ Some mode) × TakesMode g x mode
+  HasPlace m of = (x : Target) × (mode : Mode) × (place_of m of ≡ Some x) × (mode_of_meaning m ≡ Some mode) × TakesMode g x mode
 
   meant_place : (m : Meaning) (of : Option Expression) → IsHere s g k m → EntityFits s g m of → takes_values m ≡ true → HasPlace m of
   meant_place (meanings.Variable v mode) None i f h = (ToVariable v, mode, refl, refl, i)
@@ -66,7 +66,7 @@ module _ (s : Scope) (g : Place) (k : IsLinked s g) where
   meant_place (meanings.Attribute class field mode) (Some e) i f h = (ToAttribute class field e, mode, refl, refl, (i.0, f))
   meant_place _ of i f h = absurd cc
 
-  target_resolves : (line : Line) (b : Bool) (n : NamedTree) → Kept s g.is_main (in_named line roles.Target b n) → TargetResolves s g b n
+  target_resolves : (line : Line) (b : Bool) (n : NamedTree) → AreValid s g.is_main (in_named line roles.Target b n) → TargetResolves s g b n
   target_resolves line b n h =
       let d = n.designator in
       let es = n.subscripts in
@@ -81,8 +81,8 @@ module _ (s : Scope) (g : Place) (k : IsLinked s g) where
         v.4,
         said_is s d ∙ ap meaning_mode p.1 ∙ v.3,
         number_mode b p.0 v.1 v.3 p.4.mode,
-        goes (place_named s d es) (λ r. place_of r.0 r.1 >>= λ x. mode_of r.0 >>= λ m. Some (record { place = x; mode = m })) q read found
-            (two_steps (place_of p.0 p.5.1) (mode_of p.0) (λ x m. Some (record { place = x; mode = m })) v.0 v.1 read v.2 v.3 refl),
+        goes (place_named s d es) (λ r. place_of r.0 r.1 >>= λ x. mode_of_meaning r.0 >>= λ m. Some (record { place = x; mode = m })) q read found
+            (two_steps (place_of p.0 p.5.1) (mode_of_meaning p.0) (λ x m. Some (record { place = x; mode = m })) v.0 v.1 read v.2 v.3 refl),
       )
 
   -- ---- sets
@@ -108,7 +108,7 @@ module _ (s : Scope) (g : Place) (k : IsLinked s g) where
   set_by line TimeV es h n = absurd (none-some (errors.Unknown line) (sym h))
   set_by line TimeA es h n = absurd (none-some (errors.Unknown line) (sym h))
 
-  pub set_resolves : (line : Line) (n : NamedTree) → Kept s g.is_main (in_named line roles.Set false n) → SetResolves s g n
+  pub set_resolves : (line : Line) (n : NamedTree) → AreValid s g.is_main (in_named line roles.Set false n) → SetResolves s g n
   set_resolves line n h = set_by line n.designator n.subscripts h.0 (numbers s g k line n.subscripts h.1)
 
   -- ---- subjects

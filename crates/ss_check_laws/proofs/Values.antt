@@ -20,19 +20,19 @@ use Rattle.ss_names.specs.declared.entry.RoutineSection.{RoutineSection}
 use Rattle.ss_names.specs.declared.meaning.Meaning.{Meaning}
 use Rattle.ss_names.specs.declared.meaning.Meaning.TheVariants as meanings
 use Rattle.ss_names_scopes.specs.Locals.{Moded}
-use Rattle.ss_names_scopes.specs.Scopes.{Scope, local_mode, mode_at, mode_given, parameter_mode}
+use Rattle.ss_names_scopes.specs.Scopes.{Scope, local_mode, local_mode_at, mode_given, parameter_mode}
 use Rattle.ss_check_rules.specs.declared.error.CheckError.{CheckError}
 use Rattle.ss_check_rules.specs.declared.error.CheckError.TheVariants as errors
 use Rattle.ss_check_rules.specs.Kinds.{if_means, is_routine}
 use Rattle.ss_check_rules.specs.Modes.{mode_of_use}
-use Rattle.ss_program.specs.Program.{Statement, Change, Call, Target}
-use Rattle.ss_program.specs.WellTyped.{Scope as Place, HasMode, TakesMode, Good}
+use Rattle.ss_program.specs.Program.{Statement, Change, Call, InputTarget}
+use Rattle.ss_program.specs.WellTyped.{TypedScope as Place, HasMode, TakesMode, Good}
 use Rattle.ss_names_meaning.specs.Answers.{◌>>=◌, upto}
 use Rattle.ss_names_meaning.specs.Expressions.{expression, target}
 use Rattle.ss_names_meaning.specs.Resolved.{local_modes}
 use Rattle.ss_names_meaning.specs.Statements.{reader, routine_number, simple_statement}
 use Rattle.ss_names_laws.proofs.Steps.{numbers_at, upto_length}
-use Rattle.ss_check_laws.specs.Links.{IsLinked, IsRoutineAt, Kept}
+use Rattle.ss_check_laws.specs.Links.{IsLinked, IsRoutineAt, AreValid}
 use Rattle.ss_check_laws.proofs.Steps.{GoesWell, agree, each_resolves, holds_unless, two_parts}
 use Rattle.ss_check_laws.proofs.Expressions.{number_kept}
 use Rattle.ss_check_laws.proofs.Lists.{after, after_first, after_one, after_two, each_length, holds, in_order}
@@ -67,54 +67,54 @@ local_there locals all i m h e =
     at.2 ∙ (sym at.1 ∙ e)
 
 parameter_there : (s : Scope) (g : Place) (k : ℕ) (known : RoutineSection) (r : IsRoutineAt s g.program k known) (i : ℕ) (m : Mode) → slice_get r.modes i ≡ Some m → parameter_mode s known.section i ≡ Some m
-parameter_there s g k known r i m e = ap (λ (o : Option Moded). mode_at o i) r.section ∙ local_there r.locals r.modes i m r.moded e
+parameter_there s g k known r i m e = ap (λ (o : Option Moded). local_mode_at o i) r.section ∙ local_there r.locals r.modes i m r.moded e
 
 module _ (s : Scope) (g : Place) (linked : IsLinked s g) (line : Line) where
   -- ---- modes that are wanted
 
-  pub takes_number : (n : NamedTree) → Kept s g.is_main (uses.in_named line roles.Target true n) → GoesWell (λ x. TakesMode g x Integer) (target s n)
+  pub takes_number : (n : NamedTree) → AreValid s g.is_main (uses.in_named line roles.Target true n) → GoesWell (λ x. TakesMode g x Integer) (target s n)
   takes_number n k =
       let x = targets_resolve s g linked line true n k in
       (x.0, x.2, subst (TakesMode g x.0) (x.5 refl) x.3)
 
-  pub value_resolves : (wanted : ModeOf) (m : Mode) (e : ExpressionTree) → mode_of_use s wanted ≡ Some m → Kept s g.is_main (uses.in_value line wanted e) → GoesWell (λ x. HasMode g x m) (expression s e)
+  pub value_resolves : (wanted : ModeOf) (m : Mode) (e : ExpressionTree) → mode_of_use s wanted ≡ Some m → AreValid s g.is_main (uses.in_value line wanted e) → GoesWell (λ x. HasMode g x m) (expression s e)
   value_resolves wanted m e w k =
       let x = expressions_resolve s g linked line false e k.1 in
-      (x.0, x.2, subst (HasMode g x.0) (agree (mode_of_use s (uses.expression_mode e)) (mode_of_use s wanted) x.1 m (errors.Mode line) k.0 x.4 w) x.3)
+      (x.0, x.2, subst (HasMode g x.0) (agree (mode_of_use s (uses.expression_tree_mode e)) (mode_of_use s wanted) x.1 m (errors.Mode line) k.0 x.4 w) x.3)
 
-  takes_value : (wanted : ModeOf) (m : Mode) (n : NamedTree) → mode_of_use s wanted ≡ Some m → Kept s g.is_main (uses.in_target line wanted n) → GoesWell (λ x. TakesMode g x m) (target s n)
+  takes_value : (wanted : ModeOf) (m : Mode) (n : NamedTree) → mode_of_use s wanted ≡ Some m → AreValid s g.is_main (uses.in_target line wanted n) → GoesWell (λ x. TakesMode g x m) (target s n)
   takes_value wanted m n w k =
       let x = targets_resolve s g linked line false n k.1 in
       (x.0, x.2, subst (TakesMode g x.0) (agree (mode_of_use s (uses.designated n.designator)) (mode_of_use s wanted) x.1 m (errors.Mode line) k.0 x.4 w) x.3)
 
   -- ---- statements
 
-  pub let_resolves : (n : NamedTree) (e : ExpressionTree) → Kept s g.is_main (uses.in_target line (uses.expression_mode e) n ++ uses.in_expression line false e) → GoesWell (Good g) (simple_statement s (let_statement line n e))
+  pub let_resolves : (n : NamedTree) (e : ExpressionTree) → AreValid s g.is_main (uses.in_target line (uses.expression_tree_mode e) n ++ uses.in_expression line false e) → GoesWell (Good g) (simple_statement s (let_statement line n e))
   unfolding simple_statement
   let_resolves n e k =
-      let p = two_parts s g.is_main (uses.in_target line (uses.expression_mode e) n) (uses.in_expression line false e) k in
+      let p = two_parts s g.is_main (uses.in_target line (uses.expression_tree_mode e) n) (uses.in_expression line false e) k in
       let y = expressions_resolve s g linked line false e p.1 in
       let value : GoesWell (λ v. HasMode g v y.1) (expression s e) = (y.0, y.2, y.3) in
-      after_two (Good g) _ _ _ (takes_value (uses.expression_mode e) y.1 n y.4 p.0) value (λ x v h f. (y.1, h, f))
+      after_two (Good g) _ _ _ (takes_value (uses.expression_tree_mode e) y.1 n y.4 p.0) value (λ x v h f. (y.1, h, f))
 
   -- ADD and SUBTRACT
-  pub change_resolves : (sign : Sign) (e : ExpressionTree) (n : NamedTree) → Kept s g.is_main (uses.in_expression line true e ++ uses.in_named line roles.Target true n) →
+  pub change_resolves : (sign : Sign) (e : ExpressionTree) (n : NamedTree) → AreValid s g.is_main (uses.in_expression line true e ++ uses.in_named line roles.Target true n) →
       GoesWell (Good g) (expression s e >>= λ v. target s n >>= λ x. Some (Change line sign x v))
   change_resolves sign e n k =
       let p = two_parts s g.is_main (uses.in_expression line true e) (uses.in_named line roles.Target true n) k in
       after_two (Good g) _ _ _ (number_kept s g linked line e p.0) (takes_number n p.1) (λ v x h f. (f, h))
 
-  reader_resolves : (n : NamedTree) → Kept s g.is_main (uses.in_named line roles.Target false n) → GoesWell (λ (x : Target). TakesMode g x.place x.mode) (reader s n)
+  reader_resolves : (n : NamedTree) → AreValid s g.is_main (uses.in_named line roles.Target false n) → GoesWell (λ (x : InputTarget). TakesMode g x.place x.mode) (reader s n)
   reader_resolves n k =
       let x = targets_resolve s g linked line false n k in
       (record { place = x.0; mode = x.1 }, x.6, x.3)
 
-  pub read_resolves : (ns : List NamedTree) → Kept s g.is_main (uses.in_all_named line roles.Target ns) → GoesWell (Good g) (simple_statement s (read_statement line ns))
+  pub read_resolves : (ns : List NamedTree) → AreValid s g.is_main (uses.in_all_named line roles.Target ns) → GoesWell (Good g) (simple_statement s (read_statement line ns))
   unfolding simple_statement
   read_resolves ns k =
-      after_one (Good g) _ _ (each_resolves s g.is_main (reader s) (uses.in_named line roles.Target false) (λ (x : Target). TakesMode g x.place x.mode) reader_resolves ns k) (λ xs h. h)
+      after_one (Good g) _ _ (each_resolves s g.is_main (reader s) (uses.in_named line roles.Target false) (λ (x : InputTarget). TakesMode g x.place x.mode) reader_resolves ns k) (λ xs h. h)
 
-  pub call_resolves : (name : NameBytes) (given : List ExpressionTree) (yielding : List NamedTree) → Kept s g.is_main (uses.in_call line name given yielding) →
+  pub call_resolves : (name : NameBytes) (given : List ExpressionTree) (yielding : List NamedTree) → AreValid s g.is_main (uses.in_call line name given yielding) →
       GoesWell (Good g) (simple_statement s (call_statement line name given yielding))
   unfolding simple_statement
   call_resolves name given yielding k =

@@ -1,7 +1,7 @@
 -- Steps that may have no result, and results of at most so many nodes.
 use Rattle.std.proofs.Common.{◌≡◌, ℕ, ◌≤◌, Bool, true, false, List, [], ◌∷◌, length, Option, Some, None, sum_by, subst, arith}
 use Rattle.std.proofs.lemmas.List.Sums.{sum_by-cons}
-use Rattle.ss_tree.specs.Nodes as tree
+use Rattle.std.specs.Option.{option_map_or}
 use Rattle.ss_program.specs.Nodes.{total, option_nodes}
 use Rattle.ss_names_meaning.specs.Answers.{◌>>=◌, each, if_there, where_holds}
 
@@ -40,7 +40,7 @@ pub held : {A B : Type 0} {k : B → ℕ} {n : ℕ} (b : Bool) (x : A) (f : A �
 held true x f h = h
 held false x f h = omega arith
 
-pub there_small : {A B : Type 0} {m : A → ℕ} {k : B → ℕ} {step : A → Option B} → ((a : A) → Within k (m a) (step a)) → (x : Option A) → Within (option_nodes k) (tree.option_nodes m x) (if_there step x)
+pub there_small : {A B : Type 0} {m : A → ℕ} {k : B → ℕ} {step : A → Option B} → ((a : A) → Within k (m a) (step a)) → (x : Option A) → Within (option_nodes k) (option_map_or m x 0) (if_there step x)
 there_small h None = omega arith
 there_small h (Some x) = followed (h x) (λ y p. omega arith)
 

@@ -14,7 +14,7 @@ use Rattle.ss_names_uses.specs.Uses as uses
 use Rattle.ss_names_scopes.specs.Scopes.{Scope, is_kind}
 use Rattle.ss_check_rules.specs.Modes.{mode_of_use}
 use Rattle.ss_program.specs.Program.{Expression, PrintItem, SetOwner, Condition, Place as Target, ToVariable, Restart, Head, Phrase, Guard, Block}
-use Rattle.ss_program.specs.WellTyped.{Scope as Place, HasMode, TakesMode, TakesItem, OwnerFits, GoodCondition, GoodHead, GoodPhrase, GoodRestart, GoodBlock, kind_of_class}
+use Rattle.ss_program.specs.WellTyped.{TypedScope as Place, HasMode, TakesMode, TakesItem, OwnerFits, GoodCondition, GoodHead, GoodPhrase, GoodRestart, GoodBlock, kind_of_class}
 use Rattle.ss_names_meaning.specs.declared.classes.NamedClass.{NamedClass}
 use Rattle.ss_names_meaning.specs.Answers.{each}
 use Rattle.ss_names_meaning.specs.Classes.{class_named}
@@ -22,12 +22,12 @@ use Rattle.ss_names_meaning.specs.Expressions.{expression, item, set_named, targ
 use Rattle.ss_names_meaning.specs.Conditions.{condition}
 use Rattle.ss_names_meaning.specs.Heads.{guard, head, phrases_of, resolved_phrase}
 use Rattle.ss_names_meaning.specs.Statements.{reader, restart, statements}
-use Rattle.ss_check_laws.specs.Links.{IsLinked, Kept}
+use Rattle.ss_check_laws.specs.Links.{IsLinked, AreValid}
 
 -- the expression has a resolved form, of the mode that the rules say, which is Integer where it has to be a number
 abbrev pub Resolves : Scope → Place → (is_number : Bool) → ExpressionTree → Type 0
 Resolves s g is_number e =
-    (x : Expression) × (m : Mode) × (expression s e ≡ Some x) × HasMode g x m × (mode_of_use s (uses.expression_mode e) ≡ Some m) × (is_number ≡ true → m ≡ Integer)
+    (x : Expression) × (m : Mode) × (expression s e ≡ Some x) × HasMode g x m × (mode_of_use s (uses.expression_tree_mode e) ≡ Some m) × (is_number ≡ true → m ≡ Integer)
 
 -- the target has a resolved form, which takes values of the mode that the rules say; READ finds the same mode
 abbrev pub TargetResolves : Scope → Place → (is_number : Bool) → NamedTree → Type 0
@@ -76,44 +76,44 @@ BodyResolves s g body = (b : Block) × (statements s (statement_row body) ≡ So
 abbrev pub ExpressionsResolve : Type 0
 ExpressionsResolve =
     (s : Scope) (g : Place) → IsLinked s g → (line : Line) (is_number : Bool) (e : ExpressionTree) →
-    Kept s g.is_main (uses.in_expression line is_number e) → Resolves s g is_number e
+    AreValid s g.is_main (uses.in_expression line is_number e) → Resolves s g is_number e
 
 abbrev pub TargetsResolve : Type 0
 TargetsResolve =
     (s : Scope) (g : Place) → IsLinked s g → (line : Line) (is_number : Bool) (n : NamedTree) →
-    Kept s g.is_main (uses.in_named line roles.Target is_number n) → TargetResolves s g is_number n
+    AreValid s g.is_main (uses.in_named line roles.Target is_number n) → TargetResolves s g is_number n
 
 abbrev pub SetsResolve : Type 0
 SetsResolve =
     (s : Scope) (g : Place) → IsLinked s g → (line : Line) (n : NamedTree) →
-    Kept s g.is_main (uses.in_named line roles.Set false n) → SetResolves s g n
+    AreValid s g.is_main (uses.in_named line roles.Set false n) → SetResolves s g n
 
 abbrev pub ItemsResolve : Type 0
 ItemsResolve =
     (s : Scope) (g : Place) → IsLinked s g → (line : Line) (field : Field) (e : ExpressionTree) →
-    Kept s g.is_main (uses.in_field line e field) → Kept s g.is_main (uses.in_item line e) → ItemResolves s g field e
+    AreValid s g.is_main (uses.in_field line e field) → AreValid s g.is_main (uses.in_item line e) → ItemResolves s g field e
 
 abbrev pub RestartsResolve : Type 0
 RestartsResolve =
     (s : Scope) (g : Place) → IsLinked s g → (line : Line) (n : NamedTree) →
-    Kept s g.is_main (uses.in_named line roles.Reset false n) → RestartResolves s g n
+    AreValid s g.is_main (uses.in_named line roles.Reset false n) → RestartResolves s g n
 
 abbrev pub ClassesResolve : Type 0
 ClassesResolve =
     (s : Scope) (g : Place) → IsLinked s g → (line : Line) (need : ClassNeed) (name : NameBytes) (is_called : Bool) →
-    Kept s g.is_main (uses.class_used line need name is_called ∷ []) → ClassResolves s g need name is_called
+    AreValid s g.is_main (uses.class_used line need name is_called ∷ []) → ClassResolves s g need name is_called
 
 abbrev pub ConditionsResolve : Type 0
 ConditionsResolve =
     (s : Scope) (g : Place) → IsLinked s g → (line : Line) (t : ConditionTree) →
-    Kept s g.is_main (uses.in_condition line t) → ConditionResolves s g t
+    AreValid s g.is_main (uses.in_condition line t) → ConditionResolves s g t
 
 abbrev pub HeadsResolve : Type 0
 HeadsResolve =
     (s : Scope) (g : Place) → IsLinked s g → (line : Line) (over : LoopHeadTree) →
-    Kept s g.is_main (uses.in_loop_head line over) → HeadResolves s g over
+    AreValid s g.is_main (uses.in_loop_head line over) → HeadResolves s g over
 
 abbrev pub BodiesResolve : Type 0
 BodiesResolve =
     (s : Scope) (g : Place) → IsLinked s g → (body : List StatementTree) →
-    Kept s g.is_main (uses.in_body body) → BodyResolves s g body
+    AreValid s g.is_main (uses.in_body body) → BodyResolves s g body

@@ -10,7 +10,7 @@ use Rattle.ss_names.specs.declared.entry.RoutineSection.{RoutineSection}
 use Rattle.ss_names_scopes.specs.Locals.{Moded}
 use Rattle.ss_names_scopes.specs.Scopes.{Scope}
 use Rattle.ss_program.specs.Program.{Routine, Program}
-use Rattle.ss_program.specs.WellTyped.{Scope as Place}
+use Rattle.ss_program.specs.WellTyped.{TypedScope as Place}
 use Rattle.ss_tables_rules.specs.Rules.{may_be_hidden}
 use Rattle.ss_check_rules.specs.Refusal.{use_breaks}
 use Rattle.ss_names_meaning.specs.Layouts.{ResolvedLayout}
@@ -18,8 +18,8 @@ use Rattle.ss_names_meaning.specs.Resolved.{local_modes}
 use Rattle.ss_names_laws.specs.ValidTables.{IsValidTable}
 
 -- uses that break no rule
-abbrev pub Kept : Scope → Bool → List Use → Type 0
-Kept s in_main us = Every (λ u. use_breaks s in_main u ≡ None) us
+abbrev pub AreValid : Scope → Bool → List Use → Type 0
+AreValid s in_main us = Every (λ u. use_breaks s in_main u ≡ None) us
 
 -- a routine of the program: what it is given and yields are the first local variables of its section
 pub record IsRoutineAt (s : Scope) (p : Program) (k : ℕ) (known : RoutineSection) : Type 0 where

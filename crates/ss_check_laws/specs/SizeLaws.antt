@@ -1,7 +1,7 @@
 -- A resolved program has no more nodes than its tree.
 use Rattle.std.specs.Prelude.{◌≡◌, ◌≤◌, Some}
 use Rattle.ss_tree.specs.Tree.{ProgramTree, StatementRow}
-use Rattle.ss_tree.specs.Nodes.{nodes as tree_nodes, statements_nodes}
+use Rattle.ss_tree.specs.Nodes.{tree_nodes, statements_nodes}
 use Rattle.ss_names.specs.Table.{table}
 use Rattle.ss_names_scopes.specs.Scopes.{Scope}
 use Rattle.ss_program.specs.Program.{Block, Program}

@@ -12,7 +12,7 @@ use Rattle.ss_names_uses.specs.declared.used.Use.{Use}
 use Rattle.ss_names.specs.Table.{Table}
 use Rattle.ss_names_scopes.specs.Locals.{Moded, locals, locals_of, uses_seen}
 use Rattle.ss_names_scopes.specs.Scopes.{Scope, is_main_section}
-use Rattle.ss_check_rules.specs.Refusal.{breaks, in_section}
+use Rattle.ss_check_rules.specs.Refusal.{breaks, breaches_in_section}
 
 -- ---- items in the same place
 
@@ -31,7 +31,7 @@ scope_with t sections ls = record { table = t; locals = ls; sections = sections 
 pub section_more : (t : Table) (sections : List Section) (all : List (Vec Use)) (every : List Moded) (i : ℕ) (x : Section) (us : Vec Use) (ls : Moded) (main : Bool) → i < length sections → i < length all
     → x ≡ get_or sections i x → us ≡ get_or all i us → ls ≡ get_or every i ls → main ≡ is_main_section (view_section x)
     → map uses_seen all ≡ map uses (map view_section sections) → every ≡ map (locals_of t) (map view_section sections)
-    → flat_map (breaks (scope_with t every ls) main) us.items ≡ in_section t (map view_section sections) (view_section x)
+    → flat_map (breaks (scope_with t every ls) main) us.items ≡ breaches_in_section t (map view_section sections) (view_section x)
 section_more t sections all every i x us ls main lt lt_all x_is us_is ls_is main_is uses_are locals_are =
     let vs : List SectionTree = map view_section sections in
     let s : SectionTree = view_section x in

@@ -6,7 +6,7 @@ use Rattle.ss_tree.specs.declared.expression.Function.TheVariants.{One}
 use Rattle.ss_base.specs.declared.words.UnaryOperator.TheVariants.{Absolute}
 use Rattle.ss_base.specs.declared.words.Sign.TheVariants.{Plus}
 use Rattle.ss_base.specs.declared.layout.ClassKind.TheVariants.{Permanent, Temporary, Notice}
-use Rattle.ss_tree.specs.declared.preamble.Mode.TheVariants as said
+use Rattle.ss_tree.specs.declared.preamble.ModeWord.TheVariants as said
 use Rattle.ss_tree.specs.declared.preamble.StatisticKind.TheVariants.{Sum, Mean}
 use Rattle.ss_base.specs.declared.words.Weighting.TheVariants.{Tally}
 use Rattle.ss_tree.specs.Tree.{ExpressionTree, number, text, named, call, parenthesised, sum, no_expression, and_expression, no_term, and_term, NamedTree, by_discipline, now, StatementTree, let_statement, call_statement, start_simulation, create_statement, file_statement, schedule_new, reset_statement, print_statement, event_notices, every, normally, system_owns, define_variables, statistics, has, owns, belongs_to, PreambleTree, SectionKindTree, main, routine, event, SectionTree, ProgramTree}

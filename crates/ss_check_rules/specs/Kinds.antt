@@ -12,8 +12,8 @@ use Rattle.ss_names_uses.specs.declared.used.ClassNeed.{ClassNeed}
 use Rattle.ss_program.specs.declared.expression.SetQuery.TheVariants.{MemberCount}
 use Rattle.ss_names.specs.declared.meaning.Meaning.{Meaning}
 use Rattle.ss_names.specs.declared.meaning.Meaning.TheVariants as m
-use Rattle.ss_names.specs.Table.{Table, owner_of}
-use Rattle.ss_names_scopes.specs.Scopes.{Scope, history_of, is_kind, meaning, variable_of}
+use Rattle.ss_names.specs.Table.{Table, owner_of_meaning}
+use Rattle.ss_names_scopes.specs.Scopes.{Scope, history_of, is_kind, meaning_of, variable_of}
 
 abbrev pub if_means : (Meaning → Bool) → Option Meaning → Bool
 if_means test meaning = option_map_or test meaning false
@@ -48,14 +48,14 @@ suits_class _ need = false
 -- what a place means in its role; no local variable hides a set
 abbrev pub meaning_in_role : Scope → Role → Designator → Option Meaning
 meaning_in_role s roles.Set (designators.Name name) = value_for s.table.meanings name
-meaning_in_role s role place = meaning s place
+meaning_in_role s role place = meaning_of s place
 
 -- whether what is named is of the kind that its role needs
 abbrev pub suits : Scope → Role → Designator → Bool
 suits s roles.Reset place = is_some (history_of s place)
 suits s roles.Set place = if_means is_set (meaning_in_role s roles.Set place)
-suits s roles.LoopVariable place = if_means is_variable (meaning s place)
-suits s _ place = if_means has_value (meaning s place)
+suits s roles.LoopVariable place = if_means is_variable (meaning_of s place)
+suits s _ place = if_means has_value (meaning_of s place)
 
 -- what TALLY and ACCUMULATE may be of: a global variable of a DEFINE, an attribute or N. of a set
 abbrev pub may_be_watched : Meaning → Bool
@@ -74,7 +74,7 @@ may_have (owners.Class class) n = nat_le n 1
 -- anything else none
 abbrev pub suits_subscripts : Table → Meaning → ℕ → Bool
 suits_subscripts t m.NoticeTime n = n == 1
-suits_subscripts t meaning n = may_have (owner_of t meaning) n
+suits_subscripts t meaning n = may_have (owner_of_meaning t meaning) n
 
 -- ---- targets, 76
 

@@ -9,16 +9,16 @@ use Rattle.ss_names_uses.specs.declared.used.Role.{Role}
 use Rattle.ss_names_uses.specs.declared.used.Role.TheVariants as roles
 use Rattle.ss_names.specs.declared.entry.RoutineSection.{RoutineSection}
 use Rattle.ss_names.specs.declared.meaning.Meaning.{Meaning}
-use Rattle.ss_names.specs.Table.{Table, field_mode}
-use Rattle.ss_names_scopes.specs.Scopes.{Scope, implied, meaning_of_name, mode_of, parameter_mode}
+use Rattle.ss_names.specs.Table.{Table, mode_of_attribute}
+use Rattle.ss_names_scopes.specs.Scopes.{Scope, implied, meaning_of_name, mode_of_meaning, parameter_mode}
 use Rattle.ss_check_rules.specs.Kinds.{is_mean}
 
 abbrev pub meaning_mode : Option Meaning → Option Mode
-meaning_mode meaning = option_and_then mode_of meaning
+meaning_mode meaning = option_and_then mode_of_meaning meaning
 
 -- the mode of the attribute of a class in this place
 abbrev pub attribute_mode : Table → Option ℕ → ℕ → Option Mode
-attribute_mode t known place = option_and_then (λ class. option_and_then (field_mode t) (slice_get (get_or t.fields class []) place)) known
+attribute_mode t known place = option_and_then (λ class. option_and_then (mode_of_attribute t) (slice_get (get_or t.fields class []) place)) known
 
 -- the mode that a use says, if there is one
 abbrev pub mode_of_use : Scope → ModeOf → Option Mode

@@ -17,11 +17,11 @@ use Rattle.ss_names_uses.specs.declared.used.Use.{Use}
 use Rattle.ss_names_uses.specs.Uses.{uses}
 use Rattle.ss_names.specs.declared.meaning.Meaning.{Meaning}
 use Rattle.ss_names.specs.Table.{Table, table}
-use Rattle.ss_names_scopes.specs.Scopes.{Scope, is_main, is_main_section, meaning, meaning_of_name, scope_of}
+use Rattle.ss_names_scopes.specs.Scopes.{Scope, is_main, is_main_section, meaning_of, meaning_of_name, scope_of}
 use Rattle.ss_check_rules.specs.Counts.{suits_count}
 use Rattle.ss_check_rules.specs.Kinds.{if_means, is_mean, is_routine, is_target, may_be_watched, meaning_in_role, suits, suits_class, suits_subscripts, takes_values}
 use Rattle.ss_check_rules.specs.Modes.{differ, is_text, mixes_modes, mode_of_use}
-use Rattle.ss_check_rules.specs.Order.{order_of}
+use Rattle.ss_check_rules.specs.Order.{check_error_order}
 use Rattle.ss_check_rules.specs.declared.error.CheckError.{CheckError}
 use Rattle.ss_check_rules.specs.declared.error.CheckError.TheVariants as e
 
@@ -57,7 +57,7 @@ used_breaks s in_main line (Routine routine) =
 used_breaks s in_main line Start = unless in_main (e.StartPlace line)
 used_breaks s in_main line (Same found wanted) = unless (not (differ (mode_of_use s found) (mode_of_use s wanted))) (e.Mode line)
 used_breaks s in_main line (Count found wanted) = unless (suits_count s.table found wanted) (e.Arguments line)
-used_breaks s in_main line (Mean place) = unless (if_means is_mean (meaning s place)) (e.Fields line)
+used_breaks s in_main line (Mean place) = unless (if_means is_mean (meaning_of s place)) (e.Fields line)
 used_breaks s in_main line Unfit = Some (e.Fields line)
 used_breaks s in_main line _ = None
 
@@ -68,8 +68,8 @@ use_breaks s in_main u = used_breaks s in_main u.line u.what
 abbrev pub breaks : Scope → Bool → Use → List CheckError
 breaks s in_main u = option_to_list (use_breaks s in_main u)
 
-abbrev pub in_section : Table → List SectionTree → SectionTree → List CheckError
-in_section t sections s = flat_map (breaks (scope_of t sections s) (is_main s.kind)) (uses s)
+abbrev pub breaches_in_section : Table → List SectionTree → SectionTree → List CheckError
+breaches_in_section t sections s = flat_map (breaks (scope_of t sections s) (is_main s.kind)) (uses s)
 
 -- ---- the preamble and the program
 
@@ -97,8 +97,8 @@ abbrev pub in_program : List SectionTree → List CheckError
 in_program sections = if list_any is_main_section sections then [] else e.NoMain (record { 0 = 0 }) ∷ []
 
 abbrev pub breaches : Table → ProgramTree → List CheckError
-breaches t p = flat_map (in_preamble t) p.preamble ++ (in_program p.sections ++ flat_map (in_section t p.sections) p.sections)
+breaches t p = flat_map (in_preamble t) p.preamble ++ (in_program p.sections ++ flat_map (breaches_in_section t p.sections) p.sections)
 
 -- the first rule that a program breaks, at the first line where it does; none where it breaks none
 abbrev pub refusal_of_uses : ProgramTree → Option CheckError
-refusal_of_uses p = earliest order_of (breaches (table p) p)
+refusal_of_uses p = earliest check_error_order (breaches (table p) p)

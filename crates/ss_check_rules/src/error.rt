@@ -1,7 +1,7 @@
 //! Why a program is refused for what it does with its names.
 
 ghost use Rattle.std.specs.Prelude.{◌≡◌};
-ghost use Rattle.ss_check_rules.specs.Order.{order_of};
+ghost use Rattle.ss_check_rules.specs.Order.{check_error_order};
 ghost use Rattle.ss_check_rules.specs.declared.error.CheckError.TheVariants.{Memory};
 ghost use Rattle.ss_names_declarations.specs.Earliest.{unless};
 
@@ -63,7 +63,7 @@ impl From<AllocError> for CheckError {
 }
 
 impl Breach for CheckError {
-    ghost order = { order_of };
+    ghost order = { check_error_order };
 
     fn order_of(&self) -> (u32, u32) {
         match self {

@@ -7,10 +7,10 @@ ghost use Rattle.ss_check_rules.specs.Kinds.{if_means, is_mean, is_target, takes
 ghost use Rattle.ss_check_rules.specs.Modes.{attribute_mode, differ, is_mean_as_value, is_text, mixes_modes, meaning_mode, mode_of_use};
 ghost use Rattle.ss_names.specs.declared.entry.RoutineSection.{RoutineSection as SectionSeen};
 ghost use Rattle.ss_names.specs.declared.entry.Attribute.{Attribute as AttributeSeen};
-ghost use Rattle.ss_names.specs.Table.{field_mode};
+ghost use Rattle.ss_names.specs.Table.{mode_of_attribute};
 ghost use Rattle.ss_names_declarations.specs.Earliest.{unless};
 ghost use Rattle.ss_check_rules.specs.Refusal.{class_breaks, meaning_breaks, place_breaks};
-ghost use Rattle.ss_names_scopes.specs.Scopes.{meaning, parameter_mode};
+ghost use Rattle.ss_names_scopes.specs.Scopes.{meaning_of, parameter_mode};
 
 use crate::error::{CheckError, unless};
 use crate::kinds::{
@@ -66,7 +66,7 @@ fn mode_of_attribute(attribute: Option<Attribute>) -> Option<Mode>
 
 // The mode of an attribute of this name.
 fn field_mode(names: &Names, attribute: &Option<Name>) -> Option<Mode>
-    ensures { result ≡ option_and_then (field_mode names.now) attribute.now }
+    ensures { result ≡ option_and_then (mode_of_attribute names.now) attribute.now }
 {
     match attribute {
         Some(name) => mode_of_attribute(names.attributes.get(name).copied()),
@@ -261,7 +261,7 @@ pub fn class_breaks(
 
 /// The breach of an item that has to be a MEAN.
 pub fn mean_breaks(scope: &Scope<'_>, line: Line, place: &Designator) -> Option<CheckError>
-    ensures { result ≡ unless (if_means is_mean (meaning (view_scope scope.now) place.now)) (e.Fields line) }
+    ensures { result ≡ unless (if_means is_mean (meaning_of (view_scope scope.now) place.now)) (e.Fields line) }
 {
     unless(if_mean(scope.meaning(*place)), CheckError::Fields(line))
 }

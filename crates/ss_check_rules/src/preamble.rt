@@ -6,7 +6,7 @@ ghost use Rattle.ss_tree.specs.View.{view_preamble};
 ghost use Rattle.ss_names_declarations.specs.Earliest.{earlier, unless};
 ghost use Rattle.ss_names_declarations.specs.Firsts.{value_for};
 ghost use Rattle.ss_check_rules.specs.declared.error.CheckError.TheVariants as e;
-ghost use Rattle.ss_check_rules.specs.Order.{order_of};
+ghost use Rattle.ss_check_rules.specs.Order.{check_error_order};
 ghost use Rattle.ss_check_rules.specs.Refusal.{eventless, eventless_of, in_preamble, subject_breaks};
 
 use crate::error::{CheckError, unless};
@@ -34,7 +34,7 @@ fn notices_break(
     classes: &[Name],
     found: Option<CheckError>,
 ) -> Option<CheckError>
-    ensures { result ≡ fold (earlier order_of) found (flat_map (eventless names.now line) classes.now) }
+    ensures { result ≡ fold (earlier check_error_order) found (flat_map (eventless names.now line) classes.now) }
 {
     let mut found = found;
     for class in classes {
@@ -51,7 +51,7 @@ fn class_breaks(
     class: &Name,
     found: Option<CheckError>,
 ) -> Option<CheckError>
-    ensures { result ≡ fold (earlier order_of) found (eventless_of names.now line kind class.now) }
+    ensures { result ≡ fold (earlier check_error_order) found (eventless_of names.now line kind class.now) }
 {
     match kind {
         ClassKind::Notice => earlier_of(found, eventless(names, line, class)),
@@ -77,7 +77,7 @@ fn statement_breaks(
     statement: &PreambleStatement,
     found: Option<CheckError>,
 ) -> Option<CheckError>
-    ensures { result ≡ fold (earlier order_of) found (in_preamble names.now (view_preamble statement.now)) }
+    ensures { result ≡ fold (earlier check_error_order) found (in_preamble names.now (view_preamble statement.now)) }
 {
     match statement {
         PreambleStatement::EventNotices { line, included } => {
@@ -102,7 +102,7 @@ pub fn preamble_breaks(
     preamble: &[PreambleStatement],
     found: Option<CheckError>,
 ) -> Option<CheckError>
-    ensures { result ≡ fold (earlier order_of) found (flat_map (in_preamble names.now) (map view_preamble preamble.now)) }
+    ensures { result ≡ fold (earlier check_error_order) found (flat_map (in_preamble names.now) (map view_preamble preamble.now)) }
 {
     let mut found = found;
     for statement in preamble {

@@ -2,14 +2,14 @@
 
 ghost use Rattle.std.specs.Prelude.{◌≡◌, None, length, map, IfOk};
 ghost use Rattle.std.specs.List.{flat_map, fold, list_any};
-ghost use Rattle.ss_tree.specs.View.{view_preamble, view_program, view_section};
+ghost use Rattle.ss_tree.specs.View.{view_preamble, view_program_tree, view_section};
 ghost use Rattle.ss_names.specs.Table.{table};
 ghost use Rattle.ss_names_declarations.specs.Earliest.{earlier, earliest};
 ghost use Rattle.ss_names_uses.specs.Uses.{uses};
 ghost use Rattle.ss_names_scopes.specs.Locals.{locals_of, uses_seen};
 ghost use Rattle.ss_names_scopes.specs.Scopes.{is_main_section};
-ghost use Rattle.ss_check_rules.specs.Order.{order_of};
-ghost use Rattle.ss_check_rules.specs.Refusal.{breaches, in_program, in_section, refusal_of_uses};
+ghost use Rattle.ss_check_rules.specs.Order.{check_error_order};
+ghost use Rattle.ss_check_rules.specs.Refusal.{breaches, in_program, breaches_in_section, refusal_of_uses};
 
 use crate::error::CheckError;
 use crate::preamble::preamble_breaks;
@@ -36,7 +36,7 @@ fn has_main(sections: &[Section]) -> bool
 
 // What was found so far, or that there is no MAIN.
 fn program_breaks(sections: &[Section], found: Option<CheckError>) -> Option<CheckError>
-    ensures { result ≡ fold (earlier order_of) found (in_program (map view_section sections.now)) }
+    ensures { result ≡ fold (earlier check_error_order) found (in_program (map view_section sections.now)) }
 {
     if has_main(sections) {
         found
@@ -69,7 +69,7 @@ fn sections_break(
     requires every { length locals.now ≡ length sections.now }
     requires uses { map uses_seen all.now ≡ map uses (map view_section sections.now) }
     requires locals { locals.now ≡ map (locals_of names.now) (map view_section sections.now) }
-    ensures { result ≡ fold (earlier order_of) found (flat_map (in_section names.now (map view_section sections.now)) (map view_section sections.now)) }
+    ensures { result ≡ fold (earlier check_error_order) found (flat_map (breaches_in_section names.now (map view_section sections.now)) (map view_section sections.now)) }
 {
     let mut found = found;
     for (number, section) in sections.iter().enumerate() {
@@ -97,7 +97,7 @@ fn program_judged(
     requires every { length locals.now ≡ length sections.now }
     requires uses { map uses_seen all.now ≡ map uses (map view_section sections.now) }
     requires locals { locals.now ≡ map (locals_of names.now) (map view_section sections.now) }
-    ensures { result ≡ earliest order_of (breaches names.now (record { preamble = map view_preamble preamble.now; sections = map view_section sections.now })) }
+    ensures { result ≡ earliest check_error_order (breaches names.now (record { preamble = map view_preamble preamble.now; sections = map view_section sections.now })) }
 {
     let by_preamble = preamble_breaks(names, preamble, None);
     let by_program = program_breaks(sections, by_preamble);
@@ -114,8 +114,8 @@ pub fn judge(
     program: &Program,
     names: &Names,
 ) -> Result<(Option<CheckError>, Vec<Locals>), AllocError>
-    requires { names.now ≡ table (view_program program.now) }
-    ensures refusal { IfOk result (λ found. found.0 ≡ refusal_of_uses (view_program program.now)) }
+    requires { names.now ≡ table (view_program_tree program.now) }
+    ensures refusal { IfOk result (λ found. found.0 ≡ refusal_of_uses (view_program_tree program.now)) }
     ensures locals { IfOk result (λ found. found.1.items ≡ map (locals_of names.now) (map view_section program.now.sections.items)) }
 {
     let all = all_uses(alloc, &program.sections)?;

@@ -7,7 +7,7 @@ ghost use Rattle.ss_names_declarations.specs.Firsts.{value_for};
 ghost use Rattle.ss_names_scopes.specs.Seen.{view_scope};
 ghost use Rattle.ss_check_rules.specs.declared.error.CheckError.TheVariants as e;
 ghost use Rattle.ss_check_rules.specs.Kinds.{if_means, is_routine};
-ghost use Rattle.ss_check_rules.specs.Order.{order_of};
+ghost use Rattle.ss_check_rules.specs.Order.{check_error_order};
 ghost use Rattle.ss_check_rules.specs.Refusal.{breaks, use_breaks, used_breaks};
 
 use crate::counts::count_breaks;
@@ -71,7 +71,7 @@ pub fn section_breaks(
     uses: &[Use],
     found: Option<CheckError>,
 ) -> Option<CheckError>
-    ensures { result ≡ fold (earlier order_of) found (flat_map (breaks (view_scope scope.now) in_main) uses.now) }
+    ensures { result ≡ fold (earlier check_error_order) found (flat_map (breaks (view_scope scope.now) in_main) uses.now) }
 {
     let mut found = found;
     for one in uses {

@@ -1,5 +1,6 @@
 -- The code of a program, from what was put for its sections.
 use Rattle.std.proofs.Common.{◌≡◌, ℕ, ◌+◌, ◌<◌, ◌≤◌, ◌^◌, true, List, [], ◌∷◌, ◌++◌, length, map, sym, ap, ◌∙◌, subst, arith, append-nil}
+use Rattle.std.proofs.lemmas.List.{length-map}
 use Rattle.std.specs.Prelude.{pos}
 use Rattle.std.specs.List.{AllByRecursion as Every}
 use Rattle.ss_base.specs.declared.line.Line.{Line}
@@ -11,7 +12,7 @@ use Rattle.ss_program.specs.Program.{Program}
 use Rattle.ss_program.specs.Nodes.{nodes}
 use Rattle.ss_program.specs.View.{view_program, view_routine, view_event, view_body}
 use Rattle.ss_program.specs.WellTyped.{WellTyped, GoodRoutine, GoodEvent}
-use Rattle.ss_code_instructions.specs.declared.entry.Entry.{Entry}
+use Rattle.ss_code_instructions.specs.declared.entry.SectionEntry.{SectionEntry}
 use Rattle.ss_code_instructions.specs.declared.instruction.Instruction.{Instruction as Running}
 use Rattle.ss_code_instructions.specs.Carried.{RunningLines, main_entry}
 use Rattle.ss_code_instructions.specs.Laws.{HasSize}
@@ -21,10 +22,11 @@ use Rattle.ss_code_instructions.specs.Translation.{code_of, main_code, section_c
 use Rattle.ss_code_instructions.specs.Translation as z
 use Rattle.ss_code_instructions.specs.Walks.{WalksSift}
 use Rattle.ss_code_generator.specs.declared.generator.Generator.{Generator}
-use Rattle.ss_code_pieces.specs.Lined.{Lined, nothing}
+use Rattle.ss_code_pieces.specs.declared.piece.LinedInstruction.{LinedInstruction}
+use Rattle.ss_code_pieces.specs.Lined.{Lined, no_code, instructions_in, lines_in}
 use Rattle.ss_code_generator.specs.Emitted.{Final, Around, HasPrints, Adds}
 use Rattle.ss_code_generator.specs.Printed.{Prints}
-use Rattle.ss_code.specs.Running.{Said, said_by, Compiled, IsFor, Begins, AllBegin}
+use Rattle.ss_code.specs.Running.{Said, said_by, Generated, IsFor, HasFrameOf, AllBegin}
 use Rattle.ss_code.specs.Sections.{Deepened, AllDeepened, PutsSection, PutsRoutines, PutsEvents}
 use Rattle.ss_code.specs.Sifted.{AllAlike}
 use Rattle.ss_code_generator.proofs.Emitting.{piece_long}
@@ -35,24 +37,24 @@ use Rattle.ss_code.proofs.Whole.{Parts, all_added, routines_begin, events_begin,
 use Rattle.ss_code.proofs.Nodes.{code_small}
 
 -- what is known once all sections are put
-pub record Known (p : Program) (g : Generator) (c1 c2 c3 : Lined) (p1 p2 p3 : List RunningLines) (main : Entry) (routines events : List Entry) : Type 0 where
+pub record Known (p : Program) (g : Generator) (c1 c2 c3 : Lined) (p1 p2 p3 : List RunningLines) (main : SectionEntry) (routines events : List SectionEntry) : Type 0 where
   pub parts : Parts p g c1 c2 c3 p1 p2 p3
   pub fixed : (rest : List Value) × (g.constants.items ≡ Whole (pos 0) ∷ Whole (pos 1) ∷ rest)
-  pub main_begins : Begins 0 (main_entry (code_of p)) main
+  pub main_begins : HasFrameOf 0 (main_entry (code_of p)) main
   pub routines_begin : AllBegin 0 (code_of p).routines routines
   pub events_begin : AllBegin 0 (code_of p).events events
 
 -- how all of it was made
-pub record All (g0 g1 g2 g3 : Generator) (c0 c1 c2 c3 : Lined) (p0 p1 p2 p3 : List RunningLines) (main : Entry) (routines events : List Entry) : Type 0 where
+pub record All (g0 g1 g2 g3 : Generator) (c0 c1 c2 c3 : Lined) (p0 p1 p2 p3 : List RunningLines) (main : SectionEntry) (routines events : List SectionEntry) : Type 0 where
   pub constants : g0.constants.items ≡ Whole (pos 0) ∷ (Whole (pos 1) ∷ [])
-  pub code : c0 ≡ nothing
+  pub code : c0 ≡ no_code
   pub prints : p0 ≡ []
-  pub puts_main : PutsSection g0 g1 c0 c1 p0 p1 (record { place = length c0.instructions; given = []; yielding = 0; others = g0.program.now.locals.items }) (view_body g0.program.now.main.items) main
+  pub puts_main : PutsSection g0 g1 c0 c1 p0 p1 (record { place = length c0; given = []; yielding = 0; others = g0.program.now.locals.items }) (view_body g0.program.now.main.items) main
   pub puts_routines : PutsRoutines g1 g2 c1 c2 p1 p2 (map view_routine g1.program.now.routines.items) routines
   pub puts_events : PutsEvents g2 g3 c2 c3 p2 p3 (map view_event g2.program.now.events.items) events
   pub small : g3.deepest < 2 ^ 32
 
-module _ (g0 g1 g2 g3 : Generator) (c0 c1 c2 c3 : Lined) (p0 p1 p2 p3 : List RunningLines) (main : Entry) (routines events : List Entry) (a : All g0 g1 g2 g3 c0 c1 c2 c3 p0 p1 p2 p3 main routines events) where
+module _ (g0 g1 g2 g3 : Generator) (c0 c1 c2 c3 : Lined) (p0 p1 p2 p3 : List RunningLines) (main : SectionEntry) (routines events : List SectionEntry) (a : All g0 g1 g2 g3 c0 c1 c2 c3 p0 p1 p2 p3 main routines events) where
   abbrev program : Program
   program = view_program g0.program.now
 
@@ -109,7 +111,7 @@ module _ (g0 g1 g2 g3 : Generator) (c0 c1 c2 c3 : Lined) (p0 p1 p2 p3 : List Run
     has1 : HasPrints final p1
     has1 = has_prints_old final p1 p2 _ routines_there.puts.prints has2
 
-    main_adds : Adds final nothing c1 (main_code program)
+    main_adds : Adds final no_code c1 (main_code program)
     main_adds =
         let made : Adds final c0 c1 (section_code (main_scope program) (length p0) program.main) = (a.puts_main.puts true).adds final around1 has1 typed.main in
         subst (λ (c : Lined). Adds final c c1 (main_code program)) a.code
@@ -133,50 +135,50 @@ module _ (g0 g1 g2 g3 : Generator) (c0 c1 c2 c3 : Lined) (p0 p1 p2 p3 : List Run
 
     pub known : Known program g3 c1 c2 c3 p1 p2 p3 main routines events
     known =
-        let rs = subst (λ (h : Held). AllBegin 0 (z.routine_entries (view_program h) (length c1.instructions) (length p1) program.routines) routines) same1 (routines_there.begin final around2 has2 good_routines) in
-        let es = subst (λ (h : Held). AllBegin 0 (z.event_entries (view_program h) (length c2.instructions) (length p2) program.events) events) same2 (events_there.begin final around3 has3 good_events) in
+        let rs = subst (λ (h : Held). AllBegin 0 (z.routine_entries (view_program h) (length c1) (length p1) program.routines) routines) same1 (routines_there.begin final around2 has2 good_routines) in
+        let es = subst (λ (h : Held). AllBegin 0 (z.event_entries (view_program h) (length c2) (length p2) program.events) events) same2 (events_there.begin final around3 has3 good_events) in
         record {
           parts = all_parts;
           fixed = fixed;
-          main_begins = subst (λ (c : Lined). Begins 0 (record { place = length c.instructions; given = []; yielding = 0; others = program.locals }) main) a.code a.puts_main.begins;
+          main_begins = subst (λ (c : Lined). HasFrameOf 0 (record { place = length c; given = []; yielding = 0; others = program.locals }) main) a.code a.puts_main.begins;
           routines_begin = routines_begin program g3 c1 c2 c3 p1 p2 p3 all_parts routines rs;
           events_begin = events_begin program g3 c1 c2 c3 p1 p2 p3 all_parts events es;
         }
 
     -- there are as many instructions as places
-    pub all_long : length c3.instructions ≡ length (code_of program).places
+    pub all_long : length c3 ≡ length (code_of program).places
     all_long = piece_long final c3 (code_of program).places (all_added program g3 c1 c2 c3 p1 p2 p3 all_parts)
 
     -- a small program is never one whose code is too long
-    pub small_enough : HasSize → nodes program ≤ 16384 → length c3.instructions ≤ 1048576
+    pub small_enough : HasSize → nodes program ≤ 16384 → length c3 ≤ 1048576
     small_enough size few =
         let long : length (code_of program).places ≡ code_size program = size program in
         omega (arith, all_long, long, code_small program, few)
 
     -- the running code is that of the program
-    pub is_made : (instructions : List Running) (main1 : Entry) (routines1 events1 : List Entry) (said : Said) (globals : List Mode) → AllAlike c3.instructions instructions → WalksSift (length program.globals + length g3.constants.items) instructions → Lands (code_of program) → length c3.instructions ≤ 1048576 → Deepened g3.deepest main main1 → AllDeepened g3.deepest routines routines1 → AllDeepened g3.deepest events events1 → said ≡ said_by program → globals ≡ program.globals → IsFor program (record { run = record { instructions = instructions; lines = c3.lines; constants = g3.constants.items; prints = p3; main = main1; routines = routines1; events = events1; depth = g3.deepest }; said = said; globals = globals })
+    pub is_made : (instructions : List Running) (main1 : SectionEntry) (routines1 events1 : List SectionEntry) (said : Said) (globals : List Mode) → AllAlike (instructions_in c3) instructions → WalksSift (length program.globals + length g3.constants.items) instructions → Lands (code_of program) → length c3 ≤ 1048576 → Deepened g3.deepest main main1 → AllDeepened g3.deepest routines routines1 → AllDeepened g3.deepest events events1 → said ≡ said_by program → globals ≡ program.globals → IsFor program (record { run = record { instructions = instructions; lines = (lines_in c3); constants = g3.constants.items; prints = p3; main = main1; routines = routines1; events = events1; depth = g3.deepest }; said = said; globals = globals })
     is_made instructions main1 routines1 events1 said globals alike sifts lands short dm drs des says modes =
         let k = known in
-        let few : length instructions ≤ 1048576 = omega (arith, short, all_alike_long c3.instructions instructions alike) in
+        let few : length instructions ≤ 1048576 = omega (arith, short, all_alike_long (instructions_in c3) instructions alike, length-map c3 (λ (x : LinedInstruction). x.instruction)) in
         record {
           code = is_code program g3 c1 c2 c3 p1 p2 p3 k.parts instructions main main1 routines routines1 events events1 alike sifts lands k.fixed few k.main_begins dm k.routines_begin drs k.events_begin des;
           said = says;
           globals = modes;
         }
 
--- ## The same, said of the program that was handed in
+-- ## The code of the program that was handed in
 
 -- the most cells of a frame, once one has room for them
-few_cells : (depth : ℕ) (old new : Entry) → Deepened depth old new → depth < 2 ^ 32
-few_cells depth old new d = omega (arith, d.small, ap (λ (x : Entry). x.room) d.same)
+few_cells : (depth : ℕ) (old new : SectionEntry) → Deepened depth old new → depth < 2 ^ 32
+few_cells depth old new d = omega (arith, d.small, ap (λ (x : SectionEntry). x.room) d.same)
 
 -- all of it, by what each call ensured
-pub all_made : {g0 g1 g2 g3 : Generator} {c0 c1 c2 c3 : Lined} {p0 p1 p2 p3 : List RunningLines} {main deep : Entry} {routines events : List Entry}
-    → PutsSection g0 g1 c0 c1 p0 p1 (record { place = length c0.instructions; given = []; yielding = 0; others = g0.program.now.locals.items }) (view_body g0.program.now.main.items) main
+pub all_made : {g0 g1 g2 g3 : Generator} {c0 c1 c2 c3 : Lined} {p0 p1 p2 p3 : List RunningLines} {main deep : SectionEntry} {routines events : List SectionEntry}
+    → PutsSection g0 g1 c0 c1 p0 p1 (record { place = length c0; given = []; yielding = 0; others = g0.program.now.locals.items }) (view_body g0.program.now.main.items) main
     → PutsRoutines g1 g2 c1 c2 p1 p2 (map view_routine g1.program.now.routines.items) routines
     → PutsEvents g2 g3 c2 c3 p2 p3 (map view_event g2.program.now.events.items) events
     → Deepened g3.deepest main deep
-    → g0.constants.items ≡ Whole (pos 0) ∷ (Whole (pos 1) ∷ []) → c0 ≡ nothing → p0 ≡ []
+    → g0.constants.items ≡ Whole (pos 0) ∷ (Whole (pos 1) ∷ []) → c0 ≡ no_code → p0 ≡ []
     → All g0 g1 g2 g3 c0 c1 c2 c3 p0 p1 p2 p3 main routines events
 all_made {g3 = g3} {main = main} {deep = deep} puts_main puts_routines puts_events deepened constants code prints = record {
   constants = constants;
@@ -188,27 +190,27 @@ all_made {g3 = g3} {main = main} {deep = deep} puts_main puts_routines puts_even
   small = few_cells g3.deepest main deep deepened;
 }
 
-module _ {g0 g1 g2 g3 : Generator} {c0 c1 c2 c3 : Lined} {p0 p1 p2 p3 : List RunningLines} {main : Entry} {routines events : List Entry} (a : All g0 g1 g2 g3 c0 c1 c2 c3 p0 p1 p2 p3 main routines events) (held : Held) (same : g0.program.now ≡ held) (typed : WellTyped (view_program held)) where
+module _ {g0 g1 g2 g3 : Generator} {c0 c1 c2 c3 : Lined} {p0 p1 p2 p3 : List RunningLines} {main : SectionEntry} {routines events : List SectionEntry} (a : All g0 g1 g2 g3 c0 c1 c2 c3 p0 p1 p2 p3 main routines events) (held : Held) (same : g0.program.now ≡ held) (typed : WellTyped (view_program held)) where
   typed_here : WellTyped (view_program g0.program.now)
   typed_here = subst (λ (h : Held). WellTyped (view_program h)) (sym same) typed
 
-  pub code_long : length c3.instructions ≡ length (code_of (view_program held)).places
+  pub code_long : length c3 ≡ length (code_of (view_program held)).places
   code_long = all_long g0 g1 g2 g3 c0 c1 c2 c3 p0 p1 p2 p3 main routines events a typed_here ∙ ap (λ (h : Held). length (code_of (view_program h)).places) same
 
-  pub never_long : HasSize → nodes (view_program held) ≤ 16384 → length c3.instructions ≤ 1048576
+  pub never_long : HasSize → nodes (view_program held) ≤ 16384 → length c3 ≤ 1048576
   never_long size few =
       let here : nodes (view_program g0.program.now) ≡ nodes (view_program held) = ap (λ (h : Held). nodes (view_program h)) same in
       small_enough g0 g1 g2 g3 c0 c1 c2 c3 p0 p1 p2 p3 main routines events a typed_here size (omega (arith, here, few))
 
-  abbrev pub compiled : (instructions : List Running) (main1 : Entry) (routines1 events1 : List Entry) (said : Said) (globals : List Mode) (lines : List Line) (depth : ℕ) → Compiled
+  abbrev pub compiled : (instructions : List Running) (main1 : SectionEntry) (routines1 events1 : List SectionEntry) (said : Said) (globals : List Mode) (lines : List Line) (depth : ℕ) → Generated
   compiled instructions main1 routines1 events1 said globals lines depth = record { run = record { instructions = instructions; lines = lines; constants = g3.constants.items; prints = p3; main = main1; routines = routines1; events = events1; depth = depth }; said = said; globals = globals }
 
-  pub made_for : (before instructions : List Running) (lines : List Line) (depth : ℕ) (main1 : Entry) (routines1 events1 : List Entry) (said : Said) (globals : List Mode) (low : ℕ) → before ≡ c3.instructions → lines ≡ c3.lines → depth ≡ g3.deepest → AllAlike before instructions → WalksSift low instructions → low ≡ length globals + length g3.constants.items → Lands (code_of (view_program held)) → length c3.instructions ≤ 1048576 → Deepened g3.deepest main main1 → AllDeepened g3.deepest routines routines1 → AllDeepened g3.deepest events events1 → said ≡ said_by (view_program held) → globals ≡ held.globals.items → IsFor (view_program held) (record { run = record { instructions = instructions; lines = lines; constants = g3.constants.items; prints = p3; main = main1; routines = routines1; events = events1; depth = depth }; said = said; globals = globals })
+  pub made_for : (before instructions : List Running) (lines : List Line) (depth : ℕ) (main1 : SectionEntry) (routines1 events1 : List SectionEntry) (said : Said) (globals : List Mode) (low : ℕ) → before ≡ instructions_in c3 → lines ≡ lines_in c3 → depth ≡ g3.deepest → AllAlike before instructions → WalksSift low instructions → low ≡ length globals + length g3.constants.items → Lands (code_of (view_program held)) → length c3 ≤ 1048576 → Deepened g3.deepest main main1 → AllDeepened g3.deepest routines routines1 → AllDeepened g3.deepest events events1 → said ≡ said_by (view_program held) → globals ≡ held.globals.items → IsFor (view_program held) (record { run = record { instructions = instructions; lines = lines; constants = g3.constants.items; prints = p3; main = main1; routines = routines1; events = events1; depth = depth }; said = said; globals = globals })
   made_for before instructions lines depth main1 routines1 events1 said globals low before_is lines_is depth_is alike sifts low_is lands short dm drs des says modes =
-      let alike' : AllAlike c3.instructions instructions = subst (λ (l : List Running). AllAlike l instructions) before_is alike in
+      let alike' : AllAlike (instructions_in c3) instructions = subst (λ (l : List Running). AllAlike l instructions) before_is alike in
       let modes' : globals ≡ g0.program.now.globals.items = modes ∙ sym (ap (λ (h : Held). h.globals.items) same) in
       let sifts' : WalksSift (length g0.program.now.globals.items + length g3.constants.items) instructions = subst (λ k. WalksSift k instructions) (low_is ∙ ap (λ (l : List Mode). length l + length g3.constants.items) modes') sifts in
-      let here : IsFor (view_program held) (compiled instructions main1 routines1 events1 said globals c3.lines g3.deepest) = subst (λ (h : Held). IsFor (view_program h) (compiled instructions main1 routines1 events1 said globals c3.lines g3.deepest)) same
+      let here : IsFor (view_program held) (compiled instructions main1 routines1 events1 said globals (lines_in c3) g3.deepest) = subst (λ (h : Held). IsFor (view_program h) (compiled instructions main1 routines1 events1 said globals (lines_in c3) g3.deepest)) same
       (is_made g0 g1 g2 g3 c0 c1 c2 c3 p0 p1 p2 p3 main routines events a typed_here instructions main1 routines1 events1 said globals alike' sifts' (subst (λ (h : Held). Lands (code_of (view_program h))) (sym same) lands) short dm drs des (says ∙ sym (ap (λ (h : Held). said_by (view_program h)) same)) modes') in
       subst (λ (ls : List Line). IsFor (view_program held) (compiled instructions main1 routines1 events1 said globals ls depth)) (sym lines_is)
-      (subst (λ k. IsFor (view_program held) (compiled instructions main1 routines1 events1 said globals c3.lines k)) (sym depth_is) here)
+      (subst (λ k. IsFor (view_program held) (compiled instructions main1 routines1 events1 said globals (lines_in c3) k)) (sym depth_is) here)

@@ -5,10 +5,10 @@ use Rattle.ss_base.specs.declared.words.GuardKind.{GuardKind}
 use Rattle.ss_base.specs.declared.words.GuardKind.TheVariants as guards
 use Rattle.ss_base.specs.declared.words.PhraseKind.{PhraseKind}
 use Rattle.ss_base.specs.declared.words.PhraseKind.TheVariants as kinds
-use Rattle.ss_program.specs.Program.{Expression, Constant, Fetch, Attribute, OfSystemSet, OfSet, OfMember, Clock, TimeOf, Figure, FigureOf, Signed, Unary, Calculate, SetOwner, TheSystem, Entity, Test, Compare, DataEnded, Empty, Member, Condition, Head, Numbers, Members, Each, Start, AtEnd, From, After, Phrase, Guard, Place, ToVariable, ToAttribute, ToCount, Target, Position, ByDiscipline, AsFirst, AsLast, BeforeMember, AfterMember, When, At, In, Now, Restart, PrintItem, AValue, AMean, AMeanOf, Statement, Let, Change, Call, Return, Stop, Read, Simulate, If, Loop, For, Find, Create, CreateEvery, Destroy, File, RemoveEnd, Remove, ScheduleNew, Schedule, Cancel, Reset, Print, Skip, Block, Done, Then, Routine, Event, Program}
+use Rattle.ss_program.specs.Program.{Expression, Constant, Fetch, Attribute, OfSystemSet, OfSet, OfMember, Clock, TimeOf, Figure, FigureOf, Signed, Unary, Calculate, SetOwner, TheSystem, Entity, Test, Compare, DataEnded, Empty, Member, Condition, Head, Numbers, Members, Each, Start, AtEnd, From, After, Phrase, Guard, Place, ToVariable, ToAttribute, ToCount, InputTarget, Position, ByDiscipline, AsFirst, AsLast, BeforeMember, AfterMember, When, At, In, Now, Restart, PrintItem, AValue, AMean, AMeanOf, Statement, Let, Change, Call, Return, Stop, Read, Simulate, If, Loop, For, Find, Create, CreateEvery, Destroy, File, RemoveEnd, Remove, ScheduleNew, Schedule, Cancel, Reset, Print, Skip, Block, Done, Then, Routine, Event, Program}
 use Rattle.ss_program.specs.Nodes.{total, option_nodes, expression_nodes, subscript_nodes, set_nodes, test_nodes, alternative_nodes, condition_nodes, guard_nodes, phrase_nodes, place_nodes, target_nodes, start_nodes, head_nodes, position_nodes, when_nodes, restart_nodes, item_nodes, statement_nodes, block_nodes, routine_nodes, event_nodes, nodes}
-use Rattle.ss_code_instructions.specs.Facts.{is_watched, must_look, needs_look, expression_of, may_fault, beside}
-use Rattle.ss_code_instructions.specs.Size.{one_if, one_if_some, expression_size, operand_size, operand_cells, values_size, looked_size, any_size, test_size, tests_size, alternatives_size, condition_size, guard_size, guards_size, phrase_size, phrases_size}
+use Rattle.ss_code_instructions.specs.Facts.{is_watched, must_look, needs_look, expression_of, may_fault, neighbour_of}
+use Rattle.ss_code_instructions.specs.Size.{one_if, one_if_some, expression_size, operand_size, operand_cell_count, values_size, looked_size, any_size, test_size, tests_size, alternatives_size, condition_size, guard_size, guards_size, phrase_size, phrases_size}
 use Rattle.ss_code_instructions.specs.Size as z
 
 one_small : (b : Bool) → one_if b ≤ 1
@@ -163,7 +163,7 @@ place_there (ToVariable x) = omega arith
 place_there (ToAttribute class field r) = omega arith
 place_there (ToCount c) = omega arith
 
-cells_small : (e : Expression) → operand_cells e ≤ 1
+cells_small : (e : Expression) → operand_cell_count e ≤ 1
 cells_small (Constant v) = omega arith
 cells_small (Fetch x) = omega arith
 cells_small (Attribute class field e) = omega arith
@@ -201,7 +201,7 @@ module _ (p : Program) where
   to_place_small (ToAttribute class field r) source = omega (arith, looked_small true r)
   to_place_small (ToCount c) source = omega arith
 
-  reads_small : (xs : List Target) → z.reads_size p xs ≤ 4 * total target_nodes xs
+  reads_small : (xs : List InputTarget) → z.reads_size p xs ≤ 4 * total target_nodes xs
   reads_small [] = omega arith
   reads_small (x ∷ xs) = omega (arith, to_place_small x.place 1, place_there x.place, reads_small xs)
 
@@ -235,19 +235,19 @@ module _ (p : Program) where
   head_small (Members x set o start reverse) = omega (arith, owner_small o, start_small start)
 
   for_small : (head : Head) (turn : ℕ) → z.for_size p head turn ≤ head_nodes head + 5 + turn
-  for_small head turn = omega (arith, head_small head, kept_small (z.loop_variable p head))
+  for_small head turn = omega (arith, head_small head, kept_small (z.head_variable p head))
 
   -- ## Sets and events
 
-  beside_small : (x : Position) → z.beside_size p (beside x) ≤ 1 + position_nodes x
+  beside_small : (x : Position) → z.beside_size p (neighbour_of x) ≤ 1 + position_nodes x
   beside_small ByDiscipline = omega arith
   beside_small AsFirst = omega arith
   beside_small AsLast = omega arith
   beside_small (BeforeMember e) = omega (arith, looked_small true e, subscript_under e)
   beside_small (AfterMember e) = omega (arith, looked_small true e, subscript_under e)
 
-  file_small : (e : Expression) (x : Position) (o : SetOwner) → z.file_size p e (beside x) (expression_of o) ≤ 2 + expression_nodes e + position_nodes x + set_nodes o
-  file_small e x o = omega (arith, looked_small (needs_look (beside x) (expression_of o)) e, subscript_under e, beside_small x, owner_under o)
+  file_small : (e : Expression) (x : Position) (o : SetOwner) → z.file_size p e (neighbour_of x) (expression_of o) ≤ 2 + expression_nodes e + position_nodes x + set_nodes o
+  file_small e x o = omega (arith, looked_small (needs_look (neighbour_of x) (expression_of o)) e, subscript_under e, beside_small x, owner_under o)
 
   when_small : (w : When) → z.when_size p w ≤ 1 + when_nodes w
   when_small (At e) = omega (arith, operand_within e)

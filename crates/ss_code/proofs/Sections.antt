@@ -4,17 +4,17 @@ use Rattle.std.specs.List.{AllByRecursion as Every}
 use Rattle.ss_base.specs.declared.value.Value.{Value}
 use Rattle.ss_program.specs.Program.{Program, Block, Routine, Event}
 use Rattle.ss_program.specs.View.{view_program}
-use Rattle.ss_program.specs.WellTyped.{Scope, GoodBlock, GoodRoutine, GoodEvent}
-use Rattle.ss_code_instructions.specs.declared.entry.Entry.{Entry}
+use Rattle.ss_program.specs.WellTyped.{TypedScope, GoodBlock, GoodRoutine, GoodEvent}
+use Rattle.ss_code_instructions.specs.declared.entry.SectionEntry.{SectionEntry}
 use Rattle.ss_code_instructions.specs.Instructions.{Placed, EntryPoint, Lines, Leave}
 use Rattle.ss_code_instructions.specs.Carried.{RunningLines}
 use Rattle.ss_code_instructions.specs.Translation.{Site, place, first_site, block_code, block_prints, section_code, routine_code, event_code, routines_code, events_code, routines_prints, events_prints, routine_entry, event_entry, routine_entries, event_entries}
 use Rattle.ss_code_generator.specs.declared.generator.Generator.{Generator}
-use Rattle.ss_code_pieces.specs.Lined.{Lined, nothing}
+use Rattle.ss_code_pieces.specs.Lined.{Lined, no_code}
 use Rattle.ss_code_generator.specs.Emitted.{Final, Around, IsLocated, HasPrints, Adds}
 use Rattle.ss_code_generator.specs.Printed.{Prints, statement_site, PrintsBy}
-use Rattle.ss_code.specs.Running.{Begins, AllBegin}
-use Rattle.ss_code.specs.Sections.{scope_in, PutsSection, PutsRoutines, PutsEvents}
+use Rattle.ss_code.specs.Running.{HasFrameOf, AllBegin}
+use Rattle.ss_code.specs.Sections.{scope_of_section, PutsSection, PutsRoutines, PutsEvents}
 use Rattle.ss_code_generator.proofs.Emitting.{runs_long, adds_none, adds_then, adds_piece, adds_same}
 use Rattle.ss_code_generator.proofs.PrintLines.{prints_then, prints_long}
 use Rattle.ss_code_generator.proofs.Bodies.{has_prints_old}
@@ -22,8 +22,8 @@ use Rattle.ss_code_generator.proofs.Bodies.{has_prints_old}
 -- ## A section
 
 -- the code of a section, which was made apart, after what was made before
-pub section_adds : (g0 g1 g2 : Generator) (c0 c1 own : Lined) (p0 p1 : List RunningLines) (s : Scope) (b : Block) → PrintsBy g1 g2 nothing own (statement_site 0) p0 p1 (λ k. GoodBlock k b) (block_prints b) (λ first t. block_code t first b ++ place t Leave ∷ []) → g1.program.now ≡ g0.program.now → s.program ≡ view_program g0.program.now → s.locals ≡ g1.locals.items → c1.instructions ≡ c0.instructions ++ own.instructions → c1.lines ≡ c0.lines ++ own.lines → (f : Final) → Around f g2 → HasPrints f p1 → GoodBlock s b → Adds f c0 c1 (section_code s (length p0) b)
-section_adds g0 g1 g2 c0 c1 own p0 p1 s b made same program locals is ls f around prints good =
+pub section_adds : (g0 g1 g2 : Generator) (c0 c1 own : Lined) (p0 p1 : List RunningLines) (s : TypedScope) (b : Block) → PrintsBy g1 g2 no_code own (statement_site 0) p0 p1 (λ k. GoodBlock k b) (block_prints b) (λ first t. block_code t first b ++ place t Leave ∷ []) → g1.program.now ≡ g0.program.now → s.program ≡ view_program g0.program.now → s.locals ≡ g1.locals.items → c1 ≡ c0 ++ own → (f : Final) → Around f g2 → HasPrints f p1 → GoodBlock s b → Adds f c0 c1 (section_code s (length p0) b)
+section_adds g0 g1 g2 c0 c1 own p0 p1 s b made same program locals is f around prints good =
     let g = made.code.grows in
     let t : Site = first_site s in
     let flat : 0 ≤ f.depth = omega arith in
@@ -34,7 +34,7 @@ section_adds g0 g1 g2 c0 c1 own p0 p1 s b made same program locals is ls f aroun
       high = refl;
       deep = flat;
     } in
-    adds_piece f c0 c1 own (section_code s (length p0) b) is ls (made.code.adds f t tt around located (prints, good))
+    adds_piece f c0 c1 own (section_code s (length p0) b) is (made.code.adds f t tt around located (prints, good))
 
 -- ## One section more
 
@@ -89,7 +89,7 @@ event_entries_more p at first (x ∷ es) e =
     ap (λ (l : List EntryPoint). event_entry at x ∷ l) (event_entries_more p here next es e ∙ ap (λ k. event_entries p here next es ++ event_entry k e ∷ []) n)
 
 -- one entry more
-pub begin_more : (room : ℕ) (es : List EntryPoint) (olds : List Entry) (e : EntryPoint) (x : Entry) → AllBegin room es olds → Begins room e x → AllBegin room (es ++ e ∷ []) (olds ++ x ∷ [])
+pub begin_more : (room : ℕ) (es : List EntryPoint) (olds : List SectionEntry) (e : EntryPoint) (x : SectionEntry) → AllBegin room es olds → HasFrameOf room e x → AllBegin room (es ++ e ∷ []) (olds ++ x ∷ [])
 begin_more room [] [] e x h b = (b, tt)
 begin_more room [] (o ∷ os) e x h b = absurd h
 begin_more room (y ∷ es) [] e x h b = absurd h
@@ -97,20 +97,20 @@ begin_more room (y ∷ es) (o ∷ os) e x h b = (h.0, begin_more room es os e x 
 
 -- ## A section, put after others
 
-pub section_put : (g0 g1 g2 : Generator) (c0 c1 own : Lined) (p0 p1 : List RunningLines) (e : EntryPoint) (body : Block) (entry : Entry) → g1.program.now ≡ g0.program.now → g1.constants.items ≡ g0.constants.items → g1.deepest ≡ g0.deepest → g1.locals.items ≡ e.given ++ e.others → PrintsBy g1 g2 nothing own (statement_site 0) p0 p1 (λ k. GoodBlock k body) (block_prints body) (λ first t. block_code t first body ++ place t Leave ∷ []) → c1.instructions ≡ c0.instructions ++ own.instructions → c1.lines ≡ c0.lines ++ own.lines → Begins 0 e entry → PutsSection g0 g2 c0 c1 p0 p1 e body entry
-section_put g0 g1 g2 c0 c1 own p0 p1 e body entry program constants deepest locals m is ls begins = record {
+pub section_put : (g0 g1 g2 : Generator) (c0 c1 own : Lined) (p0 p1 : List RunningLines) (e : EntryPoint) (body : Block) (entry : SectionEntry) → g1.program.now ≡ g0.program.now → g1.constants.items ≡ g0.constants.items → g1.deepest ≡ g0.deepest → g1.locals.items ≡ e.given ++ e.others → PrintsBy g1 g2 no_code own (statement_site 0) p0 p1 (λ k. GoodBlock k body) (block_prints body) (λ first t. block_code t first body ++ place t Leave ∷ []) → c1 ≡ c0 ++ own → HasFrameOf 0 e entry → PutsSection g0 g2 c0 c1 p0 p1 e body entry
+section_put g0 g1 g2 c0 c1 own p0 p1 e body entry program constants deepest locals m is begins = record {
   puts = λ is_main. record {
     constants = (m.code.grows.constants.0, m.code.grows.constants.1 ∙ ap (λ (l : List Value). l ++ m.code.grows.constants.0) constants);
     depth = omega (arith, m.code.grows.depth, deepest);
     program = m.code.grows.program ∙ program;
-    adds = λ f around has good. section_adds g0 g1 g2 c0 c1 own p0 p1 (scope_in g0 e is_main) body m program refl (sym locals) is ls f around has good;
+    adds = λ f around has good. section_adds g0 g1 g2 c0 c1 own p0 p1 (scope_of_section g0 e is_main) body m program refl (sym locals) is f around has good;
     prints = m.prints;
   };
   begins = begins;
 }
 
 -- where it begins, and the room of its frame before it is known how many cells it has
-pub section_begins : (e : EntryPoint) (entry : Entry) → entry.place ≡ e.place → entry.given.items ≡ e.given → entry.yielding ≡ e.yielding → entry.others.items ≡ e.others → entry.room ≡ length (e.given ++ e.others) → Begins 0 e entry
+pub section_begins : (e : EntryPoint) (entry : SectionEntry) → entry.place ≡ e.place → entry.given.items ≡ e.given → entry.yielding ≡ e.yielding → entry.others.items ≡ e.others → entry.room ≡ length (e.given ++ e.others) → HasFrameOf 0 e entry
 section_begins e entry place given yielding others room = record { place = place; given = given; yielding = yielding; others = others; room = omega (arith, room, length-append e.given e.others) }
 
 -- ## One after another
@@ -128,15 +128,15 @@ around_less f g0 g1 more constants depth program a = record {
   small = a.small;
 }
 
-adds_long : (f : Final) (a b : Lined) (c : List Placed) → Adds f a b c → length b.instructions ≡ length a.instructions + length c
-adds_long f a b c h = ap length h.instructions ∙ length-append a.instructions h.more ∙ ap (λ n. length a.instructions + n) (runs_long f c h.more h.run)
+adds_long : (f : Final) (a b : Lined) (c : List Placed) → Adds f a b c → length b ≡ length a + length c
+adds_long f a b c h = ap length h.added ∙ length-append a h.more ∙ ap (λ n. length a + n) (runs_long f c h.more h.run)
 
 every_split : {A : Type 0} (P : A → Type 0) (xs : List A) (x : A) → Every P (xs ++ x ∷ []) → Every P xs × P x
 every_split P [] x h = (tt, h.0)
 every_split P (y ∷ xs) x h = let k = every_split P xs x h.1 in ((h.0, k.0), k.1)
 
 -- one routine more
-module _ (g0 g1 g2 : Generator) (c0 c1 c2 : Lined) (p0 p1 p2 : List RunningLines) (rs : List Routine) (r : Routine) (entries : List Entry) (entry : Entry) (m : PutsRoutines g0 g1 c0 c1 p0 p1 rs entries) (n : PutsSection g1 g2 c1 c2 p1 p2 (routine_entry (length c1.instructions) r) r.body entry) where
+module _ (g0 g1 g2 : Generator) (c0 c1 c2 : Lined) (p0 p1 p2 : List RunningLines) (rs : List Routine) (r : Routine) (entries : List SectionEntry) (entry : SectionEntry) (m : PutsRoutines g0 g1 c0 c1 p0 p1 rs entries) (n : PutsSection g1 g2 c1 c2 p1 p2 (routine_entry (length c1) r) r.body entry) where
   abbrev routines_program : Program
   routines_program = view_program g0.program.now
 
@@ -177,12 +177,12 @@ module _ (g0 g1 g2 : Generator) (c0 c1 c2 : Lined) (p0 p1 p2 : List RunningLines
         };
         begin = λ f around has good.
             let both = every_split (GoodRoutine routines_program) rs r good in
-            let old : AllBegin 0 (routine_entries routines_program (length c0.instructions) (length p0) rs) entries =
+            let old : AllBegin 0 (routine_entries routines_program (length c0) (length p0) rs) entries =
             m.begin f (around_less f g1 g2 k.constants.0 k.constants.1 k.depth k.program around) (has_prints_old f p1 p2 (block_prints r.body) k.prints has) both.0 in
-            let place : length c1.instructions ≡ length c0.instructions + length (routines_code routines_program (length p0) rs) = adds_long f c0 c1 (routines_code routines_program (length p0) rs) (routines_before f around has both.0) in
-            let new : Begins 0 (routine_entry (length c0.instructions + length (routines_code routines_program (length p0) rs)) r) entry = subst (λ k. Begins 0 (routine_entry k r) entry) place n.begins in
-            subst (λ (es : List EntryPoint). AllBegin 0 es (entries ++ entry ∷ [])) (sym (routine_entries_more routines_program (length c0.instructions) (length p0) rs r))
-            (begin_more 0 (routine_entries routines_program (length c0.instructions) (length p0) rs) entries (routine_entry (length c0.instructions + length (routines_code routines_program (length p0) rs)) r) entry old new);
+            let place : length c1 ≡ length c0 + length (routines_code routines_program (length p0) rs) = adds_long f c0 c1 (routines_code routines_program (length p0) rs) (routines_before f around has both.0) in
+            let new : HasFrameOf 0 (routine_entry (length c0 + length (routines_code routines_program (length p0) rs)) r) entry = subst (λ k. HasFrameOf 0 (routine_entry k r) entry) place n.begins in
+            subst (λ (es : List EntryPoint). AllBegin 0 es (entries ++ entry ∷ [])) (sym (routine_entries_more routines_program (length c0) (length p0) rs r))
+            (begin_more 0 (routine_entries routines_program (length c0) (length p0) rs) entries (routine_entry (length c0 + length (routines_code routines_program (length p0) rs)) r) entry old new);
       }
 
 pub no_routines_put : (g : Generator) (c : Lined) (prints : List RunningLines) → PutsRoutines g g c c prints prints [] []
@@ -198,7 +198,7 @@ no_routines_put g c prints = record {
 }
 
 -- one event more
-module _ (g0 g1 g2 : Generator) (c0 c1 c2 : Lined) (p0 p1 p2 : List RunningLines) (rs : List Event) (r : Event) (entries : List Entry) (entry : Entry) (m : PutsEvents g0 g1 c0 c1 p0 p1 rs entries) (n : PutsSection g1 g2 c1 c2 p1 p2 (event_entry (length c1.instructions) r) r.body entry) where
+module _ (g0 g1 g2 : Generator) (c0 c1 c2 : Lined) (p0 p1 p2 : List RunningLines) (rs : List Event) (r : Event) (entries : List SectionEntry) (entry : SectionEntry) (m : PutsEvents g0 g1 c0 c1 p0 p1 rs entries) (n : PutsSection g1 g2 c1 c2 p1 p2 (event_entry (length c1) r) r.body entry) where
   abbrev events_program : Program
   events_program = view_program g0.program.now
 
@@ -239,12 +239,12 @@ module _ (g0 g1 g2 : Generator) (c0 c1 c2 : Lined) (p0 p1 p2 : List RunningLines
         };
         begin = λ f around has good.
             let both = every_split (GoodEvent events_program) rs r good in
-            let old : AllBegin 0 (event_entries events_program (length c0.instructions) (length p0) rs) entries =
+            let old : AllBegin 0 (event_entries events_program (length c0) (length p0) rs) entries =
             m.begin f (around_less f g1 g2 k.constants.0 k.constants.1 k.depth k.program around) (has_prints_old f p1 p2 (block_prints r.body) k.prints has) both.0 in
-            let place : length c1.instructions ≡ length c0.instructions + length (events_code events_program (length p0) rs) = adds_long f c0 c1 (events_code events_program (length p0) rs) (events_before f around has both.0) in
-            let new : Begins 0 (event_entry (length c0.instructions + length (events_code events_program (length p0) rs)) r) entry = subst (λ k. Begins 0 (event_entry k r) entry) place n.begins in
-            subst (λ (es : List EntryPoint). AllBegin 0 es (entries ++ entry ∷ [])) (sym (event_entries_more events_program (length c0.instructions) (length p0) rs r))
-            (begin_more 0 (event_entries events_program (length c0.instructions) (length p0) rs) entries (event_entry (length c0.instructions + length (events_code events_program (length p0) rs)) r) entry old new);
+            let place : length c1 ≡ length c0 + length (events_code events_program (length p0) rs) = adds_long f c0 c1 (events_code events_program (length p0) rs) (events_before f around has both.0) in
+            let new : HasFrameOf 0 (event_entry (length c0 + length (events_code events_program (length p0) rs)) r) entry = subst (λ k. HasFrameOf 0 (event_entry k r) entry) place n.begins in
+            subst (λ (es : List EntryPoint). AllBegin 0 es (entries ++ entry ∷ [])) (sym (event_entries_more events_program (length c0) (length p0) rs r))
+            (begin_more 0 (event_entries events_program (length c0) (length p0) rs) entries (event_entry (length c0 + length (events_code events_program (length p0) rs)) r) entry old new);
       }
 
 pub no_events_put : (g : Generator) (c : Lined) (prints : List RunningLines) → PutsEvents g g c c prints prints [] []

@@ -2,11 +2,11 @@
 
 ghost use Rattle.std.specs.Prelude.{◌≡◌, ◌<◌, ◌^◌, length, map, slice_get, IfOk};
 ghost use Rattle.ss_code_listing.specs.Listing.{AreLines};
-ghost use Rattle.ss_code.specs.Running.{IsCompiled};
+ghost use Rattle.ss_code.specs.Running.{IsGenerated};
 
 use ss_base::{Discipline, Layout, Line, Mode, Value};
 use ss_code_instructions::NoticeClass;
-use ss_code_instructions::entry::Entry;
+use ss_code_instructions::entry::SectionEntry;
 use ss_code_instructions::instruction::Instruction;
 use ss_code_listing::listing::listing;
 use ss_code_pieces::lines::Lines;
@@ -44,9 +44,9 @@ pub(crate) struct Text {
 /// Where sections begin: MAIN, the routines, and those of events; and the most cells of a frame.
 #[derive(Drop)]
 pub(crate) struct Sections {
-    pub(crate) main: Entry,
-    pub(crate) routines: Vec<Entry>,
-    pub(crate) events: Vec<Entry>,
+    pub(crate) main: SectionEntry,
+    pub(crate) routines: Vec<SectionEntry>,
+    pub(crate) events: Vec<SectionEntry>,
     pub(crate) depth: usize,
 }
 
@@ -65,13 +65,13 @@ pub struct Code {
 }
 
 impl Model for Code {
-    ghost use Rattle.ss_code.specs.Running.{Compiled, IsCompiled};
+    ghost use Rattle.ss_code.specs.Running.{Generated, IsGenerated};
 
-    ghost Value = { Compiled };
+    ghost Value = { Generated };
 
     ghost view = { λ c. record { run = record { instructions = c.text.instructions.items; lines = c.text.lines.items; constants = c.constants.items; prints = c.prints.items; main = c.sections.main; routines = c.sections.routines.items; events = c.sections.events.items; depth = c.sections.depth }; said = c.sayings; globals = c.globals.items } };
 
-    ghost invariant = { λ c. IsCompiled (record { run = record { instructions = c.text.instructions.items; lines = c.text.lines.items; constants = c.constants.items; prints = c.prints.items; main = c.sections.main; routines = c.sections.routines.items; events = c.sections.events.items; depth = c.sections.depth }; said = c.sayings; globals = c.globals.items }) };
+    ghost invariant = { λ c. IsGenerated (record { run = record { instructions = c.text.instructions.items; lines = c.text.lines.items; constants = c.constants.items; prints = c.prints.items; main = c.sections.main; routines = c.sections.routines.items; events = c.sections.events.items; depth = c.sections.depth }; said = c.sayings; globals = c.globals.items }) };
 }
 
 impl Code {
@@ -84,7 +84,7 @@ impl Code {
         sayings: Sayings,
         globals: Vec<Mode>,
     ) -> Code
-        requires { IsCompiled (record { run = record { instructions = text.instructions.items; lines = text.lines.items; constants = constants.items; prints = prints.items; main = sections.main; routines = sections.routines.items; events = sections.events.items; depth = sections.depth }; said = sayings; globals = globals.items }) }
+        requires { IsGenerated (record { run = record { instructions = text.instructions.items; lines = text.lines.items; constants = constants.items; prints = prints.items; main = sections.main; routines = sections.routines.items; events = sections.events.items; depth = sections.depth }; said = sayings; globals = globals.items }) }
         ensures { result ≡ record { run = record { instructions = text.instructions.items; lines = text.lines.items; constants = constants.items; prints = prints.items; main = sections.main; routines = sections.routines.items; events = sections.events.items; depth = sections.depth }; said = sayings; globals = globals.items } }
     {
         Code {
@@ -106,7 +106,7 @@ impl Code {
     pub fn len(&self) -> usize
         ensures value { result ≡ length self.now.run.instructions }
         ensures small { length self.now.run.instructions < 2 ^ 63 }
-        ensures made { IsCompiled self.now }
+        ensures made { IsGenerated self.now }
     {
         self.text.instructions.len()
     }
@@ -148,7 +148,7 @@ impl Code {
     }
 
     /// Where MAIN begins.
-    pub fn main(&self) -> &Entry
+    pub fn main(&self) -> &SectionEntry
         ensures { result.now ≡ self.now.run.main }
     {
         &self.sections.main
@@ -156,7 +156,7 @@ impl Code {
 
     /// Where the routines begin, by their numbers.
     #[inline(always)]
-    pub fn routines(&self) -> &[Entry]
+    pub fn routines(&self) -> &[SectionEntry]
         ensures { result.now ≡ self.now.run.routines }
     {
         &self.sections.routines
@@ -164,7 +164,7 @@ impl Code {
 
     /// Where the routines of the events begin, by the ranks of their classes.
     #[inline(always)]
-    pub fn events(&self) -> &[Entry]
+    pub fn events(&self) -> &[SectionEntry]
         ensures { result.now ≡ self.now.run.events }
     {
         &self.sections.events

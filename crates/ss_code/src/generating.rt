@@ -1,12 +1,13 @@
 //! From a resolved program to its code.
 
 ghost use Rattle.std.specs.Prelude.{◌≡◌, ◌+◌, ◌<◌, ◌≤◌, ◌^◌, ◌++◌, ◌∷◌, [], length, map, Err, IfOk, OnOk};
-ghost use Rattle.ss_program.specs.Checking.{program_in};
+ghost use Rattle.ss_program.specs.Checking.{checked_program};
 ghost use Rattle.ss_program.specs.Nodes.{nodes};
 ghost use Rattle.ss_program.specs.View.{view_routine, view_event, view_program, view_body};
 ghost use Rattle.ss_program.specs.WellTyped.{WellTyped};
 ghost use Rattle.ss_code_instructions.specs.Running.{Behaves, Lands};
 ghost use Rattle.ss_code_instructions.specs.Translation.{code_of, routine_entry, event_entry};
+ghost use Rattle.ss_code_pieces.specs.Lined.{instructions_in, lines_in};
 ghost use Rattle.ss_code.specs.Limits.{instruction_limit as most_instructions, small_program};
 ghost use Rattle.ss_code.specs.Running.{IsFor};
 ghost use Rattle.ss_code.specs.Sections.{Deepened, AllDeepened, PutsSection, PutsRoutines, PutsEvents};
@@ -15,9 +16,10 @@ use crate::code::{Code, Sections, Text};
 use crate::error::CodeError;
 use crate::sayings::sayings;
 use crate::sifting::sift_walks;
-use ss_base::Mode;
+use ss_base::{Line, Mode};
 use ss_code_generator::generator::Generator;
-use ss_code_instructions::entry::Entry;
+use ss_code_instructions::entry::SectionEntry;
+use ss_code_instructions::instruction::Instruction;
 use ss_code_instructions::laws::{laws_of_code, laws_of_meaning};
 use ss_code_instructions::limit::instruction_limit;
 use ss_code_pieces::lines::Lines;
@@ -51,8 +53,8 @@ fn put_section(
     prints: &mut Vec<Lines>,
     locals: Locals,
     body: &[Statement],
-) -> Result<Entry, AllocError>
-    ensures { IfOk result (λ entry. PutsSection generator.old generator.new code.old code.new prints.old.items prints.new.items (record { place = length code.old.instructions; given = locals.given.items; yielding = locals.yielding; others = locals.others.items }) (view_body body.now) entry) }
+) -> Result<SectionEntry, AllocError>
+    ensures { IfOk result (λ entry. PutsSection generator.old generator.new code.old code.new prints.old.items prints.new.items (record { place = length code.old; given = locals.given.items; yielding = locals.yielding; others = locals.others.items }) (view_body body.now) entry) }
 {
     let Locals {
         given,
@@ -64,7 +66,7 @@ fn put_section(
     let own = generator.section(prints, body)?;
     code.append(own)?;
     let room = generator.locals.len();
-    Ok(Entry {
+    Ok(SectionEntry {
         place,
         given,
         yielding,
@@ -78,8 +80,8 @@ fn put_main(
     generator: &mut Generator,
     code: &mut Piece,
     prints: &mut Vec<Lines>,
-) -> Result<Entry, AllocError>
-    ensures { IfOk result (λ entry. PutsSection generator.old generator.new code.old code.new prints.old.items prints.new.items (record { place = length code.old.instructions; given = []; yielding = 0; others = generator.old.program.now.locals.items }) (view_body generator.old.program.now.main.items) entry) }
+) -> Result<SectionEntry, AllocError>
+    ensures { IfOk result (λ entry. PutsSection generator.old generator.new code.old code.new prints.old.items prints.new.items (record { place = length code.old; given = []; yielding = 0; others = generator.old.program.now.locals.items }) (view_body generator.old.program.now.main.items) entry) }
 {
     let program = generator.program;
     let others = Vec::from_slice(generator.alloc, &program.locals)?;
@@ -98,8 +100,8 @@ fn put_routine(
     code: &mut Piece,
     prints: &mut Vec<Lines>,
     routine: &Routine,
-) -> Result<Entry, AllocError>
-    ensures { IfOk result (λ entry. PutsSection generator.old generator.new code.old code.new prints.old.items prints.new.items (routine_entry (length code.old.instructions) (view_routine routine.now)) (view_routine routine.now).body entry) }
+) -> Result<SectionEntry, AllocError>
+    ensures { IfOk result (λ entry. PutsSection generator.old generator.new code.old code.new prints.old.items prints.new.items (routine_entry (length code.old) (view_routine routine.now)) (view_routine routine.now).body entry) }
 {
     let given = Vec::from_slice(generator.alloc, &routine.given)?;
     let others = joined(generator.alloc, &routine.yielding, &routine.others)?;
@@ -118,8 +120,8 @@ fn put_event(
     code: &mut Piece,
     prints: &mut Vec<Lines>,
     event: &Event,
-) -> Result<Entry, AllocError>
-    ensures { IfOk result (λ entry. PutsSection generator.old generator.new code.old code.new prints.old.items prints.new.items (event_entry (length code.old.instructions) (view_event event.now)) (view_event event.now).body entry) }
+) -> Result<SectionEntry, AllocError>
+    ensures { IfOk result (λ entry. PutsSection generator.old generator.new code.old code.new prints.old.items prints.new.items (event_entry (length code.old) (view_event event.now)) (view_event event.now).body entry) }
 {
     let given = Vec::from_slice(generator.alloc, &event.given)?;
     let others = Vec::from_slice(generator.alloc, &event.others)?;
@@ -132,7 +134,7 @@ fn put_event(
 }
 
 // An entry comes after others.
-fn put_entry(entries: &mut Vec<Entry>, entry: Entry) -> Result<(), AllocError>
+fn put_entry(entries: &mut Vec<SectionEntry>, entry: SectionEntry) -> Result<(), AllocError>
     ensures { OnOk result (entries.new.items ≡ entries.old.items ++ entry ∷ []) }
 {
     entries.push(entry)?;
@@ -144,7 +146,7 @@ fn put_routines(
     generator: &mut Generator,
     code: &mut Piece,
     prints: &mut Vec<Lines>,
-) -> Result<Vec<Entry>, AllocError>
+) -> Result<Vec<SectionEntry>, AllocError>
     ensures { IfOk result (λ entries. PutsRoutines generator.old generator.new code.old code.new prints.old.items prints.new.items (map view_routine generator.old.program.now.routines.items) entries.items) }
 {
     let program = generator.program;
@@ -161,7 +163,7 @@ fn put_events(
     generator: &mut Generator,
     code: &mut Piece,
     prints: &mut Vec<Lines>,
-) -> Result<Vec<Entry>, AllocError>
+) -> Result<Vec<SectionEntry>, AllocError>
     ensures { IfOk result (λ entries. PutsEvents generator.old generator.new code.old code.new prints.old.items prints.new.items (map view_event generator.old.program.now.events.items) entries.items) }
 {
     let program = generator.program;
@@ -183,7 +185,7 @@ fn with_cells(variables: usize, depth: usize) -> Result<usize, AllocError>
 }
 
 // The frame of a section gets room for as many cells as any frame has.
-fn deepen(entry: &mut Entry, depth: usize) -> Result<(), AllocError>
+fn deepen(entry: &mut SectionEntry, depth: usize) -> Result<(), AllocError>
     ensures { OnOk result (Deepened depth entry.old entry.new) }
 {
     entry.room = with_cells(entry.room, depth)?;
@@ -191,7 +193,7 @@ fn deepen(entry: &mut Entry, depth: usize) -> Result<(), AllocError>
 }
 
 // And so the frames of all.
-fn deepen_all(entries: &mut Vec<Entry>, depth: usize) -> Result<(), AllocError>
+fn deepen_all(entries: &mut Vec<SectionEntry>, depth: usize) -> Result<(), AllocError>
     ensures { OnOk result (AllDeepened depth entries.old.items entries.new.items) }
 {
     for i in 0..entries.len() {
@@ -203,9 +205,9 @@ fn deepen_all(entries: &mut Vec<Entry>, depth: usize) -> Result<(), AllocError>
 // The sections, each with room for as many cells as any frame has.
 fn sections_of(
     depth: usize,
-    mut main: Entry,
-    mut routines: Vec<Entry>,
-    mut events: Vec<Entry>,
+    mut main: SectionEntry,
+    mut routines: Vec<SectionEntry>,
+    mut events: Vec<SectionEntry>,
 ) -> Result<Sections, AllocError>
     ensures depth { IfOk result (λ made. made.depth ≡ depth) }
     ensures main { IfOk result (λ made. Deepened depth main made.main) }
@@ -220,6 +222,43 @@ fn sections_of(
         routines,
         events,
         depth,
+    })
+}
+
+// The instructions of a piece.
+fn instructions_of(alloc: Global, code: &Piece) -> Result<Vec<Instruction>, AllocError>
+    ensures { IfOk result (λ made. made.items ≡ instructions_in code.now) }
+{
+    let items = code.items();
+    let mut made = Vec::with_capacity(alloc, items.len())?;
+    for item in items {
+        made.push(item.instruction)?;
+    }
+    Ok(made)
+}
+
+// Their lines.
+fn lines_of(alloc: Global, code: &Piece) -> Result<Vec<Line>, AllocError>
+    ensures { IfOk result (λ made. made.items ≡ lines_in code.now) }
+{
+    let items = code.items();
+    let mut made = Vec::with_capacity(alloc, items.len())?;
+    for item in items {
+        made.push(item.line)?;
+    }
+    Ok(made)
+}
+
+// Both of a piece.
+fn text_of(alloc: Global, code: Piece) -> Result<Text, AllocError>
+    ensures instructions { IfOk result (λ text. text.instructions.items ≡ instructions_in code) }
+    ensures lines { IfOk result (λ text. text.lines.items ≡ lines_in code) }
+{
+    let instructions = instructions_of(alloc, &code)?;
+    let lines = lines_of(alloc, &code)?;
+    Ok(Text {
+        instructions,
+        lines,
     })
 }
 
@@ -245,37 +284,27 @@ fn made(alloc: Global, program: &Program) -> Result<Code, CodeError>
     if code.len() > instruction_limit() {
         return Err(CodeError::CodeTooLong);
     }
+    let mut text = text_of(alloc, code)?;
     let said = sayings(alloc, program)?;
     let globals = Vec::from_slice(alloc, &program.globals)?;
-    let (mut instructions, lines) = code.into_parts();
     let Generator { constants, .. } = generator;
-    sift_walks(&mut instructions, globals.len() + constants.len());
-    Ok(Code::new(
-        Text {
-            instructions,
-            lines,
-        },
-        constants,
-        prints,
-        sections,
-        said,
-        globals,
-    ))
+    sift_walks(&mut text.instructions, globals.len() + constants.len());
+    Ok(Code::new(text, constants, prints, sections, said, globals))
 }
 
 /// The code of a program. It does with each input and each number of ticks what the program means, and nothing else, and
 /// each jump back in it leads to an instruction that takes a tick.
 ///
 /// `CodeTooLong` comes only where the code has more than 1,048,576 instructions, and never
-/// for a program of at most 16,384 nodes; `Memory` where memory was refused, also where a program has so many variables or constants that
-/// no memory holds their values.
+/// for a program of at most 16,384 nodes; `Memory` where memory was refused. An instruction holds numbers of 32 bits: a program
+/// with 2^32 variables, constants or cells is answered `Memory` too. No text has so many.
 pub fn generate(alloc: Global, checked: &Checked) -> Result<Code, CodeError>
-    ensures code { IfOk result (λ code. IsFor (view_program (program_in checked.now)) code) }
-    ensures behaves { IfOk result (λ code. Behaves (view_program (program_in checked.now)) (code_of (view_program (program_in checked.now)))) }
-    ensures lands { IfOk result (λ code. Lands (code_of (view_program (program_in checked.now)))) }
+    ensures code { IfOk result (λ code. IsFor (view_program (checked_program checked.now)) code) }
+    ensures behaves { IfOk result (λ code. Behaves (view_program (checked_program checked.now)) (code_of (view_program (checked_program checked.now)))) }
+    ensures lands { IfOk result (λ code. Lands (code_of (view_program (checked_program checked.now)))) }
     ensures limit { IfOk result (λ code. length code.run.instructions ≤ most_instructions) }
-    ensures too_long { result ≡ Err CodeError.CodeTooLong → most_instructions < length (code_of (view_program (program_in checked.now))).places }
-    ensures small { nodes (view_program (program_in checked.now)) ≤ small_program → result ≡ Err CodeError.CodeTooLong → ⊥ }
+    ensures too_long { result ≡ Err CodeError.CodeTooLong → most_instructions < length (code_of (view_program (checked_program checked.now))).places }
+    ensures small { nodes (view_program (checked_program checked.now)) ≤ small_program → result ≡ Err CodeError.CodeTooLong → ⊥ }
 {
     made(alloc, checked.program())
 }

@@ -13,9 +13,9 @@ pub struct Model {
 }
 
 impl std::marker::Model for Model {
-    ghost use Rattle.ss_code.specs.Running.{Compiled};
+    ghost use Rattle.ss_code.specs.Running.{Generated};
 
-    ghost Value = { Compiled };
+    ghost Value = { Generated };
 
     ghost view = { λ m. m.code };
 }

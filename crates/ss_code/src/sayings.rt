@@ -7,7 +7,7 @@ ghost use Rattle.ss_program.specs.View.{view_event, view_program};
 ghost use Rattle.ss_code.specs.Running.{said_by};
 
 use crate::code::Sayings;
-use ss_base::{Layout, Mode, copied_disciplines};
+use ss_base::{Layout, Mode};
 use ss_code_instructions::NoticeClass;
 use ss_program::sections::{Event, Program};
 use ss_world::TieShape;
@@ -59,7 +59,7 @@ fn all_shapes(
 fn notice_class(alloc: Global, event: &Event) -> Result<NoticeClass, AllocError>
     ensures { IfOk result (λ made. made ≡ said_of (view_event event.now)) }
 {
-    let ties = event.ties.copied(alloc)?;
+    let ties = event.ties.clone()?;
     Ok(NoticeClass::new(
         event.class,
         ties,
@@ -85,8 +85,8 @@ fn notice_classes(alloc: Global, events: &[Event]) -> Result<Vec<NoticeClass>, A
 pub(crate) fn sayings(alloc: Global, program: &Program) -> Result<Sayings, AllocError>
     ensures { IfOk result (λ said. said ≡ said_by (view_program program.now)) }
 {
-    let layout = program.layout.copied(alloc)?;
-    let disciplines = copied_disciplines(alloc, &program.disciplines)?;
+    let layout = program.layout.clone()?;
+    let disciplines = program.disciplines.to_vec(alloc)?;
     let notices = notice_classes(alloc, &program.events)?;
     let ties = all_shapes(alloc, &program.layout, &program.events)?;
     let statistics = Vec::from_slice(alloc, &program.statistics)?;

@@ -6,7 +6,7 @@ use Rattle.ss_program.specs.declared.expression.Variable.{Variable}
 use Rattle.ss_program.specs.declared.expression.Variable.TheVariants.{Global}
 use Rattle.ss_program.specs.declared.sections.Subject.TheVariants.{OfAttribute}
 use Rattle.ss_program.specs.Program.{Program, Expression, Place, ToVariable, ToAttribute, ToCount}
-use Rattle.ss_program.specs.WellTyped.{Scope, field_mode}
+use Rattle.ss_program.specs.WellTyped.{TypedScope, field_mode}
 use Rattle.ss_code_instructions.specs.declared.address.Address.{Address}
 use Rattle.ss_code_instructions.specs.Facts.{watch}
 use Rattle.ss_code_instructions.specs.Instructions.{Operand, Taken, Target, Into, Placed}
@@ -17,7 +17,7 @@ use Rattle.ss_code_generator.specs.declared.targets.VariableSpot.{VariableSpot}
 use Rattle.ss_code_generator.specs.declared.targets.AttributeSpot.{AttributeSpot}
 use Rattle.ss_code_instructions.specs.Forms.{moving, storing}
 use Rattle.ss_code_generator.specs.Emitted.{Final, Shown, Runs, AtOperand}
-use Rattle.ss_code_generator.specs.Spots.{IsWatched, IsVariable, IsAttribute, landing, landed_code}
+use Rattle.ss_code_generator.specs.Spots.{IsWatchedAs, IsVariable, IsAttribute, landing, landed_code}
 use Rattle.ss_code_generator.proofs.Forms as forms
 use Rattle.ss_code_generator.proofs.Modes.{has_field}
 
@@ -43,12 +43,12 @@ pub assignment_plain : (u : Site) (x : Variable) (y : Operand) → is_kept u x �
 assignment_plain u x y e = ap (λ (b : Bool). if b then i.Keep y x else i.Move y (Into x)) e
 
 pub kept_at : (t u : Site) (x : Variable) (b : Bool) → t.scope ≡ u.scope → is_kept t x ≡ b → is_kept u x ≡ b
-kept_at t u x b same e = sym (ap (λ (s : Scope). is_kept (record { scope = s; line = u.line; cells = u.cells }) x) same) ∙ e
+kept_at t u x b same e = sym (ap (λ (s : TypedScope). is_kept (record { scope = s; line = u.line; cells = u.cells }) x) same) ∙ e
 
 -- a Move
 pub move_runs : (f : Final) (t u : Site) (x : Variable) (y : Operand) (s : VariableSpot) (from : Address) → IsVariable t x s → s.watched ≡ None → t.scope ≡ u.scope → AtOperand f u y from → mode_here (code_of f.program) f.constants (place u (assignment u x y)) y ≡ Some s.mode → height u ≤ f.depth → Runs f (place u (assignment u x y)) (moving s.mode from s.address)
 move_runs f t u x y s from v watched same at mode deep =
-    let w : is_kept t x ≡ false = subst (IsWatched (is_kept t x) x) watched v.watched in
+    let w : is_kept t x ≡ false = subst (IsWatchedAs (is_kept t x) x) watched v.watched in
     let e : assignment u x y ≡ i.Move y (Into x) = assignment_plain u x y (kept_at t u x false same w) in
     record {
       carries = forms.moves (code_of f.program) f.constants (place u (assignment u x y)) s.mode from s.address (y, at, (mode, (Into x, v.at, e)));
@@ -78,5 +78,5 @@ module _ (f : Final) (t u : Site) (class field : ℕ) (e : Expression) (s : Attr
 
 pub lands_kept : (t u : Site) (x : Variable) (s : VariableSpot) (k : ℕ) → IsVariable t x s → s.watched ≡ Some k → t.scope ≡ u.scope → landing u (ToVariable x) ≡ next u
 lands_kept t u x s k v watched same =
-    let w : (is_kept t x ≡ true) × (x ≡ Global k) = subst (IsWatched (is_kept t x) x) watched v.watched in
+    let w : (is_kept t x ≡ true) × (x ≡ Global k) = subst (IsWatchedAs (is_kept t x) x) watched v.watched in
     ap (λ (b : Bool). if b then next u else Into x) (kept_at t u x true same w.0)

@@ -7,7 +7,7 @@ use Rattle.ss_base.specs.declared.layout.Mode.{Mode}
 use Rattle.ss_base.specs.declared.layout.Mode.TheVariants.{Integer}
 use Rattle.ss_program.specs.Program as p
 use Rattle.ss_program.specs.Program.{Expression, Place}
-use Rattle.ss_program.specs.WellTyped.{Scope, HasMode, HaveModes, TakesMode, Good}
+use Rattle.ss_program.specs.WellTyped.{TypedScope, HasMode, HaveModes, TakesMode, Good}
 use Rattle.ss_code_instructions.specs.declared.instruction.Instruction.{Instruction as Running}
 use Rattle.ss_code_instructions.specs.declared.instruction.Instruction.TheVariants as r
 use Rattle.ss_code_instructions.specs.Instructions.{Operand, Placed}
@@ -18,8 +18,8 @@ use Rattle.ss_code_instructions.proofs.Stacked.{values_high}
 use Rattle.ss_code_generator.specs.declared.expressions.Operand.{Operand as Read}
 use Rattle.ss_code_generator.specs.declared.generator.Generator.{Generator}
 use Rattle.ss_code_generator.specs.declared.generator.Site.{Site as Here}
-use Rattle.ss_code_pieces.specs.Lined.{Lined}
-use Rattle.ss_code_generator.specs.Emitted.{Final, Around, Shown, Emits, Typed, Reads}
+use Rattle.ss_code_pieces.specs.Lined.{Lined, on_line}
+use Rattle.ss_code_generator.specs.Emitted.{Final, Around, Shown, Emits, Typed, ReadsOperand}
 use Rattle.ss_code_generator.specs.Spots.{GoodPlace}
 use Rattle.ss_code_generator.proofs.Emitting.{around_old, grows_then, stands_old, stands_above, adds_then, adds_one, adds_same}
 
@@ -59,7 +59,7 @@ every_at P [] k x e h = absurd (none e)
 every_at P (y ∷ xs) zero x e h = let same : y ≡ x = cc in subst P same h.0
 every_at P (y ∷ xs) (suc k) x e h = every_at P xs k x e h.1
 
-abbrev pub GoodPlaces : List Place → Scope → Type 0
+abbrev pub GoodPlaces : List Place → TypedScope → Type 0
 GoodPlaces ps s = Every (λ (p : Place). GoodPlace p s) ps
 
 -- one place more, where the frame has room for all
@@ -88,20 +88,20 @@ gives_all g0 g1 x y here ps n e m = record {
 
 -- ## CALL
 
-all_typed : (s : Scope) (es : List Expression) (ms : List Mode) → HaveModes s es ms → Every (λ (e : Expression). Typed e s) es
+all_typed : (s : TypedScope) (es : List Expression) (ms : List Mode) → HaveModes s es ms → Every (λ (e : Expression). Typed e s) es
 all_typed s [] [] h = tt
 all_typed s [] (m ∷ ms) h = absurd h
 all_typed s (e ∷ es) [] h = absurd h
 all_typed s (e ∷ es) (m ∷ ms) h = ((m, h.0), all_typed s es ms h.1)
 
-all_taken : (s : Scope) (ps : List Place) (ms : List Mode) → AllZip (TakesMode s) ps ms → GoodPlaces ps s
+all_taken : (s : TypedScope) (ps : List Place) (ms : List Mode) → AllZip (TakesMode s) ps ms → GoodPlaces ps s
 all_taken s [] [] h = tt
 all_taken s [] (m ∷ ms) h = absurd h
 all_taken s (p ∷ ps) [] h = absurd h
 all_taken s (p ∷ ps) (m ∷ ms) h = ((m, h.0), all_taken s ps ms h.1)
 
-pub called : (g0 g1 g2 : Generator) (x y z w : Lined) (here : Here) (l : Line) (routine cell : ℕ) (es : List Expression) (ps : List Place) → Emits g0 g1 x y here (λ s. Every (λ (e : Expression). Typed e s) es) (λ t. values_code t es) → here.height + length es ≤ g1.deepest → cell ≡ length g1.locals.items + here.height → z.instructions ≡ y.instructions ++ r.Call routine cell ∷ [] → z.lines ≡ y.lines ++ here.line ∷ [] → Emits g1 g2 z w here (GoodPlaces ps) (λ t. gives_code t ps) → Emits g0 g2 x w here (λ s. Good s (p.Call l routine es ps)) (λ t. values_code t es ++ place (after_values t es) (i.Call routine (height t)) ∷ gives_code t ps)
-called g0 g1 g2 x y z w here l routine cell es ps m room at is ls n = record {
+pub called : (g0 g1 g2 : Generator) (x y z w : Lined) (here : Here) (l : Line) (routine cell : ℕ) (es : List Expression) (ps : List Place) → Emits g0 g1 x y here (λ s. Every (λ (e : Expression). Typed e s) es) (λ t. values_code t es) → here.height + length es ≤ g1.deepest → cell ≡ length g1.locals.items + here.height → z ≡ y ++ on_line here.line (r.Call routine cell) ∷ [] → Emits g1 g2 z w here (GoodPlaces ps) (λ t. gives_code t ps) → Emits g0 g2 x w here (λ s. Good s (p.Call l routine es ps)) (λ t. values_code t es ++ place (after_values t es) (i.Call routine (height t)) ∷ gives_code t ps)
+called g0 g1 g2 x y z w here l routine cell es ps m room at is n = record {
   grows = grows_then g0 g1 g2 m.grows n.grows;
   adds = λ f t u around located good.
       let mine = around_old f g1 g2 n.grows around in
@@ -115,7 +115,7 @@ called g0 g1 g2 x y z w here l routine cell es ps m room at is ls n = record {
       let calls : Placed = place v (i.Call routine (height t)) in
       adds_then f x y w (values_code t es) (calls ∷ gives_code t ps) (m.adds f t tt mine there (all_typed t.scope es good'.0.given good'.2))
       (adds_then f y z w (calls ∷ []) (gives_code t ps)
-      (adds_one f y z here.line calls (r.Call routine cell) is ls located.line (record { carries = (height t, cell_at, refl); deep = deep; shown = tt }))
+      (adds_one f y z here.line calls (r.Call routine cell) is located.line (record { carries = (height t, cell_at, refl); deep = deep; shown = tt }))
       (n.adds f t tt around located (all_taken t.scope ps good'.0.yielding good'.3)));
   more = λ f t u around located good. tt;
 }
@@ -123,14 +123,14 @@ called g0 g1 g2 x y z w here l routine cell es ps m room at is ls n = record {
 -- ## One operand
 
 -- an operand, and an instruction of its address alone
-pub of_one : (g0 g1 : Generator) (x y z : Lined) (here : Here) (e : Expression) (o : Read) (Fits : Scope → Type 0) (make : Operand → i.Instruction) (run : Running) → Reads g0 g1 x y here e o → z.instructions ≡ y.instructions ++ run ∷ [] → z.lines ≡ y.lines ++ here.line ∷ [] → ((s : Scope) → Fits s → HasMode s e Integer) → ((f : Final) (t : Site) → OperandAt (code_of f.program) f.constants (place (after t e) (make (operand t e))) (operand t e) o.address → Carries (code_of f.program) f.constants (place (after t e) (make (operand t e))) run) → ((f : Final) (t : Site) → Shown f.prints (after t e).cells (make (operand t e))) → Emits g0 g1 x z here Fits (λ t. with_operand t e make)
-of_one g0 g1 x y z here e o Fits make run m is ls fits carries shown = record {
+pub of_one : (g0 g1 : Generator) (x y z : Lined) (here : Here) (e : Expression) (o : Read) (Fits : TypedScope → Type 0) (make : Operand → i.Instruction) (run : Running) → ReadsOperand g0 g1 x y here e o → z ≡ y ++ on_line here.line run ∷ [] → ((s : TypedScope) → Fits s → HasMode s e Integer) → ((f : Final) (t : Site) → OperandAt (code_of f.program) f.constants (place (after t e) (make (operand t e))) (operand t e) o.address → Carries (code_of f.program) f.constants (place (after t e) (make (operand t e))) run) → ((f : Final) (t : Site) → Shown f.prints (after t e).cells (make (operand t e))) → Emits g0 g1 x z here Fits (λ t. with_operand t e make)
+of_one g0 g1 x y z here e o Fits make run m is fits carries shown = record {
   grows = m.grows;
   adds = λ f t u around located good.
       let typed : Typed e t.scope = (Integer, fits t.scope good) in
       let read = m.more f t tt around located typed in
       let ins : Placed = place (after t e) (make (operand t e)) in
       adds_then f x y z (operand_code t e) (ins ∷ []) (m.adds f t tt around located typed)
-      (adds_one f y z here.line ins run is ls located.line (record { carries = carries f t read.at; deep = read.deep; shown = shown f t }));
+      (adds_one f y z here.line ins run is located.line (record { carries = carries f t read.at; deep = read.deep; shown = shown f t }));
   more = λ f t u around located good. tt;
 }

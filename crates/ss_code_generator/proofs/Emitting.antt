@@ -1,7 +1,6 @@
 -- Pieces put together, and what is around them.
-use Rattle.std.proofs.Common.{◌≡◌, ℕ, suc, ◌+◌, ◌<◌, ◌≤◌, ◌^◌, List, [], ◌∷◌, ◌++◌, length, map, Result, Ok, Err, refl, sym, ap, ◌∙◌, subst, arith, append_assoc, append-nil}
+use Rattle.std.proofs.Common.{◌≡◌, ℕ, suc, ◌+◌, ◌<◌, ◌≤◌, ◌^◌, List, [], ◌∷◌, ◌++◌, length, Result, Ok, Err, refl, sym, ap, ◌∙◌, subst, arith, append_assoc, append-nil}
 use Rattle.std.specs.Prelude.{OnOk}
-use Rattle.std.proofs.lemmas.List.{map-append}
 use Rattle.ss_base.specs.declared.line.Line.{Line}
 use Rattle.ss_base.specs.declared.value.Value.{Value}
 use Rattle.ss_program.specs.View.{view_program}
@@ -10,8 +9,8 @@ use Rattle.ss_code_instructions.specs.Instructions.{Placed}
 use Rattle.ss_code_instructions.specs.Translation.{Site, height}
 use Rattle.ss_code_generator.specs.declared.generator.Generator.{Generator}
 use Rattle.ss_code_generator.specs.declared.generator.Site.{Site as Here}
-use Rattle.ss_code_pieces.specs.Lined.{Lined, nothing}
-use Rattle.ss_code_generator.specs.Emitted.{Final, Around, Grows, IsLocated, Runs, AllRun, line_of, Adds, Makes}
+use Rattle.ss_code_pieces.specs.Lined.{Lined, no_code, on_line}
+use Rattle.ss_code_generator.specs.Emitted.{Final, Around, Grows, IsLocated, Runs, AllRun, Adds, Generates}
 
 -- ## What is around more is around less
 
@@ -62,53 +61,45 @@ stands_above f g here higher t u k small s line above scope same high deep =
 
 -- ## Pieces
 
-pub runs_both : (f : Final) (c d : List Placed) (is js : List Running) → AllRun f c is → AllRun f d js → AllRun f (c ++ d) (is ++ js)
+pub runs_both : (f : Final) (c d : List Placed) (is js : Lined) → AllRun f c is → AllRun f d js → AllRun f (c ++ d) (is ++ js)
 runs_both f [] d [] js h k = k
 runs_both f [] d (i ∷ is) js h k = absurd h
 runs_both f (x ∷ c) d [] js h k = absurd h
-runs_both f (x ∷ c) d (i ∷ is) js h k = (h.0, runs_both f c d is js h.1 k)
+runs_both f (x ∷ c) d (i ∷ is) js h k = (h.0, h.1, runs_both f c d is js h.2 k)
 
-pub runs_long : (f : Final) (c : List Placed) (is : List Running) → AllRun f c is → length is ≡ length c
+pub runs_long : (f : Final) (c : List Placed) (is : Lined) → AllRun f c is → length is ≡ length c
 runs_long f [] [] h = refl
 runs_long f [] (i ∷ is) h = absurd h
 runs_long f (x ∷ c) [] h = absurd h
-runs_long f (x ∷ c) (i ∷ is) h = ap suc (runs_long f c is h.1)
+runs_long f (x ∷ c) (i ∷ is) h = ap suc (runs_long f c is h.2)
 
 pub adds_none : (f : Final) (p : Lined) → Adds f p p []
-adds_none f p = record { more = []; instructions = sym (append-nil p.instructions); lines = sym (append-nil p.lines); run = tt }
+adds_none f p = record { more = []; added = sym (append-nil p); run = tt }
 
 pub adds_then : (f : Final) (a b c : Lined) (xs ys : List Placed) → Adds f a b xs → Adds f b c ys → Adds f a c (xs ++ ys)
 adds_then f a b c xs ys h k = record {
   more = h.more ++ k.more;
-  instructions = k.instructions ∙ ap (λ (l : List Running). l ++ k.more) h.instructions ∙ append_assoc a.instructions h.more k.more;
-  lines =
-      k.lines ∙ ap (λ (l : List Line). l ++ map line_of ys) h.lines ∙ append_assoc a.lines (map line_of xs) (map line_of ys)
-      ∙ ap (λ (l : List Line). a.lines ++ l) (sym (map-append line_of xs ys));
+  added = k.added ∙ ap (λ (l : Lined). l ++ k.more) h.added ∙ append_assoc a h.more k.more;
   run = runs_both f xs ys h.more k.more h.run k.run;
 }
 
 -- one instruction more
-pub adds_one : (f : Final) (a b : Lined) (l : Line) (x : Placed) (y : Running) → b.instructions ≡ a.instructions ++ y ∷ [] → b.lines ≡ a.lines ++ l ∷ [] → x.line ≡ l → Runs f x y → Adds f a b (x ∷ [])
-adds_one f a b l x y is ls same r = record { more = y ∷ []; instructions = is; lines = ls ∙ ap (λ (k : Line). a.lines ++ k ∷ []) (sym same); run = (r, tt) }
+pub adds_one : (f : Final) (a b : Lined) (l : Line) (x : Placed) (y : Running) → b ≡ a ++ on_line l y ∷ [] → x.line ≡ l → Runs f x y → Adds f a b (x ∷ [])
+adds_one f a b l x y is same r = record { more = on_line l y ∷ []; added = is; run = (sym same, r, tt) }
 
 -- a piece that was made apart goes after another one, or before
-pub adds_piece : (f : Final) (a b p : Lined) (c : List Placed) → b.instructions ≡ a.instructions ++ p.instructions → b.lines ≡ a.lines ++ p.lines → Adds f nothing p c → Adds f a b c
-adds_piece f a b p c is ls h = record {
-  more = h.more;
-  instructions = is ∙ ap (λ (l : List Running). a.instructions ++ l) h.instructions;
-  lines = ls ∙ ap (λ (l : List Line). a.lines ++ l) h.lines;
-  run = h.run;
-}
+pub adds_piece : (f : Final) (a b p : Lined) (c : List Placed) → b ≡ a ++ p → Adds f no_code p c → Adds f a b c
+adds_piece f a b p c is h = record { more = h.more; added = is ∙ ap (λ (l : Lined). a ++ l) h.added; run = h.run }
 
 -- two pieces that were made apart
-pub adds_apart : (f : Final) (p q r : Lined) (c d : List Placed) → r.instructions ≡ p.instructions ++ q.instructions → r.lines ≡ p.lines ++ q.lines → Adds f nothing p c → Adds f nothing q d → Adds f nothing r (c ++ d)
-adds_apart f p q r c d is ls h k = adds_then f nothing p r c d h (adds_piece f p r q d is ls k)
+pub adds_apart : (f : Final) (p q r : Lined) (c d : List Placed) → r ≡ p ++ q → Adds f no_code p c → Adds f no_code q d → Adds f no_code r (c ++ d)
+adds_apart f p q r c d is h k = adds_then f no_code p r c d h (adds_piece f p r q d is k)
 
-pub piece_long : (f : Final) (p : Lined) (c : List Placed) → Adds f nothing p c → length p.instructions ≡ length c
-piece_long f p c h = ap length h.instructions ∙ runs_long f c h.more h.run
+pub piece_long : (f : Final) (p : Lined) (c : List Placed) → Adds f no_code p c → length p ≡ length c
+piece_long f p c h = ap length h.added ∙ runs_long f c h.more h.run
 
 -- a piece without instructions is that of no place
-pub none_there : (f : Final) (p : Lined) (c : List Placed) → Adds f nothing p c → length p.instructions ≡ 0 → c ≡ []
+pub none_there : (f : Final) (p : Lined) (c : List Placed) → Adds f no_code p c → length p ≡ 0 → c ≡ []
 none_there f p [] h e = refl
 none_there f p (x ∷ c) h e = absurd (omega (arith, e, piece_long f p (x ∷ c) h))
 
@@ -118,10 +109,10 @@ adds_same f a b c d e h = subst (Adds f a b) e h
 
 -- ## What was made, from an earlier generator on and up to a later one
 
-pub makes_earlier : {I : Type 0} (older old new : Generator) (p q : Lined) (here : Here) (Fit : Final → Site → I → Type 0) (c : Site → I → List Placed) (More : Final → Site → I → Type 0) → Grows older old → Makes old new p q here Fit c More → Makes older new p q here Fit c More
+pub makes_earlier : {I : Type 0} (older old new : Generator) (p q : Lined) (here : Here) (Fit : Final → Site → I → Type 0) (c : Site → I → List Placed) (More : Final → Site → I → Type 0) → Grows older old → Generates old new p q here Fit c More → Generates older new p q here Fit c More
 makes_earlier older old new p q here Fit c More g m = record { grows = grows_then older old new g m.grows; adds = m.adds; more = m.more }
 
-pub makes_later : {I : Type 0} (old new newer : Generator) (p q : Lined) (here : Here) (Fit : Final → Site → I → Type 0) (c : Site → I → List Placed) (More : Final → Site → I → Type 0) → Grows new newer → Makes old new p q here Fit c More → Makes old newer p q here Fit c More
+pub makes_later : {I : Type 0} (old new newer : Generator) (p q : Lined) (here : Here) (Fit : Final → Site → I → Type 0) (c : Site → I → List Placed) (More : Final → Site → I → Type 0) → Grows new newer → Generates old new p q here Fit c More → Generates old newer p q here Fit c More
 makes_later old new newer p q here Fit c More g m = record {
   grows = grows_then old new newer m.grows g;
   adds = λ f t i around located fits. m.adds f t i (around_old f new newer g around) (stands_old f new newer here t g located) fits;

@@ -18,12 +18,12 @@ use Rattle.ss_code_instructions.specs.declared.address.Address.{Address}
 use Rattle.ss_code_instructions.specs.Instructions.{Placed}
 use Rattle.ss_code_instructions.specs.Instructions as i
 use Rattle.ss_code_instructions.specs.Machine.{Code}
-use Rattle.ss_code_instructions.specs.Carried.{Carries, From, Of, To, Is, Calculates, Moves, Compares, ReadsAttribute, SetsAttribute, Notes, Unwatched, Files}
+use Rattle.ss_code_instructions.specs.Carried.{Carries, From, Of, To, Is, Calculates, MovesValue, Compares, ReadsAttribute, SetsAttribute, NotesIfWatched, Unwatched, FilesMember}
 use Rattle.ss_code_pieces.specs.declared.facts.Ordering.{Ordering}
 use Rattle.ss_code_pieces.specs.declared.facts.Ordering.TheVariants as orderings
 use Rattle.ss_code_pieces.specs.Preamble.{filing_of}
 use Rattle.ss_code_instructions.specs.Forms.{calculating, asking_set, asking_member, moving, fetching, storing, reading, comparing, removing}
-use Rattle.ss_code_generator.specs.Filings.{filing}
+use Rattle.ss_code_generator.specs.Filings.{filing_instruction}
 
 module _ (code : Code) (constants : List Value) (x : Placed) where
   pub calculates : (op : Operator) (left right to : Address) → Calculates code constants x op left right to → Carries code constants x (calculating op left right to)
@@ -45,7 +45,7 @@ module _ (code : Code) (constants : List Value) (x : Placed) where
   asks_member member_queries.Successor set member to h = h
   asks_member member_queries.Membership set member to h = h
 
-  pub moves : (m : Mode) (from to : Address) → Moves code constants x m from to → Carries code constants x (moving m from to)
+  pub moves : (m : Mode) (from to : Address) → MovesValue code constants x m from to → Carries code constants x (moving m from to)
   moves modes.Integer from to h = h
   moves modes.Alpha from to h = h
 
@@ -53,7 +53,7 @@ module _ (code : Code) (constants : List Value) (x : Placed) where
   fetches modes.Integer class field entity to h = h
   fetches modes.Alpha class field entity to h = h
 
-  pub stores : (m : Mode) (class field : ℕ) (entity from : Address) (noted : Bool) → Notes code constants x noted (OfAttribute class field) → (m ≡ modes.Alpha → Unwatched code constants x (OfAttribute class field)) → SetsAttribute code constants x m class field entity from → Carries code constants x (storing m class field entity from noted)
+  pub stores : (m : Mode) (class field : ℕ) (entity from : Address) (noted : Bool) → NotesIfWatched code constants x noted (OfAttribute class field) → (m ≡ modes.Alpha → Unwatched code constants x (OfAttribute class field)) → SetsAttribute code constants x m class field entity from → Carries code constants x (storing m class field entity from noted)
   stores modes.Integer class field entity from noted n u h = (n, h)
   stores modes.Alpha class field entity from noted n u h = (u refl, h)
 
@@ -70,11 +70,11 @@ module _ (code : Code) (constants : List Value) (x : Placed) where
   compares modes.Integer relations.LessOrEqual left right skip h = h
   compares modes.Integer relations.GreaterOrEqual left right skip h = h
 
-  pub files : (o : Ordering) (set : ℕ) (member owner : Address) (noted : Bool) → Notes code constants x noted (OfCount set) → Files code constants x (filing_of o) set member owner → Carries code constants x (filing o set member owner noted)
+  pub files : (o : Ordering) (set : ℕ) (member owner : Address) (noted : Bool) → NotesIfWatched code constants x noted (OfCount set) → FilesMember code constants x (filing_of o) set member owner → Carries code constants x (filing_instruction o set member owner noted)
   files orderings.First set member owner noted n h = (n, h)
   files orderings.Last set member owner noted n h = (n, h)
   files orderings.Ranked set member owner noted n h = (n, h)
 
-  pub removes : (e : End) (set : ℕ) (owner to : Address) (noted : Bool) → Notes code constants x noted (OfCount set) → Of code constants x owner (λ o. To code constants x to (λ t. Is code constants x (i.RemoveEnd e set o t))) → Carries code constants x (removing e set owner to noted)
+  pub removes : (e : End) (set : ℕ) (owner to : Address) (noted : Bool) → NotesIfWatched code constants x noted (OfCount set) → Of code constants x owner (λ o. To code constants x to (λ t. Is code constants x (i.RemoveEnd e set o t))) → Carries code constants x (removing e set owner to noted)
   removes ends.First set owner to noted n h = (n, h)
   removes ends.Last set owner to noted n h = (n, h)

@@ -5,20 +5,20 @@ use Rattle.std.specs.List.{AllByRecursion as Every}
 use Rattle.ss_base.specs.declared.layout.Mode.{Mode}
 use Rattle.ss_base.specs.declared.layout.Mode.TheVariants as modes
 use Rattle.ss_program.specs.Program.{Program, Expression, PrintItem, AValue, AMean, AMeanOf}
-use Rattle.ss_program.specs.WellTyped.{Scope}
+use Rattle.ss_program.specs.WellTyped.{TypedScope}
 use Rattle.ss_code_instructions.specs.declared.address.Address.{Address}
 use Rattle.ss_code_instructions.specs.declared.instruction.Instruction.TheVariants as r
 use Rattle.ss_code_instructions.specs.declared.item.ItemKind.{ItemKind}
 use Rattle.ss_code_instructions.specs.Instructions.{Stays, Instruction, Placed}
 use Rattle.ss_code_instructions.specs.Instructions as i
-use Rattle.ss_code_instructions.specs.Translation.{Site, height, place, above, next, expression_mode, expression_code, item_code, item_cells, items_code, items_cells, after_items, item_kind, lines_of as lines_said, with_cells}
-use Rattle.ss_code_instructions.specs.Carried.{RunningLines, InFrame, lines_of, kind_of_item, item_modes, onto}
+use Rattle.ss_code_instructions.specs.Translation.{Site, height, place, above, next, expression_mode, expression_code, item_code, item_cells, items_code, items_cells, after_items, item_kind, lines_of_items as lines_said, with_cells}
+use Rattle.ss_code_instructions.specs.Carried.{RunningLines, InFrame, lines_of_running, kind_of_item, item_modes, onto}
 use Rattle.ss_code_generator.specs.declared.generator.Generator.{Generator}
 use Rattle.ss_code_generator.specs.declared.generator.Site.{Site as Here}
-use Rattle.ss_code_pieces.specs.Lined.{Lined}
-use Rattle.ss_code_pieces.specs.Preamble.{scope_of}
-use Rattle.ss_code_generator.specs.Emitted.{Final, Grows, IsLocated, Makes, Emits, Typed}
-use Rattle.ss_code_generator.specs.Items.{value_kind, kind_of, item_width, GoodItem}
+use Rattle.ss_code_pieces.specs.Lined.{Lined, on_line}
+use Rattle.ss_code_pieces.specs.Preamble.{scope_for_modes}
+use Rattle.ss_code_generator.specs.Emitted.{Final, Grows, IsLocated, Generates, Emits, Typed}
+use Rattle.ss_code_generator.specs.Items.{value_kind, running_kind, item_width, GoodItem}
 use Rattle.ss_code_generator.specs.Printed.{PrintsLines}
 use Rattle.ss_code_generator.proofs.Emitting.{around_old, grows_same, grows_then, stands_old, stands_above, adds_none, adds_then, adds_one, adds_same}
 use Rattle.ss_code_generator.proofs.Modes.{mode_by}
@@ -28,8 +28,8 @@ use Rattle.ss_code_generator.proofs.Spotted.{program_at}
 
 -- ## Items
 
-pub mean_of_looked : (old mid new : Generator) (p q v : Lined) (here : Here) (k : ℕ) (e : Expression) (cell : Address) → Emits old mid p q here (Typed e) (λ t. expression_code t (next t) e) → Grows mid new → InFrame (length new.locals.items + here.height) cell → here.height < new.deepest → v.instructions ≡ q.instructions ++ r.LookMean k cell ∷ [] → v.lines ≡ q.lines ++ here.line ∷ [] → Emits old new p v here (GoodItem (AMeanOf k e)) (λ t. item_code t (AMeanOf k e))
-mean_of_looked old mid new p q v here k e cell m g at room is ls = record {
+pub mean_of_looked : (old mid new : Generator) (p q v : Lined) (here : Here) (k : ℕ) (e : Expression) (cell : Address) → Emits old mid p q here (Typed e) (λ t. expression_code t (next t) e) → Grows mid new → InFrame (length new.locals.items + here.height) cell → here.height < new.deepest → v ≡ q ++ on_line here.line (r.LookMean k cell) ∷ [] → Emits old new p v here (GoodItem (AMeanOf k e)) (λ t. item_code t (AMeanOf k e))
+mean_of_looked old mid new p q v here k e cell m g at room is = record {
   grows = grows_then old mid new m.grows g;
   adds = λ f t u around located good.
       let mine = around_old f mid new g around in
@@ -39,7 +39,7 @@ mean_of_looked old mid new p q v here k e cell m g at room is ls = record {
       let high : height w ≡ height t + 1 = omega arith in
       let deep : height w ≤ f.depth = omega (arith, high, located.high, room, around.depth) in
       adds_then f p q v (expression_code t (next t) e) (place w (i.LookMean k (Some (Stays (height t)))) ∷ []) (m.adds f t tt mine there typed)
-      (adds_one f q v here.line (place w (i.LookMean k (Some (Stays (height t))))) (r.LookMean k cell) is ls located.line
+      (adds_one f q v here.line (place w (i.LookMean k (Some (Stays (height t))))) (r.LookMean k cell) is located.line
       (record { carries = (Some (Stays (height t)), cell_at_site f new here t cell located at, refl); deep = deep; shown = tt }));
   more = λ f t u around located good. tt;
 }
@@ -49,12 +49,12 @@ mean_of_looked old mid new p q v here k e cell m g at room is ls = record {
 -- code of items, and where it goes on
 abbrev pub MakesItems : (old new : Generator) → (before after : Lined) → (here next : Here) → List PrintItem → Type 0
 MakesItems old new before after here next xs =
-    Makes old new before after here (λ f t (u : Unit {0}). Every (λ x. GoodItem x t.scope) xs) (λ t u. items_code t xs) (λ f t u. IsLocated f new next (after_items t xs))
+    Generates old new before after here (λ f t (u : Unit {0}). Every (λ x. GoodItem x t.scope) xs) (λ t u. items_code t xs) (λ f t u. IsLocated f new next (after_items t xs))
 
 -- code of items, without where it goes on
 abbrev pub MakesAll : (old new : Generator) → (before after : Lined) → Here → List PrintItem → Type 0
 MakesAll old new before after here xs =
-    Makes old new before after here (λ f t (u : Unit {0}). Every (λ x. GoodItem x t.scope) xs) (λ t u. items_code t xs) (λ f t u. height (after_items t xs) ≤ f.depth)
+    Generates old new before after here (λ f t (u : Unit {0}). Every (λ x. GoodItem x t.scope) xs) (λ t u. items_code t xs) (λ f t u. height (after_items t xs) ≤ f.depth)
 
 pub no_items : (g : Generator) (p : Lined) (here : Here) → MakesItems g g p p here here []
 no_items g p here = record {
@@ -69,11 +69,11 @@ items_code_more t (y ∷ xs) x =
     let u : Site = with_cells t (item_cells t.scope y t.cells) in
     ap (λ (c : List Placed). item_code t y ++ c) (items_code_more u xs x) ∙ sym (append_assoc (item_code t y) (items_code u xs) (item_code (after_items u xs) x))
 
-items_cells_more : (s : Scope) (xs : List PrintItem) (x : PrintItem) (ms : List Mode) → items_cells s (xs ++ x ∷ []) ms ≡ item_cells s x (items_cells s xs ms)
+items_cells_more : (s : TypedScope) (xs : List PrintItem) (x : PrintItem) (ms : List Mode) → items_cells s (xs ++ x ∷ []) ms ≡ item_cells s x (items_cells s xs ms)
 items_cells_more s [] x ms = refl
 items_cells_more s (y ∷ xs) x ms = items_cells_more s xs x (item_cells s y ms)
 
-item_high : (s : Scope) (x : PrintItem) (ms : List Mode) → length (item_cells s x ms) ≡ length ms + item_width x
+item_high : (s : TypedScope) (x : PrintItem) (ms : List Mode) → length (item_cells s x ms) ≡ length ms + item_width x
 item_high s (AValue e) ms = let n : suc (length ms) ≡ length ms + 1 = omega arith in n
 item_high s (AMean k) ms = let n : length ms ≡ length ms + 0 = omega arith in n
 item_high s (AMeanOf k e) ms = let n : suc (length ms) ≡ length ms + 1 = omega arith in n
@@ -107,25 +107,25 @@ items_more old mid new p q v here one two xs x n m k wide room line up = record 
 -- ## What a PRINT shows
 
 -- what items are goes by the program and the local variables
-kind_by : (s : Scope) (p : Program) (locals : List Mode) (x : PrintItem) → s.program ≡ p → s.locals ≡ locals → kind_of s x ≡ kind_of (record { program = p; locals = locals; is_main = false }) x
+kind_by : (s : TypedScope) (p : Program) (locals : List Mode) (x : PrintItem) → s.program ≡ p → s.locals ≡ locals → running_kind s x ≡ running_kind (record { program = p; locals = locals; is_main = false }) x
 kind_by s p locals (AValue e) q l = ap value_kind (mode_by s p locals e q l)
 kind_by s p locals (AMean k) q l = refl
 kind_by s p locals (AMeanOf k e) q l = refl
 
-kinds_by : (s : Scope) (p : Program) (locals : List Mode) (xs : List PrintItem) → s.program ≡ p → s.locals ≡ locals → map (kind_of s) xs ≡ map (kind_of (record { program = p; locals = locals; is_main = false })) xs
+kinds_by : (s : TypedScope) (p : Program) (locals : List Mode) (xs : List PrintItem) → s.program ≡ p → s.locals ≡ locals → map (running_kind s) xs ≡ map (running_kind (record { program = p; locals = locals; is_main = false })) xs
 kinds_by s p locals [] q l = refl
 kinds_by s p locals (x ∷ xs) q l =
-    let t : Scope = record { program = p; locals = locals; is_main = false } in
-    ap (λ (k : ItemKind). k ∷ map (kind_of s) xs) (kind_by s p locals x q l) ∙ ap (λ (ks : List ItemKind). kind_of t x ∷ ks) (kinds_by s p locals xs q l)
+    let t : TypedScope = record { program = p; locals = locals; is_main = false } in
+    ap (λ (k : ItemKind). k ∷ map (running_kind s) xs) (kind_by s p locals x q l) ∙ ap (λ (ks : List ItemKind). running_kind t x ∷ ks) (kinds_by s p locals xs q l)
 
 value_onto : (m : Mode) (ks : List ItemKind) (ms : List Mode) → onto (item_modes (value_kind m ∷ ks)) ms ≡ onto (item_modes ks) (m ∷ ms)
 value_onto modes.Integer ks ms = refl
 value_onto modes.Alpha ks ms = refl
 
 -- the cells that items take have the modes of what they are
-cells_onto : (s : Scope) (xs : List PrintItem) (ms : List Mode) → items_cells s xs ms ≡ onto (item_modes (map (kind_of s) xs)) ms
+cells_onto : (s : TypedScope) (xs : List PrintItem) (ms : List Mode) → items_cells s xs ms ≡ onto (item_modes (map (running_kind s) xs)) ms
 cells_onto s [] ms = refl
-cells_onto s (AValue e ∷ xs) ms = cells_onto s xs (expression_mode s e ∷ ms) ∙ sym (value_onto (expression_mode s e) (map (kind_of s) xs) ms)
+cells_onto s (AValue e ∷ xs) ms = cells_onto s xs (expression_mode s e ∷ ms) ∙ sym (value_onto (expression_mode s e) (map (running_kind s) xs) ms)
 cells_onto s (AMean k ∷ xs) ms = cells_onto s xs ms
 cells_onto s (AMeanOf k e ∷ xs) ms = cells_onto s xs (modes.Integer ∷ ms)
 
@@ -133,25 +133,25 @@ value_said : (m : Mode) → kind_of_item (value_kind m) ≡ i.ShowsValue
 value_said modes.Integer = refl
 value_said modes.Alpha = refl
 
-kind_said : (s : Scope) (x : PrintItem) → kind_of_item (kind_of s x) ≡ item_kind x
+kind_said : (s : TypedScope) (x : PrintItem) → kind_of_item (running_kind s x) ≡ item_kind x
 kind_said s (AValue e) = value_said (expression_mode s e)
 kind_said s (AMean k) = refl
 kind_said s (AMeanOf k e) = refl
 
-kinds_said : (s : Scope) (xs : List PrintItem) → map kind_of_item (map (kind_of s) xs) ≡ map item_kind xs
+kinds_said : (s : TypedScope) (xs : List PrintItem) → map kind_of_item (map (running_kind s) xs) ≡ map item_kind xs
 kinds_said s [] = refl
-kinds_said s (x ∷ xs) = ap (λ (k : i.ItemKind). k ∷ map kind_of_item (map (kind_of s) xs)) (kind_said s x) ∙ ap (λ (ks : List i.ItemKind). item_kind x ∷ ks) (kinds_said s xs)
+kinds_said s (x ∷ xs) = ap (λ (k : i.ItemKind). k ∷ map kind_of_item (map (running_kind s) xs)) (kind_said s x) ∙ ap (λ (ks : List i.ItemKind). item_kind x ∷ ks) (kinds_said s xs)
 
 at_front : {A : Type 0} (before : List A) (v : A) (rest : List A) → slice_get (before ++ v ∷ rest) (length before) ≡ Some v
 at_front [] v rest = refl
 at_front (x ∷ before) v rest = at_front before v rest
 
 -- the PRINT after its items
-pub printed : (old mid new : Generator) (p q v : Lined) (here : Here) (old_prints new_prints : List RunningLines) (xs : List PrintItem) (pictures : List (List ℕ)) (made : RunningLines) (n cell : ℕ) → Grows old mid → MakesAll mid new p q here xs → made ≡ record { pictures = pictures; items = map (kind_of (scope_of old.program.now old.locals.items)) xs } → new_prints ≡ old_prints ++ made ∷ [] → n ≡ length old_prints → cell ≡ length new.locals.items + here.height → v.instructions ≡ q.instructions ++ r.Print n cell ∷ [] → v.lines ≡ q.lines ++ here.line ∷ [] → PrintsLines old new p v here old_prints new_prints xs pictures
-printed old mid new p q v here old_prints new_prints xs pictures made n cell g m is_made prints is_n is_cell is ls =
-    let s : Scope = scope_of old.program.now old.locals.items in
-    let said : lines_of made ≡ lines_said xs pictures =
-    ap (λ (l : RunningLines). lines_of l) is_made ∙ ap (λ (ks : List i.ItemKind). record { pictures = pictures; items = ks }) (kinds_said s xs) in
+pub printed : (old mid new : Generator) (p q v : Lined) (here : Here) (old_prints new_prints : List RunningLines) (xs : List PrintItem) (pictures : List (List ℕ)) (made : RunningLines) (n cell : ℕ) → Grows old mid → MakesAll mid new p q here xs → made ≡ record { pictures = pictures; items = map (running_kind (scope_for_modes old.program.now old.locals.items)) xs } → new_prints ≡ old_prints ++ made ∷ [] → n ≡ length old_prints → cell ≡ length new.locals.items + here.height → v ≡ q ++ on_line here.line (r.Print n cell) ∷ [] → PrintsLines old new p v here old_prints new_prints xs pictures
+printed old mid new p q v here old_prints new_prints xs pictures made n cell g m is_made prints is_n is_cell is =
+    let s : TypedScope = scope_for_modes old.program.now old.locals.items in
+    let said : lines_of_running made ≡ lines_said xs pictures =
+    ap (λ (l : RunningLines). lines_of_running l) is_made ∙ ap (λ (ks : List i.ItemKind). record { pictures = pictures; items = ks }) (kinds_said s xs) in
     record {
       code = record {
         grows = grows_then old mid new g m.grows;
@@ -165,10 +165,10 @@ printed old mid new p q v here old_prints new_prints xs pictures made n cell g m
             let there : cell ≡ length t.scope.locals + height t = is_cell ∙ sym (ap (λ (ms : List Mode). length ms + height t) located.locals ∙ ap (λ j. length new.locals.items + j) located.high) in
             let found : f.prints ≡ old_prints ++ (made ∷ fits.0.0) = fits.0.1 ∙ ap (λ (l : List RunningLines). l ++ fits.0.0) prints ∙ append_assoc old_prints (made ∷ []) fits.0.0 in
             let at : slice_get f.prints (length old_prints) ≡ Some made = ap (λ (l : List RunningLines). slice_get l (length old_prints)) found ∙ at_front old_prints made fits.0.0 in
-            let kinds : map (kind_of t.scope) xs ≡ made.items = kinds_by t.scope s.program s.locals xs (program_at f old here t before there_old) there_old.locals ∙ sym (ap (λ (l : RunningLines). l.items) is_made) in
+            let kinds : map (running_kind t.scope) xs ≡ made.items = kinds_by t.scope s.program s.locals xs (program_at f old here t before there_old) there_old.locals ∙ sym (ap (λ (l : RunningLines). l.items) is_made) in
             let cells : w.cells ≡ onto (item_modes made.items) t.cells = cells_onto t.scope xs t.cells ∙ ap (λ (ks : List ItemKind). onto (item_modes ks) t.cells) kinds in
             adds_then f p q v (items_code t xs) (place w ins ∷ []) (m.adds f t tt around located fits.1)
-            (adds_one f q v here.line (place w ins) (r.Print n cell) is ls located.line
+            (adds_one f q v here.line (place w ins) (r.Print n cell) is located.line
             (record { carries = (height t, there, ap (λ (j : ℕ). i.Print j (height t)) (sym is_n)); deep = on; shown = (made, at, (t.cells, cells)) }));
         more = λ f t u around located fits. tt;
       };

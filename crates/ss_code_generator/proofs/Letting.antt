@@ -25,10 +25,10 @@ use Rattle.ss_code_generator.specs.declared.targets.VariableSpot.{VariableSpot}
 use Rattle.ss_code_generator.specs.declared.targets.AttributeSpot.{AttributeSpot}
 use Rattle.ss_code_generator.specs.declared.targets.Spot.{Spot}
 use Rattle.ss_code_generator.specs.declared.targets.Spot.TheVariants as spots
-use Rattle.ss_code_pieces.specs.Lined.{Lined}
+use Rattle.ss_code_pieces.specs.Lined.{Lined, on_line}
 use Rattle.ss_code_instructions.specs.Forms.{calculating, storing}
-use Rattle.ss_code_generator.specs.Emitted.{Final, Around, Grows, IsLocated, Shown, Makes, NoMore, Emits, AtOperand, AtTarget, Typed, IsNumber, Reads}
-use Rattle.ss_code_generator.specs.Spots.{IsWatched, IsVariable, IsSpot, GoodPlace, HasRoom, HoldsMode, Given, Gives, Taking, Takes, Changed, variable_of, IsHeldBy, spot_cells, spot_code, landing, assigned_code, landed_code}
+use Rattle.ss_code_generator.specs.Emitted.{Final, Around, Grows, IsLocated, Shown, Generates, NoMore, Emits, AtOperand, AtTarget, Typed, IsInteger, ReadsOperand}
+use Rattle.ss_code_generator.specs.Spots.{IsWatchedAs, IsVariable, IsSpot, GoodPlace, HasTargetRoom, HoldsMode, Assignment, Assigns, Taking, AssignsLanded, Changed, place_variable, IsHeldBy, spot_cells, spot_code, landing, assigned_code, landed_code}
 use Rattle.ss_code_generator.proofs.Emitting.{around_old, grows_then, stands_old, stands_above, adds_then, adds_one, adds_same}
 use Rattle.ss_code_generator.proofs.Forms as forms
 use Rattle.ss_code_generator.proofs.Modes.{same_some, on_top, operand_mode, mode_after}
@@ -41,14 +41,14 @@ use Rattle.ss_code_generator.proofs.Spotted.{MakesAttribute, stored}
 
 abbrev pub LetsVariable : (old new : Generator) → (before after : Lined) → Here → Expression → VariableSpot → Type 0
 LetsVariable old new before after here e s =
-    Makes old new before after here (λ f t (x : Variable). IsVariable t x s × Good t.scope (Let here.line (ToVariable x) e)) (λ t x. let_code t (ToVariable x) e) NoMore
+    Generates old new before after here (λ f t (x : Variable). IsVariable t x s × Good t.scope (Let here.line (ToVariable x) e)) (λ t x. let_code t (ToVariable x) e) NoMore
 
 -- and one that is watched
-pub let_kept : (old new : Generator) (p q v : Lined) (here : Here) (e : Expression) (o : Read) (s : VariableSpot) (k : ℕ) → s.watched ≡ Some k → Reads old new p q here e o → v.instructions ≡ q.instructions ++ r.Keep o.address k ∷ [] → v.lines ≡ q.lines ++ here.line ∷ [] → LetsVariable old new p v here e s
-let_kept old new p q v here e o s k watched m is ls = record {
+pub let_kept : (old new : Generator) (p q v : Lined) (here : Here) (e : Expression) (o : Read) (s : VariableSpot) (k : ℕ) → s.watched ≡ Some k → ReadsOperand old new p q here e o → v ≡ q ++ on_line here.line (r.Keep o.address k) ∷ [] → LetsVariable old new p v here e s
+let_kept old new p q v here e o s k watched m is = record {
   grows = m.grows;
   adds = λ f t x around located fits.
-      let w : (is_kept t x ≡ true) × (x ≡ Global k) = subst (IsWatched (is_kept t x) x) watched fits.0.watched in
+      let w : (is_kept t x ≡ true) × (x ≡ Global k) = subst (IsWatchedAs (is_kept t x) x) watched fits.0.watched in
       let typed : Typed e t.scope = (fits.1.0, fits.1.2) in
       let read = m.more f t tt around located typed in
       let ins : Instruction = i.Keep (operand t e) x in
@@ -56,7 +56,7 @@ let_kept old new p q v here e o s k watched m is ls = record {
       sym (ap (λ (b : Bool). if b then with_operand t e (λ y. i.Keep y x) else expression_code t (i.Into x) e) w.0) in
       adds_same f p v (with_operand t e (λ y. i.Keep y x)) (let_code t (ToVariable x) e) code
       (adds_then f p q v (operand_code t e) (place (after t e) ins ∷ []) (m.adds f t tt around located typed)
-      (adds_one f q v here.line (place (after t e) ins) (r.Keep o.address k) is ls located.line
+      (adds_one f q v here.line (place (after t e) ins) (r.Keep o.address k) is located.line
       (record { carries = (operand t e, read.at, ap (i.Keep (operand t e)) w.1); deep = read.deep; shown = tt })));
   more = λ f t x around located fits. tt;
 }
@@ -69,7 +69,7 @@ let_of_variable old new p q here x e s h m = record {
   more = λ f t u around located good. tt;
 }
 
-pub let_of_count : (old new : Generator) (p q v : Lined) (here higher : Here) (c : CountedClass) (e : Expression) (o : Read) (s : Spot) → ((f : Final) (here : Here) (t : Site) → Around f old → IsLocated f old here t → IsSpot f t (ToCount c) s) → Reads old new p q here e o → higher.line ≡ here.line → (here.height + o.cells < 2 ^ 64 → higher.height ≡ here.height + o.cells) → Gives new q v higher o.address (λ f t x. IsSpot f t x s) → Emits old new p v here (λ k. Good k (Let here.line (ToCount c) e)) (λ t. let_code t (ToCount c) e)
+pub let_of_count : (old new : Generator) (p q v : Lined) (here higher : Here) (c : CountedClass) (e : Expression) (o : Read) (s : Spot) → ((f : Final) (here : Here) (t : Site) → Around f old → IsLocated f old here t → IsSpot f t (ToCount c) s) → ReadsOperand old new p q here e o → higher.line ≡ here.line → (here.height + o.cells < 2 ^ 64 → higher.height ≡ here.height + o.cells) → Assigns new q v higher o.address (λ f t x. IsSpot f t x s) → Emits old new p v here (λ k. Good k (Let here.line (ToCount c) e)) (λ t. let_code t (ToCount c) e)
 let_of_count old new p q v here higher c e o s h m line up n = record {
   grows = m.grows;
   adds = λ f t u around located good.
@@ -78,15 +78,15 @@ let_of_count old new p q v here higher c e o s h m line up n = record {
       let read = m.more f t tt around located typed in
       let there = read_stands f new here higher t e o around located read line up in
       let held : mode_at t.scope (Global c.variable) ≡ Some Integer = count_integer f.program around.typed t.scope located.program c good.1.1 in
-      let it : Given = record { resolved = t; place = ToCount c; from = operand t e; mode = Integer } in
+      let it : Assignment = record { resolved = t; place = ToCount c; from = operand t e; mode = Integer } in
       let spot = h f here t (around_old f old new m.grows around) (stands_old f old new here t m.grows located) in
       adds_then f p q v (operand_code t e) (count_code (after t e) c (operand t e)) (m.adds f t tt around located typed)
       (n.adds f (after t e) it around there (spot, refl, read.at, held, operand_mode f t e Integer Leave located.program number));
   more = λ f t u around located good. tt;
 }
 
-pub let_of_attribute : (old mid new : Generator) (p v w z : Lined) (here higher : Here) (class field : ℕ) (of e : Expression) (s : AttributeSpot) (right : Read) → MakesAttribute old mid p v here (λ t. entity_code t (must_look class of e) class of) class field of s → higher.line ≡ here.line → (here.height + s.cells < 2 ^ 64 → higher.height ≡ here.height + s.cells) → Reads mid new v w higher e right → z.instructions ≡ w.instructions ++ storing s.mode s.class s.field s.entity right.address s.is_watched ∷ [] → z.lines ≡ w.lines ++ here.line ∷ [] → Emits old new p z here (λ k. Good k (Let here.line (ToAttribute class field of) e)) (λ t. let_code t (ToAttribute class field of) e)
-let_of_attribute old mid new p v w z here higher class field of e s right a line up n is ls = record {
+pub let_of_attribute : (old mid new : Generator) (p v w z : Lined) (here higher : Here) (class field : ℕ) (of e : Expression) (s : AttributeSpot) (right : Read) → MakesAttribute old mid p v here (λ t. entity_code t (must_look class of e) class of) class field of s → higher.line ≡ here.line → (here.height + s.cells < 2 ^ 64 → higher.height ≡ here.height + s.cells) → ReadsOperand mid new v w higher e right → z ≡ w ++ on_line here.line (storing s.mode s.class s.field s.entity right.address s.is_watched) ∷ [] → Emits old new p z here (λ k. Good k (Let here.line (ToAttribute class field of) e)) (λ t. let_code t (ToAttribute class field of) e)
+let_of_attribute old mid new p v w z here higher class field of e s right a line up n is = record {
   grows = grows_then old mid new a.grows n.grows;
   adds = λ f t u around located good.
       let mine = around_old f mid new n.grows around in
@@ -99,13 +99,13 @@ let_of_attribute old mid new p v w z here higher class field of e s right a line
       let read = n.more f t1 tt around higher_up typed in
       adds_then f p v z (entity_code t (must_look class of e) class of) (operand_code t1 e ++ place t2 (i.SetAttribute class field (operand t of) (operand t1 e)) ∷ []) (a.adds f t tt mine there good.1.1)
       (adds_then f v w z (operand_code t1 e) (place t2 (i.SetAttribute class field (operand t of) (operand t1 e)) ∷ []) (n.adds f t1 tt around higher_up typed)
-      (stored f w z here.line right.address s is ls new around t t2 class field of (operand t of) (operand t1 e) good.0 spot refl spot.entity.at read.at good.1.0 located.line located.program read.deep));
+      (stored f w z here.line right.address s is new around t t2 class field of (operand t of) (operand t1 e) good.0 spot refl spot.entity.at read.at good.1.0 located.line located.program read.deep));
   more = λ f t u around located good. tt;
 }
 
 -- ## ADD and SUBTRACT
 
-change_parts : (t : Site) (sign : Sign) (p : Place) (x : Variable) (e : Expression) → variable_of p ≡ Some x → with_operand t e (λ y. i.Calculate (operator_of sign) (Held x) y (landing t p)) ++ landed_code t t p Integer ≡ change_code t sign p e
+change_parts : (t : Site) (sign : Sign) (p : Place) (x : Variable) (e : Expression) → place_variable p ≡ Some x → with_operand t e (λ y. i.Calculate (operator_of sign) (Held x) y (landing t p)) ++ landed_code t t p Integer ≡ change_code t sign p e
 change_parts t sign (ToVariable z) x e h =
     subst (λ (v : Variable). with_operand t e (λ y. i.Calculate (operator_of sign) (Held v) y (landing t (ToVariable z))) ++ landed_code t t (ToVariable z) Integer ≡ change_code t sign (ToVariable z) e) (same_some h)
     (to_place_parts t (ToVariable z) Integer (λ u to. with_operand u e (λ y. i.Calculate (operator_of sign) (Held z) y to)))
@@ -115,14 +115,14 @@ change_parts t sign (ToCount c) x e h =
 
 abbrev pub ChangesVariable : (old new : Generator) → (before after : Lined) → Here → Sign → Expression → Spot → VariableSpot → Type 0
 ChangesVariable old new before after here sign e s variable =
-    Makes old new before after here (λ f t (c : Changed). IsSpot f t c.place s × IsVariable t c.variable variable × IsHeldBy c × IsNumber e t.scope × HoldsMode t.scope c.place Integer) (λ t c. change_code t sign c.place e) NoMore
+    Generates old new before after here (λ f t (c : Changed). IsSpot f t c.place s × IsVariable t c.variable variable × IsHeldBy c × IsInteger e t.scope × HoldsMode t.scope c.place Integer) (λ t c. change_code t sign c.place e) NoMore
 
 -- where a value lands
 abbrev pub Lands : Generator → Here → Spot → Address → Type 0
-Lands g here s to = (f : Final) (t u : Site) (x : Place) → Around f g → IsLocated f g here u → t.scope ≡ u.scope → IsSpot f t x s → AtTarget f u (landing u x) to × HasRoom f (landing u x)
+Lands g here s to = (f : Final) (t u : Site) (x : Place) → Around f g → IsLocated f g here u → t.scope ≡ u.scope → IsSpot f t x s → AtTarget f u (landing u x) to × HasTargetRoom f (landing u x)
 
-pub variable_changed : (old mid new : Generator) (p q v w : Lined) (here : Here) (sign : Sign) (e : Expression) (by : Read) (to : Address) (s : Spot) (variable : VariableSpot) → Reads old mid p q here e by → Grows mid new → Lands new here s to → v.instructions ≡ q.instructions ++ calculating (operator_of sign) variable.address by.address to ∷ [] → v.lines ≡ q.lines ++ here.line ∷ [] → Takes new v w here to (λ f t x. IsSpot f t x s) → ChangesVariable old new p w here sign e s variable
-variable_changed old mid new p q v w here sign e by to s variable m g land is ls n = record {
+pub variable_changed : (old mid new : Generator) (p q v w : Lined) (here : Here) (sign : Sign) (e : Expression) (by : Read) (to : Address) (s : Spot) (variable : VariableSpot) → ReadsOperand old mid p q here e by → Grows mid new → Lands new here s to → v ≡ q ++ on_line here.line (calculating (operator_of sign) variable.address by.address to) ∷ [] → AssignsLanded new v w here to (λ f t x. IsSpot f t x s) → ChangesVariable old new p w here sign e s variable
+variable_changed old mid new p q v w here sign e by to s variable m g land is n = record {
   grows = grows_then old mid new m.grows g;
   adds = λ f t c around located fits.
       let mine = around_old f mid new g around in
@@ -137,7 +137,7 @@ variable_changed old mid new p q v w here sign e by to s variable m g land is ls
       adds_same f p w (with_operand t e (λ y. i.Calculate (operator_of sign) (Held c.variable) y lands) ++ landed_code t t c.place Integer) (change_code t sign c.place e) (change_parts t sign c.place c.variable e fits.2)
       (adds_then f p v w (with_operand t e (λ y. i.Calculate (operator_of sign) (Held c.variable) y lands)) (landed_code t t c.place Integer)
       (adds_then f p q v (operand_code t e) (place (after t e) ins ∷ []) (m.adds f t tt mine there typed)
-      (adds_one f q v here.line (place (after t e) ins) (calculating (operator_of sign) variable.address by.address to) is ls located.line (record { carries = carries; deep = read.deep; shown = tt })))
+      (adds_one f q v here.line (place (after t e) ins) (calculating (operator_of sign) variable.address by.address to) is located.line (record { carries = carries; deep = read.deep; shown = tt })))
       (n.adds f t it around located (fits.0, refl, at.0, at.1, fits.4)));
   more = λ f t c around located fits. tt;
 }
@@ -162,8 +162,8 @@ change_of_count old new p q here sign c e class s is_class h m = record {
   more = λ f t u around located good. tt;
 }
 
-pub attribute_changed : (old mid new : Generator) (p q v w : Lined) (here higher : Here) (sign : Sign) (class field : ℕ) (of e : Expression) (by : Read) (s : AttributeSpot) → Reads old mid p q here e by → higher.line ≡ here.line → (here.height + by.cells < 2 ^ 64 → higher.height ≡ here.height + by.cells) → MakesAttribute mid new q v higher (λ t. operand_code t of) class field of s → w.instructions ≡ v.instructions ++ r.ChangeAttribute s.class s.field s.entity by.address sign s.is_watched ∷ [] → w.lines ≡ v.lines ++ here.line ∷ [] → Emits old new p w here (λ k. Good k (Change here.line sign (ToAttribute class field of) e)) (λ t. change_code t sign (ToAttribute class field of) e)
-attribute_changed old mid new p q v w here higher sign class field of e by s m line up a is ls = record {
+pub attribute_changed : (old mid new : Generator) (p q v w : Lined) (here higher : Here) (sign : Sign) (class field : ℕ) (of e : Expression) (by : Read) (s : AttributeSpot) → ReadsOperand old mid p q here e by → higher.line ≡ here.line → (here.height + by.cells < 2 ^ 64 → higher.height ≡ here.height + by.cells) → MakesAttribute mid new q v higher (λ t. operand_code t of) class field of s → w ≡ v ++ on_line here.line (r.ChangeAttribute s.class s.field s.entity by.address sign s.is_watched) ∷ [] → Emits old new p w here (λ k. Good k (Change here.line sign (ToAttribute class field of) e)) (λ t. change_code t sign (ToAttribute class field of) e)
+attribute_changed old mid new p q v w here higher sign class field of e by s m line up a is = record {
   grows = grows_then old mid new m.grows a.grows;
   adds = λ f t u around located good.
       let mine = around_old f mid new a.grows around in
@@ -182,7 +182,7 @@ attribute_changed old mid new p q v w here higher sign class field of e by s m l
       ∙ sym (ap (λ (k : Program). watch k.statistics (OfAttribute class field)) located.program) ∙ sym spot.noted ∙ off in
       adds_then f p q w (operand_code t e) (operand_code t1 of ++ place t2 ins ∷ []) (m.adds f t tt mine there typed)
       (adds_then f q v w (operand_code t1 of) (place t2 ins ∷ []) (a.adds f t1 tt around higher_up good.0.1)
-      (adds_one f v w here.line (place t2 ins) (r.ChangeAttribute s.class s.field s.entity by.address sign s.is_watched) is ls located.line
+      (adds_one f v w here.line (place t2 ins) (r.ChangeAttribute s.class s.field s.entity by.address sign s.is_watched) is located.line
       (record { carries = (notes, (operand t1 of, spot.entity.at, (operand t e, read.at, same))); deep = spot.entity.deep; shown = tt })));
   more = λ f t u around located good. tt;
 }
@@ -214,10 +214,10 @@ holds_mode f g here t (ToCount c) m around located takes = count_integer f.progr
 
 abbrev pub MakesSpot : (old new : Generator) → (before after : Lined) → Here → (Site → List Placed) → Place → Spot → Type 0
 MakesSpot old new before after here c x s =
-    Makes old new before after here (λ f t (u : Unit {0}). GoodPlace x t.scope) (λ t u. c t) (λ f t u. IsSpot f t x s)
+    Generates old new before after here (λ f t (u : Unit {0}). GoodPlace x t.scope) (λ t u. c t) (λ f t u. IsSpot f t x s)
 
-pub to_place_made : (old mid new : Generator) (p q v w : Lined) (here higher : Here) (x : Place) (m : Mode) (s : Spot) (to : Address) (y : Running) (make : Target → Instruction) → MakesSpot old mid p q here (λ t. place_code t x) x s → higher.line ≡ here.line → (here.height + spot_cells s < 2 ^ 64 → higher.height ≡ here.height + spot_cells s) → Grows mid new → Lands new higher s to → ((f : Final) (u : Site) (z : Target) → AtTarget f u z to → Carries (code_of f.program) f.constants (place u (make z)) y) → ((prints : List RunningLines) (cells : List Mode) (z : Target) → Shown prints cells (make z)) → v.instructions ≡ q.instructions ++ y ∷ [] → v.lines ≡ q.lines ++ here.line ∷ [] → Takes new v w higher to (λ f t z. IsSpot f t z s) → Emits old new p w here (λ k. TakesMode k x m) (λ t. to_place_code t x m (λ u z. place u (make z) ∷ []))
-to_place_made old mid new p q v w here higher x m s to y make l line up g land carries shown is ls n = record {
+pub to_place_made : (old mid new : Generator) (p q v w : Lined) (here higher : Here) (x : Place) (m : Mode) (s : Spot) (to : Address) (y : Running) (make : Target → Instruction) → MakesSpot old mid p q here (λ t. place_code t x) x s → higher.line ≡ here.line → (here.height + spot_cells s < 2 ^ 64 → higher.height ≡ here.height + spot_cells s) → Grows mid new → Lands new higher s to → ((f : Final) (u : Site) (z : Target) → AtTarget f u z to → Carries (code_of f.program) f.constants (place u (make z)) y) → ((prints : List RunningLines) (cells : List Mode) (z : Target) → Shown prints cells (make z)) → v ≡ q ++ on_line here.line y ∷ [] → AssignsLanded new v w higher to (λ f t z. IsSpot f t z s) → Emits old new p w here (λ k. TakesMode k x m) (λ t. to_place_code t x m (λ u z. place u (make z) ∷ []))
+to_place_made old mid new p q v w here higher x m s to y make l line up g land carries shown is n = record {
   grows = grows_then old mid new l.grows g;
   adds = λ f t u around located good.
       let mine = around_old f mid new g around in
@@ -232,7 +232,7 @@ to_place_made old mid new p q v w here higher x m s to y make l line up g land c
       adds_same f p w (place_code t x ++ (place t1 (make lands) ∷ [] ++ landed_code t t1 x m)) (to_place_code t x m (λ u z. place u (make z) ∷ [])) (to_place_parts t x m (λ u z. place u (make z) ∷ []))
       (adds_then f p q w (place_code t x) (place t1 (make lands) ∷ [] ++ landed_code t t1 x m) (l.adds f t tt mine there fits)
       (adds_then f q v w (place t1 (make lands) ∷ []) (landed_code t t1 x m)
-      (adds_one f q v here.line (place t1 (make lands)) y is ls located.line (record { carries = carries f t1 lands at.0; deep = on.deep; shown = shown f.prints t1.cells lands }))
+      (adds_one f q v here.line (place t1 (make lands)) y is located.line (record { carries = carries f t1 lands at.0; deep = on.deep; shown = shown f.prints t1.cells lands }))
       (n.adds f t1 it around on (spot, refl, at.0, at.1, holds_mode f new here t x m around located good))));
   more = λ f t u around located good. tt;
 }
@@ -259,7 +259,7 @@ given_mode f t (ToAttribute class field e) =
     mode_after f (above t m) e (Taken (height t)) m Leave Leave (on_top (height t) m t.cells refl)
 given_mode f t (ToCount c) = on_top (height t) Integer t.cells refl
 
-pub given_made : (old mid new : Generator) (p q v : Lined) (here one higher : Here) (x : Place) (s : Spot) (from : Address) → Grows old mid → InFrame (length mid.locals.items + here.height) from → here.height < mid.deepest → one.line ≡ here.line → (here.height + 1 < 2 ^ 64 → one.height ≡ here.height + 1) → MakesSpot mid new p q one (λ t. spot_code t x) x s → higher.line ≡ one.line → (one.height + spot_cells s < 2 ^ 64 → higher.height ≡ one.height + spot_cells s) → Gives new q v higher from (λ f t z. IsSpot f t z s) → Emits old new p v here (GoodPlace x) (λ t. give_code t x)
+pub given_made : (old mid new : Generator) (p q v : Lined) (here one higher : Here) (x : Place) (s : Spot) (from : Address) → Grows old mid → InFrame (length mid.locals.items + here.height) from → here.height < mid.deepest → one.line ≡ here.line → (here.height + 1 < 2 ^ 64 → one.height ≡ here.height + 1) → MakesSpot mid new p q one (λ t. spot_code t x) x s → higher.line ≡ one.line → (one.height + spot_cells s < 2 ^ 64 → higher.height ≡ one.height + spot_cells s) → Assigns new q v higher from (λ f t z. IsSpot f t z s) → Emits old new p v here (GoodPlace x) (λ t. give_code t x)
 given_made old mid new p q v here one higher x s from g cell room line up l line_2 up_2 n = record {
   grows = grows_then old mid new g l.grows;
   adds = λ f t u around located good.
@@ -275,7 +275,7 @@ given_made old mid new p q v here one higher x s from g cell room line up l line
       let is : m ≡ good.0 = place_mode_is t x good.0 good.1 in
       let takes : TakesMode t.scope x m = subst (TakesMode t.scope x) (sym is) good.1 in
       let at : AtOperand f (after_place w x) (Taken (height t)) from = cell_at_site f mid here t from there cell in
-      let it : Given = record { resolved = w; place = x; from = Taken (height t); mode = m } in
+      let it : Assignment = record { resolved = w; place = x; from = Taken (height t); mode = m } in
       adds_same f p v (spot_code w x ++ assigned_code w (after_place w x) x (Taken (height t))) (give_code t x) (give_parts t x)
       (adds_then f p q v (spot_code w x) (assigned_code w (after_place w x) x (Taken (height t))) (l.adds f w tt around on good)
       (n.adds f (after_place w x) it around on_2 (spot, refl, at, holds_mode f new here t x m around located takes, given_mode f t x)));

@@ -3,14 +3,14 @@ use Rattle.std.proofs.Common.{◌≡◌, ℕ, ◌+◌, ◌<◌, List, [], ◌∷
 use Rattle.std.proofs.lemmas.List.{take_more, drop_more, map-append}
 use Rattle.std.specs.List.{AllByRecursion as Every}
 use Rattle.ss_program.specs.declared.statement.CountedClass.{CountedClass}
-use Rattle.ss_program.specs.Program.{Target, Restart}
-use Rattle.ss_program.specs.WellTyped.{Scope}
+use Rattle.ss_program.specs.Program.{InputTarget, Restart}
+use Rattle.ss_program.specs.WellTyped.{TypedScope}
 use Rattle.ss_code_instructions.specs.declared.instruction.Instruction.TheVariants.{CreateAll as CreatesAll}
 use Rattle.ss_code_instructions.specs.Instructions.{Placed, Read, CreateAll, Reset}
 use Rattle.ss_code_instructions.specs.Translation.{Site, place, bearer, bearer_code, after_bearer, to_place_code, reads_code, creates_code, restarts_code}
 use Rattle.ss_code_generator.specs.declared.generator.Generator.{Generator}
 use Rattle.ss_code_generator.specs.declared.generator.Site.{Site as Here}
-use Rattle.ss_code_pieces.specs.Lined.{Lined}
+use Rattle.ss_code_pieces.specs.Lined.{Lined, on_line}
 use Rattle.ss_code_generator.specs.Emitted.{Emits}
 use Rattle.ss_code_generator.proofs.Emitting.{around_old, grows_then, stands_old, adds_then, adds_one, adds_same}
 
@@ -20,7 +20,7 @@ every_split P [] x h = (tt, h.0)
 every_split P (y ∷ xs) x h = let k = every_split P xs x h.1 in ((h.0, k.0), k.1)
 
 -- code of things that all find the same cells: each thing's own, one after the other
-module _ {A : Type 0} (P : A → Scope → Type 0) (own : Site → A → List Placed) (all : Site → List A → List Placed) (joined : (t : Site) (xs : List A) (x : A) → all t (xs ++ x ∷ []) ≡ all t xs ++ own t x) where
+module _ {A : Type 0} (P : A → TypedScope → Type 0) (own : Site → A → List Placed) (all : Site → List A → List Placed) (joined : (t : Site) (xs : List A) (x : A) → all t (xs ++ x ∷ []) ≡ all t xs ++ own t x) where
   pub listed_more : (old mid new : Generator) (p q r : Lined) (here : Here) (xs : List A) (x : A) → Emits old mid p q here (λ s. Every (λ y. P y s) xs) (λ t. all t xs) → Emits mid new q r here (P x) (λ t. own t x) → Emits old new p r here (λ s. Every (λ y. P y s) (xs ++ x ∷ [])) (λ t. all t (xs ++ x ∷ []))
   listed_more old mid new p q r here xs x m n = record {
     grows = grows_then old mid new m.grows n.grows;
@@ -38,8 +38,8 @@ module _ {A : Type 0} (one : A → List Placed) (all : List A → List Placed) (
   rows_more (y ∷ xs) x =
       first y (xs ++ x ∷ []) ∙ ap (λ (c : List Placed). one y ++ c) (rows_more xs x) ∙ sym (append_assoc (one y) (all xs) (one x)) ∙ sym (ap (λ (c : List Placed). c ++ one x) (first y xs))
 
-pub reads_more : (t : Site) (xs : List Target) (x : Target) → reads_code t (xs ++ x ∷ []) ≡ reads_code t xs ++ to_place_code t x.place x.mode (λ u to. place u (Read x.mode to) ∷ [])
-reads_more t xs x = rows_more (λ (x : Target). to_place_code t x.place x.mode (λ u to. place u (Read x.mode to) ∷ [])) (reads_code t) refl (λ x xs. refl) xs x
+pub reads_more : (t : Site) (xs : List InputTarget) (x : InputTarget) → reads_code t (xs ++ x ∷ []) ≡ reads_code t xs ++ to_place_code t x.place x.mode (λ u to. place u (Read x.mode to) ∷ [])
+reads_more t xs x = rows_more (λ (x : InputTarget). to_place_code t x.place x.mode (λ u to. place u (Read x.mode to) ∷ [])) (reads_code t) refl (λ x xs. refl) xs x
 
 pub creates_more : (t : Site) (xs : List CountedClass) (x : CountedClass) → creates_code t (xs ++ x ∷ []) ≡ creates_code t xs ++ place t (CreateAll x) ∷ []
 creates_more t xs x = rows_more (λ (x : CountedClass). place t (CreateAll x) ∷ []) (creates_code t) refl (λ x xs. refl) xs x
@@ -50,13 +50,13 @@ restarts_more t xs x =
     ap (λ (c : List Placed). c ++ restarts_code t xs) (sym (append-nil (bearer_code t x.of ++ place (after_bearer t x.of) (Reset x.statistic (bearer t x.of)) ∷ [])))) xs x
 
 -- an instruction for each class
-pub creates_step : (g : Generator) (p q v : Lined) (here : Here) (xs : List CountedClass) (x : CountedClass) → Emits g g p q here (λ s. Unit {0}) (λ t. creates_code t xs) → v.instructions ≡ q.instructions ++ CreatesAll x.class x.variable ∷ [] → v.lines ≡ q.lines ++ here.line ∷ [] → Emits g g p v here (λ s. Unit {0}) (λ t. creates_code t (xs ++ x ∷ []))
-creates_step g p q v here xs x m is ls = record {
+pub creates_step : (g : Generator) (p q v : Lined) (here : Here) (xs : List CountedClass) (x : CountedClass) → Emits g g p q here (λ s. Unit {0}) (λ t. creates_code t xs) → v ≡ q ++ on_line here.line (CreatesAll x.class x.variable) ∷ [] → Emits g g p v here (λ s. Unit {0}) (λ t. creates_code t (xs ++ x ∷ []))
+creates_step g p q v here xs x m is = record {
   grows = m.grows;
   adds = λ f t u around located good.
       adds_same f p v (creates_code t xs ++ place t (CreateAll x) ∷ []) (creates_code t (xs ++ x ∷ [])) (sym (creates_more t xs x))
       (adds_then f p q v (creates_code t xs) (place t (CreateAll x) ∷ []) (m.adds f t tt around located tt)
-      (adds_one f q v here.line (place t (CreateAll x)) (CreatesAll x.class x.variable) is ls located.line (record { carries = refl; deep = located.deep; shown = tt })));
+      (adds_one f q v here.line (place t (CreateAll x)) (CreatesAll x.class x.variable) is located.line (record { carries = refl; deep = located.deep; shown = tt })));
   more = λ f t u around located good. tt;
 }
 

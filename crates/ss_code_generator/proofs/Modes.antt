@@ -12,16 +12,16 @@ use Rattle.ss_program.specs.declared.expression.Variable.{Variable}
 use Rattle.ss_program.specs.declared.expression.Variable.TheVariants.{Global, Local}
 use Rattle.ss_program.specs.Program.{Program, Expression, Constant, Fetch, Attribute, OfSystemSet, OfSet, OfMember, Clock, TimeOf, Figure, FigureOf, Signed, Unary, Calculate}
 use Rattle.ss_program.specs.View.{view_program}
-use Rattle.ss_program.specs.WellTyped.{Scope, HasMode, mode_at, field_mode}
+use Rattle.ss_program.specs.WellTyped.{TypedScope, HasMode, mode_at, field_mode}
 use Rattle.ss_code_instructions.specs.Instructions.{Operand, Instruction, Held, Taken, Stays, Placed}
 use Rattle.ss_code_instructions.specs.Instructions as i
 use Rattle.ss_code_instructions.specs.States.{cell_at}
 use Rattle.ss_code_instructions.specs.Translation.{Site, height, place, operand, after, above, or_integer, expression_mode, code_of}
-use Rattle.ss_code_instructions.specs.Carried.{mode_here, HasField}
+use Rattle.ss_code_instructions.specs.Carried.{mode_here, HasFieldMode}
 use Rattle.ss_code_instructions.proofs.Shaping.{mode_so}
 use Rattle.ss_code_generator.specs.declared.generator.Generator.{Generator}
 use Rattle.ss_code_generator.specs.declared.generator.Site.{Site as Here}
-use Rattle.ss_code_pieces.specs.Preamble.{scope_of}
+use Rattle.ss_code_pieces.specs.Preamble.{scope_for_modes}
 use Rattle.ss_code_generator.specs.Emitted.{Final, Around, Grows, IsLocated}
 
 -- ## What the definition's facts say of a program that is well typed
@@ -34,11 +34,11 @@ fields_agree : (o : Option ClassLayout) (field : ℕ) (m : Mode) → option_and_
 fields_agree None field m h = absurd cc
 fields_agree (Some c) field m h = h
 
-pub has_field : (p : Program) (constants : List Value) (x : Placed) (class field : ℕ) (m : Mode) → field_mode p class field ≡ Some m → HasField (code_of p) constants x m class field
+pub has_field : (p : Program) (constants : List Value) (x : Placed) (class field : ℕ) (m : Mode) → field_mode p class field ≡ Some m → HasFieldMode (code_of p) constants x m class field
 has_field p constants x class field m h = fields_agree (slice_get p.layout.classes class) field m h
 
 -- modes go by the program and the local variables alone
-pub mode_by : (s : Scope) (p : Program) (locals : List Mode) (e : Expression) → s.program ≡ p → s.locals ≡ locals → expression_mode s e ≡ expression_mode (record { program = p; locals = locals; is_main = false }) e
+pub mode_by : (s : TypedScope) (p : Program) (locals : List Mode) (e : Expression) → s.program ≡ p → s.locals ≡ locals → expression_mode s e ≡ expression_mode (record { program = p; locals = locals; is_main = false }) e
 mode_by s p locals (Constant v) q l = refl
 mode_by s p locals (Fetch (Global k)) q l = ap (λ (r : Program). or_integer (slice_get r.globals k)) q
 mode_by s p locals (Fetch (Local k)) q l = ap (λ (ms : List Mode). or_integer (slice_get ms k)) l
@@ -46,7 +46,7 @@ mode_by s p locals (Attribute class field e) q l = ap (λ (r : Program). or_inte
 mode_by s p locals _ q l = refl
 
 -- the mode that the generator found, before it went on
-pub mode_found : (f : Final) (old new : Generator) (here : Here) (t : Site) (e : Expression) (n m : Mode) → Grows old new → m ≡ expression_mode (scope_of old.program.now old.locals.items) e → Around f new → IsLocated f new here t → HasMode t.scope e n → n ≡ m
+pub mode_found : (f : Final) (old new : Generator) (here : Here) (t : Site) (e : Expression) (n m : Mode) → Grows old new → m ≡ expression_mode (scope_for_modes old.program.now old.locals.items) e → Around f new → IsLocated f new here t → HasMode t.scope e n → n ≡ m
 mode_found f old new here t e n m g is around located h =
     let program : t.scope.program ≡ view_program old.program.now = located.program ∙ sym around.program ∙ ap view_program g.program in
     sym (mode_so t.scope e n h) ∙ mode_by t.scope (view_program old.program.now) old.locals.items e program (located.locals ∙ g.locals) ∙ sym is

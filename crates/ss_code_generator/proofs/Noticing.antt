@@ -8,7 +8,7 @@ use Rattle.ss_base.specs.declared.layout.Mode.TheVariants.{Integer}
 use Rattle.ss_program.specs.declared.sections.Statistic.{Statistic}
 use Rattle.ss_program.specs.declared.sections.Subject.TheVariants.{OfAttribute}
 use Rattle.ss_program.specs.Program.{Program, Expression, Place, ToVariable, ToAttribute, ToCount, When, At, In, Restart, ScheduleNew, Schedule}
-use Rattle.ss_program.specs.WellTyped.{Scope, HasMode, GoodWhen, GoodRestart, GoodGiven, Good, TakesMode}
+use Rattle.ss_program.specs.WellTyped.{TypedScope, HasMode, GoodWhen, GoodRestart, GoodGiven, Good, TakesMode}
 use Rattle.ss_code_instructions.specs.declared.address.Address.{Address}
 use Rattle.ss_code_instructions.specs.declared.instruction.Instruction.{Instruction as Running}
 use Rattle.ss_code_instructions.specs.declared.instruction.Instruction.TheVariants as r
@@ -25,10 +25,10 @@ use Rattle.ss_code_generator.specs.declared.targets.VariableSpot.{VariableSpot}
 use Rattle.ss_code_generator.specs.declared.targets.AttributeSpot.{AttributeSpot}
 use Rattle.ss_code_generator.specs.declared.targets.Spot.{Spot}
 use Rattle.ss_code_generator.specs.declared.targets.Spot.TheVariants as spots
-use Rattle.ss_code_pieces.specs.Lined.{Lined}
+use Rattle.ss_code_pieces.specs.Lined.{Lined, on_line}
 use Rattle.ss_code_instructions.specs.Forms.{storing}
-use Rattle.ss_code_generator.specs.Emitted.{Final, Around, Grows, IsLocated, Runs, Adds, Emits, AtTarget, AtOperand, Typed, AreNumbers, IsRead, Reads, Bears}
-use Rattle.ss_code_generator.specs.Spots.{IsSpot, HasRoom, HoldsMode, Given, Gives, Taking, Takes, spot_cells, landing}
+use Rattle.ss_code_generator.specs.Emitted.{Final, Around, Grows, IsLocated, Runs, Adds, Emits, AtTarget, AtOperand, Typed, AreNumbers, IsRead, ReadsOperand, Bears}
+use Rattle.ss_code_generator.specs.Spots.{IsSpot, HasTargetRoom, HoldsMode, Assignment, Assigns, Taking, AssignsLanded, spot_cells, landing}
 use Rattle.ss_code_generator.specs.Notices.{any_watched, named_at, named_code, Names}
 use Rattle.ss_code_generator.proofs.Emitting.{around_old, grows_same, grows_then, stands_old, stands_above, adds_then, adds_one, adds_same}
 use Rattle.ss_code_generator.proofs.Modes.{on_top}
@@ -38,27 +38,27 @@ use Rattle.ss_code_generator.proofs.Letting.{MakesSpot, Lands, spot_stands, hold
 
 -- ## One operand, and an instruction that leaves something in the next cell
 
-pub cell_works : (old mid new : Generator) (p q v : Lined) (here : Here) (e : Expression) (o : Read) (to : Address) (Good : Scope → Type 0) (make : Site → Operand → Instruction) (y : Running) → Grows old mid → InFrame (length mid.locals.items + here.height) to → Reads mid new p q here e o → v.instructions ≡ q.instructions ++ y ∷ [] → v.lines ≡ q.lines ++ here.line ∷ [] → ((k : Scope) → Good k → Typed e k) → ((f : Final) (t : Site) → AtTarget f t (next t) to → IsRead f t e o → Runs f (place (after t e) (make t (operand t e))) y) → Emits old new p v here Good (λ t. with_operand t e (make t))
-cell_works old mid new p q v here e o to Good make y g cell m is ls typed runs = record {
+pub cell_works : (old mid new : Generator) (p q v : Lined) (here : Here) (e : Expression) (o : Read) (to : Address) (Good : TypedScope → Type 0) (make : Site → Operand → Instruction) (y : Running) → Grows old mid → InFrame (length mid.locals.items + here.height) to → ReadsOperand mid new p q here e o → v ≡ q ++ on_line here.line y ∷ [] → ((k : TypedScope) → Good k → Typed e k) → ((f : Final) (t : Site) → AtTarget f t (next t) to → IsRead f t e o → Runs f (place (after t e) (make t (operand t e))) y) → Emits old new p v here Good (λ t. with_operand t e (make t))
+cell_works old mid new p q v here e o to Good make y g cell m is typed runs = record {
   grows = grows_then old mid new g m.grows;
   adds = λ f t u around located good.
       let there = stands_old f mid new here t m.grows located in
       let at : AtTarget f t (next t) to = cell_at_site f mid here t to there cell in
       let read = m.more f t tt around located (typed t.scope good) in
       adds_then f p q v (operand_code t e) (place (after t e) (make t (operand t e)) ∷ []) (m.adds f t tt around located (typed t.scope good))
-      (adds_one f q v here.line (place (after t e) (make t (operand t e))) y is ls located.line (runs f t at read));
+      (adds_one f q v here.line (place (after t e) (make t (operand t e))) y is located.line (runs f t at read));
   more = λ f t u around located good. tt;
 }
 
 -- a time, so
-pub at_timed : (old mid new : Generator) (p q v : Lined) (here : Here) (e : Expression) (o : Read) (to : Address) → Grows old mid → InFrame (length mid.locals.items + here.height) to → Reads mid new p q here e o → v.instructions ≡ q.instructions ++ r.At o.address to ∷ [] → v.lines ≡ q.lines ++ here.line ∷ [] → Emits old new p v here (λ s. GoodWhen s (At e)) (λ t. when_code t (At e))
-at_timed old mid new p q v here e o to g cell m is ls =
-    cell_works old mid new p q v here e o to (λ s. GoodWhen s (At e)) (λ t x. i.At x (next t)) (r.At o.address to) g cell m is ls (λ k h. (Integer, h))
+pub at_timed : (old mid new : Generator) (p q v : Lined) (here : Here) (e : Expression) (o : Read) (to : Address) → Grows old mid → InFrame (length mid.locals.items + here.height) to → ReadsOperand mid new p q here e o → v ≡ q ++ on_line here.line (r.At o.address to) ∷ [] → Emits old new p v here (λ s. GoodWhen s (At e)) (λ t. when_code t (At e))
+at_timed old mid new p q v here e o to g cell m is =
+    cell_works old mid new p q v here e o to (λ s. GoodWhen s (At e)) (λ t x. i.At x (next t)) (r.At o.address to) g cell m is (λ k h. (Integer, h))
     (λ f t at read. record { carries = (operand t e, read.at, (next t, at, refl)); deep = read.deep; shown = tt })
 
-pub in_timed : (old mid new : Generator) (p q v : Lined) (here : Here) (e : Expression) (o : Read) (to : Address) → Grows old mid → InFrame (length mid.locals.items + here.height) to → Reads mid new p q here e o → v.instructions ≡ q.instructions ++ r.In o.address to ∷ [] → v.lines ≡ q.lines ++ here.line ∷ [] → Emits old new p v here (λ s. GoodWhen s (In e)) (λ t. when_code t (In e))
-in_timed old mid new p q v here e o to g cell m is ls =
-    cell_works old mid new p q v here e o to (λ s. GoodWhen s (In e)) (λ t x. i.In x (next t)) (r.In o.address to) g cell m is ls (λ k h. (Integer, h))
+pub in_timed : (old mid new : Generator) (p q v : Lined) (here : Here) (e : Expression) (o : Read) (to : Address) → Grows old mid → InFrame (length mid.locals.items + here.height) to → ReadsOperand mid new p q here e o → v ≡ q ++ on_line here.line (r.In o.address to) ∷ [] → Emits old new p v here (λ s. GoodWhen s (In e)) (λ t. when_code t (In e))
+in_timed old mid new p q v here e o to g cell m is =
+    cell_works old mid new p q v here e o to (λ s. GoodWhen s (In e)) (λ t x. i.In x (next t)) (r.In o.address to) g cell m is (λ k h. (Integer, h))
     (λ f t at read. record { carries = (operand t e, read.at, (next t, at, refl)); deep = read.deep; shown = tt })
 
 -- ## What a notice is given, and its time
@@ -91,13 +91,13 @@ room_above h n higher d e room up grows low fits =
     omega (arith, is, low)
 
 -- values of the modes of attributes are typed
-haves_typed : (s : Scope) (es : List Expression) (ms : List Mode) → AllZip (HasMode s) es ms → Every (λ e. Typed e s) es
+haves_typed : (s : TypedScope) (es : List Expression) (ms : List Mode) → AllZip (HasMode s) es ms → Every (λ e. Typed e s) es
 haves_typed s [] [] h = tt
 haves_typed s [] (m ∷ ms) h = absurd h
 haves_typed s (e ∷ es) [] h = absurd h
 haves_typed s (e ∷ es) (m ∷ ms) h = ((m, h.0), haves_typed s es ms h.1)
 
-pub given_typed : (s : Scope) (class : ℕ) (es : List Expression) → GoodGiven s class es → Every (λ e. Typed e s) es
+pub given_typed : (s : TypedScope) (class : ℕ) (es : List Expression) → GoodGiven s class es → Every (λ e. Typed e s) es
 given_typed s class es h = haves_typed s es (take (length es) h.1.0) h.1.2
 
 -- none of the first attributes is watched
@@ -119,38 +119,38 @@ notes_given f g here t noted class given around located is off field low =
 
 -- ## A new notice goes to its place
 
-named_in_variable : (g : Generator) (p q : Lined) (here : Here) (from : Address) (s : VariableSpot) → Takes g p q here from (λ f t x. IsSpot f t x (spots.Variable s)) → (f : Final) (t u : Site) (x : Place) → IsSpot f t x (spots.Variable s) → t.scope ≡ u.scope → AtTarget f u (landing u x) from → HasRoom f (landing u x) → HoldsMode u.scope x Integer → Around f g → IsLocated f g here u → Adds f p q (named_code t u x)
+named_in_variable : (g : Generator) (p q : Lined) (here : Here) (from : Address) (s : VariableSpot) → AssignsLanded g p q here from (λ f t x. IsSpot f t x (spots.Variable s)) → (f : Final) (t u : Site) (x : Place) → IsSpot f t x (spots.Variable s) → t.scope ≡ u.scope → AtTarget f u (landing u x) from → HasTargetRoom f (landing u x) → HoldsMode u.scope x Integer → Around f g → IsLocated f g here u → Adds f p q (named_code t u x)
 named_in_variable g p q here from s m f t u (ToVariable x) v same at room holds around located =
     let it : Taking = record { resolved = t; place = ToVariable x; mode = Integer } in
     m.adds f u it around located (v, same, at, room, holds)
 named_in_variable g p q here from s m f t u (ToAttribute class field e) v same at room holds around located = absurd v
 named_in_variable g p q here from s m f t u (ToCount c) v same at room holds around located = absurd v
 
-pub variable_named : (g : Generator) (p q : Lined) (here : Here) (from : Address) (s : VariableSpot) → Takes g p q here from (λ f t x. IsSpot f t x (spots.Variable s)) → Names g p q here from (λ f t x. IsSpot f t x (spots.Variable s))
+pub variable_named : (g : Generator) (p q : Lined) (here : Here) (from : Address) (s : VariableSpot) → AssignsLanded g p q here from (λ f t x. IsSpot f t x (spots.Variable s)) → Names g p q here from (λ f t x. IsSpot f t x (spots.Variable s))
 variable_named g p q here from s m = record {
   grows = grows_same g;
   adds = λ f u x around located fits. named_in_variable g p q here from s m f x.resolved u x.place fits.0 fits.1 fits.2 fits.3 fits.4 around located;
   more = λ f u x around located fits. tt;
 }
 
-named_in_attribute : (g : Generator) (p q : Lined) (here : Here) (from : Address) (s : AttributeSpot) → q.instructions ≡ p.instructions ++ storing s.mode s.class s.field s.entity from s.is_watched ∷ [] → q.lines ≡ p.lines ++ here.line ∷ [] → (f : Final) (t u : Site) (x : Place) → IsSpot f t x (spots.Attribute s) → t.scope ≡ u.scope → AtTarget f u (landing u x) from → HasRoom f (landing u x) → HoldsMode u.scope x Integer → Around f g → IsLocated f g here u → Adds f p q (named_code t u x)
-named_in_attribute g p q here from s is ls f t u (ToVariable x) v same at room holds around located = absurd v
-named_in_attribute g p q here from s is ls f t u (ToAttribute class field e) v same at room holds around located =
+named_in_attribute : (g : Generator) (p q : Lined) (here : Here) (from : Address) (s : AttributeSpot) → q ≡ p ++ on_line here.line (storing s.mode s.class s.field s.entity from s.is_watched) ∷ [] → (f : Final) (t u : Site) (x : Place) → IsSpot f t x (spots.Attribute s) → t.scope ≡ u.scope → AtTarget f u (landing u x) from → HasTargetRoom f (landing u x) → HoldsMode u.scope x Integer → Around f g → IsLocated f g here u → Adds f p q (named_code t u x)
+named_in_attribute g p q here from s is f t u (ToVariable x) v same at room holds around located = absurd v
+named_in_attribute g p q here from s is f t u (ToAttribute class field e) v same at room holds around located =
     let w : Site = above u Integer in
     let entity : AtOperand f w (stay (operand t e)) s.entity = stays_at f w (operand t e) s.entity (operand_at f t w (operand t e) s.entity (sym same) v.entity.at) in
     let low : height u < f.depth = room in
     let deep : height w ≤ f.depth = omega (arith, low) in
-    stored f p q here.line from s is ls g around t w class field e (stay (operand t e)) (Stays (height u)) Integer v same entity at holds located.line located.program deep
-named_in_attribute g p q here from s is ls f t u (ToCount c) v same at room holds around located = absurd v
+    stored f p q here.line from s is g around t w class field e (stay (operand t e)) (Stays (height u)) Integer v same entity at holds located.line located.program deep
+named_in_attribute g p q here from s is f t u (ToCount c) v same at room holds around located = absurd v
 
-pub attribute_named : (g : Generator) (p q : Lined) (here : Here) (from : Address) (s : AttributeSpot) → q.instructions ≡ p.instructions ++ storing s.mode s.class s.field s.entity from s.is_watched ∷ [] → q.lines ≡ p.lines ++ here.line ∷ [] → Names g p q here from (λ f t x. IsSpot f t x (spots.Attribute s))
-attribute_named g p q here from s is ls = record {
+pub attribute_named : (g : Generator) (p q : Lined) (here : Here) (from : Address) (s : AttributeSpot) → q ≡ p ++ on_line here.line (storing s.mode s.class s.field s.entity from s.is_watched) ∷ [] → Names g p q here from (λ f t x. IsSpot f t x (spots.Attribute s))
+attribute_named g p q here from s is = record {
   grows = grows_same g;
-  adds = λ f u x around located fits. named_in_attribute g p q here from s is ls f x.resolved u x.place fits.0 fits.1 fits.2 fits.3 fits.4 around located;
+  adds = λ f u x around located fits. named_in_attribute g p q here from s is f x.resolved u x.place fits.0 fits.1 fits.2 fits.3 fits.4 around located;
   more = λ f u x around located fits. tt;
 }
 
-named_in_count : (g : Generator) (p q : Lined) (here higher : Here) (from : Address) (class : ℕ) (s : VariableSpot) → higher.line ≡ here.line → (here.height + 1 < 2 ^ 64 → higher.height ≡ here.height + 1) → Gives g p q higher from (λ f t x. IsSpot f t x (spots.Count class s)) → (f : Final) (t u : Site) (x : Place) → IsSpot f t x (spots.Count class s) → t.scope ≡ u.scope → AtTarget f u (landing u x) from → HasRoom f (landing u x) → HoldsMode u.scope x Integer → Around f g → IsLocated f g here u → Adds f p q (named_code t u x)
+named_in_count : (g : Generator) (p q : Lined) (here higher : Here) (from : Address) (class : ℕ) (s : VariableSpot) → higher.line ≡ here.line → (here.height + 1 < 2 ^ 64 → higher.height ≡ here.height + 1) → Assigns g p q higher from (λ f t x. IsSpot f t x (spots.Count class s)) → (f : Final) (t u : Site) (x : Place) → IsSpot f t x (spots.Count class s) → t.scope ≡ u.scope → AtTarget f u (landing u x) from → HasTargetRoom f (landing u x) → HoldsMode u.scope x Integer → Around f g → IsLocated f g here u → Adds f p q (named_code t u x)
 named_in_count g p q here higher from class s line up m f t u (ToVariable x) v same at room holds around located = absurd v
 named_in_count g p q here higher from class s line up m f t u (ToAttribute k field e) v same at room holds around located = absurd v
 named_in_count g p q here higher from class s line up m f t u (ToCount c) v same at room holds around located =
@@ -158,10 +158,10 @@ named_in_count g p q here higher from class s line up m f t u (ToCount c) v same
     let low : height u < f.depth = room in
     let high : height w ≡ height u + 1 = omega arith in
     let on = stands_above f g here higher u w 1 around.small located line up refl refl high (omega (arith, high, low)) in
-    let it : Given = record { resolved = t; place = ToCount c; from = Stays (height u); mode = Integer } in
+    let it : Assignment = record { resolved = t; place = ToCount c; from = Stays (height u); mode = Integer } in
     m.adds f w it around on (v, same, at, holds, on_top (height u) Integer u.cells refl)
 
-pub count_named : (g : Generator) (p q : Lined) (here higher : Here) (from : Address) (class : ℕ) (s : VariableSpot) → higher.line ≡ here.line → (here.height + 1 < 2 ^ 64 → higher.height ≡ here.height + 1) → Gives g p q higher from (λ f t x. IsSpot f t x (spots.Count class s)) → Names g p q here from (λ f t x. IsSpot f t x (spots.Count class s))
+pub count_named : (g : Generator) (p q : Lined) (here higher : Here) (from : Address) (class : ℕ) (s : VariableSpot) → higher.line ≡ here.line → (here.height + 1 < 2 ^ 64 → higher.height ≡ here.height + 1) → Assigns g p q higher from (λ f t x. IsSpot f t x (spots.Count class s)) → Names g p q here from (λ f t x. IsSpot f t x (spots.Count class s))
 count_named g p q here higher from class s line up m = record {
   grows = grows_same g;
   adds = λ f u x around located fits. named_in_count g p q here higher from class s line up m f x.resolved u x.place fits.0 fits.1 fits.2 fits.3 fits.4 around located;
@@ -210,7 +210,7 @@ notice_parts f t t1 u class (ToCount c) (spots.Count k s) make is_t1 is_u h =
     subst (λ (t1 : Site). make (next u) ∷ (count_code v c (Stays (height u)) ++ (place v (i.FileNotice class (Taken (height u)) (Taken (height t1))) ∷ [])) ≡ notice_code t u class (ToCount c) make) (sym is_t1) refl
 
 -- a notice is filed
-notice_files : (f : Final) (t u : Site) (x : Place) (s : Spot) (to time : Address) (class h : ℕ) → IsSpot f t x s → AtTarget f u (landing u x) to → HasRoom f (landing u x) → InFrame (length u.scope.locals + h) time → height u ≤ f.depth → Runs f (place (notice_site u x) (i.FileNotice class (notice_from u x) (Taken h))) (r.FileNotice class (named_at s to) time)
+notice_files : (f : Final) (t u : Site) (x : Place) (s : Spot) (to time : Address) (class h : ℕ) → IsSpot f t x s → AtTarget f u (landing u x) to → HasTargetRoom f (landing u x) → InFrame (length u.scope.locals + h) time → height u ≤ f.depth → Runs f (place (notice_site u x) (i.FileNotice class (notice_from u x) (Taken h))) (r.FileNotice class (named_at s to) time)
 notice_files f t u (ToVariable x) (spots.Variable s) to time class h v at room there deep = record { carries = (Held x, v.at, (Taken h, there, refl)); deep = deep; shown = tt }
 notice_files f t u (ToVariable x) (spots.Attribute s) to time class h v at room there deep = absurd v
 notice_files f t u (ToVariable x) (spots.Count k s) to time class h v at room there deep = absurd v
@@ -225,8 +225,8 @@ notice_files f t u (ToCount c) (spots.Count k s) to time class h v at room there
     let low : height u < f.depth = room in
     record { carries = (Taken (height u), at, (Taken h, there, refl)); deep = omega (arith, low); shown = tt }
 
-pub schedule_new_made : (old g1 g2 g3 new : Generator) (p q v w z y end : Lined) (here one higher : Here) (class : ℕ) (x : Place) (given : List Expression) (when : When) (s : Spot) (time to : Address) (cell : ℕ) (noted : Bool) → MakesSpot old g1 p q here (λ t. place_code t x) x s → one.line ≡ here.line → (here.height + spot_cells s < 2 ^ 64 → one.height ≡ here.height + spot_cells s) → Emits g1 g2 q v one (λ k. Every (λ e. Typed e k) given × GoodWhen k when) (λ t. values_code t given ++ when_code (after_values t given) when) → (g2.deepest < 2 ^ 64 → one.height + length given < g2.deepest) → Grows g2 g3 → InFrame (length g3.locals.items + one.height) time → higher.line ≡ one.line → (one.height + 1 < 2 ^ 64 → higher.height ≡ one.height + 1) → Grows g3 new → Lands new higher s to → w.instructions ≡ v.instructions ++ r.MakeNotice class cell (length given) to noted ∷ [] → w.lines ≡ v.lines ++ here.line ∷ [] → cell ≡ length new.locals.items + one.height → noted ≡ any_watched new.program.now.statistics.items class (length given) → Names new w z higher to (λ f t k. IsSpot f t k s) → y.instructions ≡ z.instructions ++ r.FileNotice class (named_at s to) time ∷ [] → y.lines ≡ z.lines ++ here.line ∷ [] → Emits new new y end one (λ k. Unit {0}) (λ u. forget u (spot_cells s)) → Emits old new p end here (λ k. Good k (ScheduleNew here.line class x given when)) (λ t. schedule_new_code t class x given when)
-schedule_new_made old g1 g2 g3 new p q v w z y end here one higher class x given when s time to cell noted l line up n room gc timed line_2 up_2 gr land made made_line is_cell is_noted names filed filed_line k = record {
+pub schedule_new_made : (old g1 g2 g3 new : Generator) (p q v w z y end : Lined) (here one higher : Here) (class : ℕ) (x : Place) (given : List Expression) (when : When) (s : Spot) (time to : Address) (cell : ℕ) (noted : Bool) → MakesSpot old g1 p q here (λ t. place_code t x) x s → one.line ≡ here.line → (here.height + spot_cells s < 2 ^ 64 → one.height ≡ here.height + spot_cells s) → Emits g1 g2 q v one (λ k. Every (λ e. Typed e k) given × GoodWhen k when) (λ t. values_code t given ++ when_code (after_values t given) when) → (g2.deepest < 2 ^ 64 → one.height + length given < g2.deepest) → Grows g2 g3 → InFrame (length g3.locals.items + one.height) time → higher.line ≡ one.line → (one.height + 1 < 2 ^ 64 → higher.height ≡ one.height + 1) → Grows g3 new → Lands new higher s to → w ≡ v ++ on_line here.line (r.MakeNotice class cell (length given) to noted) ∷ [] → cell ≡ length new.locals.items + one.height → noted ≡ any_watched new.program.now.statistics.items class (length given) → Names new w z higher to (λ f t k. IsSpot f t k s) → y ≡ z ++ on_line here.line (r.FileNotice class (named_at s to) time) ∷ [] → Emits new new y end one (λ k. Unit {0}) (λ u. forget u (spot_cells s)) → Emits old new p end here (λ k. Good k (ScheduleNew here.line class x given when)) (λ t. schedule_new_code t class x given when)
+schedule_new_made old g1 g2 g3 new p q v w z y end here one higher class x given when s time to cell noted l line up n room gc timed line_2 up_2 gr land made is_cell is_noted names filed k = record {
   grows = grows_then old g1 new l.grows (grows_then g1 g2 new n.grows (grows_then g2 g3 new gc gr));
   adds = λ f t u around located good.
       let later = grows_then g2 g3 new gc gr in
@@ -263,18 +263,18 @@ schedule_new_made old g1 g2 g3 new p q v w z y end here one higher class x given
       (adds_then f p q end (place_code t x) ((values_code t1 given ++ when_code t2 when) ++ rest) (l.adds f t tt around_1 stands_1 fits)
       (adds_then f q v end (values_code t1 given ++ when_code t2 when) rest values
       (adds_then f v w end (make (landing top x) ∷ []) (named_code t top x ++ (last ∷ forget t1 (spot_cells s)))
-      (adds_one f v w here.line (make (landing top x)) (r.MakeNotice class cell (length given) to noted) made made_line located.line (record { carries = (notes, (height t1, cell_there, (landing top x, at.0, refl))); deep = deep; shown = tt }))
+      (adds_one f v w here.line (make (landing top x)) (r.MakeNotice class cell (length given) to noted) made located.line (record { carries = (notes, (height t1, cell_there, (landing top x, at.0, refl))); deep = deep; shown = tt }))
       (adds_then f w z end (named_code t top x) (last ∷ forget t1 (spot_cells s)) named
       (adds_then f z y end (last ∷ []) (forget t1 (spot_cells s))
-      (adds_one f z y here.line last (r.FileNotice class (named_at s to) time) filed filed_line (notice_line top x ∙ located.line) files)
+      (adds_one f z y here.line last (r.FileNotice class (named_at s to) time) filed (notice_line top x ∙ located.line) files)
       (k.adds f t1 tt around on tt))))));
   more = λ f t u around located good. tt;
 }
 
 -- ## SCHEDULE THE
 
-pub schedule_made : (old g1 new : Generator) (p q v w z : Lined) (here one : Here) (class : ℕ) (e : Expression) (o : Read) (given : List Expression) (when : When) (cell : ℕ) (noted : Bool) → Reads old g1 p q here e o → v.instructions ≡ q.instructions ++ r.LookEntity class o.address ∷ [] → v.lines ≡ q.lines ++ here.line ∷ [] → one.line ≡ here.line → (here.height + o.cells < 2 ^ 64 → one.height ≡ here.height + o.cells) → Emits g1 new v w one (λ k. Every (λ e. Typed e k) given × GoodWhen k when) (λ t. values_code t given ++ when_code (after_values t given) when) → (new.deepest < 2 ^ 64 → one.height + length given < new.deepest) → cell ≡ length new.locals.items + one.height → noted ≡ any_watched new.program.now.statistics.items class (length given) → z.instructions ≡ w.instructions ++ r.Reschedule class o.address cell (length given) noted ∷ [] → z.lines ≡ w.lines ++ here.line ∷ [] → Emits old new p z here (λ k. Good k (Schedule here.line class e given when)) (λ t. schedule_code t class e given when)
-schedule_made old g1 new p q v w z here one class e o given when cell noted m look look_line line up n room is_cell is_noted made made_line = record {
+pub schedule_made : (old g1 new : Generator) (p q v w z : Lined) (here one : Here) (class : ℕ) (e : Expression) (o : Read) (given : List Expression) (when : When) (cell : ℕ) (noted : Bool) → ReadsOperand old g1 p q here e o → v ≡ q ++ on_line here.line (r.LookEntity class o.address) ∷ [] → one.line ≡ here.line → (here.height + o.cells < 2 ^ 64 → one.height ≡ here.height + o.cells) → Emits g1 new v w one (λ k. Every (λ e. Typed e k) given × GoodWhen k when) (λ t. values_code t given ++ when_code (after_values t given) when) → (new.deepest < 2 ^ 64 → one.height + length given < new.deepest) → cell ≡ length new.locals.items + one.height → noted ≡ any_watched new.program.now.statistics.items class (length given) → z ≡ w ++ on_line here.line (r.Reschedule class o.address cell (length given) noted) ∷ [] → Emits old new p z here (λ k. Good k (Schedule here.line class e given when)) (λ t. schedule_code t class e given when)
+schedule_made old g1 new p q v w z here one class e o given when cell noted m look line up n room is_cell is_noted made = record {
   grows = grows_then old g1 new m.grows n.grows;
   adds = λ f t u around located good.
       let mine = around_old f g1 new n.grows around in
@@ -298,20 +298,20 @@ schedule_made old g1 new p q v w z here one class e o given when cell noted m lo
       adds_same f p z (entity_code t true class e ++ ((values_code t1 given ++ when_code t2 when) ++ (last ∷ []))) (schedule_code t class e given when) code
       (adds_then f p v z (entity_code t true class e) ((values_code t1 given ++ when_code t2 when) ++ (last ∷ []))
       (adds_then f p q v (operand_code t e) (looks ∷ []) (m.adds f t tt mine there typed)
-      (adds_one f q v here.line looks (r.LookEntity class o.address) look look_line located.line (record { carries = (stay (operand t e), stays_at f t (operand t e) o.address read.at, refl); deep = read.deep; shown = tt })))
+      (adds_one f q v here.line looks (r.LookEntity class o.address) look located.line (record { carries = (stay (operand t e), stays_at f t (operand t e) o.address read.at, refl); deep = read.deep; shown = tt })))
       (adds_then f v w z (values_code t1 given ++ when_code t2 when) (last ∷ []) (n.adds f t1 tt around on (given_typed t.scope class given good.0, good.2))
-      (adds_one f w z here.line last (r.Reschedule class o.address cell (length given) noted) made made_line located.line (record { carries = (notes, (operand t e, read.at, (height t1, cell_there, refl))); deep = deep; shown = tt }))));
+      (adds_one f w z here.line last (r.Reschedule class o.address cell (length given) noted) made located.line (record { carries = (notes, (operand t e, read.at, (height t1, cell_there, refl))); deep = deep; shown = tt }))));
   more = λ f t u around located good. tt;
 }
 
 -- ## RESET
 
-restart_numbers : (s : Scope) (k : ℕ) (e : Option Expression) → GoodRestart s k e → AreNumbers e s
+restart_numbers : (s : TypedScope) (k : ℕ) (e : Option Expression) → GoodRestart s k e → AreNumbers e s
 restart_numbers s k None h = tt
 restart_numbers s k (Some e) h = h.1
 
-pub restarted : (old new : Generator) (p q v : Lined) (here : Here) (x : Restart) (o : Read) → Bears old new p q here x.of o → v.instructions ≡ q.instructions ++ r.Reset x.statistic o.address ∷ [] → v.lines ≡ q.lines ++ here.line ∷ [] → Emits old new p v here (λ s. GoodRestart s x.statistic x.of) (λ t. restarts_code t (x ∷ []))
-restarted old new p q v here x o m is ls = record {
+pub restarted : (old new : Generator) (p q v : Lined) (here : Here) (x : Restart) (o : Read) → Bears old new p q here x.of o → v ≡ q ++ on_line here.line (r.Reset x.statistic o.address) ∷ [] → Emits old new p v here (λ s. GoodRestart s x.statistic x.of) (λ t. restarts_code t (x ∷ []))
+restarted old new p q v here x o m is = record {
   grows = m.grows;
   adds = λ f t u around located good.
       let numbers = restart_numbers t.scope x.statistic x.of good in
@@ -320,7 +320,7 @@ restarted old new p q v here x o m is ls = record {
       let ins : Instruction = i.Reset x.statistic (bearer t x.of) in
       adds_same f p v (bearer_code t x.of ++ place u ins ∷ []) (restarts_code t (x ∷ [])) (sym (append-nil (bearer_code t x.of ++ place u ins ∷ [])))
       (adds_then f p q v (bearer_code t x.of) (place u ins ∷ []) (m.adds f t tt around located numbers)
-      (adds_one f q v here.line (place u ins) (r.Reset x.statistic o.address) is ls located.line
+      (adds_one f q v here.line (place u ins) (r.Reset x.statistic o.address) is located.line
       (record { carries = (bearer t x.of, read.at, refl); deep = read.deep; shown = tt })));
   more = λ f t u around located good. tt;
 }

@@ -3,7 +3,7 @@ use Rattle.std.proofs.Common.{◌≡◌, suc, ◌+◌, ◌<◌, ◌^◌, List, [
 use Rattle.std.specs.Prelude.{IfOk}
 use Rattle.ss_base.specs.declared.layout.Mode.{Mode}
 use Rattle.ss_program.specs.Program.{Expression}
-use Rattle.ss_program.specs.WellTyped.{Scope}
+use Rattle.ss_program.specs.WellTyped.{TypedScope}
 use Rattle.ss_code_instructions.specs.declared.address.Address.{Address}
 use Rattle.ss_code_instructions.specs.declared.instruction.Instruction.{Instruction as Running}
 use Rattle.ss_code_instructions.specs.Instructions.{Operand, Constant, Held, Taken, Stays, Instruction}
@@ -12,8 +12,8 @@ use Rattle.ss_code_instructions.specs.Carried.{InFrame}
 use Rattle.ss_code_generator.specs.declared.expressions.Operand.{Operand as Read}
 use Rattle.ss_code_generator.specs.declared.generator.Generator.{Generator}
 use Rattle.ss_code_generator.specs.declared.generator.Site.{Site as Here}
-use Rattle.ss_code_pieces.specs.Lined.{Lined}
-use Rattle.ss_code_generator.specs.Emitted.{Final, Around, Grows, IsLocated, Runs, EmitsTo, AtOperand, AtTarget, Typed, IsRead, Reads, ReadsBy, Bears}
+use Rattle.ss_code_pieces.specs.Lined.{Lined, on_line}
+use Rattle.ss_code_generator.specs.Emitted.{Final, Around, Grows, IsLocated, Runs, EmitsTo, AtOperand, AtTarget, Typed, IsRead, ReadsOperand, ReadsBy, Bears}
 use Rattle.ss_code_generator.proofs.Emitting.{around_old, stands_old, stands_above, adds_then, adds_one, adds_same}
 
 -- ## Addresses
@@ -48,7 +48,7 @@ cell_high t e h =
     ap (λ (o : Option Operand). length (or_in_cell o (expression_mode t.scope e) t.cells)) h ∙ n
 
 -- anything else goes into a cell, which was the next one on the way
-pub cell_reads_at : (old mid new : Generator) (p q : Lined) (here : Here) (e : Expression) (a : Address) → leaf e ≡ None → Grows mid new → InFrame (length mid.locals.items + here.height) a → here.height < mid.deepest → EmitsTo old new p q here a (Typed e) (λ t x. expression_code t x e) → Reads old new p q here e (record { address = a; cells = 1 })
+pub cell_reads_at : (old mid new : Generator) (p q : Lined) (here : Here) (e : Expression) (a : Address) → leaf e ≡ None → Grows mid new → InFrame (length mid.locals.items + here.height) a → here.height < mid.deepest → EmitsTo old new p q here a (Typed e) (λ t x. expression_code t x e) → ReadsOperand old new p q here e (record { address = a; cells = 1 })
 cell_reads_at old mid new p q here e a none grows cell room m = record {
   grows = m.grows;
   adds = λ f t u around located typed.
@@ -74,26 +74,26 @@ read_stands f g here higher t e o around located r line above = stands_above f g
 -- ## Looks, and owners
 
 -- an operand that is looked at
-pub looked_reads : (old new : Generator) (p q r : Lined) (here : Here) (e : Expression) (o : Read) (Good : Scope → Type 0) (make : Operand → Instruction) (y : Running) → Reads old new p q here e o → r.instructions ≡ q.instructions ++ y ∷ [] → r.lines ≡ q.lines ++ here.line ∷ [] → ((f : Final) (t : Site) → Around f new → IsLocated f new here t → Good t.scope → IsRead f t e o → Typed e t.scope × Runs f (place (after t e) (make (operand t e))) y) → ((s : Scope) → Good s → Typed e s) → ReadsBy old new p r here Good e o (λ t. with_operand t e make)
-looked_reads old new p q r here e o Good make y m is ls h typed = record {
+pub looked_reads : (old new : Generator) (p q r : Lined) (here : Here) (e : Expression) (o : Read) (Good : TypedScope → Type 0) (make : Operand → Instruction) (y : Running) → ReadsOperand old new p q here e o → r ≡ q ++ on_line here.line y ∷ [] → ((f : Final) (t : Site) → Around f new → IsLocated f new here t → Good t.scope → IsRead f t e o → Typed e t.scope × Runs f (place (after t e) (make (operand t e))) y) → ((s : TypedScope) → Good s → Typed e s) → ReadsBy old new p r here Good e o (λ t. with_operand t e make)
+looked_reads old new p q r here e o Good make y m is h typed = record {
   grows = m.grows;
   adds = λ f t u around located good.
       let read = m.more f t tt around located (typed t.scope good) in
       let w = h f t around located good read in
       adds_then f p q r (operand_code t e) (place (after t e) (make (operand t e)) ∷ []) (m.adds f t tt around located w.0)
-      (adds_one f q r here.line (place (after t e) (make (operand t e))) y is ls located.line w.1);
+      (adds_one f q r here.line (place (after t e) (make (operand t e))) y is located.line w.1);
   more = λ f t u around located good. m.more f t tt around located (typed t.scope good);
 }
 
 -- an operand that is not
-pub unlooked_reads : (old new : Generator) (p q : Lined) (here : Here) (e : Expression) (o : Read) (Good : Scope → Type 0) → ((s : Scope) → Good s → Typed e s) → Reads old new p q here e o → ReadsBy old new p q here Good e o (λ t. operand_code t e)
+pub unlooked_reads : (old new : Generator) (p q : Lined) (here : Here) (e : Expression) (o : Read) (Good : TypedScope → Type 0) → ((s : TypedScope) → Good s → Typed e s) → ReadsOperand old new p q here e o → ReadsBy old new p q here Good e o (λ t. operand_code t e)
 unlooked_reads old new p q here e o Good typed m = record {
   grows = m.grows;
   adds = λ f t u around located good. m.adds f t u around located (typed t.scope good);
   more = λ f t u around located good. m.more f t u around located (typed t.scope good);
 }
 
-pub entity_bears : (old new : Generator) (p q : Lined) (here : Here) (e : Expression) (o : Read) → Reads old new p q here e o → Bears old new p q here (Some e) o
+pub entity_bears : (old new : Generator) (p q : Lined) (here : Here) (e : Expression) (o : Read) → ReadsOperand old new p q here e o → Bears old new p q here (Some e) o
 entity_bears old new p q here e o m = record {
   grows = m.grows;
   adds = λ f t u around located good. m.adds f t u around located (_, good);
@@ -103,6 +103,6 @@ entity_bears old new p q here e o m = record {
 }
 
 -- an operand that a call gives is one of an owner
-pub entity_ok : {E : Type 0} (r : Result Read E) (old new : Generator) (p q : Lined) (here : Here) (e : Expression) → IfOk r (λ o. Reads old new p q here e o) → IfOk r (λ o. Bears old new p q here (Some e) o)
+pub entity_ok : {E : Type 0} (r : Result Read E) (old new : Generator) (p q : Lined) (here : Here) (e : Expression) → IfOk r (λ o. ReadsOperand old new p q here e o) → IfOk r (λ o. Bears old new p q here (Some e) o)
 entity_ok (Ok o) old new p q here e h = entity_bears old new p q here e o h
 entity_ok (Err x) old new p q here e h = tt

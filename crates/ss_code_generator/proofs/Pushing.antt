@@ -16,9 +16,9 @@ use Rattle.ss_code_instructions.proofs.Stacked.{values_high}
 use Rattle.ss_code_generator.specs.declared.generator.Generator.{Generator}
 use Rattle.ss_code_generator.specs.declared.generator.Site.{Site as Here}
 use Rattle.ss_code_generator.specs.declared.targets.VariableSpot.{VariableSpot}
-use Rattle.ss_code_pieces.specs.Lined.{Lined, nothing}
+use Rattle.ss_code_pieces.specs.Lined.{Lined, no_code, on_line}
 use Rattle.ss_code_generator.specs.Emitted.{Final, Around, Grows, Emits, AtOperand, Typed}
-use Rattle.ss_code_generator.specs.Looped.{TakesItem, TakesItems}
+use Rattle.ss_code_generator.specs.Looped.{TakesLoopItem, TakesItems}
 use Rattle.ss_code_generator.proofs.Emitting.{around_old, grows_same, grows_then, stands_old, stands_above, adds_then, adds_one, adds_piece, adds_same, piece_long}
 use Rattle.ss_code_generator.proofs.Operands.{cell_at_site}
 use Rattle.ss_code_generator.proofs.Listed.{every_split}
@@ -28,12 +28,12 @@ use Rattle.std.proofs.lemmas.List.{take_all}
 -- ## Values
 
 -- the number 1 in the next cell
-pub one_pushed : (old new : Generator) (p q : Lined) (here : Here) (a one : Address) → Grows old new → InFrame (length new.locals.items + here.height) a → ((f : Final) (t : Site) → Around f new → AtOperand f t (Constant (Whole (pos 1))) one) → q.instructions ≡ p.instructions ++ r.Move one a ∷ [] → q.lines ≡ p.lines ++ here.line ∷ [] → Emits old new p q here (λ s. Unit {0}) (λ t. place t (i.Move (Constant (Whole (pos 1))) (next t)) ∷ [])
-one_pushed old new p q here a one grows cell at made ls = record {
+pub one_pushed : (old new : Generator) (p q : Lined) (here : Here) (a one : Address) → Grows old new → InFrame (length new.locals.items + here.height) a → ((f : Final) (t : Site) → Around f new → AtOperand f t (Constant (Whole (pos 1))) one) → q ≡ p ++ on_line here.line (r.Move one a) ∷ [] → Emits old new p q here (λ s. Unit {0}) (λ t. place t (i.Move (Constant (Whole (pos 1))) (next t)) ∷ [])
+one_pushed old new p q here a one grows cell at made = record {
   grows = grows;
   adds = λ f t u around located typed.
       let ins : Instruction = i.Move (Constant (Whole (pos 1))) (next t) in
-      adds_one f p q here.line (place t ins) (r.Move one a) made ls located.line
+      adds_one f p q here.line (place t ins) (r.Move one a) made located.line
       (record { carries = (Constant (Whole (pos 1)), at f t around, (refl, (next t, cell_at_site f new here t a located cell, refl))); deep = located.deep; shown = tt });
   more = λ f t u around located typed. tt;
 }
@@ -79,18 +79,18 @@ all_values old new p q here xs i le m = subst (λ (l : List expressions.Expressi
 -- ## Items of a loop
 
 -- the item, the turn, and on to the next one
-pub items_taken : (g : Generator) (a b c turn : Lined) (here : Here) (n back : ℕ) (s : VariableSpot) → TakesItem g nothing a here n s → b.instructions ≡ a.instructions ++ turn.instructions → b.lines ≡ a.lines ++ turn.lines → back ≡ length b.instructions → c.instructions ≡ b.instructions ++ r.Next n back ∷ [] → c.lines ≡ b.lines ++ here.line ∷ [] → TakesItems g c here n s turn
-items_taken g a b c turn here n back s m both both_lines long made ls = record {
+pub items_taken : (g : Generator) (a b c turn : Lined) (here : Here) (n back : ℕ) (s : VariableSpot) → TakesLoopItem g no_code a here n s → b ≡ a ++ turn → back ≡ length b → c ≡ b ++ on_line here.line (r.Next n back) ∷ [] → TakesItems g c here n s turn
+items_taken g a b c turn here n back s m both long made = record {
   grows = grows_same g;
   adds = λ f u x around located fits.
       let one = m.adds f u x around located fits.0 in
       let head : List Placed = take_code u x.cell x.variable in
-      let two = adds_piece f a b turn x.turn both both_lines fits.1 in
-      let whole = adds_then f nothing a b head x.turn one two in
+      let two = adds_piece f a b turn x.turn both fits.1 in
+      let whole = adds_then f no_code a b head x.turn one two in
       let back_is : back ≡ length head + length x.turn = long ∙ piece_long f b (head ++ x.turn) whole ∙ length-append head x.turn in
       let last : Placed = place u (i.Next x.cell (length head + length x.turn)) in
-      adds_then f nothing a c head (x.turn ++ last ∷ []) one
+      adds_then f no_code a c head (x.turn ++ last ∷ []) one
       (adds_then f a b c x.turn (last ∷ []) two
-      (adds_one f b c here.line last (r.Next n back) made ls located.line (record { carries = (x.cell, fits.0.1, ap (i.Next x.cell) (sym back_is)); deep = located.deep; shown = tt })));
+      (adds_one f b c here.line last (r.Next n back) made located.line (record { carries = (x.cell, fits.0.1, ap (i.Next x.cell) (sym back_is)); deep = located.deep; shown = tt })));
   more = λ f u x around located fits. tt;
 }

@@ -14,10 +14,10 @@ use Rattle.ss_code_generator.specs.declared.expressions.Operand.{Operand as Read
 use Rattle.ss_code_generator.specs.declared.generator.Generator.{Generator}
 use Rattle.ss_code_generator.specs.declared.generator.Site.{Site as Here}
 use Rattle.ss_code_generator.specs.declared.targets.Spot.{Spot}
-use Rattle.ss_code_pieces.specs.Lined.{Lined}
+use Rattle.ss_code_pieces.specs.Lined.{Lined, on_line}
 use Rattle.ss_code_instructions.specs.Forms.{removing}
 use Rattle.ss_code_generator.specs.Emitted.{Grows, Emits, Bears}
-use Rattle.ss_code_generator.specs.Spots.{IsSpot, GoodPlace, Taking, Takes, spot_cells, landing, landed_code}
+use Rattle.ss_code_generator.specs.Spots.{IsSpot, GoodPlace, Taking, AssignsLanded, spot_cells, landing, landed_code}
 use Rattle.ss_code_generator.proofs.Emitting.{around_old, grows_then, stands_old, adds_then, adds_one, adds_same}
 use Rattle.ss_code_generator.proofs.Forms as forms
 use Rattle.ss_code_generator.proofs.Testing.{owner_number}
@@ -26,8 +26,8 @@ use Rattle.ss_code_generator.proofs.Letting.{MakesSpot, Lands, spot_stands, hold
 use Rattle.ss_code_generator.proofs.Filed.{counts_noted}
 
 -- the place, the owner, the member that is removed, and what is left to do for the place
-pub end_removed : (old mid one new : Generator) (p q v w z : Lined) (here higher : Here) (x : Place) (s : Spot) (end : End) (set : ℕ) (o : SetOwner) (owner : Read) (to : Address) (noted : Bool) → MakesSpot old mid p q here (λ t. place_code t x) x s → higher.line ≡ here.line → (here.height + spot_cells s < 2 ^ 64 → higher.height ≡ here.height + spot_cells s) → Bears mid one q v higher (expression_of o) owner → Grows one new → Lands new higher s to → noted ≡ watch new.program.now.statistics.items (OfCount set) → w.instructions ≡ v.instructions ++ removing end set owner.address to noted ∷ [] → w.lines ≡ v.lines ++ here.line ∷ [] → Takes new w z higher to (λ f t k. IsSpot f t k s) → Emits old new p z here (λ k. Good k (RemoveEnd here.line end set x o)) (λ t. remove_end_code t end set x o)
-end_removed old mid one new p q v w z here higher x s end set o owner to noted l line up b g land watched is ls n =
+pub end_removed : (old mid one new : Generator) (p q v w z : Lined) (here higher : Here) (x : Place) (s : Spot) (end : End) (set : ℕ) (o : SetOwner) (owner : Read) (to : Address) (noted : Bool) → MakesSpot old mid p q here (λ t. place_code t x) x s → higher.line ≡ here.line → (here.height + spot_cells s < 2 ^ 64 → higher.height ≡ here.height + spot_cells s) → Bears mid one q v higher (expression_of o) owner → Grows one new → Lands new higher s to → noted ≡ watch new.program.now.statistics.items (OfCount set) → w ≡ v ++ on_line here.line (removing end set owner.address to noted) ∷ [] → AssignsLanded new w z higher to (λ f t k. IsSpot f t k s) → Emits old new p z here (λ k. Good k (RemoveEnd here.line end set x o)) (λ t. remove_end_code t end set x o)
+end_removed old mid one new p q v w z here higher x s end set o owner to noted l line up b g land watched is n =
     let late = grows_then mid one new b.grows g in
     record {
       grows = grows_then old mid new l.grows late;
@@ -53,7 +53,7 @@ end_removed old mid one new p q v w z here higher x s end set o owner to noted l
           (adds_then f p q z (place_code t x) ((bearer_code t1 c ++ place t2 ins ∷ []) ++ landed_code t t1 x Integer) (l.adds f t tt mine there fits)
           (adds_then f q w z (bearer_code t1 c ++ place t2 ins ∷ []) (landed_code t t1 x Integer)
           (adds_then f q v w (bearer_code t1 c) (place t2 ins ∷ []) (b.adds f t1 tt around1 on1 number)
-          (adds_one f v w here.line (place t2 ins) (removing end set owner.address to noted) is ls located.line (record { carries = carries; deep = borne.deep; shown = tt })))
+          (adds_one f v w here.line (place t2 ins) (removing end set owner.address to noted) is located.line (record { carries = carries; deep = borne.deep; shown = tt })))
           (n.adds f t1 it around on (spot, refl, at.0, at.1, holds_mode f new here t x Integer around located good.0))));
       more = λ f t u around located good. tt;
     }

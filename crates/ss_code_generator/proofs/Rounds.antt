@@ -6,7 +6,7 @@ use Rattle.ss_base.specs.declared.line.Line.{Line}
 use Rattle.ss_base.specs.declared.layout.Mode.TheVariants.{Integer}
 use Rattle.ss_program.specs.declared.expression.Variable.{Variable}
 use Rattle.ss_program.specs.Program.{Expression, SetOwner, TheSystem, Entity, Start, AtEnd, From, After, Head, Numbers, Members, Each, Guard, Phrase}
-use Rattle.ss_program.specs.WellTyped.{Scope, GoodHead, GoodPhrase, GoodCondition, HasMode}
+use Rattle.ss_program.specs.WellTyped.{TypedScope, GoodHead, GoodPhrase, GoodCondition, HasMode}
 use Rattle.ss_code_instructions.specs.declared.address.Address.{Address}
 use Rattle.ss_code_instructions.specs.declared.instruction.Instruction.{Instruction as Running}
 use Rattle.ss_code_instructions.specs.declared.instruction.Instruction.TheVariants as r
@@ -18,32 +18,20 @@ use Rattle.ss_code_instructions.specs.Carried.{InFrame}
 use Rattle.ss_code_generator.specs.declared.expressions.Operand.{Operand as Read}
 use Rattle.ss_code_generator.specs.declared.generator.Generator.{Generator}
 use Rattle.ss_code_generator.specs.declared.generator.Site.{Site as Here}
-use Rattle.ss_code_generator.specs.declared.loops.Walk.{Walk}
+use Rattle.ss_code_generator.specs.declared.loops.MemberLoop.{MemberLoop}
 use Rattle.ss_code_generator.specs.declared.targets.VariableSpot.{VariableSpot}
-use Rattle.ss_code_pieces.specs.Lined.{Lined, nothing}
-use Rattle.ss_code_generator.specs.Emitted.{Final, Around, Grows, IsLocated, Adds, Runs, Emits, EmitsAround, EmitsAroundBoth, AtBearer, Bears, Typed, IsNumber, AreNumbers}
+use Rattle.ss_code_pieces.specs.Lined.{Lined, no_code, on_line}
+use Rattle.ss_code_generator.specs.Emitted.{Final, Around, Grows, IsLocated, Adds, Runs, Emits, EmitsAround, EmitsAroundBoth, AtBearer, Bears, Typed, IsInteger, AreNumbers}
 use Rattle.ss_code_generator.specs.Spots.{IsVariable}
-use Rattle.ss_code_generator.specs.Looped.{loop_width, is_after, begin_of, items_begin, begins_items, item_loop_code, TakesItem, TakesItems, TakesMembers, KeepsOwner, StartsWalk, Walking}
+use Rattle.ss_code_generator.specs.Looped.{loop_width, is_after, begin_of, items_begin, begins_items, item_loop_code, TakesLoopItem, TakesItems, TakesMembers, KeepsOwner, StartsWalk, Walking}
 use Rattle.ss_code_generator.proofs.Emitting.{around_old, grows_same, grows_then, stands_old, stands_new, stands_above, adds_none, adds_then, adds_one, adds_piece, adds_same, piece_long}
 use Rattle.ss_code_generator.proofs.Operands.{cell_at_site}
 use Rattle.ss_code_generator.proofs.Testing.{owner_number}
 
 -- ## Instructions one after another
 
--- one instruction after a piece, and a piece after another one
-pub record Puts (p q : Lined) (l : Here) (y : Running) : Type 0 where
-  pub instructions : q.instructions ≡ p.instructions ++ y ∷ []
-  pub lines : q.lines ≡ p.lines ++ l.line ∷ []
-
-pub record Joins (p q following : Lined) : Type 0 where
-  pub instructions : q.instructions ≡ p.instructions ++ following.instructions
-  pub lines : q.lines ≡ p.lines ++ following.lines
-
-put_one : (f : Final) (g : Generator) (here : Here) (t : Site) (p q : Lined) (x : i.Instruction) (y : Running) → IsLocated f g here t → Puts p q here y → Runs f (place t x) y → Adds f p q (place t x ∷ [])
-put_one f g here t p q x y located put runs = adds_one f p q here.line (place t x) y put.instructions put.lines located.line runs
-
-join_one : (f : Final) (p q following : Lined) (c : List Placed) → Joins p q following → Adds f nothing following c → Adds f p q c
-join_one f p q following c j h = adds_piece f p q following c j.instructions j.lines h
+put_one : (f : Final) (g : Generator) (here : Here) (t : Site) (p q : Lined) (x : i.Instruction) (y : Running) → IsLocated f g here t → q ≡ p ++ on_line here.line y ∷ [] → Runs f (place t x) y → Adds f p q (place t x ∷ [])
+put_one f g here t p q x y located put runs = adds_one f p q here.line (place t x) y put located.line runs
 
 -- a site that located where the generator is, and one some cells above it
 higher : (f : Final) (g : Generator) (here above_here : Here) (t u : Site) (k : ℕ) → Around f g → IsLocated f g here t → above_here.line ≡ here.line → (here.height + k < 2 ^ 64 → above_here.height ≡ here.height + k) → u.scope ≡ t.scope → u.line ≡ t.line → height u ≡ height t + k → height u ≤ f.depth → IsLocated f g above_here u
@@ -52,41 +40,41 @@ higher f g here above_here t u k around located line up scope same high deep = s
 -- ## WHILE and UNTIL
 
 module _ (g0 g1 g2 : Generator) (here : Here) (body : Lined) (gs : List Guard) where
-  abbrev GoodGuards : Scope → Type 0
+  abbrev GoodGuards : TypedScope → Type 0
   GoodGuards s = Every (λ (g : Guard). GoodCondition s g.condition) gs
 
-  pub looped : (p q empty again t0 t1 t2 t3 turn whole : Lined) (back : ℕ) → empty ≡ nothing → t0 ≡ nothing → EmitsAround g0 g1 nothing again here empty GoodGuards (λ t b. guards_code t (length b + 1) gs ++ b) → Puts t0 t1 here r.Turn → Joins t1 t2 body → Joins t2 t3 again → back ≡ length t3.instructions → Puts t3 turn here (r.Repeat back) → EmitsAround g1 g2 nothing whole here turn GoodGuards (λ t b. guards_code t (length b + 0) gs ++ b) → Joins p q whole → EmitsAround g0 g2 p q here body GoodGuards (λ t b. loop_code t gs b)
+  pub looped : (p q empty again t0 t1 t2 t3 turn whole : Lined) (back : ℕ) → empty ≡ no_code → t0 ≡ no_code → EmitsAround g0 g1 no_code again here empty GoodGuards (λ t b. guards_code t (length b + 1) gs ++ b) → t1 ≡ t0 ++ on_line here.line r.Turn ∷ [] → t2 ≡ t1 ++ body → t3 ≡ t2 ++ again → back ≡ length t3 → turn ≡ t3 ++ on_line here.line (r.Repeat back) ∷ [] → EmitsAround g1 g2 no_code whole here turn GoodGuards (λ t b. guards_code t (length b + 0) gs ++ b) → q ≡ p ++ whole → EmitsAround g0 g2 p q here body GoodGuards (λ t b. loop_code t gs b)
   looped p q empty again t0 t1 t2 t3 turn whole back empty_is t0_is m first second third back_is last n all = record {
     grows = grows_then g0 g1 g2 m.grows n.grows;
     adds = λ f t b around located fits.
         let mine = around_old f g1 g2 n.grows around in
         let there = stands_old f g1 g2 here t n.grows located in
         let G : List Placed = guards_code t 1 gs in
-        let none : Adds f nothing empty [] = subst (λ (e : Lined). Adds f nothing e []) (sym empty_is) (adds_none f nothing) in
-        let guards : Adds f nothing again G = adds_same f nothing again (G ++ []) G (append-nil G) (m.adds f t [] mine there (none, fits.1)) in
+        let none : Adds f no_code empty [] = subst (λ (e : Lined). Adds f no_code e []) (sym empty_is) (adds_none f no_code) in
+        let guards : Adds f no_code again G = adds_same f no_code again (G ++ []) G (append-nil G) (m.adds f t [] mine there (none, fits.1)) in
         let tick : Placed = place t i.Turn in
         let begun : Adds f t0 t1 (tick ∷ []) = put_one f g2 here t t0 t1 i.Turn r.Turn located first (record { carries = refl; deep = located.deep; shown = tt }) in
         let inner : Adds f t0 t3 (tick ∷ (b ++ G)) =
-        adds_then f t0 t1 t3 (tick ∷ []) (b ++ G) begun (adds_then f t1 t2 t3 b G (join_one f t1 t2 body b second fits.0) (join_one f t2 t3 again G third guards)) in
-        let from_none : Adds f nothing t3 (tick ∷ (b ++ G)) = subst (λ (e : Lined). Adds f e t3 (tick ∷ (b ++ G))) t0_is inner in
-        let long : length t3.instructions ≡ length (tick ∷ (b ++ G)) = piece_long f t3 (tick ∷ (b ++ G)) from_none in
+        adds_then f t0 t1 t3 (tick ∷ []) (b ++ G) begun (adds_then f t1 t2 t3 b G (adds_piece f t1 t2 body b second fits.0) (adds_piece f t2 t3 again G third guards)) in
+        let from_none : Adds f no_code t3 (tick ∷ (b ++ G)) = subst (λ (e : Lined). Adds f e t3 (tick ∷ (b ++ G))) t0_is inner in
+        let long : length t3 ≡ length (tick ∷ (b ++ G)) = piece_long f t3 (tick ∷ (b ++ G)) from_none in
         let back_long : back ≡ length b + length G + 1 = omega (arith, back_is, long, length-append b G) in
         let end : Placed = place t (i.Repeat (length b + length G + 1)) in
         let T : List Placed = tick ∷ (b ++ (G ++ end ∷ [])) in
         let ended : Adds f t3 turn (end ∷ []) =
         put_one f g2 here t t3 turn (i.Repeat (length b + length G + 1)) (r.Repeat back) located last (record { carries = ap i.Repeat (sym back_long); deep = located.deep; shown = tt }) in
-        let turned : Adds f nothing turn T =
-        adds_same f nothing turn ((tick ∷ (b ++ G)) ++ end ∷ []) T (ap (λ (l : List Placed). tick ∷ l) (append_assoc b G (end ∷ [])))
-        (adds_then f nothing t3 turn (tick ∷ (b ++ G)) (end ∷ []) from_none ended) in
+        let turned : Adds f no_code turn T =
+        adds_same f no_code turn ((tick ∷ (b ++ G)) ++ end ∷ []) T (ap (λ (l : List Placed). tick ∷ l) (append_assoc b G (end ∷ [])))
+        (adds_then f no_code t3 turn (tick ∷ (b ++ G)) (end ∷ []) from_none ended) in
         let skip : length T + 0 ≡ length b + length G + 2 = omega (arith, length-append b (G ++ end ∷ []), length-append G (end ∷ [])) in
-        join_one f p q whole (loop_code t gs b) all
-        (adds_same f nothing whole (guards_code t (length T + 0) gs ++ T) (loop_code t gs b) (ap (λ k. guards_code t k gs ++ T) skip) (n.adds f t T around located (turned, fits.1)));
+        adds_piece f p q whole (loop_code t gs b) all
+        (adds_same f no_code whole (guards_code t (length T + 0) gs ++ T) (loop_code t gs b) (ap (λ k. guards_code t k gs ++ T) skip) (n.adds f t T around located (turned, fits.1)));
     more = λ f t b around located fits. tt;
   }
 
 -- ## Members
 
-pub members_taken : (g : Generator) (a b c turn : Lined) (here : Here) (w : Walk) (back : ℕ) → TakesItem g nothing a here w.cell w.variable → Joins a b turn → back ≡ length b.instructions → Puts b c here (r.NextMember w.set w.owner w.cell back w.reverse false) → TakesMembers g c here w turn
+pub members_taken : (g : Generator) (a b c turn : Lined) (here : Here) (w : MemberLoop) (back : ℕ) → TakesLoopItem g no_code a here w.cell w.variable → b ≡ a ++ turn → back ≡ length b → c ≡ b ++ on_line here.line (r.NextMember w.set w.owner w.cell back w.reverse false) ∷ [] → TakesMembers g c here w turn
 members_taken g a b c turn here w back m both back_is last = record {
   grows = grows_same g;
   adds = λ f u x around located fits.
@@ -95,13 +83,13 @@ members_taken g a b c turn here w back m both back_is last = record {
       let owner : AtBearer f u x.owner w.owner = fits.0.2 in
       let one = m.adds f u (record { variable = x.variable; cell = x.cell; turn = x.turn }) around located (is, fits.0.3) in
       let head : List Placed = take_code u x.cell x.variable in
-      let two = join_one f a b turn x.turn both fits.1 in
-      let whole = adds_then f nothing a b head x.turn one two in
+      let two = adds_piece f a b turn x.turn both fits.1 in
+      let whole = adds_then f no_code a b head x.turn one two in
       let back_long : back ≡ length head + length x.turn = back_is ∙ piece_long f b (head ++ x.turn) whole ∙ length-append head x.turn in
       let again : i.Instruction = i.NextMember w.reverse x.set x.owner x.cell (length head + length x.turn) in
       let is_that : again ≡ i.NextMember w.reverse w.set x.owner x.cell back =
       ap (λ s. i.NextMember w.reverse s x.owner x.cell (length head + length x.turn)) (sym set) ∙ ap (i.NextMember w.reverse w.set x.owner x.cell) (sym back_long) in
-      adds_then f nothing a c head (x.turn ++ place u again ∷ []) one
+      adds_then f no_code a c head (x.turn ++ place u again ∷ []) one
       (adds_then f a b c x.turn (place u again ∷ []) two
       (put_one f g here u b c again (r.NextMember w.set w.owner w.cell back w.reverse false) located last (record { carries = (x.owner, owner, (x.cell, fits.0.3, is_that)); deep = located.deep; shown = tt })));
   more = λ f u x around located fits. tt;
@@ -110,7 +98,7 @@ members_taken g a b c turn here w back m both back_is last = record {
 -- ## The head of a loop over numbers
 
 -- the first number, the limit and the step
-pub ranged : (g0 g1 g2 g3 : Generator) (p q s v : Lined) (here second third : Here) (a b : Expression) (c : Option Expression) (Also : Scope → Type 0) → Emits g0 g1 p q here (Typed a) (λ t. expression_code t (next t) a) → Emits g1 g2 q s second (Typed b) (λ t. expression_code t (next t) b) → Emits g2 g3 s v third Also (λ t. step_code t c) → second.line ≡ here.line → third.line ≡ here.line → (here.height + 1 < 2 ^ 64 → second.height ≡ here.height + 1) → (here.height + 2 < 2 ^ 64 → third.height ≡ here.height + 2) → here.height < g1.deepest → second.height < g2.deepest → ((s : Scope) → AreNumbers c s → Also s) → Emits g0 g3 p v here (λ s. IsNumber a s × IsNumber b s × AreNumbers c s) (λ t. range_code t a b c)
+pub ranged : (g0 g1 g2 g3 : Generator) (p q s v : Lined) (here second third : Here) (a b : Expression) (c : Option Expression) (Also : TypedScope → Type 0) → Emits g0 g1 p q here (Typed a) (λ t. expression_code t (next t) a) → Emits g1 g2 q s second (Typed b) (λ t. expression_code t (next t) b) → Emits g2 g3 s v third Also (λ t. step_code t c) → second.line ≡ here.line → third.line ≡ here.line → (here.height + 1 < 2 ^ 64 → second.height ≡ here.height + 1) → (here.height + 2 < 2 ^ 64 → third.height ≡ here.height + 2) → here.height < g1.deepest → second.height < g2.deepest → ((s : TypedScope) → AreNumbers c s → Also s) → Emits g0 g3 p v here (λ s. IsInteger a s × IsInteger b s × AreNumbers c s) (λ t. range_code t a b c)
 ranged g0 g1 g2 g3 p q s v here second third a b c Also m n o line1 line2 high1 high2 room1 room2 also = record {
   grows = grows_then g0 g1 g3 m.grows (grows_then g1 g2 g3 n.grows o.grows);
   adds = λ f t u around located good.
@@ -141,14 +129,14 @@ three_up : (t : Site) → height (number_loop t) - height t ≡ 3
 three_up t = omega arith
 
 -- the instruction with which it begins
-items_begun : (f : Final) (g : Generator) (here above_here : Here) (t : Site) (class : Option ℕ) (cell skip n : ℕ) (p q : Lined) → IsLocated f g here t → IsLocated f g above_here (number_loop t) → above_here.line ≡ here.line → cell ≡ length t.scope.locals + height t → skip ≡ n → Puts p q here (items_begin class cell skip) → Adds f p q (begins_items t class n ∷ [])
+items_begun : (f : Final) (g : Generator) (here above_here : Here) (t : Site) (class : Option ℕ) (cell skip n : ℕ) (p q : Lined) → IsLocated f g here t → IsLocated f g above_here (number_loop t) → above_here.line ≡ here.line → cell ≡ length t.scope.locals + height t → skip ≡ n → q ≡ p ++ on_line here.line (items_begin class cell skip) ∷ [] → Adds f p q (begins_items t class n ∷ [])
 items_begun f g here above_here t None cell skip n p q located on_top line at long put =
-    put_one f g above_here (number_loop t) p q (i.Begin (height t) n) (r.Begin cell skip) on_top (record { instructions = put.instructions; lines = put.lines ∙ ap (λ (l : Line). p.lines ++ l ∷ []) (sym line) })
+    put_one f g above_here (number_loop t) p q (i.Begin (height t) n) (r.Begin cell skip) on_top (put ∙ ap (λ (l : Line). p ++ on_line l (r.Begin cell skip) ∷ []) (sym line))
     (record { carries = (height t, at, ap (i.Begin (height t)) (sym long)); deep = on_top.deep; shown = tt })
 items_begun f g here above_here t (Some class) cell skip n p q located on_top line at long put =
     put_one f g here t p q (i.BeginClass class (height t) n) (r.BeginClass class cell skip) located put (record { carries = (height t, at, ap (i.BeginClass class (height t)) (sym long)); deep = located.deep; shown = tt })
 
-pub items_looped : (g0 g : Generator) (p q q1 q2 : Lined) (here above_here : Here) (class : Option ℕ) (cell skip : ℕ) (spot : VariableSpot) (turn items : Lined) (x : Variable) → above_here.line ≡ here.line → (here.height + 3 < 2 ^ 64 → above_here.height ≡ here.height + 3) → Grows g0 g → above_here.height ≤ g.deepest → cell ≡ length g.locals.items + here.height → ((f : Final) (h : Here) (t : Site) → Around f g → IsLocated f g h t → IsVariable t x spot) → TakesItems g items above_here cell spot turn → skip ≡ length items.instructions → Puts p q here (items_begin class cell skip) → Joins q q1 items → Emits g g q1 q2 above_here (λ s. Unit {0}) (λ u. forget u 3) → EmitsAround g0 g p q2 here turn (λ s. Unit {0}) (λ t b. item_loop_code t class x b)
+pub items_looped : (g0 g : Generator) (p q q1 q2 : Lined) (here above_here : Here) (class : Option ℕ) (cell skip : ℕ) (spot : VariableSpot) (turn items : Lined) (x : Variable) → above_here.line ≡ here.line → (here.height + 3 < 2 ^ 64 → above_here.height ≡ here.height + 3) → Grows g0 g → above_here.height ≤ g.deepest → cell ≡ length g.locals.items + here.height → ((f : Final) (h : Here) (t : Site) → Around f g → IsLocated f g h t → IsVariable t x spot) → TakesItems g items above_here cell spot turn → skip ≡ length items → q ≡ p ++ on_line here.line (items_begin class cell skip) ∷ [] → q1 ≡ q ++ items → Emits g g q1 q2 above_here (λ s. Unit {0}) (λ u. forget u 3) → EmitsAround g0 g p q2 here turn (λ s. Unit {0}) (λ t b. item_loop_code t class x b)
 items_looped g0 g p q q1 q2 here above_here class cell skip spot turn items x line up grows room at is m skip_is put join forgets = record {
   grows = grows;
   adds = λ f t body around located fits.
@@ -160,16 +148,16 @@ items_looped g0 g p q q1 q2 here above_here class cell skip spot turn items x li
       let locals : length t.scope.locals ≡ length g.locals.items = ap length located.locals in
       let cell_is : cell ≡ length t.scope.locals + height t = omega (arith, at, locals, located.high) in
       let turns : List Placed = turns_code u (height t) x body (i.Next (height t)) in
-      let made : Adds f nothing items turns = m.adds f u (record { variable = x; cell = height t; turn = body }) around on_top ((is f above_here u around on_top, cell_is), fits.0) in
+      let made : Adds f no_code items turns = m.adds f u (record { variable = x; cell = height t; turn = body }) around on_top ((is f above_here u around on_top, cell_is), fits.0) in
       let long : skip ≡ length turns = skip_is ∙ piece_long f items turns made in
       let gone : Adds f q1 q2 (forget_to t u) = adds_same f q1 q2 (forget u 3) (forget_to t u) (ap (forget u) (sym (three_up t))) (forgets.adds f u tt around on_top tt) in
       adds_then f p q q2 (begins_items t class (length turns) ∷ []) (turns ++ forget_to t u) (items_begun f g here above_here t class cell skip (length turns) p q located on_top line cell_is long put)
-      (adds_then f q q1 q2 turns (forget_to t u) (join_one f q q1 items turns join made) gone);
+      (adds_then f q q1 q2 turns (forget_to t u) (adds_piece f q q1 items turns join made) gone);
   more = λ f t body around located fits. tt;
 }
 
 -- numbers have a range before that
-pub range_looped : (g0 g1 g2 : Generator) (p q s turn : Lined) (here : Here) (x : Variable) (a b : Expression) (c : Option Expression) → Emits g0 g1 p q here (λ k. IsNumber a k × IsNumber b k × AreNumbers c k) (λ t. range_code t a b c) → EmitsAround g1 g2 q s here turn (λ k. Unit {0}) (λ t body. item_loop_code t None x body) → EmitsAround g0 g2 p s here turn (λ k. GoodHead k (Numbers x a b c)) (λ t body. for_code t (Numbers x a b c) body)
+pub range_looped : (g0 g1 g2 : Generator) (p q s turn : Lined) (here : Here) (x : Variable) (a b : Expression) (c : Option Expression) → Emits g0 g1 p q here (λ k. IsInteger a k × IsInteger b k × AreNumbers c k) (λ t. range_code t a b c) → EmitsAround g1 g2 q s here turn (λ k. Unit {0}) (λ t body. item_loop_code t None x body) → EmitsAround g0 g2 p s here turn (λ k. GoodHead k (Numbers x a b c)) (λ t body. for_code t (Numbers x a b c) body)
 range_looped g0 g1 g2 p q s turn here x a b c m n = record {
   grows = grows_then g0 g1 g2 m.grows n.grows;
   adds = λ f t body around located fits.
@@ -178,7 +166,7 @@ range_looped g0 g1 g2 p q s turn here x a b c m n = record {
   more = λ f t body around located fits. tt;
 }
   where
-    are_numbers : (c : Option Expression) (s : Scope) → IfSome c (λ e. HasMode s e Integer) → AreNumbers c s
+    are_numbers : (c : Option Expression) (s : TypedScope) → IfSome c (λ e. HasMode s e Integer) → AreNumbers c s
     are_numbers None s h = tt
     are_numbers (Some e) s h = h
 
@@ -204,11 +192,11 @@ entity_kept g0 g1 g2 p q here e a m room grows cell = record {
 }
 
 -- no member goes into a cell
-pub starts_at_end : (g : Generator) (p : Lined) (here : Here) (w : Walk) → StartsWalk g g p p here w AtEnd
+pub starts_at_end : (g : Generator) (p : Lined) (here : Here) (w : MemberLoop) → StartsWalk g g p p here w AtEnd
 starts_at_end g p here w = record { grows = grows_same g; adds = λ f u x around located fits. adds_none f p; more = λ f u x around located fits. tt }
 
 -- the owner is looked at, and a member goes into the next cell
-pub starts_at : (g0 g : Generator) (p q s : Lined) (here : Here) (w : Walk) (e : Expression) → Puts p q here (r.LookOwner w.set w.owner) → Emits g0 g q s here (Typed e) (λ t. expression_code t (next t) e) → StartsWalk g0 g p s here w (From e)
+pub starts_at : (g0 g : Generator) (p q s : Lined) (here : Here) (w : MemberLoop) (e : Expression) → q ≡ p ++ on_line here.line (r.LookOwner w.set w.owner) ∷ [] → Emits g0 g q s here (Typed e) (λ t. expression_code t (next t) e) → StartsWalk g0 g p s here w (From e)
 starts_at g0 g p q s here w e put m = record {
   grows = m.grows;
   adds = λ f u x around located fits.
@@ -223,21 +211,21 @@ starts_at g0 g p q s here w e put m = record {
 }
 
 -- what comes before the walk is the code of a start from a member, also where it starts after that
-pub starts_after : (g0 g : Generator) (p s : Lined) (here : Here) (w : Walk) (e : Expression) → StartsWalk g0 g p s here w (From e) → StartsWalk g0 g p s here w (After e)
+pub starts_after : (g0 g : Generator) (p s : Lined) (here : Here) (w : MemberLoop) (e : Expression) → StartsWalk g0 g p s here w (From e) → StartsWalk g0 g p s here w (After e)
 starts_after g0 g p s here w e m = record { grows = m.grows; adds = λ f u x around located fits. m.adds f u x around located fits; more = λ f u x around located fits. tt }
 
 -- the instruction that begins a walk from a member, or after it
-begins_at : (f : Final) (g : Generator) (here : Here) (u : Site) (w : Walk) (set : ℕ) (owner : Bearer) (after : Bool) (skip n : ℕ) (reverse : Bool) (p q : Lined) → IsLocated f g here u → height u + 1 ≤ f.depth → w.set ≡ set → AtBearer f u owner w.owner → w.cell ≡ length u.scope.locals + height u → w.reverse ≡ reverse → skip ≡ n → Puts p q here (r.BeginAt w.set w.owner w.cell skip w.reverse after) → Adds f p q (place (above u Integer) (i.BeginAt reverse after set owner (height u) n) ∷ [])
+begins_at : (f : Final) (g : Generator) (here : Here) (u : Site) (w : MemberLoop) (set : ℕ) (owner : Bearer) (after : Bool) (skip n : ℕ) (reverse : Bool) (p q : Lined) → IsLocated f g here u → height u + 1 ≤ f.depth → w.set ≡ set → AtBearer f u owner w.owner → w.cell ≡ length u.scope.locals + height u → w.reverse ≡ reverse → skip ≡ n → q ≡ p ++ on_line here.line (r.BeginAt w.set w.owner w.cell skip w.reverse after) ∷ [] → Adds f p q (place (above u Integer) (i.BeginAt reverse after set owner (height u) n) ∷ [])
 begins_at f g here u w set owner after skip n reverse p q located deep is at cell turned long put =
     let ins : i.Instruction = i.BeginAt reverse after set owner (height u) n in
     let up : Site = above u Integer in
     let tall : length up.cells ≤ f.depth = omega (arith, deep) in
     let same : ins ≡ i.BeginAt w.reverse after w.set owner (height u) skip = cc in
-    adds_one f p q here.line (place up ins) (r.BeginAt w.set w.owner w.cell skip w.reverse after) put.instructions put.lines located.line
+    adds_one f p q here.line (place up ins) (r.BeginAt w.set w.owner w.cell skip w.reverse after) put located.line
     (record { carries = (owner, at, (height u, cell, same)); deep = tall; shown = tt })
 
 -- the instruction that begins a walk
-begins : (f : Final) (g : Generator) (here : Here) (u : Site) (w : Walk) (set : ℕ) (owner : Bearer) (start : Start) (skip n : ℕ) (reverse : Bool) (p q : Lined) → IsLocated f g here u → height u + 1 ≤ f.depth → w.set ≡ set → AtBearer f u owner w.owner → w.cell ≡ length u.scope.locals + height u → w.reverse ≡ reverse → skip ≡ n → Puts p q here (begin_of w (is_after start) skip) → Adds f p q (begin_code u reverse set owner start n ∷ [])
+begins : (f : Final) (g : Generator) (here : Here) (u : Site) (w : MemberLoop) (set : ℕ) (owner : Bearer) (start : Start) (skip n : ℕ) (reverse : Bool) (p q : Lined) → IsLocated f g here u → height u + 1 ≤ f.depth → w.set ≡ set → AtBearer f u owner w.owner → w.cell ≡ length u.scope.locals + height u → w.reverse ≡ reverse → skip ≡ n → q ≡ p ++ on_line here.line (begin_of w (is_after start) skip) ∷ [] → Adds f p q (begin_code u reverse set owner start n ∷ [])
 begins f g here u w set owner AtEnd skip n reverse p q located deep is at cell turned long put =
     let ins : i.Instruction = i.BeginSet reverse set owner (height u) n in
     let same : ins ≡ i.BeginSet w.reverse w.set owner (height u) skip = cc in
@@ -247,7 +235,7 @@ begins f g here u w set owner (From e) skip n reverse p q located deep is at cel
 begins f g here u w set owner (After e) skip n reverse p q located deep is at cell turned long put = begins_at f g here u w set owner true skip n reverse p q located deep is at cell turned long put
 
 -- how a walk is put together
-pub record Walks (g0 g1 g2 g3 : Generator) (p q q1 q2 q3 q4 : Lined) (here below_here above_here : Here) (w : Walk) (kept : Read) (turn members : Lined) (x : Variable) (set : ℕ) (o : SetOwner) (start : Start) (reverse : Bool) : Type 0 where
+pub record Walks (g0 g1 g2 g3 : Generator) (p q q1 q2 q3 q4 : Lined) (here below_here above_here : Here) (w : MemberLoop) (kept : Read) (turn members : Lined) (x : Variable) (set : ℕ) (o : SetOwner) (start : Start) (reverse : Bool) : Type 0 where
   pub keeps : KeepsOwner g0 g1 p q here o kept
   pub below_line : below_here.line ≡ here.line
   pub below_height : here.height + kept.cells < 2 ^ 64 → below_here.height ≡ here.height + kept.cells
@@ -263,14 +251,14 @@ pub record Walks (g0 g1 g2 g3 : Generator) (p q q1 q2 q3 q4 : Lined) (here below
   pub room : above_here.height ≤ g3.deepest
   pub takes : TakesMembers g3 members above_here w turn
   pub skip : ℕ
-  pub skips : skip ≡ length members.instructions
-  pub put : Puts q1 q2 here (begin_of w (is_after start) skip)
-  pub joins : Joins q2 q3 members
+  pub skips : skip ≡ length members
+  pub put : q2 ≡ q1 ++ on_line here.line (begin_of w (is_after start) skip) ∷ []
+  pub joins : q3 ≡ q2 ++ members
   pub count : ℕ
   pub counts : kept.cells + 2 < 2 ^ 64 → count ≡ kept.cells + 2
   pub forgets : Emits g3 g3 q3 q4 above_here (λ s. Unit {0}) (λ u. forget u count)
 
-pub members_walked : (g0 g1 g2 g3 : Generator) (p q q1 q2 q3 q4 : Lined) (here below_here above_here : Here) (w : Walk) (kept : Read) (turn members : Lined) (x : Variable) (set : ℕ) (o : SetOwner) (start : Start) (reverse : Bool) → Walks g0 g1 g2 g3 p q q1 q2 q3 q4 here below_here above_here w kept turn members x set o start reverse → EmitsAround g0 g3 p q4 here turn (λ s. GoodHead s (Members x set o start reverse)) (λ t b. for_code t (Members x set o start reverse) b)
+pub members_walked : (g0 g1 g2 g3 : Generator) (p q q1 q2 q3 q4 : Lined) (here below_here above_here : Here) (w : MemberLoop) (kept : Read) (turn members : Lined) (x : Variable) (set : ℕ) (o : SetOwner) (start : Start) (reverse : Bool) → Walks g0 g1 g2 g3 p q q1 q2 q3 q4 here below_here above_here w kept turn members x set o start reverse → EmitsAround g0 g3 p q4 here turn (λ s. GoodHead s (Members x set o start reverse)) (λ t b. for_code t (Members x set o start reverse) b)
 members_walked g0 g1 g2 g3 p q q1 q2 q3 q4 here below_here above_here w kept turn members x set o start reverse k = record {
   grows = grows_then g0 g1 g3 k.keeps.grows (grows_then g1 g2 g3 k.starts.grows k.reaches);
   adds = λ f t b around located fits.
@@ -299,11 +287,11 @@ members_walked g0 g1 g2 g3 p q q1 q2 q3 q4 here below_here above_here w kept tur
       let begun : Adds f q q1 (start_code u set bearer start) = k.starts.adds f u walk around2 low2 ((k.variable f below_here u around1 low1, k.of_set, owner, cell), good.2) in
       let turns : List Placed = turns_code v (height u) x b (i.NextMember reverse set bearer (height u)) in
       let same : turns_code v (height u) x b (i.NextMember w.reverse set bearer (height u)) ≡ turns = ap (λ (back : Bool). turns_code v (height u) x b (i.NextMember back set bearer (height u))) k.turned in
-      let taken : Adds f nothing members turns =
-      adds_same f nothing members (turns_code v (height u) x b (i.NextMember w.reverse set bearer (height u))) turns same (k.takes.adds f v walk around high3 ((k.variable f above_here v around1 high1, k.of_set, owner, cell), fits.0)) in
+      let taken : Adds f no_code members turns =
+      adds_same f no_code members (turns_code v (height u) x b (i.NextMember w.reverse set bearer (height u))) turns same (k.takes.adds f v walk around high3 ((k.variable f above_here v around1 high1, k.of_set, owner, cell), fits.0)) in
       let long : k.skip ≡ length turns = k.skips ∙ piece_long f members turns taken in
       let room : height u + 1 ≤ f.depth = omega (arith, deep, tall) in
-      let put : Puts q1 q2 below_here (begin_of w (is_after start) k.skip) = record { instructions = k.put.instructions; lines = k.put.lines ∙ ap (λ (l : Line). q1.lines ++ l ∷ []) (sym k.below_line) } in
+      let put : q2 ≡ q1 ++ on_line below_here.line (begin_of w (is_after start) k.skip) ∷ [] = k.put ∙ ap (λ (l : Line). q1 ++ on_line l (begin_of w (is_after start) k.skip) ∷ []) (sym k.below_line) in
       let begin : Adds f q1 q2 (begin_code u reverse set bearer start (length turns) ∷ []) =
       begins f g3 below_here u w set bearer start k.skip (length turns) reverse q1 q2 low3 room k.of_set owner cell k.turned long put in
       let few : kept.cells + 2 < 2 ^ 64 = omega (arith, keep.1, keep.2, around.small) in
@@ -312,7 +300,7 @@ members_walked g0 g1 g2 g3 p q q1 q2 q3 q4 here below_here above_here w kept tur
       adds_then f p q q4 (owner_code t o) (start_code u set bearer start ++ (begin_code u reverse set bearer start (length turns) ∷ (turns ++ forget_to t v))) (k.keeps.adds f t tt around1 stands1 numbers)
       (adds_then f q q1 q4 (start_code u set bearer start) (begin_code u reverse set bearer start (length turns) ∷ (turns ++ forget_to t v)) begun
       (adds_then f q1 q2 q4 (begin_code u reverse set bearer start (length turns) ∷ []) (turns ++ forget_to t v) begin
-      (adds_then f q2 q3 q4 turns (forget_to t v) (join_one f q2 q3 members turns k.joins taken) gone)));
+      (adds_then f q2 q3 q4 turns (forget_to t v) (adds_piece f q2 q3 members turns k.joins taken) gone)));
   more = λ f t b around located fits. tt;
 }
 
@@ -341,7 +329,7 @@ loop_stands f g0 g1 here above_here t head cells wide line up room around0 aroun
     higher f g1 here above_here t u cells around located line up refl refl tall deep
 
 -- a loop with phrases around what is done for each case
-pub for_looped : (f : Final) (g1 g2 g3 g4 : Generator) (p q inner turn : Lined) (here above_here : Here) (head : Head) (ps : List Phrase) (cells : ℕ) (t : Site) (body : List Placed) → cells ≡ loop_width head → above_here.line ≡ here.line → (here.height + cells < 2 ^ 64 → above_here.height ≡ here.height + cells) → above_here.height ≤ g1.deepest → Grows g1 g2 → (Around f g2 → IsLocated f g2 above_here (in_loop t head) → Adds f nothing inner body) → EmitsAround g2 g3 nothing turn above_here inner (λ s. Every (GoodPhrase s) ps) (λ t b. phrases_code t ps b) → EmitsAround g3 g4 p q here turn (λ s. GoodHead s head) (λ t b. for_code t head b) → Around f g4 → IsLocated f g4 here t → GoodHead t.scope head → Every (GoodPhrase t.scope) ps → Adds f p q (for_code t head (phrases_code (in_loop t head) ps body))
+pub for_looped : (f : Final) (g1 g2 g3 g4 : Generator) (p q inner turn : Lined) (here above_here : Here) (head : Head) (ps : List Phrase) (cells : ℕ) (t : Site) (body : List Placed) → cells ≡ loop_width head → above_here.line ≡ here.line → (here.height + cells < 2 ^ 64 → above_here.height ≡ here.height + cells) → above_here.height ≤ g1.deepest → Grows g1 g2 → (Around f g2 → IsLocated f g2 above_here (in_loop t head) → Adds f no_code inner body) → EmitsAround g2 g3 no_code turn above_here inner (λ s. Every (GoodPhrase s) ps) (λ t b. phrases_code t ps b) → EmitsAround g3 g4 p q here turn (λ s. GoodHead s head) (λ t b. for_code t head b) → Around f g4 → IsLocated f g4 here t → GoodHead t.scope head → Every (GoodPhrase t.scope) ps → Adds f p q (for_code t head (phrases_code (in_loop t head) ps body))
 for_looped f g1 g2 g3 g4 p q inner turn here above_here head ps cells t body wide line up room grows1 m n o around located good each =
     let around3 = around_old f g3 g4 o.grows around in
     let around2 = around_old f g2 g3 n.grows around3 in
@@ -350,14 +338,14 @@ for_looped f g1 g2 g3 g4 p q inner turn here above_here head ps cells t body wid
     let u : Site = in_loop t head in
     let high3 : IsLocated f g3 above_here u = loop_stands f g1 g3 here above_here t head cells wide line up room around1 around3 stands3 in
     let high2 : IsLocated f g2 above_here u = stands_old f g2 g3 above_here u n.grows high3 in
-    let made : Adds f nothing inner body = m around2 high2 in
-    let phrased : Adds f nothing turn (phrases_code u ps body) = n.adds f u body around3 high3 (made, each) in
+    let made : Adds f no_code inner body = m around2 high2 in
+    let phrased : Adds f no_code turn (phrases_code u ps body) = n.adds f u body around3 high3 (made, each) in
     o.adds f t (phrases_code u ps body) around located (phrased, good)
 
 -- ## FIND
 
-pub found_or_not : (g0 g1 g2 g3 : Generator) (p q q1 q2 q3 q4 : Lined) (here above_here : Here) (head : Head) (ps : List Phrase) (cells skip past_skip : ℕ) (found none case turn past : Lined) → cells ≡ loop_width head → above_here.line ≡ here.line → (here.height + cells < 2 ^ 64 → above_here.height ≡ here.height + cells) → Grows g0 g1 → above_here.height ≤ g1.deepest → skip ≡ length none.instructions + 3 → Emits g1 g1 nothing case above_here (λ s. Unit {0}) (λ t. place t (i.Jump skip) ∷ []) → EmitsAround g1 g2 nothing turn above_here case (λ s. Every (GoodPhrase s) ps) (λ t b. phrases_code t ps b) → EmitsAround g2 g3 p q here turn (λ s. GoodHead s head) (λ t b. for_code t head b) → Joins q q1 none → past_skip ≡ length found.instructions + 1 → Emits g3 g3 nothing past here (λ s. Unit {0}) (λ t. place t (i.Jump past_skip) ∷ []) → Joins q1 q2 past → Emits g3 g3 q2 q3 above_here (λ s. Unit {0}) (λ u. forget u cells) → Joins q3 q4 found → EmitsAroundBoth g0 g3 p q4 here found none (λ s. GoodHead s head × Every (GoodPhrase s) ps) (λ t b. find_code t head ps b.first b.second)
-found_or_not g0 g1 g2 g3 p q q1 q2 q3 q4 here above_here head ps cells skip past_skip found none case turn past wide line up reaches room skip_is m n o first past_is d second forgets third = record {
+pub found_or_not : (g0 g1 g2 g3 : Generator) (p q q1 q2 q3 q4 : Lined) (here above_here : Here) (head : Head) (ps : List Phrase) (cells skip past_skip : ℕ) (found none case turn : Lined) → cells ≡ loop_width head → above_here.line ≡ here.line → (here.height + cells < 2 ^ 64 → above_here.height ≡ here.height + cells) → Grows g0 g1 → above_here.height ≤ g1.deepest → skip ≡ length none + 3 → Emits g1 g1 no_code case above_here (λ s. Unit {0}) (λ t. place t (i.Jump skip) ∷ []) → EmitsAround g1 g2 no_code turn above_here case (λ s. Every (GoodPhrase s) ps) (λ t b. phrases_code t ps b) → EmitsAround g2 g3 p q here turn (λ s. GoodHead s head) (λ t b. for_code t head b) → q1 ≡ q ++ none → past_skip ≡ length found + 1 → q2 ≡ q1 ++ on_line here.line (r.Jump past_skip) ∷ [] → Emits g3 g3 q2 q3 above_here (λ s. Unit {0}) (λ u. forget u cells) → q4 ≡ q3 ++ found → EmitsAroundBoth g0 g3 p q4 here found none (λ s. GoodHead s head × Every (GoodPhrase s) ps) (λ t b. find_code t head ps b.first b.second)
+found_or_not g0 g1 g2 g3 p q q1 q2 q3 q4 here above_here head ps cells skip past_skip found none case turn wide line up reaches room skip_is m n o first past_is second forgets third = record {
   grows = grows_then g0 g1 g3 reaches (grows_then g1 g2 g3 n.grows o.grows);
   adds = λ f t b around located fits.
       let u : Site = in_loop t head in
@@ -365,19 +353,19 @@ found_or_not g0 g1 g2 g3 p q q1 q2 q3 q4 here above_here head ps cells skip past
       let long : skip ≡ length b.second + 3 = skip_is ∙ ap (λ k. k + 3) (piece_long f none b.second fits.1) in
       let past_long : past_skip ≡ length b.first + 1 = past_is ∙ ap (λ k. k + 1) (piece_long f found b.first fits.0) in
       let jump = λ (around1 : Around f g1) (high1 : IsLocated f g1 above_here u).
-      adds_same f nothing case (place u (i.Jump skip) ∷ []) (place u (i.Jump (length b.second + 3)) ∷ []) (ap (λ k. place u (i.Jump k) ∷ []) long) (m.adds f u tt around1 high1 tt) in
+      adds_same f no_code case (place u (i.Jump skip) ∷ []) (place u (i.Jump (length b.second + 3)) ∷ []) (ap (λ k. place u (i.Jump k) ∷ []) long) (m.adds f u tt around1 high1 tt) in
       let good : GoodHead t.scope head × Every (GoodPhrase t.scope) ps = fits.2 in
       let loops : Adds f p q (for_code t head (phrases_code u ps (place u (i.Jump (length b.second + 3)) ∷ []))) =
       for_looped f g1 g1 g2 g3 p q case turn here above_here head ps cells t (place u (i.Jump (length b.second + 3)) ∷ []) wide line up room (grows_same g1) jump n o around located good.0 good.1 in
       let high3 : IsLocated f g3 above_here u = loop_stands f g1 g3 here above_here t head cells wide line up room (around_old f g1 g3 grown around) around located in
-      let passed : Adds f nothing past (place t (i.Jump (length b.first + 1)) ∷ []) =
-      adds_same f nothing past (place t (i.Jump past_skip) ∷ []) (place t (i.Jump (length b.first + 1)) ∷ []) (ap (λ k. place t (i.Jump k) ∷ []) past_long) (d.adds f t tt around located tt) in
+      let passed : Adds f q1 q2 (place t (i.Jump (length b.first + 1)) ∷ []) =
+      put_one f g3 here t q1 q2 (i.Jump (length b.first + 1)) (r.Jump past_skip) located second (record { carries = ap i.Jump (sym past_long); deep = located.deep; shown = tt }) in
       let count : cells ≡ height u - height t = omega (arith, loop_high t head, wide) in
       let gone : Adds f q2 q3 (forget_to t u) = adds_same f q2 q3 (forget u cells) (forget_to t u) (ap (forget u) count) (forgets.adds f u tt around high3 tt) in
       let rest : List Placed = forget_to t u ++ b.first in
       adds_then f p q q4 (for_code t head (phrases_code u ps (place u (i.Jump (length b.second + 3)) ∷ []))) (b.second ++ (place t (i.Jump (length b.first + 1)) ∷ rest)) loops
-      (adds_then f q q1 q4 b.second (place t (i.Jump (length b.first + 1)) ∷ rest) (join_one f q q1 none b.second first fits.1)
-      (adds_then f q1 q2 q4 (place t (i.Jump (length b.first + 1)) ∷ []) rest (join_one f q1 q2 past (place t (i.Jump (length b.first + 1)) ∷ []) second passed)
-      (adds_then f q2 q3 q4 (forget_to t u) b.first gone (join_one f q3 q4 found b.first third fits.0))));
+      (adds_then f q q1 q4 b.second (place t (i.Jump (length b.first + 1)) ∷ rest) (adds_piece f q q1 none b.second first fits.1)
+      (adds_then f q1 q2 q4 (place t (i.Jump (length b.first + 1)) ∷ []) rest passed
+      (adds_then f q2 q3 q4 (forget_to t u) b.first gone (adds_piece f q3 q4 found b.first third fits.0))));
   more = λ f t b around located fits. tt;
 }

@@ -8,7 +8,7 @@ use Rattle.ss_program.specs.declared.sections.Subject.TheVariants.{OfAttribute}
 use Rattle.ss_program.specs.declared.statement.CountedClass.{CountedClass}
 use Rattle.ss_program.specs.Program.{Program, Expression, Place, ToVariable, ToAttribute, ToCount}
 use Rattle.ss_program.specs.View.{view_program}
-use Rattle.ss_program.specs.WellTyped.{Scope, mode_at, field_mode}
+use Rattle.ss_program.specs.WellTyped.{TypedScope, mode_at, field_mode}
 use Rattle.ss_code_instructions.specs.declared.address.Address.{Address}
 use Rattle.ss_code_instructions.specs.declared.instruction.Instruction.{Instruction as Running}
 use Rattle.ss_code_instructions.specs.declared.instruction.Instruction.TheVariants as r
@@ -23,10 +23,10 @@ use Rattle.ss_code_generator.specs.declared.targets.VariableSpot.{VariableSpot}
 use Rattle.ss_code_generator.specs.declared.targets.AttributeSpot.{AttributeSpot}
 use Rattle.ss_code_generator.specs.declared.targets.Spot.{Spot}
 use Rattle.ss_code_generator.specs.declared.targets.Spot.TheVariants as spots
-use Rattle.ss_code_pieces.specs.Lined.{Lined}
+use Rattle.ss_code_pieces.specs.Lined.{Lined, on_line}
 use Rattle.ss_code_instructions.specs.Forms.{moving, storing}
-use Rattle.ss_code_generator.specs.Emitted.{Final, Around, IsLocated, Adds, Makes, AtOperand, AtTarget, IsNumber, Reads}
-use Rattle.ss_code_generator.specs.Spots.{IsWatched, IsAttribute, IsSpot, IsPlaceOf, GoodPlace, HasRoom, HoldsMode, Given, Gives, Takes, landing, assigned_code, landed_code}
+use Rattle.ss_code_generator.specs.Emitted.{Final, Around, IsLocated, Adds, Generates, AtOperand, AtTarget, IsInteger, ReadsOperand}
+use Rattle.ss_code_generator.specs.Spots.{IsWatchedAs, IsAttribute, IsSpot, IsPlaceOf, GoodPlace, HasTargetRoom, HoldsMode, Assignment, Assigns, AssignsLanded, landing, assigned_code, landed_code}
 use Rattle.ss_code_generator.proofs.Emitting.{grows_same, stands_above, adds_none, adds_then, adds_one, adds_same}
 use Rattle.ss_code_generator.proofs.Operands.{operand_at, stays_at}
 use Rattle.ss_code_generator.proofs.Modes.{on_top}
@@ -41,9 +41,9 @@ program_at f g here t around located = located.program ∙ sym around.program
 -- an attribute, whose entity was evaluated
 abbrev pub MakesAttribute : (old new : Generator) → (before after : Lined) → Here → (Site → List Placed) → (class field : ℕ) → Expression → AttributeSpot → Type 0
 MakesAttribute old new before after here c class field e s =
-    Makes old new before after here (λ f t (u : Unit {0}). IsNumber e t.scope) (λ t u. c t) (λ f t u. IsAttribute f t class field e s)
+    Generates old new before after here (λ f t (u : Unit {0}). IsInteger e t.scope) (λ t u. c t) (λ f t u. IsAttribute f t class field e s)
 
-pub attribute_found : (old new : Generator) (p q : Lined) (here : Here) (class field : ℕ) (e : Expression) (s : AttributeSpot) → Reads old new p q here e (record { address = s.entity; cells = s.cells }) → s.class ≡ class → s.field ≡ field → s.mode ≡ or_integer (field_mode (view_program new.program.now) class field) → s.is_watched ≡ watch new.program.now.statistics.items (OfAttribute class field) → MakesAttribute old new p q here (λ t. operand_code t e) class field e s
+pub attribute_found : (old new : Generator) (p q : Lined) (here : Here) (class field : ℕ) (e : Expression) (s : AttributeSpot) → ReadsOperand old new p q here e (record { address = s.entity; cells = s.cells }) → s.class ≡ class → s.field ≡ field → s.mode ≡ or_integer (field_mode (view_program new.program.now) class field) → s.is_watched ≡ watch new.program.now.statistics.items (OfAttribute class field) → MakesAttribute old new p q here (λ t. operand_code t e) class field e s
 attribute_found old new p q here class field e s m is_class is_field mode noted = record {
   grows = m.grows;
   adds = λ f t u around located good. m.adds f t tt around located (Integer, good);
@@ -59,36 +59,36 @@ attribute_found old new p q here class field e s m is_class is_field mode noted 
 }
 
 -- it is looked at, if it is to be
-pub attribute_looked : (old new : Generator) (p q v : Lined) (here : Here) (class field : ℕ) (e : Expression) (s : AttributeSpot) (b : Bool) → MakesAttribute old new p q here (λ t. operand_code t e) class field e s → v.instructions ≡ q.instructions ++ (if b then r.LookEntity s.class s.entity ∷ [] else []) → v.lines ≡ q.lines ++ (if b then here.line ∷ [] else []) → MakesAttribute old new p v here (λ t. entity_code t b class e) class field e s
-attribute_looked old new p q v here class field e s true m is ls = record {
+pub attribute_looked : (old new : Generator) (p q v : Lined) (here : Here) (class field : ℕ) (e : Expression) (s : AttributeSpot) (b : Bool) → MakesAttribute old new p q here (λ t. operand_code t e) class field e s → v ≡ q ++ (if b then on_line here.line (r.LookEntity s.class s.entity) ∷ [] else []) → MakesAttribute old new p v here (λ t. entity_code t b class e) class field e s
+attribute_looked old new p q v here class field e s true m is = record {
   grows = m.grows;
   adds = λ f t u around located good.
       let is_there = m.more f t tt around located good in
       let ins : Instruction = i.LookEntity class (stay (operand t e)) in
       let same : ins ≡ i.LookEntity s.class (stay (operand t e)) = ap (λ k. i.LookEntity k (stay (operand t e))) (sym is_there.class) in
       adds_then f p q v (operand_code t e) (place (after t e) ins ∷ []) (m.adds f t tt around located good)
-      (adds_one f q v here.line (place (after t e) ins) (r.LookEntity s.class s.entity) is ls located.line
+      (adds_one f q v here.line (place (after t e) ins) (r.LookEntity s.class s.entity) is located.line
       (record { carries = (stay (operand t e), stays_at f t (operand t e) s.entity is_there.entity.at, same); deep = is_there.entity.deep; shown = tt }));
   more = λ f t u around located good. m.more f t tt around located good;
 }
-attribute_looked old new p q v here class field e s false m is ls = record {
+attribute_looked old new p q v here class field e s false m is = record {
   grows = m.grows;
   adds = λ f t u around located good.
       let h = m.adds f t tt around located good in
-      record { more = h.more; instructions = is ∙ append-nil q.instructions ∙ h.instructions; lines = ls ∙ append-nil q.lines ∙ h.lines; run = h.run };
+      record { more = h.more; added = is ∙ append-nil q ∙ h.added; run = h.run };
   more = λ f t u around located good. m.more f t tt around located good;
 }
 
 -- ## Places that are found
 
-pub count_spotted : (g : Generator) (p : Lined) (here : Here) (c : CountedClass) (s : Spot) → ((f : Final) (here : Here) (t : Site) → Around f g → IsLocated f g here t → IsSpot f t (ToCount c) s) → Makes g g p p here (λ f t (u : Unit {0}). GoodPlace (ToCount c) t.scope) (λ t u. []) (λ f t u. IsSpot f t (ToCount c) s)
+pub count_spotted : (g : Generator) (p : Lined) (here : Here) (c : CountedClass) (s : Spot) → ((f : Final) (here : Here) (t : Site) → Around f g → IsLocated f g here t → IsSpot f t (ToCount c) s) → Generates g g p p here (λ f t (u : Unit {0}). GoodPlace (ToCount c) t.scope) (λ t u. []) (λ f t u. IsSpot f t (ToCount c) s)
 count_spotted g p here c s h = record {
   grows = grows_same g;
   adds = λ f t u around located good. adds_none f p;
   more = λ f t u around located good. h f here t around located;
 }
 
-pub attribute_spotted : (old new : Generator) (p q : Lined) (here : Here) (c : Site → List Placed) (class field : ℕ) (e : Expression) (s : AttributeSpot) → MakesAttribute old new p q here c class field e s → Makes old new p q here (λ f t (u : Unit {0}). GoodPlace (ToAttribute class field e) t.scope) (λ t u. c t) (λ f t u. IsSpot f t (ToAttribute class field e) (spots.Attribute s))
+pub attribute_spotted : (old new : Generator) (p q : Lined) (here : Here) (c : Site → List Placed) (class field : ℕ) (e : Expression) (s : AttributeSpot) → MakesAttribute old new p q here c class field e s → Generates old new p q here (λ f t (u : Unit {0}). GoodPlace (ToAttribute class field e) t.scope) (λ t u. c t) (λ f t u. IsSpot f t (ToAttribute class field e) (spots.Attribute s))
 attribute_spotted old new p q here c class field e s m = record {
   grows = m.grows;
   adds = λ f t u around located good. m.adds f t tt around located good.1.1;
@@ -98,7 +98,7 @@ attribute_spotted old new p q here c class field e s m = record {
 -- ## What an operand is given to
 
 module _ (g : Generator) (p q : Lined) (here : Here) (from : Address) where
-  pub gives_for : (IsIt Other : Final → Site → Place → Type 0) → ((f : Final) (t : Site) (x : Place) → Other f t x → IsIt f t x) → Gives g p q here from IsIt → Gives g p q here from Other
+  pub gives_for : (IsIt Other : Final → Site → Place → Type 0) → ((f : Final) (t : Site) (x : Place) → Other f t x → IsIt f t x) → Assigns g p q here from IsIt → Assigns g p q here from Other
   gives_for IsIt Other so m = record {
     grows = m.grows;
     adds = λ f u x around located fits. m.adds f u x around located (so f x.resolved x.place fits.0, fits.1, fits.2, fits.3, fits.4);
@@ -106,59 +106,59 @@ module _ (g : Generator) (p q : Lined) (here : Here) (from : Address) where
   }
 
   -- and another one
-  moved_at_place : (s : VariableSpot) → s.watched ≡ None → q.instructions ≡ p.instructions ++ moving s.mode from s.address ∷ [] → q.lines ≡ p.lines ++ here.line ∷ [] → (f : Final) (t u : Site) (y : Operand) (x : Place) (m : Mode) → IsPlaceOf t x s → t.scope ≡ u.scope → AtOperand f u y from → HoldsMode u.scope x m → mode_here (code_of f.program) f.constants (place u Leave) y ≡ Some m → IsLocated f g here u → Adds f p q (assigned_code t u x y)
-  moved_at_place s watched is ls f t u y (ToVariable x) m v same at holds mode located =
-      let same_mode : m ≡ s.mode = sym (v.mode ∙ ap (λ (k : Scope). or_integer (mode_at k x)) same ∙ ap or_integer holds) in
-      adds_one f p q here.line (place u (assignment u x y)) (moving s.mode from s.address) is ls located.line (move_runs f t u x y s from v watched same at (mode ∙ ap Some same_mode) located.deep)
-  moved_at_place s watched is ls f t u y (ToAttribute class field e) m v same at holds mode located = absurd v
-  moved_at_place s watched is ls f t u y (ToCount c) m v same at holds mode located = absurd v
+  moved_at_place : (s : VariableSpot) → s.watched ≡ None → q ≡ p ++ on_line here.line (moving s.mode from s.address) ∷ [] → (f : Final) (t u : Site) (y : Operand) (x : Place) (m : Mode) → IsPlaceOf t x s → t.scope ≡ u.scope → AtOperand f u y from → HoldsMode u.scope x m → mode_here (code_of f.program) f.constants (place u Leave) y ≡ Some m → IsLocated f g here u → Adds f p q (assigned_code t u x y)
+  moved_at_place s watched is f t u y (ToVariable x) m v same at holds mode located =
+      let same_mode : m ≡ s.mode = sym (v.mode ∙ ap (λ (k : TypedScope). or_integer (mode_at k x)) same ∙ ap or_integer holds) in
+      adds_one f p q here.line (place u (assignment u x y)) (moving s.mode from s.address) is located.line (move_runs f t u x y s from v watched same at (mode ∙ ap Some same_mode) located.deep)
+  moved_at_place s watched is f t u y (ToAttribute class field e) m v same at holds mode located = absurd v
+  moved_at_place s watched is f t u y (ToCount c) m v same at holds mode located = absurd v
 
-  pub moved_given : (s : VariableSpot) → s.watched ≡ None → q.instructions ≡ p.instructions ++ moving s.mode from s.address ∷ [] → q.lines ≡ p.lines ++ here.line ∷ [] → Gives g p q here from (λ f t x. IsPlaceOf t x s)
-  moved_given s watched is ls = record {
+  pub moved_given : (s : VariableSpot) → s.watched ≡ None → q ≡ p ++ on_line here.line (moving s.mode from s.address) ∷ [] → Assigns g p q here from (λ f t x. IsPlaceOf t x s)
+  moved_given s watched is = record {
     grows = grows_same g;
-    adds = λ f u x around located fits. moved_at_place s watched is ls f x.resolved u x.from x.place x.mode fits.0 fits.1 fits.2 fits.3 fits.4 located;
+    adds = λ f u x around located fits. moved_at_place s watched is f x.resolved u x.from x.place x.mode fits.0 fits.1 fits.2 fits.3 fits.4 located;
     more = λ f u x around located fits. tt;
   }
 
 -- what goes to an attribute that was found
-pub stored : (f : Final) (p q : Lined) (l : Line) (from : Address) (s : AttributeSpot) → q.instructions ≡ p.instructions ++ storing s.mode s.class s.field s.entity from s.is_watched ∷ [] → q.lines ≡ p.lines ++ l ∷ [] → (g : Generator) → Around f g → (t u : Site) (class field : ℕ) (e : Expression) (z y : Operand) (m : Mode) → IsAttribute f t class field e s → t.scope ≡ u.scope → AtOperand f u z s.entity → AtOperand f u y from → field_mode u.scope.program class field ≡ Some m → u.line ≡ l → u.scope.program ≡ f.program → height u ≤ f.depth → Adds f p q (place u (i.SetAttribute class field z y) ∷ [])
-stored f p q l from s is ls g around t u class field e z y m v same entity at holds line program deep =
-    let mine : t.scope.program ≡ f.program = ap (λ (k : Scope). k.program) same ∙ program in
+pub stored : (f : Final) (p q : Lined) (l : Line) (from : Address) (s : AttributeSpot) → q ≡ p ++ on_line l (storing s.mode s.class s.field s.entity from s.is_watched) ∷ [] → (g : Generator) → Around f g → (t u : Site) (class field : ℕ) (e : Expression) (z y : Operand) (m : Mode) → IsAttribute f t class field e s → t.scope ≡ u.scope → AtOperand f u z s.entity → AtOperand f u y from → field_mode u.scope.program class field ≡ Some m → u.line ≡ l → u.scope.program ≡ f.program → height u ≤ f.depth → Adds f p q (place u (i.SetAttribute class field z y) ∷ [])
+stored f p q l from s is g around t u class field e z y m v same entity at holds line program deep =
+    let mine : t.scope.program ≡ f.program = ap (λ (k : TypedScope). k.program) same ∙ program in
     let there : field_mode f.program class field ≡ Some m = ap (λ (k : Program). field_mode k class field) (sym program) ∙ holds in
     let mode : s.mode ≡ m = v.mode ∙ ap (λ (k : Program). or_integer (field_mode k class field)) mine ∙ ap or_integer there in
     let plain : m ≡ Alpha → watch f.program.statistics (OfAttribute class field) ≡ false = λ (w : m ≡ Alpha). text_unwatched f.program class field (there ∙ ap Some w) f.program.statistics around.typed.statistics in
     let ins : storing s.mode s.class s.field s.entity from s.is_watched ≡ storing m class field s.entity from s.is_watched =
     ap (λ (k : Mode). storing k s.class s.field s.entity from s.is_watched) mode ∙ ap (λ (k : ℕ). storing m k s.field s.entity from s.is_watched) v.class ∙ ap (λ (k : ℕ). storing m class k s.entity from s.is_watched) v.field in
-    adds_one f p q l (place u (i.SetAttribute class field z y)) (storing m class field s.entity from s.is_watched) (is ∙ ap (λ (k : Running). p.instructions ++ k ∷ []) ins) ls line
+    adds_one f p q l (place u (i.SetAttribute class field z y)) (storing m class field s.entity from s.is_watched) (is ∙ ap (λ (k : Running). p ++ on_line l k ∷ []) ins) line
     (store_runs f t u class field e s v same mine z y from m there plain entity at deep)
 
 module _ (g : Generator) (p q : Lined) (here : Here) (from : Address) where
-  stored_at_place : (s : AttributeSpot) → q.instructions ≡ p.instructions ++ storing s.mode s.class s.field s.entity from s.is_watched ∷ [] → q.lines ≡ p.lines ++ here.line ∷ [] → (f : Final) (t u : Site) (y : Operand) (x : Place) (m : Mode) → IsSpot f t x (spots.Attribute s) → t.scope ≡ u.scope → AtOperand f u y from → HoldsMode u.scope x m → Around f g → IsLocated f g here u → Adds f p q (assigned_code t u x y)
-  stored_at_place s is ls f t u y (ToVariable x) m v same at holds around located = absurd v
-  stored_at_place s is ls f t u y (ToAttribute class field e) m v same at holds around located =
-      stored f p q here.line from s is ls g around t u class field e (operand t e) y m v same (operand_at f t u (operand t e) s.entity (sym same) v.entity.at) at holds located.line located.program located.deep
-  stored_at_place s is ls f t u y (ToCount c) m v same at holds around located = absurd v
+  stored_at_place : (s : AttributeSpot) → q ≡ p ++ on_line here.line (storing s.mode s.class s.field s.entity from s.is_watched) ∷ [] → (f : Final) (t u : Site) (y : Operand) (x : Place) (m : Mode) → IsSpot f t x (spots.Attribute s) → t.scope ≡ u.scope → AtOperand f u y from → HoldsMode u.scope x m → Around f g → IsLocated f g here u → Adds f p q (assigned_code t u x y)
+  stored_at_place s is f t u y (ToVariable x) m v same at holds around located = absurd v
+  stored_at_place s is f t u y (ToAttribute class field e) m v same at holds around located =
+      stored f p q here.line from s is g around t u class field e (operand t e) y m v same (operand_at f t u (operand t e) s.entity (sym same) v.entity.at) at holds located.line located.program located.deep
+  stored_at_place s is f t u y (ToCount c) m v same at holds around located = absurd v
 
-  pub attribute_given : (s : AttributeSpot) → q.instructions ≡ p.instructions ++ storing s.mode s.class s.field s.entity from s.is_watched ∷ [] → q.lines ≡ p.lines ++ here.line ∷ [] → Gives g p q here from (λ f t x. IsSpot f t x (spots.Attribute s))
-  attribute_given s is ls = record {
+  pub attribute_given : (s : AttributeSpot) → q ≡ p ++ on_line here.line (storing s.mode s.class s.field s.entity from s.is_watched) ∷ [] → Assigns g p q here from (λ f t x. IsSpot f t x (spots.Attribute s))
+  attribute_given s is = record {
     grows = grows_same g;
-    adds = λ f u x around located fits. stored_at_place s is ls f x.resolved u x.from x.place x.mode fits.0 fits.1 fits.2 fits.3 around located;
+    adds = λ f u x around located fits. stored_at_place s is f x.resolved u x.from x.place x.mode fits.0 fits.1 fits.2 fits.3 around located;
     more = λ f u x around located fits. tt;
   }
 
 -- N. of a class: it is looked whether there are entities yet
-module _ (g : Generator) (p q v : Lined) (here : Here) (from : Address) (class : ℕ) (s : VariableSpot) (is : q.instructions ≡ p.instructions ++ r.LookCount class ∷ []) (ls : q.lines ≡ p.lines ++ here.line ∷ []) (m : Gives g q v here from (λ f t x. IsPlaceOf t x s)) where
+module _ (g : Generator) (p q v : Lined) (here : Here) (from : Address) (class : ℕ) (s : VariableSpot) (is : q ≡ p ++ on_line here.line (r.LookCount class) ∷ []) (m : Assigns g q v here from (λ f t x. IsPlaceOf t x s)) where
   counted_at_place : (f : Final) (t u : Site) (y : Operand) (x : Place) (k : Mode) → IsSpot f t x (spots.Count class s) → t.scope ≡ u.scope → AtOperand f u y from → HoldsMode u.scope x k → mode_here (code_of f.program) f.constants (place u Leave) y ≡ Some k → Around f g → IsLocated f g here u → Adds f p v (assigned_code t u x y)
   counted_at_place f t u y (ToVariable x) k h same at holds mode around located = absurd h
   counted_at_place f t u y (ToAttribute c field e) k h same at holds mode around located = absurd h
   counted_at_place f t u y (ToCount c) k h same at holds mode around located =
-      let it : Given = record { resolved = t; place = ToVariable (Global c.variable); from = y; mode = k } in
+      let it : Assignment = record { resolved = t; place = ToVariable (Global c.variable); from = y; mode = k } in
       let look : Instruction = i.LookCount c.class in
       adds_then f p q v (place u look ∷ []) (place u (assignment u (Global c.variable) y) ∷ [])
-      (adds_one f p q here.line (place u look) (r.LookCount class) is ls located.line (record { carries = ap i.LookCount (sym h.0); deep = located.deep; shown = tt }))
+      (adds_one f p q here.line (place u look) (r.LookCount class) is located.line (record { carries = ap i.LookCount (sym h.0); deep = located.deep; shown = tt }))
       (m.adds f u it around located (h.1, same, at, holds, mode))
 
-  pub count_given : Gives g p v here from (λ f t x. IsSpot f t x (spots.Count class s))
+  pub count_given : Assigns g p v here from (λ f t x. IsSpot f t x (spots.Count class s))
   count_given = record {
     grows = grows_same g;
     adds = λ f u x around located fits. counted_at_place f x.resolved u x.from x.place x.mode fits.0 fits.1 fits.2 fits.3 fits.4 around located;
@@ -173,7 +173,7 @@ ComesToCell (spots.Variable s) = (k : ℕ) × (s.watched ≡ Some k)
 ComesToCell (spots.Attribute s) = Unit {0}
 ComesToCell (spots.Count class s) = Unit {0}
 
-module _ (g : Generator) (p q : Lined) (here higher : Here) (from : Address) (s : Spot) (line : higher.line ≡ here.line) (up : here.height + 1 < 2 ^ 64 → higher.height ≡ here.height + 1) (m : Gives g p q higher from (λ f t x. IsSpot f t x s)) where
+module _ (g : Generator) (p q : Lined) (here higher : Here) (from : Address) (s : Spot) (line : higher.line ≡ here.line) (up : here.height + 1 < 2 ^ 64 → higher.height ≡ here.height + 1) (m : Assigns g p q higher from (λ f t x. IsSpot f t x s)) where
   -- one cell higher
   stands_higher : (f : Final) (u : Site) (k : Mode) → Around f g → IsLocated f g here u → height u < f.depth → IsLocated f g higher (above u k)
   stands_higher f u k around located low =
@@ -182,15 +182,15 @@ module _ (g : Generator) (p q : Lined) (here higher : Here) (from : Address) (s 
 
   given_higher : (f : Final) (t u : Site) (x : Place) (k : Mode) → IsSpot f t x s → t.scope ≡ u.scope → AtTarget f u (next u) from → height u < f.depth → HoldsMode u.scope x k → Around f g → IsLocated f g here u → Adds f p q (assigned_code t (above u k) x (Taken (height u)))
   given_higher f t u x k v same at low holds around located =
-      let it : Given = record { resolved = t; place = x; from = Taken (height u); mode = k } in
+      let it : Assignment = record { resolved = t; place = x; from = Taken (height u); mode = k } in
       m.adds f (above u k) it around (stands_higher f u k around located low) (v, same, at, holds, on_top (height u) k u.cells refl)
 
-taken_at_place : (g : Generator) (p q : Lined) (here higher : Here) (from : Address) (s : Spot) → higher.line ≡ here.line → (here.height + 1 < 2 ^ 64 → higher.height ≡ here.height + 1) → Gives g p q higher from (λ f t x. IsSpot f t x s) → ComesToCell s → (f : Final) (t u : Site) (x : Place) (k : Mode) → IsSpot f t x s → t.scope ≡ u.scope → AtTarget f u (landing u x) from → HasRoom f (landing u x) → HoldsMode u.scope x k → Around f g → IsLocated f g here u → Adds f p q (landed_code t u x k)
+taken_at_place : (g : Generator) (p q : Lined) (here higher : Here) (from : Address) (s : Spot) → higher.line ≡ here.line → (here.height + 1 < 2 ^ 64 → higher.height ≡ here.height + 1) → Assigns g p q higher from (λ f t x. IsSpot f t x s) → ComesToCell s → (f : Final) (t u : Site) (x : Place) (k : Mode) → IsSpot f t x s → t.scope ≡ u.scope → AtTarget f u (landing u x) from → HasTargetRoom f (landing u x) → HoldsMode u.scope x k → Around f g → IsLocated f g here u → Adds f p q (landed_code t u x k)
 taken_at_place g p q here higher from (spots.Variable s) line up m cell f t u (ToVariable x) k v same at room holds around located =
-    let w : (is_kept t x ≡ true) × (x ≡ Global cell.0) = subst (IsWatched (is_kept t x) x) cell.1 v.watched in
+    let w : (is_kept t x ≡ true) × (x ≡ Global cell.0) = subst (IsWatchedAs (is_kept t x) x) cell.1 v.watched in
     let kept : is_kept u x ≡ true = kept_at t u x true same w.0 in
     let lands : landing u (ToVariable x) ≡ next u = lands_kept t u x s cell.0 v cell.1 same in
-    let low : height u < f.depth = subst (HasRoom f) lands room in
+    let low : height u < f.depth = subst (HasTargetRoom f) lands room in
     let there : AtTarget f u (next u) from = subst (λ (y : Target). AtTarget f u y from) lands at in
     let integer : mode_at u.scope x ≡ Some Integer = kept_integer f.program around.typed u.scope located.program x kept in
     let h = given_higher g p q here higher from (spots.Variable s) line up m f t u (ToVariable x) Integer v same there low integer around located in
@@ -209,13 +209,13 @@ taken_at_place g p q here higher from (spots.Count class s) line up m cell f t u
 taken_at_place g p q here higher from (spots.Count class s) line up m cell f t u (ToCount c) k v same at room holds around located =
     given_higher g p q here higher from (spots.Count class s) line up m f t u (ToCount c) k v same at room holds around located
 
-pub taken : (g : Generator) (p q : Lined) (here higher : Here) (from : Address) (s : Spot) → higher.line ≡ here.line → (here.height + 1 < 2 ^ 64 → higher.height ≡ here.height + 1) → Gives g p q higher from (λ f t x. IsSpot f t x s) → ComesToCell s → Takes g p q here from (λ f t x. IsSpot f t x s)
+pub taken : (g : Generator) (p q : Lined) (here higher : Here) (from : Address) (s : Spot) → higher.line ≡ here.line → (here.height + 1 < 2 ^ 64 → higher.height ≡ here.height + 1) → Assigns g p q higher from (λ f t x. IsSpot f t x s) → ComesToCell s → AssignsLanded g p q here from (λ f t x. IsSpot f t x s)
 taken g p q here higher from s line up m cell = record {
   grows = grows_same g;
   adds = λ f u x around located fits. taken_at_place g p q here higher from s line up m cell f x.resolved u x.place x.mode fits.0 fits.1 fits.2 fits.3 fits.4 around located;
   more = λ f u x around located fits. tt;
 }
 
-pub count_spotted_ok : {E : Type 0} (g : Generator) (p : Lined) (here : Here) (c : CountedClass) (found : Result Spot E) → IfOk found (λ s. (f : Final) (here : Here) (t : Site) → Around f g → IsLocated f g here t → IsSpot f t (ToCount c) s) → IfOk found (λ s. Makes g g p p here (λ f t (u : Unit {0}). GoodPlace (ToCount c) t.scope) (λ t u. []) (λ f t u. IsSpot f t (ToCount c) s))
+pub count_spotted_ok : {E : Type 0} (g : Generator) (p : Lined) (here : Here) (c : CountedClass) (found : Result Spot E) → IfOk found (λ s. (f : Final) (here : Here) (t : Site) → Around f g → IsLocated f g here t → IsSpot f t (ToCount c) s) → IfOk found (λ s. Generates g g p p here (λ f t (u : Unit {0}). GoodPlace (ToCount c) t.scope) (λ t u. []) (λ f t u. IsSpot f t (ToCount c) s))
 count_spotted_ok g p here c (Ok s) h = count_spotted g p here c s h
 count_spotted_ok g p here c (Err e) h = tt

@@ -1,10 +1,10 @@
 -- What the generator emits for conditions.
-use Rattle.std.proofs.Common.{◌≡◌, ℕ, ◌+◌, ◌<◌, ◌^◌, Bool, List, [], ◌∷◌, ◌++◌, length, Option, Some, refl, sym, ap, ◌∙◌, subst, arith, append_assoc, append-nil, length-append}
+use Rattle.std.proofs.Common.{◌≡◌, ℕ, ◌+◌, ◌<◌, ◌^◌, Bool, List, [], ◌∷◌, ◌++◌, length, Option, Some, refl, sym, ap, ◌∙◌, subst, arith, append_assoc, length-append}
 use Rattle.ss_base.specs.declared.layout.Mode.{Mode}
 use Rattle.ss_base.specs.declared.words.Relation.{Relation}
 use Rattle.std.specs.List.{AllByRecursion as Every}
 use Rattle.ss_program.specs.Program.{Expression, SetOwner, TheSystem, Entity, Test, Compare, Empty, Condition, Guard, Phrase}
-use Rattle.ss_program.specs.WellTyped.{Scope, HasMode, OwnerFits, GoodTest, GoodCondition, GoodPhrase}
+use Rattle.ss_program.specs.WellTyped.{TypedScope, HasMode, OwnerFits, GoodTest, GoodCondition, GoodPhrase}
 use Rattle.ss_code_instructions.specs.declared.instruction.Instruction.TheVariants as r
 use Rattle.ss_code_instructions.specs.Instructions.{Instruction, Placed}
 use Rattle.ss_code_instructions.specs.Instructions as i
@@ -13,24 +13,24 @@ use Rattle.ss_code_instructions.specs.Translation.{Site, place, operand, operand
 use Rattle.ss_code_generator.specs.declared.expressions.Operand.{Operand as Read}
 use Rattle.ss_code_generator.specs.declared.generator.Generator.{Generator}
 use Rattle.ss_code_generator.specs.declared.generator.Site.{Site as Here}
-use Rattle.ss_code_pieces.specs.Lined.{Lined, nothing}
+use Rattle.ss_code_pieces.specs.Lined.{Lined, no_code, on_line}
 use Rattle.ss_code_instructions.specs.Forms.{comparing}
-use Rattle.ss_code_generator.specs.Emitted.{Final, Around, IsLocated, Emits, EmitsAround, Typed, AreNumbers, Reads, Bears}
-use Rattle.ss_code_generator.proofs.Emitting.{around_old, grows_then, stands_old, adds_then, adds_one, adds_apart, adds_same, piece_long}
+use Rattle.ss_code_generator.specs.Emitted.{Final, Around, IsLocated, Emits, EmitsAround, Typed, AreNumbers, ReadsOperand, Bears}
+use Rattle.ss_code_generator.proofs.Emitting.{around_old, grows_same, grows_then, stands_old, adds_then, adds_one, adds_apart, adds_same, piece_long}
 use Rattle.ss_code_generator.proofs.Forms as forms
 use Rattle.ss_code_generator.proofs.Modes.{operand_mode, mode_after}
 use Rattle.ss_code_generator.proofs.Operands.{read_stands}
 
 -- the owner of a set is a number
-pub owner_number : (s : Scope) (set : ℕ) (o : SetOwner) → OwnerFits s set o → AreNumbers (expression_of o) s
+pub owner_number : (s : TypedScope) (set : ℕ) (o : SetOwner) → OwnerFits s set o → AreNumbers (expression_of o) s
 owner_number s set TheSystem h = tt
 owner_number s set (Entity e) h = h.1
 
 -- ## Tests
 
 -- two values are compared
-pub compared : (old mid new : Generator) (p q s v : Lined) (here higher : Here) (skip : ℕ) (relation : Relation) (a b : Expression) (left right : Read) (m : Mode) → Reads old mid p q here a left → higher.line ≡ here.line → (here.height + left.cells < 2 ^ 64 → higher.height ≡ here.height + left.cells) → Reads mid new q s higher b right → ((f : Final) (t : Site) (n : Mode) → Around f new → IsLocated f new here t → HasMode t.scope a n → n ≡ m) → v.instructions ≡ s.instructions ++ comparing m relation left.address right.address skip ∷ [] → v.lines ≡ s.lines ++ here.line ∷ [] → Emits old new p v here (λ k. GoodTest k (Compare relation a b)) (λ t. test_code t skip (Compare relation a b))
-compared old mid new p q s v here higher skip relation a b left right m ra line above rb mode is ls = record {
+pub compared : (old mid new : Generator) (p q s v : Lined) (here higher : Here) (skip : ℕ) (relation : Relation) (a b : Expression) (left right : Read) (m : Mode) → ReadsOperand old mid p q here a left → higher.line ≡ here.line → (here.height + left.cells < 2 ^ 64 → higher.height ≡ here.height + left.cells) → ReadsOperand mid new q s higher b right → ((f : Final) (t : Site) (n : Mode) → Around f new → IsLocated f new here t → HasMode t.scope a n → n ≡ m) → v ≡ s ++ on_line here.line (comparing m relation left.address right.address skip) ∷ [] → Emits old new p v here (λ k. GoodTest k (Compare relation a b)) (λ t. test_code t skip (Compare relation a b))
+compared old mid new p q s v here higher skip relation a b left right m ra line above rb mode is = record {
   grows = grows_then old mid new ra.grows rb.grows;
   adds = λ f t u around located good.
       let n : Mode = good.0 in
@@ -50,13 +50,13 @@ compared old mid new p q s v here higher skip relation a b left right m ra line 
       let c = forms.compares (code_of f.program) f.constants (place t2 ins) m relation left.address right.address skip (operand t a, read_a.at, (operand t1 b, read_b.at, (mode_a, mode_b, refl))) in
       adds_then f p q v (operand_code t a) (operand_code t1 b ++ place t2 ins ∷ []) (ra.adds f t tt mine there typed_a)
       (adds_then f q s v (operand_code t1 b) (place t2 ins ∷ []) (rb.adds f t1 tt around above_a typed_b)
-      (adds_one f s v here.line (place t2 ins) (comparing m relation left.address right.address skip) is ls located.line (record { carries = c; deep = read_b.deep; shown = tt })));
+      (adds_one f s v here.line (place t2 ins) (comparing m relation left.address right.address skip) is located.line (record { carries = c; deep = read_b.deep; shown = tt })));
   more = λ f t u around located good. tt;
 }
 
 -- whether a set has no member
-pub emptiness_tested : (old new : Generator) (p q v : Lined) (here : Here) (skip : ℕ) (negated : Bool) (set : ℕ) (o : SetOwner) (owner : Read) → Bears old new p q here (expression_of o) owner → v.instructions ≡ q.instructions ++ r.UnlessEmpty set owner.address skip negated ∷ [] → v.lines ≡ q.lines ++ here.line ∷ [] → Emits old new p v here (λ k. GoodTest k (Empty negated set o)) (λ t. test_code t skip (Empty negated set o))
-emptiness_tested old new p q v here skip negated set o owner m is ls = record {
+pub emptiness_tested : (old new : Generator) (p q v : Lined) (here : Here) (skip : ℕ) (negated : Bool) (set : ℕ) (o : SetOwner) (owner : Read) → Bears old new p q here (expression_of o) owner → v ≡ q ++ on_line here.line (r.UnlessEmpty set owner.address skip negated) ∷ [] → Emits old new p v here (λ k. GoodTest k (Empty negated set o)) (λ t. test_code t skip (Empty negated set o))
+emptiness_tested old new p q v here skip negated set o owner m is = record {
   grows = m.grows;
   adds = λ f t u around located good.
       let e : Option Expression = expression_of o in
@@ -64,47 +64,47 @@ emptiness_tested old new p q v here skip negated set o owner m is ls = record {
       let read = m.more f t tt around located number in
       let ins : Instruction = i.UnlessEmpty negated set (bearer t e) skip in
       adds_then f p q v (bearer_code t e) (place (after_bearer t e) ins ∷ []) (m.adds f t tt around located number)
-      (adds_one f q v here.line (place (after_bearer t e) ins) (r.UnlessEmpty set owner.address skip negated) is ls located.line (record { carries = (bearer t e, read.at, refl); deep = read.deep; shown = tt }));
+      (adds_one f q v here.line (place (after_bearer t e) ins) (r.UnlessEmpty set owner.address skip negated) is located.line (record { carries = (bearer t e, read.at, refl); deep = read.deep; shown = tt }));
   more = λ f t u around located good. tt;
 }
 
 -- ## Pieces that are made from the end
 
 -- A piece comes before another one, by whose length it may go. The first is made last
-pub before_made : (old mid new : Generator) (front back whole : Lined) (here : Here) (Front Back : Scope → Type 0) (c : ℕ → Site → List Placed) (d : Site → List Placed) (past : ℕ) → Emits old mid nothing back here Back d → Emits mid new nothing front here Front (c past) → whole.instructions ≡ front.instructions ++ back.instructions → whole.lines ≡ front.lines ++ back.lines → (more : ℕ) → past ≡ length back.instructions + more → Emits old new nothing whole here (λ k. Front k × Back k) (λ t. c (length (d t) + more) t ++ d t)
-before_made old mid new front back whole here Front Back c d past m n is ls more same = record {
+pub before_made : (old mid new : Generator) (front back whole : Lined) (here : Here) (Front Back : TypedScope → Type 0) (c : ℕ → Site → List Placed) (d : Site → List Placed) (past : ℕ) → Emits old mid no_code back here Back d → Emits mid new no_code front here Front (c past) → whole ≡ front ++ back → (more : ℕ) → past ≡ length back + more → Emits old new no_code whole here (λ k. Front k × Back k) (λ t. c (length (d t) + more) t ++ d t)
+before_made old mid new front back whole here Front Back c d past m n is more same = record {
   grows = grows_then old mid new m.grows n.grows;
   adds = λ f t u around located good.
       let h = m.adds f t tt (around_old f mid new n.grows around) (stands_old f mid new here t n.grows located) good.1 in
       let k = n.adds f t tt around located good.0 in
       let long : past ≡ length (d t) + more = same ∙ ap (λ j. j + more) (piece_long f back (d t) h) in
-      adds_apart f front back whole (c (length (d t) + more) t) (d t) is ls (adds_same f nothing front (c past t) (c (length (d t) + more) t) (ap (λ j. c j t) long) k) h;
+      adds_apart f front back whole (c (length (d t) + more) t) (d t) is (adds_same f no_code front (c past t) (c (length (d t) + more) t) (ap (λ j. c j t) long) k) h;
   more = λ f t u around located good. tt;
 }
 
 -- a piece comes before another one, around which code is made, by whose length it may go
-pub before_around : (old mid new : Generator) (front back whole inner : Lined) (here : Here) (Front Back : Scope → Type 0) (c : ℕ → Site → List Placed) (d : Site → List Placed → List Placed) (past : ℕ) → EmitsAround old mid nothing back here inner Back d → Emits mid new nothing front here Front (c past) → whole.instructions ≡ front.instructions ++ back.instructions → whole.lines ≡ front.lines ++ back.lines → (more : ℕ) → past ≡ length back.instructions + more → EmitsAround old new nothing whole here inner (λ k. Front k × Back k) (λ t b. c (length (d t b) + more) t ++ d t b)
-before_around old mid new front back whole inner here Front Back c d past m n is ls more same = record {
+pub before_around : (old mid new : Generator) (front back whole inner : Lined) (here : Here) (Front Back : TypedScope → Type 0) (c : ℕ → Site → List Placed) (d : Site → List Placed → List Placed) (past : ℕ) → EmitsAround old mid no_code back here inner Back d → Emits mid new no_code front here Front (c past) → whole ≡ front ++ back → (more : ℕ) → past ≡ length back + more → EmitsAround old new no_code whole here inner (λ k. Front k × Back k) (λ t b. c (length (d t b) + more) t ++ d t b)
+before_around old mid new front back whole inner here Front Back c d past m n is more same = record {
   grows = grows_then old mid new m.grows n.grows;
   adds = λ f t b around located fits.
       let h = m.adds f t b (around_old f mid new n.grows around) (stands_old f mid new here t n.grows located) (fits.0, fits.1.1) in
       let k = n.adds f t tt around located fits.1.0 in
       let long : past ≡ length (d t b) + more = same ∙ ap (λ j. j + more) (piece_long f back (d t b) h) in
-      adds_apart f front back whole (c (length (d t b) + more) t) (d t b) is ls (adds_same f nothing front (c past t) (c (length (d t b) + more) t) (ap (λ j. c j t) long) k) h;
+      adds_apart f front back whole (c (length (d t b) + more) t) (d t b) is (adds_same f no_code front (c past t) (c (length (d t b) + more) t) (ap (λ j. c j t) long) k) h;
   more = λ f t b around located fits. tt;
 }
 
 -- one piece after another, of two that were made apart
-pub then_made : (old mid new : Generator) (front back whole : Lined) (here : Here) (Front Back : Scope → Type 0) (c d : Site → List Placed) → Emits old mid nothing front here Front c → Emits mid new nothing back here Back d → whole.instructions ≡ front.instructions ++ back.instructions → whole.lines ≡ front.lines ++ back.lines → Emits old new nothing whole here (λ k. Front k × Back k) (λ t. c t ++ d t)
-then_made old mid new front back whole here Front Back c d m n is ls = record {
+pub then_made : (old mid new : Generator) (front back whole : Lined) (here : Here) (Front Back : TypedScope → Type 0) (c d : Site → List Placed) → Emits old mid no_code front here Front c → Emits mid new no_code back here Back d → whole ≡ front ++ back → Emits old new no_code whole here (λ k. Front k × Back k) (λ t. c t ++ d t)
+then_made old mid new front back whole here Front Back c d m n is = record {
   grows = grows_then old mid new m.grows n.grows;
   adds = λ f t u around located good.
-      adds_apart f front back whole (c t) (d t) is ls (m.adds f t tt (around_old f mid new n.grows around) (stands_old f mid new here t n.grows located) good.0) (n.adds f t tt around located good.1);
+      adds_apart f front back whole (c t) (d t) is (m.adds f t tt (around_old f mid new n.grows around) (stands_old f mid new here t n.grows located) good.0) (n.adds f t tt around located good.1);
   more = λ f t u around located good. tt;
 }
 
 -- what was made, for another code that is the same at each site at which the generator may be, where other things are well typed
-pub emits_where : (old new : Generator) (p q : Lined) (here : Here) (Good Other : Scope → Type 0) (c d : Site → List Placed) → ((k : Scope) → Other k → Good k) → ((f : Final) (t : Site) → Around f new → IsLocated f new here t → c t ≡ d t) → Emits old new p q here Good c → Emits old new p q here Other d
+pub emits_where : (old new : Generator) (p q : Lined) (here : Here) (Good Other : TypedScope → Type 0) (c d : Site → List Placed) → ((k : TypedScope) → Other k → Good k) → ((f : Final) (t : Site) → Around f new → IsLocated f new here t → c t ≡ d t) → Emits old new p q here Good c → Emits old new p q here Other d
 emits_where old new p q here Good Other c d good same m = record {
   grows = m.grows;
   adds = λ f t u around located other. adds_same f p q (c t) (d t) (same f t around located) (m.adds f t u around located (good t.scope other));
@@ -112,7 +112,7 @@ emits_where old new p q here Good Other c d good same m = record {
 }
 
 -- and around a piece
-pub around_for : (old new : Generator) (p q inner : Lined) (here : Here) (Good Other : Scope → Type 0) (c d : Site → List Placed → List Placed) → ((k : Scope) → Other k → Good k) → ((t : Site) (b : List Placed) → c t b ≡ d t b) → EmitsAround old new p q here inner Good c → EmitsAround old new p q here inner Other d
+pub around_for : (old new : Generator) (p q inner : Lined) (here : Here) (Good Other : TypedScope → Type 0) (c d : Site → List Placed → List Placed) → ((k : TypedScope) → Other k → Good k) → ((t : Site) (b : List Placed) → c t b ≡ d t b) → EmitsAround old new p q here inner Good c → EmitsAround old new p q here inner Other d
 around_for old new p q inner here Good Other c d so same m = record {
   grows = m.grows;
   adds = λ f t b around located fits. adds_same f p q (c t b) (d t b) (same t b) (m.adds f t b around located (fits.0, so t.scope fits.1));
@@ -130,48 +130,53 @@ guards_more t more g gs b =
 
 -- ## One thing more, before those that follow
 
-pub tests_step : (old mid new : Generator) (rest front whole : Lined) (here : Here) (skip past : ℕ) (x : Test) (xs : List Test) → Emits old mid nothing rest here (λ s. Every (GoodTest s) xs) (λ t. tests_code t skip xs) → Emits mid new nothing front here (λ s. GoodTest s x) (λ t. test_code t past x) → past ≡ length rest.instructions + skip → whole.instructions ≡ front.instructions ++ rest.instructions → whole.lines ≡ front.lines ++ rest.lines → Emits old new nothing whole here (λ s. Every (GoodTest s) (x ∷ xs)) (λ t. tests_code t skip (x ∷ xs))
-tests_step old mid new rest front whole here skip past x xs m n long is ls =
-    before_made old mid new front rest whole here (λ s. GoodTest s x) (λ s. Every (GoodTest s) xs) (λ k t. test_code t k x) (λ t. tests_code t skip xs) past m n is ls skip long
+pub tests_step : (old mid new : Generator) (rest front whole : Lined) (here : Here) (skip past : ℕ) (x : Test) (xs : List Test) → Emits old mid no_code rest here (λ s. Every (GoodTest s) xs) (λ t. tests_code t skip xs) → Emits mid new no_code front here (λ s. GoodTest s x) (λ t. test_code t past x) → past ≡ length rest + skip → whole ≡ front ++ rest → Emits old new no_code whole here (λ s. Every (GoodTest s) (x ∷ xs)) (λ t. tests_code t skip (x ∷ xs))
+tests_step old mid new rest front whole here skip past x xs m n long is =
+    before_made old mid new front rest whole here (λ s. GoodTest s x) (λ s. Every (GoodTest s) xs) (λ k t. test_code t k x) (λ t. tests_code t skip xs) past m n is skip long
 
-pub alternatives_step : (old mid new : Generator) (rest front jump both whole : Lined) (here : Here) (skip past : ℕ) (xs ys : List Test) (others : List (List Test)) → Emits old mid nothing rest here (λ s. GoodCondition s (ys ∷ others)) (λ t. condition_code t skip (ys ∷ others)) → Emits mid new nothing front here (λ s. Every (GoodTest s) xs) (λ t. tests_code t 1 xs) → Emits new new nothing jump here (λ s. Unit {0}) (λ t. place t (i.Jump past) ∷ []) → past ≡ length rest.instructions → both.instructions ≡ front.instructions ++ jump.instructions → both.lines ≡ front.lines ++ jump.lines → whole.instructions ≡ both.instructions ++ rest.instructions → whole.lines ≡ both.lines ++ rest.lines → Emits old new nothing whole here (λ s. GoodCondition s (xs ∷ (ys ∷ others))) (λ t. condition_code t skip (xs ∷ (ys ∷ others)))
-alternatives_step old mid new rest front jump both whole here skip past xs ys others m n j long both_is both_ls is ls =
+-- a jump, as a piece
+jumps : (g : Generator) (here : Here) (skip : ℕ) → Emits g g no_code (on_line here.line (r.Jump skip) ∷ []) here (λ s. Unit {0}) (λ t. place t (i.Jump skip) ∷ [])
+jumps g here skip = record {
+  grows = grows_same g;
+  adds = λ f t u around located good.
+      adds_one f no_code (on_line here.line (r.Jump skip) ∷ []) here.line (place t (i.Jump skip)) (r.Jump skip) refl located.line (record { carries = refl; deep = located.deep; shown = tt });
+  more = λ f t u around located good. tt;
+}
+
+pub alternatives_step : (old mid new : Generator) (rest front both whole : Lined) (here : Here) (skip past : ℕ) (xs ys : List Test) (others : List (List Test)) → Emits old mid no_code rest here (λ s. GoodCondition s (ys ∷ others)) (λ t. condition_code t skip (ys ∷ others)) → Emits mid new no_code front here (λ s. Every (GoodTest s) xs) (λ t. tests_code t 1 xs) → past ≡ length rest → both ≡ front ++ on_line here.line (r.Jump past) ∷ [] → whole ≡ both ++ rest → Emits old new no_code whole here (λ s. GoodCondition s (xs ∷ (ys ∷ others))) (λ t. condition_code t skip (xs ∷ (ys ∷ others)))
+alternatives_step old mid new rest front both whole here skip past xs ys others m n long both_is is =
     let code : Site → List Placed = λ (t : Site). condition_code t skip (ys ∷ others) in
     let first : ℕ → Site → List Placed = λ (k : ℕ) (t : Site). tests_code t 1 xs ++ place t (i.Jump k) ∷ [] in
     let plus : (k : ℕ) → k + 0 ≡ k = λ (k : ℕ). omega arith in
-    let past_is : past ≡ length rest.instructions + 0 = long ∙ sym (plus (length rest.instructions)) in
-    let two = then_made mid new new front jump both here (λ s. Every (GoodTest s) xs) (λ s. Unit {0}) (λ t. tests_code t 1 xs) (λ t. place t (i.Jump past) ∷ []) n j both_is both_ls in
-    let all = before_made old mid new both rest whole here (λ s. Every (GoodTest s) xs × Unit {0}) (λ s. GoodCondition s (ys ∷ others)) first code past m two is ls 0 past_is in
-    emits_where old new nothing whole here (λ s. (Every (GoodTest s) xs × Unit {0}) × GoodCondition s (ys ∷ others)) (λ s. GoodCondition s (xs ∷ (ys ∷ others))) (λ t. first (length (code t) + 0) t ++ code t) (λ t. condition_code t skip (xs ∷ (ys ∷ others))) (λ s h. ((h.0, tt), h.1))
+    let past_is : past ≡ length rest + 0 = long ∙ sym (plus (length rest)) in
+    let two = then_made mid new new front (on_line here.line (r.Jump past) ∷ []) both here (λ s. Every (GoodTest s) xs) (λ s. Unit {0}) (λ t. tests_code t 1 xs) (λ t. place t (i.Jump past) ∷ []) n (jumps new here past) both_is in
+    let all = before_made old mid new both rest whole here (λ s. Every (GoodTest s) xs × Unit {0}) (λ s. GoodCondition s (ys ∷ others)) first code past m two is 0 past_is in
+    emits_where old new no_code whole here (λ s. (Every (GoodTest s) xs × Unit {0}) × GoodCondition s (ys ∷ others)) (λ s. GoodCondition s (xs ∷ (ys ∷ others))) (λ t. first (length (code t) + 0) t ++ code t) (λ t. condition_code t skip (xs ∷ (ys ∷ others))) (λ s h. ((h.0, tt), h.1))
     (λ f t around located. ap (λ (k : ℕ). first k t ++ code t) (plus (length (code t))) ∙ append_assoc (tests_code t 1 xs) (place t (i.Jump (length (code t))) ∷ []) (code t)) all
 
-pub negated_made : (old new : Generator) (front jump whole : Lined) (here : Here) (skip : ℕ) (c : Condition) → Emits old new nothing front here (λ s. GoodCondition s c) (λ t. condition_code t 1 c) → Emits new new nothing jump here (λ s. Unit {0}) (λ t. place t (i.Jump skip) ∷ []) → whole.instructions ≡ front.instructions ++ jump.instructions → whole.lines ≡ front.lines ++ jump.lines → Emits old new nothing whole here (λ s. GoodCondition s c) (λ t. negated_code t skip c)
-negated_made old new front jump whole here skip c m j is ls =
-    let both = then_made old new new front jump whole here (λ s. GoodCondition s c) (λ s. Unit {0}) (λ t. condition_code t 1 c) (λ t. place t (i.Jump skip) ∷ []) m j is ls in
-    emits_where old new nothing whole here (λ s. GoodCondition s c × Unit {0}) (λ s. GoodCondition s c) (λ t. negated_code t skip c) (λ t. negated_code t skip c) (λ s h. (h, tt)) (λ f t around located. refl) both
+pub negated_made : (old new : Generator) (front whole : Lined) (here : Here) (skip : ℕ) (c : Condition) → Emits old new no_code front here (λ s. GoodCondition s c) (λ t. condition_code t 1 c) → whole ≡ front ++ on_line here.line (r.Jump skip) ∷ [] → Emits old new no_code whole here (λ s. GoodCondition s c) (λ t. negated_code t skip c)
+negated_made old new front whole here skip c m is =
+    let both = then_made old new new front (on_line here.line (r.Jump skip) ∷ []) whole here (λ s. GoodCondition s c) (λ s. Unit {0}) (λ t. condition_code t 1 c) (λ t. place t (i.Jump skip) ∷ []) m (jumps new here skip) is in
+    emits_where old new no_code whole here (λ s. GoodCondition s c × Unit {0}) (λ s. GoodCondition s c) (λ t. negated_code t skip c) (λ t. negated_code t skip c) (λ s h. (h, tt)) (λ f t around located. refl) both
 
-pub guards_step : (old mid new : Generator) (rest front whole inner : Lined) (here : Here) (more past : ℕ) (g : Guard) (gs : List Guard) → EmitsAround old mid nothing rest here inner (λ s. Every (λ g. GoodCondition s g.condition) gs) (λ t b. guards_code t (length b + more) gs ++ b) → Emits mid new nothing front here (λ s. GoodCondition s g.condition) (λ t. guard_code t past g.kind g.condition) → past ≡ length rest.instructions + more → whole.instructions ≡ front.instructions ++ rest.instructions → whole.lines ≡ front.lines ++ rest.lines → EmitsAround old new nothing whole here inner (λ s. Every (λ g. GoodCondition s g.condition) (g ∷ gs)) (λ t b. guards_code t (length b + more) (g ∷ gs) ++ b)
-guards_step old mid new rest front whole inner here more past g gs m n long is ls =
+pub guards_step : (old mid new : Generator) (rest front whole inner : Lined) (here : Here) (more past : ℕ) (g : Guard) (gs : List Guard) → EmitsAround old mid no_code rest here inner (λ s. Every (λ g. GoodCondition s g.condition) gs) (λ t b. guards_code t (length b + more) gs ++ b) → Emits mid new no_code front here (λ s. GoodCondition s g.condition) (λ t. guard_code t past g.kind g.condition) → past ≡ length rest + more → whole ≡ front ++ rest → EmitsAround old new no_code whole here inner (λ s. Every (λ g. GoodCondition s g.condition) (g ∷ gs)) (λ t b. guards_code t (length b + more) (g ∷ gs) ++ b)
+guards_step old mid new rest front whole inner here more past g gs m n long is =
     let code : Site → List Placed → List Placed = λ (t : Site) (b : List Placed). guards_code t (length b + more) gs ++ b in
     let first : ℕ → Site → List Placed = λ (k : ℕ) (t : Site). guard_code t k g.kind g.condition in
-    let all = before_around old mid new front rest whole inner here (λ s. GoodCondition s g.condition) (λ s. Every (λ g. GoodCondition s g.condition) gs) first code past m n is ls more long in
-    around_for old new nothing whole inner here (λ s. GoodCondition s g.condition × Every (λ g. GoodCondition s g.condition) gs) (λ s. Every (λ g. GoodCondition s g.condition) (g ∷ gs)) (λ t b. first (length (code t b) + more) t ++ code t b) (λ t b. guards_code t (length b + more) (g ∷ gs) ++ b) (λ s h. h) (λ t b. guards_more t more g gs b) all
+    let all = before_around old mid new front rest whole inner here (λ s. GoodCondition s g.condition) (λ s. Every (λ g. GoodCondition s g.condition) gs) first code past m n is more long in
+    around_for old new no_code whole inner here (λ s. GoodCondition s g.condition × Every (λ g. GoodCondition s g.condition) gs) (λ s. Every (λ g. GoodCondition s g.condition) (g ∷ gs)) (λ t b. first (length (code t b) + more) t ++ code t b) (λ t b. guards_code t (length b + more) (g ∷ gs) ++ b) (λ s h. h) (λ t b. guards_more t more g gs b) all
 
-pub phrases_step : (old mid new : Generator) (rest front whole inner : Lined) (here : Here) (past : ℕ) (x : Phrase) (xs : List Phrase) → EmitsAround old mid nothing rest here inner (λ s. Every (GoodPhrase s) xs) (λ t b. phrases_code t xs b) → Emits mid new nothing front here (λ s. GoodCondition s x.condition) (λ t. phrase_code t past x.kind x.condition) → past ≡ length rest.instructions → whole.instructions ≡ front.instructions ++ rest.instructions → whole.lines ≡ front.lines ++ rest.lines → EmitsAround old new nothing whole here inner (λ s. Every (GoodPhrase s) (x ∷ xs)) (λ t b. phrases_code t (x ∷ xs) b)
-phrases_step old mid new rest front whole inner here past x xs m n long is ls =
+pub phrases_step : (old mid new : Generator) (rest front whole inner : Lined) (here : Here) (past : ℕ) (x : Phrase) (xs : List Phrase) → EmitsAround old mid no_code rest here inner (λ s. Every (GoodPhrase s) xs) (λ t b. phrases_code t xs b) → Emits mid new no_code front here (λ s. GoodCondition s x.condition) (λ t. phrase_code t past x.kind x.condition) → past ≡ length rest → whole ≡ front ++ rest → EmitsAround old new no_code whole here inner (λ s. Every (GoodPhrase s) (x ∷ xs)) (λ t b. phrases_code t (x ∷ xs) b)
+phrases_step old mid new rest front whole inner here past x xs m n long is =
     let code : Site → List Placed → List Placed = λ (t : Site) (b : List Placed). phrases_code t xs b in
     let first : ℕ → Site → List Placed = λ (k : ℕ) (t : Site). phrase_code t k x.kind x.condition in
     let plus : (k : ℕ) → k + 0 ≡ k = λ (k : ℕ). omega arith in
-    let all = before_around old mid new front rest whole inner here (λ s. GoodCondition s x.condition) (λ s. Every (GoodPhrase s) xs) first code past m n is ls 0 (long ∙ sym (plus (length rest.instructions))) in
-    around_for old new nothing whole inner here (λ s. GoodCondition s x.condition × Every (GoodPhrase s) xs) (λ s. Every (GoodPhrase s) (x ∷ xs)) (λ t b. first (length (code t b) + 0) t ++ code t b) (λ t b. phrases_code t (x ∷ xs) b) (λ s h. h)
+    let all = before_around old mid new front rest whole inner here (λ s. GoodCondition s x.condition) (λ s. Every (GoodPhrase s) xs) first code past m n is 0 (long ∙ sym (plus (length rest))) in
+    around_for old new no_code whole inner here (λ s. GoodCondition s x.condition × Every (GoodPhrase s) xs) (λ s. Every (GoodPhrase s) (x ∷ xs)) (λ t b. first (length (code t b) + 0) t ++ code t b) (λ t b. phrases_code t (x ∷ xs) b) (λ s h. h)
     (λ t b. ap (λ (k : ℕ). first k t ++ code t b) (plus (length (code t b)))) all
 
--- the last of the alternatives, before nothing
-same_piece : (p q : Lined) → p.instructions ≡ q.instructions → p.lines ≡ q.lines → p ≡ q
-same_piece p q e h = λ k. record { instructions = e k; lines = h k }
-
-pub last_alternative : (old new : Generator) (last whole : Lined) (here : Here) (skip : ℕ) (xs : List Test) → Emits old new nothing last here (λ s. Every (GoodTest s) xs) (λ t. tests_code t skip xs) → whole.instructions ≡ last.instructions ++ [] → whole.lines ≡ last.lines ++ [] → Emits old new nothing whole here (λ s. GoodCondition s (xs ∷ [])) (λ t. condition_code t skip (xs ∷ []))
-last_alternative old new last whole here skip xs m is ls =
-    let same : last ≡ whole = same_piece last whole (sym (is ∙ append-nil last.instructions)) (sym (ls ∙ append-nil last.lines)) in
-    let made = subst (λ (p : Lined). Emits old new nothing p here (λ s. Every (GoodTest s) xs) (λ t. tests_code t skip xs)) same m in
-    emits_where old new nothing whole here (λ s. Every (GoodTest s) xs) (λ s. GoodCondition s (xs ∷ [])) (λ t. tests_code t skip xs) (λ t. condition_code t skip (xs ∷ [])) (λ s h. h.0) (λ f t around located. refl) made
+-- the last of the alternatives
+pub last_alternative : (old new : Generator) (last whole : Lined) (here : Here) (skip : ℕ) (xs : List Test) → Emits old new no_code last here (λ s. Every (GoodTest s) xs) (λ t. tests_code t skip xs) → whole ≡ last → Emits old new no_code whole here (λ s. GoodCondition s (xs ∷ [])) (λ t. condition_code t skip (xs ∷ []))
+last_alternative old new last whole here skip xs m is =
+    let made = subst (λ (p : Lined). Emits old new no_code p here (λ s. Every (GoodTest s) xs) (λ t. tests_code t skip xs)) (sym is) m in
+    emits_where old new no_code whole here (λ s. Every (GoodTest s) xs) (λ s. GoodCondition s (xs ∷ [])) (λ t. tests_code t skip xs) (λ t. condition_code t skip (xs ∷ [])) (λ s h. h.0) (λ f t around located. refl) made

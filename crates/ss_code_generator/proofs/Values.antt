@@ -19,7 +19,7 @@ use Rattle.ss_base.specs.declared.words.UnaryOperator.{UnaryOperator}
 use Rattle.ss_program.specs.Program.{Program, Expression, Constant as AConstant, Fetch, Attribute, OfSystemSet, OfSet, OfMember, TimeOf, Figure, FigureOf, Signed, Unary}
 use Rattle.ss_program.specs.View.{view_expression, view_program}
 use Rattle.ss_program.specs.Views.{with_operation}
-use Rattle.ss_program.specs.WellTyped.{Scope, HasMode, mode_at, field_mode}
+use Rattle.ss_program.specs.WellTyped.{TypedScope, HasMode, mode_at, field_mode}
 use Rattle.ss_meaning.specs.Values.{operator_of}
 use Rattle.ss_code_instructions.specs.declared.address.Address.{Address}
 use Rattle.ss_code_instructions.specs.declared.instruction.Instruction.{Instruction as Running}
@@ -31,11 +31,11 @@ use Rattle.ss_code_instructions.specs.Carried.{VariableAt, InFrame, Carries}
 use Rattle.ss_code_generator.specs.declared.expressions.Operand.{Operand as Read}
 use Rattle.ss_code_generator.specs.declared.generator.Generator.{Generator}
 use Rattle.ss_code_generator.specs.declared.generator.Site.{Site as Here}
-use Rattle.ss_code_pieces.specs.Lined.{Lined}
+use Rattle.ss_code_pieces.specs.Lined.{Lined, on_line}
 use Rattle.ss_code_instructions.specs.Forms.{calculating, asking_set, asking_member, moving, fetching}
 use Rattle.ss_code_pieces.specs.Preamble.{mode_in}
-use Rattle.ss_code_generator.specs.Calculations.{folded, operation_code, Left, Operates}
-use Rattle.ss_code_generator.specs.Emitted.{Final, Around, Grows, IsLocated, Shown, Runs, EmitsTo, AtOperand, AtTarget, Typed, IsNumber, Reads}
+use Rattle.ss_code_generator.specs.Calculations.{EmitsExpression, with_operations, operation_code, LeftOperand, Operates}
+use Rattle.ss_code_generator.specs.Emitted.{Final, Around, Grows, IsLocated, Shown, Runs, EmitsTo, AtOperand, AtTarget, Typed, IsInteger, ReadsOperand}
 use Rattle.ss_code_generator.proofs.Emitting.{around_old, grows_then, stands_old, adds_then, adds_one, adds_same, makes_later}
 use Rattle.ss_code_generator.proofs.Forms as forms
 use Rattle.ss_code_generator.proofs.Modes.{held_mode, has_field}
@@ -48,44 +48,44 @@ calm : (f : Final) (t : Site) (ins : Instruction) (y : Running) → Carries (cod
 calm f t ins y c deep s = record { carries = c; deep = deep; shown = s }
 
 module _ (old new : Generator) (p : Lined) (here : Here) (to : Address) where
-  pub constant_emitted : (q : Lined) (v : Value) (from : Address) → Grows old new → ((f : Final) (t : Site) → Around f new → AtOperand f t (Constant v) from) → q.instructions ≡ p.instructions ++ moving (mode_of v) from to ∷ [] → q.lines ≡ p.lines ++ here.line ∷ [] → EmitsTo old new p q here to (Typed (AConstant v)) (λ t x. expression_code t x (AConstant v))
-  constant_emitted q v from grows at is ls = record {
+  pub constant_emitted : (q : Lined) (v : Value) (from : Address) → Grows old new → ((f : Final) (t : Site) → Around f new → AtOperand f t (Constant v) from) → q ≡ p ++ on_line here.line (moving (mode_of v) from to) ∷ [] → EmitsExpression old new p q here to (AConstant v)
+  constant_emitted q v from grows at is = record {
     grows = grows;
     adds = λ f t x around located fits.
-        adds_one f p q here.line (place t (i.Move (Constant v) x)) (moving (mode_of v) from to) is ls located.line
+        adds_one f p q here.line (place t (i.Move (Constant v) x)) (moving (mode_of v) from to) is located.line
         (calm f t (i.Move (Constant v) x) (moving (mode_of v) from to)
         (forms.moves (code_of f.program) f.constants (place t (i.Move (Constant v) x)) (mode_of v) from to (Constant v, at f t around, (refl, (x, fits.0, refl)))) located.deep tt);
     more = λ f t x around located fits. tt;
   }
 
-  pub fetch_emitted : (q : Lined) (x : Variable) (m : Mode) (from : Address) → Grows old new → VariableAt x from → ((f : Final) (t : Site) → Around f new → IsLocated f new here t → or_integer (mode_at t.scope x) ≡ m) → q.instructions ≡ p.instructions ++ moving m from to ∷ [] → q.lines ≡ p.lines ++ here.line ∷ [] → EmitsTo old new p q here to (Typed (Fetch x)) (λ t y. expression_code t y (Fetch x))
-  fetch_emitted q x m from grows at mode is ls = record {
+  pub fetch_emitted : (q : Lined) (x : Variable) (m : Mode) (from : Address) → Grows old new → VariableAt x from → ((f : Final) (t : Site) → Around f new → IsLocated f new here t → or_integer (mode_at t.scope x) ≡ m) → q ≡ p ++ on_line here.line (moving m from to) ∷ [] → EmitsExpression old new p q here to (Fetch x)
+  fetch_emitted q x m from grows at mode is = record {
     grows = grows;
     adds = λ f t y around located fits.
         let n : Mode = fits.1.0 in
         let same : n ≡ m = sym (ap or_integer fits.1.1) ∙ mode f t around located in
         let held = held_mode f t x n (i.Move (Held x) y) located.program fits.1.1 ∙ ap Some same in
-        adds_one f p q here.line (place t (i.Move (Held x) y)) (moving m from to) is ls located.line
+        adds_one f p q here.line (place t (i.Move (Held x) y)) (moving m from to) is located.line
         (calm f t (i.Move (Held x) y) (moving m from to)
         (forms.moves (code_of f.program) f.constants (place t (i.Move (Held x) y)) m from to (Held x, at, (held, (y, fits.0, refl)))) located.deep tt);
     more = λ f t y around located fits. tt;
   }
 
-  pub system_set_emitted : (q : Lined) (query : SetQuery) (set : ℕ) (zero : Address) → Grows old new → ((f : Final) (t : Site) → Around f new → AtOperand f t (Constant (Whole (pos 0))) zero) → q.instructions ≡ p.instructions ++ asking_set query set zero to ∷ [] → q.lines ≡ p.lines ++ here.line ∷ [] → EmitsTo old new p q here to (Typed (OfSystemSet query set)) (λ t x. expression_code t x (OfSystemSet query set))
-  system_set_emitted q query set zero grows at is ls = record {
+  pub system_set_emitted : (q : Lined) (query : SetQuery) (set : ℕ) (zero : Address) → Grows old new → ((f : Final) (t : Site) → Around f new → AtOperand f t (Constant (Whole (pos 0))) zero) → q ≡ p ++ on_line here.line (asking_set query set zero to) ∷ [] → EmitsExpression old new p q here to (OfSystemSet query set)
+  system_set_emitted q query set zero grows at is = record {
     grows = grows;
     adds = λ f t x around located fits.
-        adds_one f p q here.line (place t (i.OfSet query set None x)) (asking_set query set zero to) is ls located.line
+        adds_one f p q here.line (place t (i.OfSet query set None x)) (asking_set query set zero to) is located.line
         (calm f t (i.OfSet query set None x) (asking_set query set zero to)
         (forms.asks_set (code_of f.program) f.constants (place t (i.OfSet query set None x)) query set zero to (None, at f t around, (x, fits.0, refl))) located.deep tt);
     more = λ f t x around located fits. tt;
   }
 
-  pub figure_emitted : (q : Lined) (fold' : Fold) (k : ℕ) (zero : Address) → Grows old new → ((f : Final) (t : Site) → Around f new → AtOperand f t (Constant (Whole (pos 0))) zero) → q.instructions ≡ p.instructions ++ r.Figure k zero to fold' ∷ [] → q.lines ≡ p.lines ++ here.line ∷ [] → EmitsTo old new p q here to (Typed (Figure fold' k)) (λ t x. expression_code t x (Figure fold' k))
-  figure_emitted q fold' k zero grows at is ls = record {
+  pub figure_emitted : (q : Lined) (fold' : Fold) (k : ℕ) (zero : Address) → Grows old new → ((f : Final) (t : Site) → Around f new → AtOperand f t (Constant (Whole (pos 0))) zero) → q ≡ p ++ on_line here.line (r.Figure k zero to fold') ∷ [] → EmitsExpression old new p q here to (Figure fold' k)
+  figure_emitted q fold' k zero grows at is = record {
     grows = grows;
     adds = λ f t x around located fits.
-        adds_one f p q here.line (place t (i.Figure fold' k None x)) (r.Figure k zero to fold') is ls located.line
+        adds_one f p q here.line (place t (i.Figure fold' k None x)) (r.Figure k zero to fold') is located.line
         (calm f t (i.Figure fold' k None x) (r.Figure k zero to fold') (None, at f t around, (x, fits.0, refl)) located.deep tt);
     more = λ f t x around located fits. tt;
   }
@@ -93,13 +93,13 @@ module _ (old new : Generator) (p : Lined) (here : Here) (to : Address) where
   -- ## Forms with one operand
 
   -- the operand, and an instruction that carries out what follows where the operand has this address
-  abbrev Suits : (e : Expression) (o : Read) (g : Generator) (Good : Scope → Type 0) (make : Target → Operand → Instruction) (y : Running) → Type 0
+  abbrev Suits : (e : Expression) (o : Read) (g : Generator) (Good : TypedScope → Type 0) (make : Target → Operand → Instruction) (y : Running) → Type 0
   Suits e o g Good make y =
       (f : Final) (t : Site) (x : Target) → Around f g → IsLocated f g here t → AtTarget f t x to → Good t.scope → AtOperand f (after t e) (operand t e) o.address →
       Carries (code_of f.program) f.constants (place (after t e) (make x (operand t e))) y × Shown f.prints (after t e).cells (make x (operand t e))
 
-  pub one_emitted : (q s : Lined) (e : Expression) (o : Read) (g : Generator) (Good : Scope → Type 0) (make : Target → Operand → Instruction) (y : Running) → Grows g new → Reads old g p q here e o → ((k : Scope) → Good k → HasMode k e Integer) → s.instructions ≡ q.instructions ++ y ∷ [] → s.lines ≡ q.lines ++ here.line ∷ [] → Suits e o new Good make y → EmitsTo old new p s here to Good (λ t x. with_operand t e (make x))
-  one_emitted q s e o g Good make y grows m number is ls suits = record {
+  pub one_emitted : (q s : Lined) (e : Expression) (o : Read) (g : Generator) (Good : TypedScope → Type 0) (make : Target → Operand → Instruction) (y : Running) → Grows g new → ReadsOperand old g p q here e o → ((k : TypedScope) → Good k → HasMode k e Integer) → s ≡ q ++ on_line here.line y ∷ [] → Suits e o new Good make y → EmitsTo old new p s here to Good (λ t x. with_operand t e (make x))
+  one_emitted q s e o g Good make y grows m number is suits = record {
     grows = grows_then old g new m.grows grows;
     adds = λ f t x around located fits.
         let mine = around_old f g new grows around in
@@ -108,54 +108,54 @@ module _ (old new : Generator) (p : Lined) (here : Here) (to : Address) where
         let read = m.more f t tt mine there typed in
         let c = suits f t x around located fits.0 fits.1 read.at in
         adds_then f p q s (operand_code t e) (place (after t e) (make x (operand t e)) ∷ []) (m.adds f t tt mine there typed)
-        (adds_one f q s here.line (place (after t e) (make x (operand t e))) y is ls located.line (record { carries = c.0; deep = read.deep; shown = c.1 }));
+        (adds_one f q s here.line (place (after t e) (make x (operand t e))) y is located.line (record { carries = c.0; deep = read.deep; shown = c.1 }));
     more = λ f t x around located fits. tt;
   }
 
-  module _ (q s : Lined) (e : Expression) (o : Read) (g : Generator) (grows : Grows g new) (m : Reads old g p q here e o) (ls : s.lines ≡ q.lines ++ here.line ∷ []) where
-    pub attribute_emitted : (class field : ℕ) (n : Mode) → ((f : Final) (t : Site) → Around f new → IsLocated f new here t → or_integer (field_mode t.scope.program class field) ≡ n) → s.instructions ≡ q.instructions ++ fetching n class field o.address to ∷ [] → EmitsTo old new p s here to (Typed (Attribute class field e)) (λ t x. expression_code t x (Attribute class field e))
+  module _ (q s : Lined) (e : Expression) (o : Read) (g : Generator) (grows : Grows g new) (m : ReadsOperand old g p q here e o) where
+    pub attribute_emitted : (class field : ℕ) (n : Mode) → ((f : Final) (t : Site) → Around f new → IsLocated f new here t → or_integer (field_mode t.scope.program class field) ≡ n) → s ≡ q ++ on_line here.line (fetching n class field o.address to) ∷ [] → EmitsExpression old new p s here to (Attribute class field e)
     attribute_emitted class field n mode is =
-        one_emitted q s e o g (Typed (Attribute class field e)) (λ x y. i.Attribute class field y x) (fetching n class field o.address to) grows m (λ k h. h.1.1) is ls (λ f t x around located at good from.
+        one_emitted q s e o g (Typed (Attribute class field e)) (λ x y. i.Attribute class field y x) (fetching n class field o.address to) grows m (λ k h. h.1.1) is (λ f t x around located at good from.
         let same : good.0 ≡ n = sym (ap or_integer good.1.0) ∙ mode f t around located in
         let there : field_mode f.program class field ≡ Some n = sym (ap (λ (p : Program). field_mode p class field) located.program) ∙ good.1.0 ∙ ap Some same in
         let u : Placed = place (after t e) (i.Attribute class field (operand t e) x) in
         (forms.fetches (code_of f.program) f.constants u n class field o.address to (has_field f.program f.constants u class field n there, (operand t e, from, (x, at, refl))), tt))
 
-    pub set_emitted : (query : SetQuery) (set : ℕ) → s.instructions ≡ q.instructions ++ asking_set query set o.address to ∷ [] → EmitsTo old new p s here to (Typed (OfSet query set e)) (λ t x. expression_code t x (OfSet query set e))
+    pub set_emitted : (query : SetQuery) (set : ℕ) → s ≡ q ++ on_line here.line (asking_set query set o.address to) ∷ [] → EmitsExpression old new p s here to (OfSet query set e)
     set_emitted query set is =
-        one_emitted q s e o g (Typed (OfSet query set e)) (λ x y. i.OfSet query set (Some y) x) (asking_set query set o.address to) grows m (λ k h. h.1.2) is ls (λ f t x around located at good from.
+        one_emitted q s e o g (Typed (OfSet query set e)) (λ x y. i.OfSet query set (Some y) x) (asking_set query set o.address to) grows m (λ k h. h.1.2) is (λ f t x around located at good from.
         (forms.asks_set (code_of f.program) f.constants (place (after t e) (i.OfSet query set (Some (operand t e)) x)) query set o.address to (Some (operand t e), from, (x, at, refl)), tt))
 
-    pub member_emitted : (query : MemberQuery) (set : ℕ) → s.instructions ≡ q.instructions ++ asking_member query set o.address to ∷ [] → EmitsTo old new p s here to (Typed (OfMember query set e)) (λ t x. expression_code t x (OfMember query set e))
+    pub member_emitted : (query : MemberQuery) (set : ℕ) → s ≡ q ++ on_line here.line (asking_member query set o.address to) ∷ [] → EmitsExpression old new p s here to (OfMember query set e)
     member_emitted query set is =
-        one_emitted q s e o g (Typed (OfMember query set e)) (λ x y. i.OfMember query set y x) (asking_member query set o.address to) grows m (λ k h. h.1.2) is ls (λ f t x around located at good from.
+        one_emitted q s e o g (Typed (OfMember query set e)) (λ x y. i.OfMember query set y x) (asking_member query set o.address to) grows m (λ k h. h.1.2) is (λ f t x around located at good from.
         (forms.asks_member (code_of f.program) f.constants (place (after t e) (i.OfMember query set (operand t e) x)) query set o.address to (operand t e, from, (x, at, refl)), tt))
 
-    pub time_emitted : s.instructions ≡ q.instructions ++ r.TimeOf o.address to ∷ [] → EmitsTo old new p s here to (Typed (TimeOf e)) (λ t x. expression_code t x (TimeOf e))
+    pub time_emitted : s ≡ q ++ on_line here.line (r.TimeOf o.address to) ∷ [] → EmitsExpression old new p s here to (TimeOf e)
     time_emitted is =
-        one_emitted q s e o g (Typed (TimeOf e)) (λ x y. i.TimeOf y x) (r.TimeOf o.address to) grows m (λ k h. h.1.1) is ls (λ f t x around located at good from. ((operand t e, from, (x, at, refl)), tt))
+        one_emitted q s e o g (Typed (TimeOf e)) (λ x y. i.TimeOf y x) (r.TimeOf o.address to) grows m (λ k h. h.1.1) is (λ f t x around located at good from. ((operand t e, from, (x, at, refl)), tt))
 
-    pub figure_of_emitted : (fold' : Fold) (k : ℕ) → s.instructions ≡ q.instructions ++ r.Figure k o.address to fold' ∷ [] → EmitsTo old new p s here to (Typed (FigureOf fold' k e)) (λ t x. expression_code t x (FigureOf fold' k e))
+    pub figure_of_emitted : (fold' : Fold) (k : ℕ) → s ≡ q ++ on_line here.line (r.Figure k o.address to fold') ∷ [] → EmitsExpression old new p s here to (FigureOf fold' k e)
     figure_of_emitted fold' k is =
-        one_emitted q s e o g (Typed (FigureOf fold' k e)) (λ x y. i.Figure fold' k (Some y) x) (r.Figure k o.address to fold') grows m (λ k h. h.1.2) is ls (λ f t x around located at good from. ((Some (operand t e), from, (x, at, refl)), tt))
+        one_emitted q s e o g (Typed (FigureOf fold' k e)) (λ x y. i.Figure fold' k (Some y) x) (r.Figure k o.address to fold') grows m (λ k h. h.1.2) is (λ f t x around located at good from. ((Some (operand t e), from, (x, at, refl)), tt))
 
-    pub signed_emitted : (sign : Sign) (zero : Address) → ((f : Final) (t : Site) → Around f new → AtOperand f t (Constant (Whole (pos 0))) zero) → s.instructions ≡ q.instructions ++ calculating (operator_of sign) zero o.address to ∷ [] → EmitsTo old new p s here to (Typed (Signed sign e)) (λ t x. expression_code t x (Signed sign e))
+    pub signed_emitted : (sign : Sign) (zero : Address) → ((f : Final) (t : Site) → Around f new → AtOperand f t (Constant (Whole (pos 0))) zero) → s ≡ q ++ on_line here.line (calculating (operator_of sign) zero o.address to) ∷ [] → EmitsExpression old new p s here to (Signed sign e)
     signed_emitted sign zero nought is =
-        one_emitted q s e o g (Typed (Signed sign e)) (λ x y. i.Calculate (operator_of sign) (Constant (Whole (pos 0))) y x) (calculating (operator_of sign) zero o.address to) grows m (λ k h. h.1.1) is ls (λ f t x around located at good from. (
+        one_emitted q s e o g (Typed (Signed sign e)) (λ x y. i.Calculate (operator_of sign) (Constant (Whole (pos 0))) y x) (calculating (operator_of sign) zero o.address to) grows m (λ k h. h.1.1) is (λ f t x around located at good from. (
           forms.calculates (code_of f.program) f.constants (place (after t e) (i.Calculate (operator_of sign) (Constant (Whole (pos 0))) (operand t e) x)) (operator_of sign) zero o.address to
               (Constant (Whole (pos 0)), nought f (after t e) around, (operand t e, from, (x, at, refl))),
           tt,
         ))
 
-    pub unary_emitted : (op : UnaryOperator) → s.instructions ≡ q.instructions ++ r.Unary op o.address to ∷ [] → EmitsTo old new p s here to (Typed (Unary op e)) (λ t x. expression_code t x (Unary op e))
+    pub unary_emitted : (op : UnaryOperator) → s ≡ q ++ on_line here.line (r.Unary op o.address to) ∷ [] → EmitsExpression old new p s here to (Unary op e)
     unary_emitted op is =
-        one_emitted q s e o g (Typed (Unary op e)) (λ x y. i.Unary op y x) (r.Unary op o.address to) grows m (λ k h. h.1.1) is ls (λ f t x around located at good from. ((operand t e, from, (x, at, refl)), tt))
+        one_emitted q s e o g (Typed (Unary op e)) (λ x y. i.Unary op y x) (r.Unary op o.address to) grows m (λ k h. h.1.1) is (λ f t x around located at good from. ((operand t e, from, (x, at, refl)), tt))
 
 -- ## Operations, worked off from left to right
 
 -- an operation on a number that is there
-pub operation_emitted : (old new : Generator) (p q s : Lined) (here higher : Here) (left right : Read) (to : Address) (op : Operation) → higher.line ≡ here.line → (here.height + left.cells < 2 ^ 64 → higher.height ≡ here.height + left.cells) → Reads old new p q higher (view_expression op.operand) right → s.instructions ≡ q.instructions ++ calculating op.operator left.address right.address to ∷ [] → s.lines ≡ q.lines ++ here.line ∷ [] → Operates old new p s here left to op
-operation_emitted old new p q s here higher left right to op line above m is ls = record {
+pub operation_emitted : (old new : Generator) (p q s : Lined) (here higher : Here) (left right : Read) (to : Address) (op : Operation) → higher.line ≡ here.line → (here.height + left.cells < 2 ^ 64 → higher.height ≡ here.height + left.cells) → ReadsOperand old new p q higher (view_expression op.operand) right → s ≡ q ++ on_line here.line (calculating op.operator left.address right.address to) ∷ [] → Operates old new p s here left to op
+operation_emitted old new p q s here higher left right to op line above m is = record {
   grows = m.grows;
   adds = λ f t x around located fits.
       let b : Expression = view_expression op.operand in
@@ -167,7 +167,7 @@ operation_emitted old new p q s here higher left right to op line above m is ls 
       let from : AtOperand f (after u b) (operand t x.left) left.address = fits.0.at in
       let c = forms.calculates (code_of f.program) f.constants (place (after u b) ins) op.operator left.address right.address to (operand t x.left, from, (operand u b, read.at, (x.to, fits.1, refl))) in
       adds_then f p q s (operand_code u b) (place (after u b) ins ∷ []) (m.adds f u tt around there typed)
-      (adds_one f q s here.line (place (after u b) ins) (calculating op.operator left.address right.address to) is ls located.line (record { carries = c; deep = read.deep; shown = tt }));
+      (adds_one f q s here.line (place (after u b) ins) (calculating op.operator left.address right.address to) is located.line (record { carries = c; deep = read.deep; shown = tt }));
   more = λ f t x around located fits. tt;
 }
 
@@ -176,11 +176,11 @@ pub calculated_code : (t : Site) (e : Expression) (o : Operation) (to : Target) 
 calculated_code t e o to = refl
 
 -- what is typed as a whole has typed parts: the number before the last operation, and what comes after it
-pub parts_typed : (s : Scope) (e : Expression) (o : Operation) → Typed (with_operation e o) s → IsNumber e s × IsNumber (view_expression o.operand) s
+pub parts_typed : (s : TypedScope) (e : Expression) (o : Operation) → Typed (with_operation e o) s → IsInteger e s × IsInteger (view_expression o.operand) s
 parts_typed s e o h = (h.1.1, h.1.2)
 
 -- one operation more, whose result goes to a target
-pub more_emitted : (old mid new : Generator) (p q s : Lined) (here : Here) (e : Expression) (o : Operation) (left : Read) (to : Address) → Reads old mid p q here e left → Operates mid new q s here left to o → EmitsTo old new p s here to (Typed (with_operation e o)) (λ t x. expression_code t x (with_operation e o))
+pub more_emitted : (old mid new : Generator) (p q s : Lined) (here : Here) (e : Expression) (o : Operation) (left : Read) (to : Address) → ReadsOperand old mid p q here e left → Operates mid new q s here left to o → EmitsExpression old new p s here to (with_operation e o)
 more_emitted old mid new p q s here e o left to m n = record {
   grows = grows_then old mid new m.grows n.grows;
   adds = λ f t x around located fits.
@@ -188,7 +188,7 @@ more_emitted old mid new p q s here e o left to m n = record {
       let there = stands_old f mid new here t n.grows located in
       let parts = parts_typed t.scope e o fits.1 in
       let typed : Typed e t.scope = (Integer, parts.0) in
-      let both : Left = record { left = e; to = x } in
+      let both : LeftOperand = record { left = e; to = x } in
       adds_same f p s (operand_code t e ++ operation_code t e o x) (expression_code t x (with_operation e o)) (calculated_code t e o x)
       (adds_then f p q s (operand_code t e) (operation_code t e o x) (m.adds f t tt mine there typed)
       (n.adds f t both around located (m.more f t tt mine there typed, fits.0, parts.1)));
@@ -196,16 +196,16 @@ more_emitted old mid new p q s here e o left to m n = record {
 }
 
 -- one operation more, whose result goes into the next cell
-pub next_reads : (old mid cell new : Generator) (p q s : Lined) (here : Here) (e : Expression) (o : Operation) (left : Read) (a : Address) → Reads old mid p q here e left → Grows mid cell → InFrame (length cell.locals.items + here.height) a → here.height < cell.deepest → Operates cell new q s here left a o → Reads old new p s here (with_operation e o) (record { address = a; cells = 1 })
+pub next_reads : (old mid cell new : Generator) (p q s : Lined) (here : Here) (e : Expression) (o : Operation) (left : Read) (a : Address) → ReadsOperand old mid p q here e left → Grows mid cell → InFrame (length cell.locals.items + here.height) a → here.height < cell.deepest → Operates cell new q s here left a o → ReadsOperand old new p s here (with_operation e o) (record { address = a; cells = 1 })
 next_reads old mid cell new p q s here e o left a m grows at room n =
     cell_reads_at old cell new p s here (with_operation e o) a refl n.grows at room (more_emitted old cell new p q s here e o left a (makes_later old mid cell p q here _ _ _ grows m) n)
 
 -- operations so far, with the next one, and all of them, of which this is the last one
-pub folded_taken : (e : Expression) (os : List Operation) (i : ℕ) (o : Operation) → i < length os → o ≡ get_or os i o → folded e (take (i + 1) os) ≡ with_operation (folded e (take i os)) o
-folded_taken e os i o lt is = ap (folded e) (take_more os i o lt ∙ ap (λ (x : Operation). take i os ++ x ∷ []) (sym is)) ∙ fold-append with_operation e (take i os) (o ∷ [])
+pub folded_taken : (e : Expression) (os : List Operation) (i : ℕ) (o : Operation) → i < length os → o ≡ get_or os i o → with_operations e (take (i + 1) os) ≡ with_operation (with_operations e (take i os)) o
+folded_taken e os i o lt is = ap (with_operations e) (take_more os i o lt ∙ ap (λ (x : Operation). take i os ++ x ∷ []) (sym is)) ∙ fold-append with_operation e (take i os) (o ∷ [])
 
-pub folded_last : (e : Expression) (os : List Operation) (i j : ℕ) (o : Operation) → length os ≡ i + 1 → j ≡ i → o ≡ get_or os j o → folded e os ≡ with_operation (folded e (take i os)) o
-folded_last e os i j o long same is = ap (folded e) (sym (take_all (i + 1) os (omega (arith, long)))) ∙ folded_taken e os i o (omega (arith, long)) (is ∙ ap (λ k. get_or os k o) same)
+pub folded_last : (e : Expression) (os : List Operation) (i j : ℕ) (o : Operation) → length os ≡ i + 1 → j ≡ i → o ≡ get_or os j o → with_operations e os ≡ with_operation (with_operations e (take i os)) o
+folded_last e os i j o long same is = ap (with_operations e) (sym (take_all (i + 1) os (omega (arith, long)))) ∙ folded_taken e os i o (omega (arith, long)) (is ∙ ap (λ k. get_or os k o) same)
 
 -- ## Modes that the generator knows
 

@@ -11,7 +11,7 @@ use Rattle.ss_program.specs.declared.expression.Variable.{Variable}
 use Rattle.ss_program.specs.declared.expression.Variable.TheVariants.{Global, Local}
 use Rattle.ss_program.specs.declared.statement.CountedClass.{CountedClass}
 use Rattle.ss_program.specs.Program.{Program}
-use Rattle.ss_program.specs.WellTyped.{Scope, WellTyped, GoodSubject, GoodCount, mode_at, field_mode}
+use Rattle.ss_program.specs.WellTyped.{TypedScope, WellTyped, GoodSubject, GoodCount, mode_at, field_mode}
 use Rattle.ss_meaning.specs.Histories.{same_subject}
 use Rattle.ss_meaning.proofs.Lists.{every_get}
 use Rattle.ss_meaning.proofs.Kept.{same_subject_is}
@@ -42,13 +42,13 @@ variable_watched p k (s ∷ ss) good h = by (same_subject s.subject (OfVariable 
     by false q h rest = rest h
     by true q h rest = (subst (λ (x : Subject). GoodSubject p x) (same_subject_is s.subject (OfVariable k) q) good.0).0
 
-pub kept_integer : (p : Program) → WellTyped p → (s : Scope) → s.program ≡ p → (x : Variable) → is_watched s.program.statistics x ≡ true → mode_at s x ≡ Some Integer
+pub kept_integer : (p : Program) → WellTyped p → (s : TypedScope) → s.program ≡ p → (x : Variable) → is_watched s.program.statistics x ≡ true → mode_at s x ≡ Some Integer
 kept_integer p typed s same (Global k) w =
     ap (λ (q : Program). slice_get q.globals k) same ∙ variable_watched p k p.statistics typed.statistics (sym (ap (λ (q : Program). watch q.statistics (OfVariable k)) same) ∙ w)
 kept_integer p typed s same (Local k) w = absurd (true≢false (sym w))
 
 -- N. of a class is one too
-pub count_integer : (p : Program) → WellTyped p → (s : Scope) → s.program ≡ p → (c : CountedClass) → Contains s.program.counts c → mode_at s (Global c.variable) ≡ Some Integer
+pub count_integer : (p : Program) → WellTyped p → (s : TypedScope) → s.program ≡ p → (c : CountedClass) → Contains s.program.counts c → mode_at s (Global c.variable) ≡ Some Integer
 count_integer p typed s same c has =
     let there : Contains p.counts c = subst (λ (q : Program). Contains q.counts c) same has in
     let at = contains_get p.counts c there in

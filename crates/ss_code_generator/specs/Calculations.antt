@@ -1,4 +1,4 @@
--- Operations on a number, worked off from left to right.
+-- Expressions that go to a place, and operations on a number, worked off from left to right.
 use Rattle.std.specs.Prelude.{List}
 use Rattle.std.specs.List.{fold}
 use Rattle.ss_program.specs.declared.expression.Operation.{Operation}
@@ -7,28 +7,32 @@ use Rattle.ss_program.specs.View.{view_expression}
 use Rattle.ss_program.specs.Views.{with_operation}
 use Rattle.ss_code_instructions.specs.Instructions.{Target, Placed}
 use Rattle.ss_code_instructions.specs.Instructions as i
-use Rattle.ss_code_instructions.specs.Translation.{Site, operand, after, with_operand}
+use Rattle.ss_code_instructions.specs.Translation.{Site, operand, after, expression_code, with_operand}
 use Rattle.ss_code_generator.specs.declared.expressions.Operand.{Operand as Read}
 use Rattle.ss_code_generator.specs.declared.generator.Generator.{Generator}
 use Rattle.ss_code_generator.specs.declared.generator.Site.{Site as Here}
 use Rattle.ss_code_pieces.specs.Lined.{Lined}
-use Rattle.ss_code_generator.specs.Emitted.{Makes, NoMore, AtTarget, IsRead, IsNumber}
+use Rattle.ss_code_generator.specs.Emitted.{Generates, NoMore, AtTarget, EmitsTo, Typed, IsRead, IsInteger}
 use Rattle.ss_code_instructions.specs.declared.address.Address.{Address}
 
+-- the code of an expression, whose value goes to an address
+abbrev pub EmitsExpression : (old new : Generator) → (before after : Lined) → Here → Address → Expression → Type 0
+EmitsExpression old new before after here to e = EmitsTo old new before after here to (Typed e) (λ t x. expression_code t x e)
+
 -- a number and operations on it
-abbrev pub folded : Expression → List Operation → Expression
-folded e os = fold with_operation e os
+abbrev pub with_operations : Expression → List Operation → Expression
+with_operations e os = fold with_operation e os
 
 -- the code of an operation, once the number on its left is there
 abbrev pub operation_code : Site → Expression → Operation → Target → List Placed
 operation_code t e o to = with_operand (after t e) (view_expression o.operand) (λ y. i.Calculate o.operator (operand t e) y to)
 
 -- the number on the left, and where the result goes
-pub record Left : Type 0 where
+pub record LeftOperand : Type 0 where
   pub left : Expression
   pub to : Target
 
 -- an operation on a number that is there
 abbrev pub Operates : (old new : Generator) → (before following : Lined) → Here → Read → Address → Operation → Type 0
 Operates old new before following here left to o =
-    Makes {I = Left} old new before following here (λ f t x. IsRead f t x.left left × AtTarget f t x.to to × IsNumber (view_expression o.operand) t.scope) (λ t x. operation_code t x.left o x.to) NoMore
+    Generates {I = LeftOperand} old new before following here (λ f t x. IsRead f t x.left left × AtTarget f t x.to to × IsInteger (view_expression o.operand) t.scope) (λ t x. operation_code t x.left o x.to) NoMore

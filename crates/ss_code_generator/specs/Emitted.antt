@@ -1,17 +1,16 @@
 -- When the generator's instructions carry out a piece of the definition.
 --
--- There is one form for all functions of the generator, `Makes`. An address of a constant is right, and a frame has room for a cell, only once all code is
+-- There is one form for all functions of the generator, `Generates`. An address of a constant is right, and a frame has room for a cell, only once all code is
 -- made. So each function promises something of every end that may come of it: `Final` is what is known at the end, and `Around` says that it came of what the
 -- generator has so far. What is around more is around less, and so pieces fit together.
-use Rattle.std.specs.Prelude.{◌≡◌, ℕ, ◌+◌, ◌<◌, ◌≤◌, ◌^◌, List, [], ◌∷◌, ◌++◌, length, map, pos, Option, Some, None, slice_get}
-use Rattle.ss_base.specs.declared.line.Line.{Line}
+use Rattle.std.specs.Prelude.{◌≡◌, ℕ, ◌+◌, ◌<◌, ◌≤◌, ◌^◌, List, [], ◌∷◌, ◌++◌, length, pos, Option, Some, None, slice_get}
 use Rattle.ss_base.specs.declared.layout.Mode.{Mode}
 use Rattle.ss_base.specs.declared.layout.Mode.TheVariants.{Integer}
 use Rattle.ss_base.specs.declared.value.Value.{Value}
 use Rattle.ss_base.specs.declared.value.Value.TheVariants.{Whole}
 use Rattle.ss_program.specs.Program.{Program, Expression}
 use Rattle.ss_program.specs.View.{view_program}
-use Rattle.ss_program.specs.WellTyped.{Scope, HasMode, WellTyped}
+use Rattle.ss_program.specs.WellTyped.{TypedScope, HasMode, WellTyped}
 use Rattle.ss_code_instructions.specs.declared.address.Address.{Address}
 use Rattle.ss_code_instructions.specs.declared.instruction.Instruction.{Instruction as Running}
 use Rattle.ss_code_instructions.specs.Instructions.{Operand, Bearer, Target, Instruction, Print, Leave, Placed}
@@ -20,7 +19,7 @@ use Rattle.ss_code_instructions.specs.Carried.{RunningLines, OperandAt, BearerAt
 use Rattle.ss_code_generator.specs.declared.expressions.Operand.{Operand as Read}
 use Rattle.ss_code_generator.specs.declared.generator.Generator.{Generator}
 use Rattle.ss_code_generator.specs.declared.generator.Site.{Site as Here}
-use Rattle.ss_code_pieces.specs.Lined.{Lined, nothing}
+use Rattle.ss_code_pieces.specs.Lined.{Lined, no_code}
 
 -- ## What is known at the end
 
@@ -83,24 +82,21 @@ pub record Runs (f : Final) (x : Placed) (y : Running) : Type 0 where
   pub deep : length x.cells ≤ f.depth
   pub shown : Shown f.prints x.cells x.instruction
 
-abbrev pub AllRun : Final → List Placed → List Running → Type 0
+-- and so one after another, each on the line of its place
+abbrev pub AllRun : Final → List Placed → Lined → Type 0
 AllRun f [] [] = Unit {0}
 AllRun f [] (y ∷ ys) = ⊥
 AllRun f (x ∷ xs) [] = ⊥
-AllRun f (x ∷ xs) (y ∷ ys) = Runs f x y × AllRun f xs ys
-
-abbrev pub line_of : Placed → Line
-line_of x = x.line
+AllRun f (x ∷ xs) (y ∷ ys) = (y.line ≡ x.line) × Runs f x y.instruction × AllRun f xs ys
 
 -- what was added to a piece carries out these places
 pub record Adds (f : Final) (before after : Lined) (c : List Placed) : Type 0 where
-  pub more : List Running
-  pub instructions : after.instructions ≡ before.instructions ++ more
-  pub lines : after.lines ≡ before.lines ++ map line_of c
+  pub more : Lined
+  pub added : after ≡ before ++ more
   pub run : AllRun f c more
 
 -- The form of each contract. From here on, at each site and for whatever fits there, the code c was added to a piece, and more is so.
-pub record Makes {I : Type 0} (old new : Generator) (before after : Lined) (here : Here) (Fit : Final → Site → I → Type 0) (c : Site → I → List Placed) (More : Final → Site → I → Type 0) : Type 0 where
+pub record Generates {I : Type 0} (old new : Generator) (before after : Lined) (here : Here) (Fit : Final → Site → I → Type 0) (c : Site → I → List Placed) (More : Final → Site → I → Type 0) : Type 0 where
   pub grows : Grows old new
   pub adds : (f : Final) (t : Site) (i : I) → Around f new → IsLocated f new here t → Fit f t i → Adds f before after (c t i)
   pub more : (f : Final) (t : Site) (i : I) → Around f new → IsLocated f new here t → Fit f t i → More f t i
@@ -111,42 +107,42 @@ abbrev pub NoMore : {I : Type 0} → Final → Site → I → Type 0
 NoMore f t i = Unit {0}
 
 -- code, where something is well typed
-abbrev pub Emits : (old new : Generator) → (before after : Lined) → Here → (Good : Scope → Type 0) → (Site → List Placed) → Type 0
-Emits old new before after here Good c = Makes old new before after here (λ f t (u : Unit {0}). Good t.scope) (λ t u. c t) NoMore
+abbrev pub Emits : (old new : Generator) → (before after : Lined) → Here → (Good : TypedScope → Type 0) → (Site → List Placed) → Type 0
+Emits old new before after here Good c = Generates old new before after here (λ f t (u : Unit {0}). Good t.scope) (λ t u. c t) NoMore
 
 -- code that leaves something at a target, which has this address
-abbrev pub EmitsTo : (old new : Generator) → (before after : Lined) → Here → Address → (Good : Scope → Type 0) → (Site → Target → List Placed) → Type 0
-EmitsTo old new before after here to Good c = Makes old new before after here (λ f t x. AtTarget f t x to × Good t.scope) c NoMore
+abbrev pub EmitsTo : (old new : Generator) → (before after : Lined) → Here → Address → (Good : TypedScope → Type 0) → (Site → Target → List Placed) → Type 0
+EmitsTo old new before after here to Good c = Generates old new before after here (λ f t x. AtTarget f t x to × Good t.scope) c NoMore
 
 -- code around a piece that was made before
-abbrev pub EmitsAround : (old new : Generator) → (before after : Lined) → Here → (inner : Lined) → (Good : Scope → Type 0) → (Site → List Placed → List Placed) → Type 0
-EmitsAround old new before after here inner Good c = Makes old new before after here (λ f t b. Adds f nothing inner b × Good t.scope) c NoMore
+abbrev pub EmitsAround : (old new : Generator) → (before after : Lined) → Here → (inner : Lined) → (Good : TypedScope → Type 0) → (Site → List Placed → List Placed) → Type 0
+EmitsAround old new before after here inner Good c = Generates old new before after here (λ f t b. Adds f no_code inner b × Good t.scope) c NoMore
 
 -- and around two
 pub record Sides : Type 0 where
   pub first : List Placed
   pub second : List Placed
 
-abbrev pub EmitsAroundBoth : (old new : Generator) → (before after : Lined) → Here → (first second : Lined) → (Good : Scope → Type 0) → (Site → Sides → List Placed) → Type 0
+abbrev pub EmitsAroundBoth : (old new : Generator) → (before after : Lined) → Here → (first second : Lined) → (Good : TypedScope → Type 0) → (Site → Sides → List Placed) → Type 0
 EmitsAroundBoth old new before after here first second Good c =
-    Makes old new before after here (λ f t b. Adds f nothing first b.first × Adds f nothing second b.second × Good t.scope) c NoMore
+    Generates old new before after here (λ f t b. Adds f no_code first b.first × Adds f no_code second b.second × Good t.scope) c NoMore
 
 -- code with these PRINTs so far
 abbrev pub HasPrints : Final → List RunningLines → Type 0
 HasPrints f prints = (rest : List RunningLines) × (f.prints ≡ prints ++ rest)
 
-abbrev pub EmitsPrinting : (old new : Generator) → (before after : Lined) → Here → (prints : List RunningLines) → (Good : Scope → Type 0) → (Site → List Placed) → Type 0
-EmitsPrinting old new before after here prints Good c = Makes old new before after here (λ f t (u : Unit {0}). HasPrints f prints × Good t.scope) (λ t u. c t) NoMore
+abbrev pub EmitsPrinting : (old new : Generator) → (before after : Lined) → Here → (prints : List RunningLines) → (Good : TypedScope → Type 0) → (Site → List Placed) → Type 0
+EmitsPrinting old new before after here prints Good c = Generates old new before after here (λ f t (u : Unit {0}). HasPrints f prints × Good t.scope) (λ t u. c t) NoMore
 
 -- ## Operands
 
-abbrev pub Typed : Expression → Scope → Type 0
+abbrev pub Typed : Expression → TypedScope → Type 0
 Typed e s = (m : Mode) × HasMode s e m
 
-abbrev pub IsNumber : Expression → Scope → Type 0
-IsNumber e s = HasMode s e Integer
+abbrev pub IsInteger : Expression → TypedScope → Type 0
+IsInteger e s = HasMode s e Integer
 
-abbrev pub AreNumbers : Option Expression → Scope → Type 0
+abbrev pub AreNumbers : Option Expression → TypedScope → Type 0
 AreNumbers None s = Unit {0}
 AreNumbers (Some e) s = HasMode s e Integer
 
@@ -167,12 +163,12 @@ pub record IsBorne (f : Final) (t : Site) (e : Option Expression) (o : Read) : T
   pub deep : height (after_bearer t e) ≤ f.depth
 
 -- the code of an operand, and where it lies; the code may look at it as well
-abbrev pub ReadsBy : (old new : Generator) → (before after : Lined) → Here → (Good : Scope → Type 0) → Expression → Read → (Site → List Placed) → Type 0
-ReadsBy old new before after here Good e o c = Makes old new before after here (λ f t (u : Unit {0}). Good t.scope) (λ t u. c t) (λ f t u. IsRead f t e o)
+abbrev pub ReadsBy : (old new : Generator) → (before after : Lined) → Here → (Good : TypedScope → Type 0) → Expression → Read → (Site → List Placed) → Type 0
+ReadsBy old new before after here Good e o c = Generates old new before after here (λ f t (u : Unit {0}). Good t.scope) (λ t u. c t) (λ f t u. IsRead f t e o)
 
-abbrev pub Reads : (old new : Generator) → (before after : Lined) → Here → Expression → Read → Type 0
-Reads old new before after here e o = ReadsBy old new before after here (Typed e) e o (λ t. operand_code t e)
+abbrev pub ReadsOperand : (old new : Generator) → (before after : Lined) → Here → Expression → Read → Type 0
+ReadsOperand old new before after here e o = ReadsBy old new before after here (Typed e) e o (λ t. operand_code t e)
 
 -- the code of an owner, or of the entity of a statistic, and where it lies
 abbrev pub Bears : (old new : Generator) → (before after : Lined) → Here → Option Expression → Read → Type 0
-Bears old new before after here e o = Makes old new before after here (λ f t (u : Unit {0}). AreNumbers e t.scope) (λ t u. bearer_code t e) (λ f t u. IsBorne f t e o)
+Bears old new before after here e o = Generates old new before after here (λ f t (u : Unit {0}). AreNumbers e t.scope) (λ t u. bearer_code t e) (λ f t u. IsBorne f t e o)

@@ -6,7 +6,7 @@ use Rattle.ss_code_instructions.specs.declared.instruction.Instruction.TheVarian
 use Rattle.ss_code_pieces.specs.declared.facts.Ordering.{Ordering}
 use Rattle.ss_code_pieces.specs.declared.facts.Ordering.TheVariants as orderings
 
-abbrev pub filing : Ordering → (set : ℕ) → (member owner : Address) → (noted : Bool) → Instruction
-filing orderings.First set member owner noted = r.FileFirst set member owner noted
-filing orderings.Last set member owner noted = r.FileLast set member owner noted
-filing orderings.Ranked set member owner noted = r.FileRanked set member owner noted
+abbrev pub filing_instruction : Ordering → (set : ℕ) → (member owner : Address) → (noted : Bool) → Instruction
+filing_instruction orderings.First set member owner noted = r.FileFirst set member owner noted
+filing_instruction orderings.Last set member owner noted = r.FileLast set member owner noted
+filing_instruction orderings.Ranked set member owner noted = r.FileRanked set member owner noted

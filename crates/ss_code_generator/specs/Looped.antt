@@ -12,10 +12,10 @@ use Rattle.ss_code_instructions.specs.Translation.{Site, height, place, forget_t
 use Rattle.ss_code_generator.specs.declared.expressions.Operand.{Operand as Read}
 use Rattle.ss_code_generator.specs.declared.generator.Generator.{Generator}
 use Rattle.ss_code_generator.specs.declared.generator.Site.{Site as Here}
-use Rattle.ss_code_generator.specs.declared.loops.Walk.{Walk}
+use Rattle.ss_code_generator.specs.declared.loops.MemberLoop.{MemberLoop}
 use Rattle.ss_code_generator.specs.declared.targets.VariableSpot.{VariableSpot}
-use Rattle.ss_code_pieces.specs.Lined.{Lined, nothing}
-use Rattle.ss_code_generator.specs.Emitted.{Final, Makes, NoMore, Adds, AtBearer, AtCell, AreNumbers}
+use Rattle.ss_code_pieces.specs.Lined.{Lined, no_code}
+use Rattle.ss_code_generator.specs.Emitted.{Final, Generates, NoMore, Adds, AtBearer, AtCell, AreNumbers}
 use Rattle.ss_code_generator.specs.Spots.{IsVariable}
 
 -- how many cells a FOR keeps
@@ -31,7 +31,7 @@ is_after AtEnd = None
 is_after (From e) = Some false
 is_after (After e) = Some true
 
-abbrev pub begin_of : Walk → Option Bool → (skip : ℕ) → Running
+abbrev pub begin_of : MemberLoop → Option Bool → (skip : ℕ) → Running
 begin_of w None skip = BeginSet w.set w.owner w.cell skip w.reverse
 begin_of w (Some after) skip = BeginAt w.set w.owner w.cell skip w.reverse after
 
@@ -47,13 +47,13 @@ pub record Turning : Type 0 where
 abbrev pub FitsItem : (cell : ℕ) → VariableSpot → Final → Site → Turning → Type 0
 FitsItem n spot f u x = IsVariable u x.variable spot × AtCell f u x.cell n
 
-abbrev pub TakesItem : Generator → (before after : Lined) → Here → (cell : ℕ) → VariableSpot → Type 0
-TakesItem g before after here n spot = Makes g g before after here (FitsItem n spot) (λ u x. take_code u x.cell x.variable) NoMore
+abbrev pub TakesLoopItem : Generator → (before after : Lined) → Here → (cell : ℕ) → VariableSpot → Type 0
+TakesLoopItem g before after here n spot = Generates g g before after here (FitsItem n spot) (λ u x. take_code u x.cell x.variable) NoMore
 
 -- a turn was made before
 abbrev pub TakesItems : Generator → (after : Lined) → Here → (cell : ℕ) → VariableSpot → (turn : Lined) → Type 0
 TakesItems g after here n spot turn =
-    Makes g g nothing after here (λ f u x. FitsItem n spot f u x × Adds f nothing turn x.turn) (λ u x. turns_code u x.cell x.variable x.turn (Next x.cell)) NoMore
+    Generates g g no_code after here (λ f u x. FitsItem n spot f u x × Adds f no_code turn x.turn) (λ u x. turns_code u x.cell x.variable x.turn (Next x.cell)) NoMore
 
 -- the instruction that begins a FOR over numbers, or over a class
 abbrev pub items_begin : (class : Option ℕ) → (cell skip : ℕ) → Running
@@ -81,21 +81,21 @@ pub record Walking : Type 0 where
   pub cell : ℕ
   pub turn : List Placed
 
-abbrev pub FitsWalk : Walk → Final → Site → Walking → Type 0
+abbrev pub FitsWalk : MemberLoop → Final → Site → Walking → Type 0
 FitsWalk w f u x = IsVariable u x.variable w.variable × (w.set ≡ x.set) × AtBearer f u x.owner w.owner × AtCell f u x.cell w.cell
 
-abbrev pub TakesMembers : Generator → (after : Lined) → Here → Walk → (turn : Lined) → Type 0
+abbrev pub TakesMembers : Generator → (after : Lined) → Here → MemberLoop → (turn : Lined) → Type 0
 TakesMembers g after here w turn =
-    Makes g g nothing after here (λ f u x. FitsWalk w f u x × Adds f nothing turn x.turn)
+    Generates g g no_code after here (λ f u x. FitsWalk w f u x × Adds f no_code turn x.turn)
     (λ u x. turns_code u x.cell x.variable x.turn (NextMember w.reverse x.set x.owner x.cell)) NoMore
 
 -- the owner of a walk, which stays in a cell
 abbrev pub KeepsOwner : (old new : Generator) → (before after : Lined) → Here → SetOwner → Read → Type 0
 KeepsOwner old new before after here o r =
-    Makes old new before after here (λ f t (u : Unit {0}). AreNumbers (expression_of o) t.scope) (λ t u. owner_code t o)
+    Generates old new before after here (λ f t (u : Unit {0}). AreNumbers (expression_of o) t.scope) (λ t u. owner_code t o)
     (λ f t u. AtBearer f t (owner_kept t o) r.address × (height (owner_cell t o) ≡ height t + r.cells) × (height (owner_cell t o) ≤ f.depth))
 
 -- the member with which a walk begins, or after which
-abbrev pub StartsWalk : (old new : Generator) → (before after : Lined) → Here → Walk → Start → Type 0
+abbrev pub StartsWalk : (old new : Generator) → (before after : Lined) → Here → MemberLoop → Start → Type 0
 StartsWalk old new before after here w start =
-    Makes old new before after here (λ f u x. FitsWalk w f u x × GoodStart u.scope start) (λ u x. start_code u x.set x.owner start) NoMore
+    Generates old new before after here (λ f u x. FitsWalk w f u x × GoodStart u.scope start) (λ u x. start_code u x.set x.owner start) NoMore

@@ -13,8 +13,8 @@ use Rattle.ss_code_instructions.specs.Translation.{Site, height, place, above, o
 use Rattle.ss_code_generator.specs.declared.generator.Generator.{Generator}
 use Rattle.ss_code_generator.specs.declared.generator.Site.{Site as Here}
 use Rattle.ss_code_pieces.specs.Lined.{Lined}
-use Rattle.ss_code_generator.specs.Emitted.{Final, Makes, NoMore, AtTarget}
-use Rattle.ss_code_generator.specs.Spots.{Taking, HasRoom, HoldsMode, landing, landed_code}
+use Rattle.ss_code_generator.specs.Emitted.{Final, Generates, NoMore, AtTarget}
+use Rattle.ss_code_generator.specs.Spots.{Taking, HasTargetRoom, HoldsMode, landing, landed_code}
 
 -- the statistics watch one of the first attributes of a class, so many
 abbrev pub any_watched : List Statistic → (class given : ℕ) → Bool
@@ -39,8 +39,8 @@ named_code t u (ToCount c) = count_code (above u Integer) c (Stays (height u))
 
 abbrev pub FitsNaming : (IsIt : Final → Site → Place → Type 0) → Address → Final → Site → Taking → Type 0
 FitsNaming IsIt from f u g =
-    IsIt f g.resolved g.place × (g.resolved.scope ≡ u.scope) × AtTarget f u (landing u g.place) from × HasRoom f (landing u g.place)
+    IsIt f g.resolved g.place × (g.resolved.scope ≡ u.scope) × AtTarget f u (landing u g.place) from × HasTargetRoom f (landing u g.place)
     × HoldsMode u.scope g.place Integer
 
 abbrev pub Names : Generator → (before after : Lined) → Here → Address → (IsIt : Final → Site → Place → Type 0) → Type 0
-Names g before after here from IsIt = Makes g g before after here (FitsNaming IsIt from) (λ u x. named_code x.resolved u x.place) NoMore
+Names g before after here from IsIt = Generates g g before after here (FitsNaming IsIt from) (λ u x. named_code x.resolved u x.place) NoMore

@@ -3,13 +3,13 @@ use Rattle.std.specs.Prelude.{◌≡◌, ℕ, List, [], ◌∷◌, ◌++◌, len
 use Rattle.std.specs.List.{AllByRecursion as Every}
 use Rattle.ss_base.specs.declared.line.Line.{Line}
 use Rattle.ss_program.specs.Program.{PrintItem, Statement, Let, Change, Call, Return, Stop, Read, Simulate, If, Loop, For, Find, Create, CreateEvery, Destroy, File, RemoveEnd, Remove, ScheduleNew, Schedule, Cancel, Reset, Print as APrint, Skip, Block}
-use Rattle.ss_program.specs.WellTyped.{Scope, Good, GoodBlock}
+use Rattle.ss_program.specs.WellTyped.{TypedScope, Good, GoodBlock}
 use Rattle.ss_code_instructions.specs.Instructions.{Lines, Print, Placed}
-use Rattle.ss_code_instructions.specs.Carried.{RunningLines, lines_of as run_as}
-use Rattle.ss_code_instructions.specs.Translation.{Site, height, place, no_line, items_code, after_items, lines_of, statement_code, statement_prints, block_code, block_prints}
+use Rattle.ss_code_instructions.specs.Carried.{RunningLines, lines_of_running as run_as}
+use Rattle.ss_code_instructions.specs.Translation.{Site, height, place, no_line, items_code, after_items, lines_of_items, statement_code, statement_prints, block_code, block_prints}
 use Rattle.ss_code_generator.specs.declared.generator.Generator.{Generator}
 use Rattle.ss_code_generator.specs.declared.generator.Site.{Site as Here}
-use Rattle.ss_code_pieces.specs.Lined.{Lined, nothing}
+use Rattle.ss_code_pieces.specs.Lined.{Lined, no_code}
 use Rattle.ss_code_generator.specs.Emitted.{EmitsPrinting}
 use Rattle.ss_code_generator.specs.Items.{GoodItem}
 
@@ -48,13 +48,13 @@ abbrev pub statement_site : (height : ℕ) → Here
 statement_site h = record { line = no_line; height = h }
 
 -- code, and the lines of its PRINTs
-pub record PrintsBy (old new : Generator) (before after : Lined) (here : Here) (old_prints new_prints : List RunningLines) (Good : Scope → Type 0) (ls : List Lines) (c : (first : ℕ) → Site → List Placed) : Type 0 where
+pub record PrintsBy (old new : Generator) (before after : Lined) (here : Here) (old_prints new_prints : List RunningLines) (Good : TypedScope → Type 0) (ls : List Lines) (c : (first : ℕ) → Site → List Placed) : Type 0 where
   pub code : EmitsPrinting old new before after here new_prints Good (c (length old_prints))
   pub prints : Prints old_prints new_prints ls
 
 abbrev pub PrintsLines : (old new : Generator) → (before after : Lined) → Here → (old_prints new_prints : List RunningLines) → List PrintItem → (pictures : List (List ℕ)) → Type 0
 PrintsLines old new before after here old_prints new_prints items pictures =
-    PrintsBy old new before after here old_prints new_prints (λ s. Every (λ x. GoodItem x s) items) (lines_of items pictures ∷ [])
+    PrintsBy old new before after here old_prints new_prints (λ s. Every (λ x. GoodItem x s) items) (lines_of_items items pictures ∷ [])
     (λ first t. items_code t items ++ place (after_items t items) (Print first (height t)) ∷ [])
 
 -- a statement
@@ -65,4 +65,4 @@ EmitsStatement old new before after h old_prints new_prints s =
 -- and a block of them
 abbrev pub EmitsBlock : (old new : Generator) → (after : Lined) → (height : ℕ) → (old_prints new_prints : List RunningLines) → Block → Type 0
 EmitsBlock old new after h old_prints new_prints b =
-    PrintsBy old new nothing after (statement_site h) old_prints new_prints (λ scope. GoodBlock scope b) (block_prints b) (λ first t. block_code t first b)
+    PrintsBy old new no_code after (statement_site h) old_prints new_prints (λ scope. GoodBlock scope b) (block_prints b) (λ first t. block_code t first b)

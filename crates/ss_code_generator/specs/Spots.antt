@@ -6,7 +6,7 @@ use Rattle.ss_program.specs.declared.expression.Variable.{Variable}
 use Rattle.ss_program.specs.declared.expression.Variable.TheVariants.{Global}
 use Rattle.ss_program.specs.declared.sections.Subject.TheVariants.{OfAttribute}
 use Rattle.ss_program.specs.Program.{Expression, Place, ToVariable, ToAttribute, ToCount}
-use Rattle.ss_program.specs.WellTyped.{Scope, TakesMode, mode_at, field_mode}
+use Rattle.ss_program.specs.WellTyped.{TypedScope, TakesMode, mode_at, field_mode}
 use Rattle.ss_code_instructions.specs.Facts.{watch}
 use Rattle.ss_code_instructions.specs.declared.address.Address.{Address}
 use Rattle.ss_code_instructions.specs.Instructions.{Operand, Taken, Target, Into, Onto, Placed}
@@ -20,19 +20,19 @@ use Rattle.ss_code_generator.specs.declared.targets.Spot.TheVariants as spots
 use Rattle.ss_code_generator.specs.declared.generator.Generator.{Generator}
 use Rattle.ss_code_generator.specs.declared.generator.Site.{Site as Here}
 use Rattle.ss_code_pieces.specs.Lined.{Lined}
-use Rattle.ss_code_generator.specs.Emitted.{Final, Makes, NoMore, AtOperand, AtTarget, IsRead}
+use Rattle.ss_code_generator.specs.Emitted.{Final, Generates, NoMore, AtOperand, AtTarget, IsRead}
 
 -- ## Spots
 
 -- the number of a variable where a statistic watches it
-abbrev pub IsWatched : (kept : Bool) → Variable → Option ℕ → Type 0
-IsWatched kept x None = kept ≡ false
-IsWatched kept x (Some k) = (kept ≡ true) × (x ≡ Global k)
+abbrev pub IsWatchedAs : (kept : Bool) → Variable → Option ℕ → Type 0
+IsWatchedAs kept x None = kept ≡ false
+IsWatchedAs kept x (Some k) = (kept ≡ true) × (x ≡ Global k)
 
 pub record IsVariable (t : Site) (x : Variable) (s : VariableSpot) : Type 0 where
   pub at : VariableAt x s.address
   pub mode : s.mode ≡ or_integer (mode_at t.scope x)
-  pub watched : IsWatched (is_kept t x) x s.watched
+  pub watched : IsWatchedAs (is_kept t x) x s.watched
 
 pub record IsAttribute (f : Final) (t : Site) (k n : ℕ) (r : Expression) (s : AttributeSpot) : Type 0 where
   pub class : s.class ≡ k
@@ -86,13 +86,13 @@ landed_code t u (ToCount c) m = count_code (above u m) c (Taken (height u))
 
 -- ## Places that are well typed
 
-abbrev pub GoodPlace : Place → Scope → Type 0
+abbrev pub GoodPlace : Place → TypedScope → Type 0
 GoodPlace p s = (m : Mode) × TakesMode s p m
 
 -- ## The contracts of what assigns
 
 -- a place, where it was resolved, and the operand that it takes; the operand has this mode where it is read
-pub record Given : Type 0 where
+pub record Assignment : Type 0 where
   pub resolved : Site
   pub place : Place
   pub from : Operand
@@ -105,24 +105,24 @@ IsPlaceOf t (ToAttribute class field r) s = ⊥
 IsPlaceOf t (ToCount c) s = ⊥
 
 -- what a place holds has this mode
-abbrev pub HoldsMode : Scope → Place → Mode → Type 0
+abbrev pub HoldsMode : TypedScope → Place → Mode → Type 0
 HoldsMode s (ToVariable x) m = mode_at s x ≡ Some m
 HoldsMode s (ToAttribute class field r) m = field_mode s.program class field ≡ Some m
 HoldsMode s (ToCount c) m = mode_at s (Global c.variable) ≡ Some m
 
 -- the frame has room for a target
-abbrev pub HasRoom : Final → Target → Type 0
-HasRoom f (Into x) = Unit {0}
-HasRoom f (Onto h) = h < f.depth
+abbrev pub HasTargetRoom : Final → Target → Type 0
+HasTargetRoom f (Into x) = Unit {0}
+HasTargetRoom f (Onto h) = h < f.depth
 
-abbrev pub FitsGiven : (IsIt : Final → Site → Place → Type 0) → Address → Final → Site → Given → Type 0
+abbrev pub FitsGiven : (IsIt : Final → Site → Place → Type 0) → Address → Final → Site → Assignment → Type 0
 FitsGiven IsIt from f u g =
     IsIt f g.resolved g.place × (g.resolved.scope ≡ u.scope) × AtOperand f u g.from from × HoldsMode u.scope g.place g.mode
     × (mode_here (code_of f.program) f.constants (place u i.Leave) g.from ≡ Some g.mode)
 
 -- an operand goes to what is assigned
-abbrev pub Gives : Generator → (before after : Lined) → Here → Address → (IsIt : Final → Site → Place → Type 0) → Type 0
-Gives g before after here from IsIt = Makes g g before after here (FitsGiven IsIt from) (λ u x. assigned_code x.resolved u x.place x.from) NoMore
+abbrev pub Assigns : Generator → (before after : Lined) → Here → Address → (IsIt : Final → Site → Place → Type 0) → Type 0
+Assigns g before after here from IsIt = Generates g g before after here (FitsGiven IsIt from) (λ u x. assigned_code x.resolved u x.place x.from) NoMore
 
 -- a value that lies where it comes at first goes to what is assigned; here are the cells below it
 pub record Taking : Type 0 where
@@ -132,21 +132,21 @@ pub record Taking : Type 0 where
 
 abbrev pub FitsTaking : (IsIt : Final → Site → Place → Type 0) → Address → Final → Site → Taking → Type 0
 FitsTaking IsIt from f u g =
-    IsIt f g.resolved g.place × (g.resolved.scope ≡ u.scope) × AtTarget f u (landing u g.place) from × HasRoom f (landing u g.place)
+    IsIt f g.resolved g.place × (g.resolved.scope ≡ u.scope) × AtTarget f u (landing u g.place) from × HasTargetRoom f (landing u g.place)
     × HoldsMode u.scope g.place g.mode
 
-abbrev pub Takes : Generator → (before after : Lined) → Here → Address → (IsIt : Final → Site → Place → Type 0) → Type 0
-Takes g before after here from IsIt = Makes g g before after here (FitsTaking IsIt from) (λ u x. landed_code x.resolved u x.place x.mode) NoMore
+abbrev pub AssignsLanded : Generator → (before after : Lined) → Here → Address → (IsIt : Final → Site → Place → Type 0) → Type 0
+AssignsLanded g before after here from IsIt = Generates g g before after here (FitsTaking IsIt from) (λ u x. landed_code x.resolved u x.place x.mode) NoMore
 
 -- a variable that ADD or SUBTRACT changes, and the place that it is
 pub record Changed : Type 0 where
   pub place : Place
   pub variable : Variable
 
-abbrev pub variable_of : Place → Option Variable
-variable_of (ToVariable x) = Some x
-variable_of (ToAttribute class field r) = None
-variable_of (ToCount c) = Some (Global c.variable)
+abbrev pub place_variable : Place → Option Variable
+place_variable (ToVariable x) = Some x
+place_variable (ToAttribute class field r) = None
+place_variable (ToCount c) = Some (Global c.variable)
 
 abbrev pub IsHeldBy : Changed → Type 0
-IsHeldBy c = variable_of c.place ≡ Some c.variable
+IsHeldBy c = place_variable c.place ≡ Some c.variable

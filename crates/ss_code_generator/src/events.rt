@@ -167,8 +167,7 @@ impl Generator<'_> {
                 given: as_index(given.len())?,
                 noted: self.is_given_watched(planned.class, given.len()),
             },
-        )?;
-        Ok(())
+        )
     }
 
     /// CANCEL.
@@ -183,8 +182,7 @@ impl Generator<'_> {
     {
         let notice = self.operand(code, site, notice)?.address;
         let class = as_index(class)?;
-        code.put(site.line, Instruction::Cancel { class, notice })?;
-        Ok(())
+        code.put(site.line, Instruction::Cancel { class, notice })
     }
 
     /// START SIMULATION.
@@ -204,8 +202,7 @@ impl Generator<'_> {
     {
         let entity = self.entity_of(code, site, &restart.of)?.address;
         let statistic = as_index(restart.statistic)?;
-        code.put(site.line, Instruction::Reset { statistic, entity })?;
-        Ok(())
+        code.put(site.line, Instruction::Reset { statistic, entity })
     }
 
     /// RESET.

@@ -1,20 +1,24 @@
 //! The code of expressions.
 
-ghost use Rattle.std.specs.Prelude.{◌≡◌, ◌+◌, ◌<◌, ◌≤◌, ◌^◌, ◌∷◌, [], length, map, pos, IfOk, OnOk};
+ghost use Rattle.std.specs.Prelude.{◌≡◌, ◌+◌, ◌<◌, ◌≤◌, ◌^◌, ◌∷◌, ◌++◌, [], length, map, pos, IfOk, OnOk};
 ghost use Rattle.std.specs.List.{AllByRecursion as Every};
 ghost use Rattle.ss_base.specs.declared.value.Value.TheVariants.{Whole};
-ghost use Rattle.ss_program.specs.View.{view_expression, view_owner, view_option};
+ghost use Rattle.ss_program.specs.View.{view_expression, view_owner};
+ghost use Rattle.std.specs.Option.{option_map};
 ghost use Rattle.ss_meaning.specs.Values.{operator_of};
 ghost use Rattle.ss_code_instructions.specs.Instructions.{Constant, Move};
 ghost use Rattle.ss_code_instructions.specs.declared.instruction.Instruction.TheVariants.{Figure as Figures};
 ghost use Rattle.ss_code_instructions.specs.Facts.{expression_of};
 ghost use Rattle.ss_code_instructions.specs.Translation.{expression_code, values_code, place, next};
 ghost use Rattle.ss_code_instructions.specs.Forms.{calculating, asking_set, asking_member, moving, fetching};
-ghost use Rattle.ss_code_generator.specs.Calculations.{Operates};
-ghost use Rattle.ss_code_generator.specs.Emitted.{Grows, Emits, EmitsTo, Typed, IsLeaf, Reads, Bears};
+ghost use Rattle.ss_code_pieces.specs.Lined.{Lined, on_line};
+ghost use Rattle.ss_code_generator.specs.declared.generator.Generator.{Generator as Builder};
+ghost use Rattle.ss_program.specs.Program.{Expression as Plain};
+ghost use Rattle.ss_code_generator.specs.Calculations.{EmitsExpression, Operates, with_operations};
+ghost use Rattle.ss_code_generator.specs.Emitted.{Grows, Emits, Typed, IsLeaf, ReadsOperand, Bears};
 
 use crate::generator::{Generator, Site};
-use ss_base::Mode;
+use ss_base::{Line, Mode};
 use ss_code_instructions::address::Address;
 use ss_code_instructions::instruction::Instruction;
 use ss_code_pieces::facts::{attribute_mode, variable_mode};
@@ -64,24 +68,40 @@ fn calculate(operator: Operator, left: Address, right: Address, to: Address) -> 
 }
 
 // What is asked of the set of an owner.
-fn ask_set(query: SetQuery, set: u32, owner: Address, to: Address) -> Instruction
-    ensures { result ≡ asking_set query set owner to }
+fn ask_set(
+    code: &mut Piece,
+    line: Line,
+    query: SetQuery,
+    set: usize,
+    owner: Address,
+    to: Address,
+) -> Result<(), AllocError>
+    ensures { OnOk result (code.new ≡ code.old ++ on_line line (asking_set query set owner to) ∷ []) }
 {
+    let set = as_index(set)?;
     match query {
-        SetQuery::FirstMember => Instruction::FirstMember { set, owner, to },
-        SetQuery::LastMember => Instruction::LastMember { set, owner, to },
-        SetQuery::MemberCount => Instruction::MemberCount { set, owner, to },
+        SetQuery::FirstMember => code.put(line, Instruction::FirstMember { set, owner, to }),
+        SetQuery::LastMember => code.put(line, Instruction::LastMember { set, owner, to }),
+        SetQuery::MemberCount => code.put(line, Instruction::MemberCount { set, owner, to }),
     }
 }
 
 // What is asked of a member.
-fn ask_member(query: MemberQuery, set: u32, member: Address, to: Address) -> Instruction
-    ensures { result ≡ asking_member query set member to }
+fn ask_member(
+    code: &mut Piece,
+    line: Line,
+    query: MemberQuery,
+    set: usize,
+    member: Address,
+    to: Address,
+) -> Result<(), AllocError>
+    ensures { OnOk result (code.new ≡ code.old ++ on_line line (asking_member query set member to) ∷ []) }
 {
+    let set = as_index(set)?;
     match query {
-        MemberQuery::Predecessor => Instruction::Predecessor { set, member, to },
-        MemberQuery::Successor => Instruction::Successor { set, member, to },
-        MemberQuery::Membership => Instruction::Membership { set, member, to },
+        MemberQuery::Predecessor => code.put(line, Instruction::Predecessor { set, member, to }),
+        MemberQuery::Successor => code.put(line, Instruction::Successor { set, member, to }),
+        MemberQuery::Membership => code.put(line, Instruction::Membership { set, member, to }),
     }
 }
 
@@ -95,11 +115,26 @@ pub fn move_of(mode: Mode, from: Address, to: Address) -> Instruction
     }
 }
 
+// Which attribute is fetched: its mode, its class, and its number in that.
+#[derive(Clone, Copy)]
+struct AttributePlace {
+    mode: Mode,
+    class: usize,
+    field: usize,
+}
+
 // An attribute of an entity goes to a place.
-fn attribute_of(mode: Mode, class: u32, field: u32, entity: Address, to: Address) -> Instruction
-    ensures { result ≡ fetching mode class field entity to }
+fn fetch_attribute(
+    code: &mut Piece,
+    line: Line,
+    of: AttributePlace,
+    entity: Address,
+    to: Address,
+) -> Result<(), AllocError>
+    ensures { OnOk result (code.new ≡ code.old ++ on_line line (fetching of.mode of.class of.field entity to) ∷ []) }
 {
-    match mode {
+    let (class, field) = (as_index(of.class)?, as_index(of.field)?);
+    let instruction = match of.mode {
         Mode::Integer => Instruction::Attribute {
             class,
             field,
@@ -112,7 +147,8 @@ fn attribute_of(mode: Mode, class: u32, field: u32, entity: Address, to: Address
             entity,
             to,
         },
-    }
+    };
+    code.put(line, instruction)
 }
 
 /// A number is added or subtracted.
@@ -126,15 +162,26 @@ pub fn signed(sign: Sign, left: Address, right: Address, to: Address) -> Instruc
 }
 
 // What a statistic says of an entity.
-fn figure_of(fold: Fold, statistic: u32, entity: Address, to: Address) -> Instruction
-    ensures { result ≡ Figures statistic entity to fold }
+fn fetch_figure(
+    code: &mut Piece,
+    line: Line,
+    fold: Fold,
+    statistic: usize,
+    entity: Address,
+    to: Address,
+) -> Result<(), AllocError>
+    ensures { OnOk result (code.new ≡ code.old ++ on_line line (Figures statistic entity to fold) ∷ []) }
 {
-    Instruction::Figure {
-        statistic,
-        entity,
-        to,
-        fold,
-    }
+    let statistic = as_index(statistic)?;
+    code.put(
+        line,
+        Instruction::Figure {
+            statistic,
+            entity,
+            to,
+            fold,
+        },
+    )
 }
 
 impl Generator<'_> {
@@ -158,7 +205,7 @@ impl Generator<'_> {
         site: Site,
         e: &Expression,
     ) -> Result<Operand, AllocError>
-        ensures { IfOk result (λ o. Reads self.old self.new code.old code.new site (view_expression e.now) o) }
+        ensures { IfOk result (λ o. ReadsOperand self.old self.new code.old code.new site (view_expression e.now) o) }
     {
         if let Some(address) = self.leaf(e)? {
             return Ok(Operand::leaf(address));
@@ -168,8 +215,7 @@ impl Generator<'_> {
         Ok(Operand::cell(to))
     }
 
-    /// An expression goes to a place, which its last instruction writes. Operations on a number are worked off from left to right:
-    /// what the last of them makes goes to the place, and what the others make into the next cell.
+    /// An expression goes to a place, which its last instruction writes.
     #[tactic(auto, unfolding(ss_program::specs::View::view_expression))]
     #[cycle(expressions)]
     pub fn expression(
@@ -179,7 +225,7 @@ impl Generator<'_> {
         e: &Expression,
         to: Address,
     ) -> Result<(), AllocError>
-        ensures { OnOk result (EmitsTo self.old self.new code.old code.new site to (Typed (view_expression e.now)) (λ t x. expression_code t x (view_expression e.now))) }
+        ensures { OnOk result (EmitsExpression self.old self.new code.old code.new site to (view_expression e.now)) }
     {
         match e {
             Expression::Constant { value } => {
@@ -193,21 +239,22 @@ impl Generator<'_> {
             }
             Expression::Attribute { class, field, of } => {
                 let entity = self.operand(code, site, of)?.address;
-                let mode = attribute_mode(self.program, *class, *field);
-                let (class, field) = (as_index(*class)?, as_index(*field)?);
-                code.put(site.line, attribute_of(mode, class, field, entity, to))
+                let (class, field) = (*class, *field);
+                let mode = attribute_mode(self.program, class, field);
+                let of = AttributePlace { mode, class, field };
+                fetch_attribute(code, site.line, of, entity, to)
             }
             Expression::OfSystemSet { query, set } => {
                 let owner = self.zero()?;
-                code.put(site.line, ask_set(*query, as_index(*set)?, owner, to))
+                ask_set(code, site.line, *query, *set, owner, to)
             }
             Expression::OfSet { query, set, owner } => {
                 let owner = self.operand(code, site, owner)?.address;
-                code.put(site.line, ask_set(*query, as_index(*set)?, owner, to))
+                ask_set(code, site.line, *query, *set, owner, to)
             }
             Expression::OfMember { query, set, member } => {
                 let member = self.operand(code, site, member)?.address;
-                code.put(site.line, ask_member(*query, as_index(*set)?, member, to))
+                ask_member(code, site.line, *query, *set, member, to)
             }
             Expression::Clock => code.put(site.line, Instruction::Clock { to }),
             Expression::TimeOf { notice } => {
@@ -216,10 +263,7 @@ impl Generator<'_> {
             }
             Expression::Figure { fold, statistic } => {
                 let entity = self.zero()?;
-                code.put(
-                    site.line,
-                    figure_of(*fold, as_index(*statistic)?, entity, to),
-                )
+                fetch_figure(code, site.line, *fold, *statistic, entity, to)
             }
             Expression::FigureOf {
                 fold,
@@ -227,10 +271,7 @@ impl Generator<'_> {
                 entity,
             } => {
                 let entity = self.operand(code, site, entity)?.address;
-                code.put(
-                    site.line,
-                    figure_of(*fold, as_index(*statistic)?, entity, to),
-                )
+                fetch_figure(code, site.line, *fold, *statistic, entity, to)
             }
             Expression::Signed { sign, term } => {
                 let right = self.operand(code, site, term)?.address;
@@ -247,15 +288,34 @@ impl Generator<'_> {
                 if count == 0 {
                     return self.expression(code, site, first, to);
                 }
-                let mut left = self.operand(code, site, first)?;
-                for i in 0..count - 1 {
-                    let next = self.cell(site)?;
-                    self.operation(code, site, left, &further[i], next)?;
-                    left = Operand::cell(next);
-                }
-                self.operation(code, site, left, &further[count - 1], to)
+                let left = self.operand(code, site, first)?;
+                self.work_off(code, site, left, further, to)
             }
         }
+    }
+
+    // Operations on a number that is there are worked off from left to right: what the last of them makes goes to the place, and
+    // what the others make into the next cell.
+    #[cycle(expressions)]
+    fn work_off(
+        &mut self,
+        code: &mut Piece,
+        site: Site,
+        left: Operand,
+        further: &[Operation],
+        to: Address,
+    ) -> Result<(), AllocError>
+        requires { 0 < length further.now }
+        ensures { OnOk result ((old : Builder) (before : Lined) (e : Plain) → ReadsOperand old self.old before code.old site e left → EmitsExpression old self.new before code.new site to (with_operations e further.now)) }
+    {
+        let count = further.len();
+        let mut left = left;
+        for i in 0..count - 1 {
+            let next = self.cell(site)?;
+            self.operation(code, site, left, &further[i], next)?;
+            left = Operand::cell(next);
+        }
+        self.operation(code, site, left, &further[count - 1], to)
     }
 
     // An operation on a number that is there. What it makes goes to a place.
@@ -329,7 +389,7 @@ impl Generator<'_> {
         site: Site,
         e: &Option<Expression>,
     ) -> Result<Operand, AllocError>
-        ensures { IfOk result (λ o. Bears self.old self.new code.old code.new site (view_option view_expression e.now) o) }
+        ensures { IfOk result (λ o. Bears self.old self.new code.old code.new site (option_map view_expression e.now) o) }
     {
         match e {
             None => Ok(Operand::leaf(self.zero()?)),
@@ -344,7 +404,6 @@ impl Generator<'_> {
     {
         let to = self.cell(site)?;
         let from = self.one()?;
-        code.put(site.line, Instruction::Move { from, to })?;
-        Ok(())
+        code.put(site.line, Instruction::Move { from, to })
     }
 }

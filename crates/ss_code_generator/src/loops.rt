@@ -3,11 +3,12 @@
 ghost use Rattle.std.specs.Prelude.{◌≡◌, map, Some, IfOk, OnOk};
 ghost use Rattle.std.specs.List.{AllByRecursion as Every};
 ghost use Rattle.ss_program.specs.Program.{Members, From};
-ghost use Rattle.ss_program.specs.View.{view_expression, view_option, view_owner, view_start, view_head, view_guard, view_phrase};
+ghost use Rattle.ss_program.specs.View.{view_expression, view_owner, view_start, view_head, view_guard, view_phrase};
+ghost use Rattle.std.specs.Option.{option_map};
 ghost use Rattle.ss_program.specs.WellTyped.{GoodHead, GoodCondition, GoodPhrase};
 ghost use Rattle.ss_code_instructions.specs.Translation.{loop_code, range_code, for_code, find_code};
-ghost use Rattle.ss_code_generator.specs.Emitted.{Emits, EmitsAround, EmitsAroundBoth, IsNumber, AreNumbers};
-ghost use Rattle.ss_code_generator.specs.Looped.{loop_width, is_after, begin_of, items_begin, item_loop_code, TakesItem, TakesItems, TakesMembers, StartsWalk, KeepsOwner};
+ghost use Rattle.ss_code_generator.specs.Emitted.{Emits, EmitsAround, EmitsAroundBoth, IsInteger, AreNumbers};
+ghost use Rattle.ss_code_generator.specs.Looped.{loop_width, is_after, begin_of, items_begin, item_loop_code, TakesLoopItem, TakesItems, TakesMembers, StartsWalk, KeepsOwner};
 
 use crate::expressions::Operand;
 use crate::generator::{Generator, Site};
@@ -41,7 +42,7 @@ pub fn cells_of(head: &Head) -> usize
 
 // A walk over the members of a set: the variable, the set, its owner, the cell of the next member and the order.
 #[derive(Clone, Copy)]
-pub struct Walk {
+pub struct MemberLoop {
     pub variable: VariableSpot,
     pub set: u32,
     pub owner: Address,
@@ -50,7 +51,7 @@ pub struct Walk {
 }
 
 // The instruction that begins a walk from a member on, or after it.
-fn begin_at(walk: Walk, after: bool, skip: u32) -> Instruction
+fn begin_at(walk: MemberLoop, after: bool, skip: u32) -> Instruction
     ensures { result ≡ begin_of walk (Some after) skip }
 {
     Instruction::BeginAt {
@@ -64,7 +65,7 @@ fn begin_at(walk: Walk, after: bool, skip: u32) -> Instruction
 }
 
 // The instruction that begins a walk, which jumps where there is no member.
-fn begin(walk: Walk, start: &Start, skip: u32) -> Instruction
+fn begin(walk: MemberLoop, start: &Start, skip: u32) -> Instruction
     ensures { result ≡ begin_of walk (is_after (view_start start.now)) skip }
 {
     match start {
@@ -115,19 +116,18 @@ impl Generator<'_> {
         code: &mut Piece,
         site: Site,
         guards: &[Guard],
-        body: Piece,
+        body: &Piece,
     ) -> Result<(), AllocError>
-        ensures { OnOk result (EmitsAround self.old self.new code.old code.new site body (λ s. Every (λ g. GoodCondition s g.condition) (map view_guard guards.now)) (λ t b. loop_code t (map view_guard guards.now) b)) }
+        ensures { OnOk result (EmitsAround self.old self.new code.old code.new site body.now (λ s. Every (λ g. GoodCondition s g.condition) (map view_guard guards.now)) (λ t b. loop_code t (map view_guard guards.now) b)) }
     {
-        let again = self.guards(site, 1, guards, Piece::new(self.alloc))?;
         let mut turn = Piece::new(self.alloc);
         turn.put(site.line, Instruction::Turn)?;
-        turn.append(body)?;
+        turn.append_copy(body)?;
+        let again = self.guards(site, 1, guards, Piece::new(self.alloc))?;
         turn.append(again)?;
         let back = as_index(turn.len())?;
         turn.put(site.line, Instruction::Repeat { back })?;
-        code.append(self.guards(site, 0, guards, turn)?)?;
-        Ok(())
+        code.append(self.guards(site, 0, guards, turn)?)
     }
 
     // The tick of an item or a member, which goes from a cell to the variable.
@@ -138,7 +138,7 @@ impl Generator<'_> {
         cell: u32,
         variable: VariableSpot,
     ) -> Result<(), AllocError>
-        ensures { OnOk result (TakesItem self.now code.old code.new site cell variable) }
+        ensures { OnOk result (TakesLoopItem self.now code.old code.new site cell variable) }
     {
         match variable.watched {
             None => {
@@ -160,13 +160,13 @@ impl Generator<'_> {
         site: Site,
         cell: u32,
         variable: VariableSpot,
-        turn: Piece,
+        turn: &Piece,
     ) -> Result<Piece, AllocError>
-        ensures { IfOk result (λ code. TakesItems self.now code site cell variable turn) }
+        ensures { IfOk result (λ code. TakesItems self.now code site cell variable turn.now) }
     {
         let mut code = Piece::new(self.alloc);
         self.take_item(&mut code, site, cell, variable)?;
-        code.append(turn)?;
+        code.append_copy(turn)?;
         let back = as_index(code.len())?;
         code.put(site.line, Instruction::Next { cell, back })?;
         Ok(code)
@@ -181,7 +181,7 @@ impl Generator<'_> {
         limit: &Expression,
         step: &Option<Expression>,
     ) -> Result<(), AllocError>
-        ensures { OnOk result (Emits self.old self.new code.old code.new site (λ s. IsNumber (view_expression first.now) s × IsNumber (view_expression limit.now) s × AreNumbers (view_option view_expression step.now) s) (λ t. range_code t (view_expression first.now) (view_expression limit.now) (view_option view_expression step.now))) }
+        ensures { OnOk result (Emits self.old self.new code.old code.new site (λ s. IsInteger (view_expression first.now) s × IsInteger (view_expression limit.now) s × AreNumbers (option_map view_expression step.now) s) (λ t. range_code t (view_expression first.now) (view_expression limit.now) (option_map view_expression step.now))) }
     {
         self.push(code, site, first)?;
         self.push(code, site.above(1), limit)?;
@@ -199,9 +199,9 @@ impl Generator<'_> {
         site: Site,
         variable: Variable,
         class: Option<u32>,
-        turn: Piece,
+        turn: &Piece,
     ) -> Result<(), AllocError>
-        ensures { OnOk result (EmitsAround self.old self.new code.old code.new site turn (λ s. Unit {0}) (λ t b. item_loop_code t class variable b)) }
+        ensures { OnOk result (EmitsAround self.old self.new code.old code.new site turn.now (λ s. Unit {0}) (λ t b. item_loop_code t class variable b)) }
     {
         let above = site.above(NUMBER_CELLS);
         self.reach(above.height);
@@ -215,12 +215,12 @@ impl Generator<'_> {
     }
 
     // The members of a walk: a turn, and on to the next one.
-    fn take_members(&self, site: Site, walk: Walk, turn: Piece) -> Result<Piece, AllocError>
-        ensures { IfOk result (λ code. TakesMembers self.now code site walk turn) }
+    fn take_members(&self, site: Site, walk: MemberLoop, turn: &Piece) -> Result<Piece, AllocError>
+        ensures { IfOk result (λ code. TakesMembers self.now code site walk turn.now) }
     {
         let mut code = Piece::new(self.alloc);
         self.take_item(&mut code, site, walk.cell, walk.variable)?;
-        code.append(turn)?;
+        code.append_copy(turn)?;
         let back = as_index(code.len())?;
         code.put(
             site.line,
@@ -262,7 +262,7 @@ impl Generator<'_> {
         &mut self,
         code: &mut Piece,
         site: Site,
-        walk: Walk,
+        walk: MemberLoop,
         member: &Expression,
     ) -> Result<(), AllocError>
         ensures { OnOk result (StartsWalk self.old self.new code.old code.new site walk (From (view_expression member.now))) }
@@ -282,7 +282,7 @@ impl Generator<'_> {
         &mut self,
         code: &mut Piece,
         site: Site,
-        walk: Walk,
+        walk: MemberLoop,
         start: &Start,
     ) -> Result<(), AllocError>
         ensures { OnOk result (StartsWalk self.old self.new code.old code.new site walk (view_start start.now)) }
@@ -300,13 +300,13 @@ impl Generator<'_> {
         code: &mut Piece,
         site: Site,
         of: SetLoop<'_>,
-        turn: Piece,
+        turn: &Piece,
     ) -> Result<(), AllocError>
-        ensures { OnOk result (EmitsAround self.old self.new code.old code.new site turn (λ s. GoodHead s (Members of.entry.variable of.entry.set (view_owner of.entry.owner.now) (view_start of.entry.start.now) of.entry.reverse)) (λ t b. for_code t (Members of.entry.variable of.entry.set (view_owner of.entry.owner.now) (view_start of.entry.start.now) of.entry.reverse) b)) }
+        ensures { OnOk result (EmitsAround self.old self.new code.old code.new site turn.now (λ s. GoodHead s (Members of.entry.variable of.entry.set (view_owner of.entry.owner.now) (view_start of.entry.start.now) of.entry.reverse)) (λ t b. for_code t (Members of.entry.variable of.entry.set (view_owner of.entry.owner.now) (view_start of.entry.start.now) of.entry.reverse) b)) }
     {
         let kept = self.kept_owner(code, site, of.owner)?;
         let below = site.above(kept.cells);
-        let walk = Walk {
+        let walk = MemberLoop {
             variable: self.variable_spot(of.variable)?,
             set: as_index(of.set)?,
             owner: kept.address,
@@ -341,7 +341,7 @@ impl Generator<'_> {
                 step,
             } => {
                 self.range(code, site, first, limit, step)?;
-                self.item_loop(code, site, *variable, None, turn)
+                self.item_loop(code, site, *variable, None, &turn)
             }
             Head::Members {
                 variable,
@@ -357,11 +357,11 @@ impl Generator<'_> {
                     start,
                     reverse: *reverse,
                 };
-                self.members(code, site, of, turn)
+                self.members(code, site, of, &turn)
             }
             Head::Each { variable, class } => {
                 let class = as_index(*class)?;
-                self.item_loop(code, site, *variable, Some(class), turn)
+                self.item_loop(code, site, *variable, Some(class), &turn)
             }
         }
     }
@@ -373,10 +373,10 @@ impl Generator<'_> {
         code: &mut Piece,
         site: Site,
         cases: Cases<'_>,
-        found: Piece,
-        none: Piece,
+        found: &Piece,
+        none: &Piece,
     ) -> Result<(), AllocError>
-        ensures { OnOk result (EmitsAroundBoth self.old self.new code.old code.new site found none (λ s. GoodHead s (view_head cases.entry.head.now) × Every (GoodPhrase s) (map view_phrase cases.entry.phrases.now)) (λ t b. find_code t (view_head cases.entry.head.now) (map view_phrase cases.entry.phrases.now) b.first b.second)) }
+        ensures { OnOk result (EmitsAroundBoth self.old self.new code.old code.new site found.now none.now (λ s. GoodHead s (view_head cases.entry.head.now) × Every (GoodPhrase s) (map view_phrase cases.entry.phrases.now)) (λ t b. find_code t (view_head cases.entry.head.now) (map view_phrase cases.entry.phrases.now) b.first b.second)) }
     {
         let cells = cells_of(cases.head);
         let above = site.above(cells);
@@ -384,11 +384,10 @@ impl Generator<'_> {
         let case = self.jump(above, as_index(none.len() + 3)?)?;
         let turn = self.phrases(above, cases.phrases, case)?;
         self.for_loop(code, site, cases.head, turn)?;
-        code.append(none)?;
-        let past = self.jump(site, as_index(found.len() + 1)?)?;
-        code.append(past)?;
+        code.append_copy(none)?;
+        let skip = as_index(found.len() + 1)?;
+        code.put(site.line, Instruction::Jump { skip })?;
         self.forget(code, above, cells)?;
-        code.append(found)?;
-        Ok(())
+        code.append_copy(found)
     }
 }

@@ -4,10 +4,10 @@ ghost use Rattle.std.specs.Prelude.{◌≡◌, ◌+◌, ◌≤◌, map, IfOk, On
 ghost use Rattle.std.specs.List.{AllByRecursion as Every};
 ghost use Rattle.ss_program.specs.View.{view_item};
 ghost use Rattle.ss_code_instructions.specs.Translation.{item_code, items_code, after_items, height};
-ghost use Rattle.ss_code_pieces.specs.Preamble.{scope_of};
-ghost use Rattle.ss_code_generator.specs.Items.{kind_of, item_width, GoodItem};
+ghost use Rattle.ss_code_pieces.specs.Preamble.{scope_for_modes};
+ghost use Rattle.ss_code_generator.specs.Items.{running_kind, item_width, GoodItem};
 ghost use Rattle.ss_code_generator.specs.Printed.{PrintsLines};
-ghost use Rattle.ss_code_generator.specs.Emitted.{Makes, Emits};
+ghost use Rattle.ss_code_generator.specs.Emitted.{Generates, Emits};
 
 use crate::generator::{Generator, Site};
 use ss_base::Mode;
@@ -51,7 +51,7 @@ impl Generator<'_> {
 
     // Items, one after the other. It answers where the code goes on.
     fn items(&mut self, code: &mut Piece, site: Site, items: &[PrintItem]) -> Result<(), AllocError>
-        ensures { OnOk result (Makes self.old self.new code.old code.new site (λ f t (u : Unit {0}). Every (λ x. GoodItem x t.scope) (map view_item items.now)) (λ t u. items_code t (map view_item items.now)) (λ f t u. height (after_items t (map view_item items.now)) ≤ f.depth)) }
+        ensures { OnOk result (Generates self.old self.new code.old code.new site (λ f t (u : Unit {0}). Every (λ x. GoodItem x t.scope) (map view_item items.now)) (λ t u. items_code t (map view_item items.now)) (λ f t u. height (after_items t (map view_item items.now)) ≤ f.depth)) }
     {
         self.reach(site.height);
         let mut here = site;
@@ -64,7 +64,7 @@ impl Generator<'_> {
 
     // What an item is.
     fn item_kind(&self, item: &PrintItem) -> ItemKind
-        ensures { result ≡ kind_of (scope_of self.now.program.now self.now.locals.items) (view_item item.now) }
+        ensures { result ≡ running_kind (scope_for_modes self.now.program.now self.now.locals.items) (view_item item.now) }
     {
         match item {
             PrintItem::Value { value } => match expression_mode(self.program, &self.locals, value) {
@@ -82,7 +82,7 @@ impl Generator<'_> {
 
     // What items are.
     fn item_kinds(&self, items: &[PrintItem]) -> Result<Vec<ItemKind>, AllocError>
-        ensures { IfOk result (λ kinds. kinds.items ≡ map (kind_of (scope_of self.now.program.now self.now.locals.items)) (map view_item items.now)) }
+        ensures { IfOk result (λ kinds. kinds.items ≡ map (running_kind (scope_for_modes self.now.program.now self.now.locals.items)) (map view_item items.now)) }
     {
         let mut kinds = Vec::new(self.alloc);
         for item in items {
@@ -109,7 +109,6 @@ impl Generator<'_> {
         prints.push(made)?;
         self.items(code, site, items)?;
         let cell = self.place_of(site)?;
-        code.put(site.line, Instruction::Print { lines, cell })?;
-        Ok(())
+        code.put(site.line, Instruction::Print { lines, cell })
     }
 }

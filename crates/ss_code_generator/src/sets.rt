@@ -9,8 +9,8 @@ ghost use Rattle.ss_code_instructions.specs.Facts.{may_fault, expression_of};
 ghost use Rattle.ss_code_instructions.specs.Instructions.{File as Files};
 ghost use Rattle.ss_code_pieces.specs.Preamble.{filing_of};
 ghost use Rattle.ss_code_instructions.specs.Forms.{removing};
-ghost use Rattle.ss_code_generator.specs.Filings.{filing};
-ghost use Rattle.ss_code_generator.specs.Emitted.{Emits, IsNumber, ReadsBy};
+ghost use Rattle.ss_code_generator.specs.Filings.{filing_instruction};
+ghost use Rattle.ss_code_generator.specs.Emitted.{Emits, IsInteger, ReadsBy};
 
 use crate::expressions::Operand;
 use crate::generator::{Generator, Site};
@@ -31,7 +31,7 @@ fn file_by(
     owner: Address,
     noted: bool,
 ) -> Instruction
-    ensures { result ≡ filing ordering set member owner noted }
+    ensures { result ≡ filing_instruction ordering set member owner noted }
 {
     match ordering {
         Ordering::First => Instruction::FileFirst {
@@ -100,7 +100,7 @@ impl Generator<'_> {
         e: &Expression,
         is_looked: bool,
     ) -> Result<Operand, AllocError>
-        ensures { IfOk result (λ o. ReadsBy self.old self.new code.old code.new site (IsNumber (view_expression e.now)) (view_expression e.now) o (λ t. member_code t is_looked set (view_expression e.now))) }
+        ensures { IfOk result (λ o. ReadsBy self.old self.new code.old code.new site (IsInteger (view_expression e.now)) (view_expression e.now) o (λ t. member_code t is_looked set (view_expression e.now))) }
     {
         let member = self.operand(code, site, e)?;
         if !is_looked {
@@ -125,7 +125,7 @@ impl Generator<'_> {
         of: MemberOf<'_>,
         ordering: Ordering,
     ) -> Result<(), AllocError>
-        ensures { OnOk result (Emits self.old self.new code.old code.new site (λ s. IsNumber (view_expression of.entry.member.now) s × OwnerFits s of.entry.set (view_owner of.entry.owner.now)) (λ t. member_code t (may_fault (expression_of (view_owner of.entry.owner.now))) of.entry.set (view_expression of.entry.member.now) ++ with_owner (beyond t (view_expression of.entry.member.now)) (view_owner of.entry.owner.now) (Files (filing_of ordering) of.entry.set (operand t (view_expression of.entry.member.now))))) }
+        ensures { OnOk result (Emits self.old self.new code.old code.new site (λ s. IsInteger (view_expression of.entry.member.now) s × OwnerFits s of.entry.set (view_owner of.entry.owner.now)) (λ t. member_code t (may_fault (expression_of (view_owner of.entry.owner.now))) of.entry.set (view_expression of.entry.member.now) ++ with_owner (beyond t (view_expression of.entry.member.now)) (view_owner of.entry.owner.now) (Files (filing_of ordering) of.entry.set (operand t (view_expression of.entry.member.now))))) }
     {
         let member = self.member(code, site, of.set, of.member, owner_may_fault(of.owner))?;
         let above = site.above(member.cells);
@@ -134,8 +134,7 @@ impl Generator<'_> {
         code.put(
             site.line,
             file_by(ordering, as_index(of.set)?, member.address, owner, noted),
-        )?;
-        Ok(())
+        )
     }
 
     // A member is filed directly before another one, or directly after it.
@@ -147,7 +146,7 @@ impl Generator<'_> {
         after: bool,
         beside: &Expression,
     ) -> Result<(), AllocError>
-        ensures { OnOk result (Emits self.old self.new code.old code.new site (λ s. IsNumber (view_expression of.entry.member.now) s × IsNumber (view_expression beside.now) s × OwnerFits s of.entry.set (view_owner of.entry.owner.now)) (λ t. file_code t of.entry.set (view_expression of.entry.member.now) (if after then AfterMember (view_expression beside.now) else BeforeMember (view_expression beside.now)) (view_owner of.entry.owner.now))) }
+        ensures { OnOk result (Emits self.old self.new code.old code.new site (λ s. IsInteger (view_expression of.entry.member.now) s × IsInteger (view_expression beside.now) s × OwnerFits s of.entry.set (view_owner of.entry.owner.now)) (λ t. file_code t of.entry.set (view_expression of.entry.member.now) (if after then AfterMember (view_expression beside.now) else BeforeMember (view_expression beside.now)) (view_owner of.entry.owner.now))) }
     {
         let member = self.member(code, site, of.set, of.member, true)?;
         let above = site.above(member.cells);
@@ -164,8 +163,7 @@ impl Generator<'_> {
                 beside: beside.address,
                 owner,
             },
-        )?;
-        Ok(())
+        )
     }
 
     /// FILE.
@@ -210,8 +208,7 @@ impl Generator<'_> {
                 owner,
                 noted: is_count_watched(self.program, of.set),
             },
-        )?;
-        Ok(())
+        )
     }
 
     /// REMOVE FIRST and REMOVE LAST.

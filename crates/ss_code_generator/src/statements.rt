@@ -2,12 +2,12 @@
 
 ghost use Rattle.std.specs.Prelude.{◌≡◌, ◌++◌, ◌∷◌, [], map, IfOk, OnOk};
 ghost use Rattle.std.specs.List.{AllByRecursion as Every};
-ghost use Rattle.ss_program.specs.Program.{Call, Destroy, Skip};
-ghost use Rattle.ss_program.specs.View.{view_expression, view_condition, view_place, view_statement, view_body};
+ghost use Rattle.ss_program.specs.Program.{Call, For, Destroy, Skip};
+ghost use Rattle.ss_program.specs.View.{view_expression, view_condition, view_phrase, view_head, view_place, view_statement, view_body};
 ghost use Rattle.ss_program.specs.WellTyped.{GoodCondition, Good, GoodBlock};
 ghost use Rattle.ss_code_instructions.specs.Instructions.{Call as Calls, Destroy as Destroys, Skip as Skips, Leave};
 ghost use Rattle.ss_code_instructions.specs.Translation.{with_operand, values_code, after_values, place, height as high_of, if_code, gives_code, block_code, block_prints};
-ghost use Rattle.ss_code_pieces.specs.Lined.{nothing};
+ghost use Rattle.ss_code_pieces.specs.Lined.{no_code, on_line};
 ghost use Rattle.ss_code_generator.specs.Emitted.{Emits, EmitsAroundBoth};
 ghost use Rattle.ss_code_generator.specs.Spots.{GoodPlace};
 ghost use Rattle.ss_code_generator.specs.Printed.{statement_site, line_or_none, PrintsBy, EmitsStatement, EmitsBlock};
@@ -22,27 +22,25 @@ use ss_code_pieces::lines::Lines;
 use ss_code_pieces::piece::{Piece, as_index};
 use ss_program::condition::Condition;
 use ss_program::expression::Expression;
+use ss_program::head::{Head, Phrase};
 use ss_program::statement::{Place, Statement};
 use std::alloc::AllocError;
 
 // A condition, and one side.
-fn put_one_side(code: &mut Piece, test: Piece, then: Piece) -> Result<(), AllocError>
-    ensures instructions { OnOk result (code.new.instructions ≡ code.old.instructions ++ (test.instructions ++ then.instructions)) }
-    ensures lines { OnOk result (code.new.lines ≡ code.old.lines ++ (test.lines ++ then.lines)) }
+fn put_one_side(code: &mut Piece, test: Piece, then: &Piece) -> Result<(), AllocError>
+    ensures { OnOk result (code.new ≡ code.old ++ (test ++ then.now)) }
 {
     code.append(test)?;
-    code.append(then)?;
+    code.append_copy(then)?;
     Ok(())
 }
 
 impl Generator<'_> {
     // An instruction without operands.
     fn put(&self, code: &mut Piece, site: Site, instruction: Instruction) -> Result<(), AllocError>
-        ensures instructions { OnOk result (code.new.instructions ≡ code.old.instructions ++ instruction ∷ []) }
-        ensures lines { OnOk result (code.new.lines ≡ code.old.lines ++ site.line ∷ []) }
+        ensures { OnOk result (code.new ≡ code.old ++ on_line site.line instruction ∷ []) }
     {
-        code.put(site.line, instruction)?;
-        Ok(())
+        code.put(site.line, instruction)
     }
 
     // IF: a jump past the second side comes before it, if it has code.
@@ -51,10 +49,10 @@ impl Generator<'_> {
         code: &mut Piece,
         site: Site,
         condition: &Condition,
-        then: Piece,
-        otherwise: Piece,
+        then: &Piece,
+        otherwise: &Piece,
     ) -> Result<(), AllocError>
-        ensures { OnOk result (EmitsAroundBoth self.old self.new code.old code.new site then otherwise (λ s. GoodCondition s (view_condition condition.now)) (λ t b. if_code t (view_condition condition.now) b.first b.second)) }
+        ensures { OnOk result (EmitsAroundBoth self.old self.new code.old code.new site then.now otherwise.now (λ s. GoodCondition s (view_condition condition.now)) (λ t b. if_code t (view_condition condition.now) b.first b.second)) }
     {
         if otherwise.len() == 0 {
             let past = as_index(then.len())?;
@@ -66,8 +64,7 @@ impl Generator<'_> {
         put_one_side(code, test, then)?;
         let skip = as_index(otherwise.len())?;
         code.put(site.line, Instruction::Jump { skip })?;
-        code.append(otherwise)?;
-        Ok(())
+        code.append_copy(otherwise)
     }
 
     // What a routine yields lies in cells, the first on top: each place takes one.
@@ -112,8 +109,7 @@ impl Generator<'_> {
     {
         let entity = self.operand(code, site, entity)?.address;
         let class = as_index(class)?;
-        code.put(site.line, Instruction::Destroy { class, entity })?;
-        Ok(())
+        code.put(site.line, Instruction::Destroy { class, entity })
     }
 
     // SKIP.
@@ -121,8 +117,7 @@ impl Generator<'_> {
         ensures { OnOk result (Emits self.old self.new code.old code.new site (λ s. Good s (Skip site.line (view_expression count.now))) (λ t. with_operand t (view_expression count.now) Skips)) }
     {
         let count = self.operand(code, site, count)?.address;
-        code.put(site.line, Instruction::Skip { count })?;
-        Ok(())
+        code.put(site.line, Instruction::Skip { count })
     }
 
     // A statement, above so many cells.
@@ -167,24 +162,18 @@ impl Generator<'_> {
             } => {
                 let first = self.body(prints, height, then)?;
                 let second = self.body(prints, height, otherwise)?;
-                self.branches(code, site, condition, first, second)
+                self.branches(code, site, condition, &first, &second)
             }
             Statement::Loop { guards, body, .. } => {
                 let turn = self.body(prints, height, body)?;
-                self.guarded_loop(code, site, guards, turn)
+                self.guarded_loop(code, site, guards, &turn)
             }
             Statement::For {
                 head,
                 phrases,
                 body,
                 ..
-            } => {
-                let above = site.above(cells_of(head));
-                self.reach(above.height);
-                let inner = self.body(prints, above.height, body)?;
-                let turn = self.phrases(above, phrases, inner)?;
-                self.for_loop(code, site, head, turn)
-            }
+            } => self.for_statement(code, prints, site, head, phrases, body),
             Statement::Find {
                 head,
                 phrases,
@@ -195,7 +184,7 @@ impl Generator<'_> {
                 let first = self.body(prints, height, found)?;
                 let second = self.body(prints, height, none)?;
                 let phrases = phrases.as_slice();
-                self.find(code, site, Cases { head, phrases }, first, second)
+                self.find(code, site, Cases { head, phrases }, &first, &second)
             }
             Statement::Create { class, into, .. } => self.create(code, site, *class, into),
             Statement::CreateEvery { classes, .. } => self.creates(code, site, classes),
@@ -260,6 +249,26 @@ impl Generator<'_> {
         }
     }
 
+    // FOR.
+    #[cycle(statements)]
+    fn for_statement(
+        &mut self,
+        code: &mut Piece,
+        prints: &mut Vec<Lines>,
+        site: Site,
+        head: &Head,
+        phrases: &[Phrase],
+        body: &[Statement],
+    ) -> Result<(), AllocError>
+        ensures { OnOk result (EmitsStatement self.old self.new code.old code.new site.height prints.old.items prints.new.items (For site.line (view_head head.now) (map view_phrase phrases.now) (view_body body.now))) }
+    {
+        let above = site.above(cells_of(head));
+        self.reach(above.height);
+        let inner = self.body(prints, above.height, body)?;
+        let turn = self.phrases(above, phrases, inner)?;
+        self.for_loop(code, site, head, turn)
+    }
+
     // One statement after another, above so many cells.
     #[cycle(statements)]
     fn body(
@@ -283,7 +292,7 @@ impl Generator<'_> {
         prints: &mut Vec<Lines>,
         body: &[Statement],
     ) -> Result<Piece, AllocError>
-        ensures { IfOk result (λ code. PrintsBy self.old self.new nothing code (statement_site 0) prints.old.items prints.new.items (λ s. GoodBlock s (view_body body.now)) (block_prints (view_body body.now)) (λ first t. block_code t first (view_body body.now) ++ place t Leave ∷ [])) }
+        ensures { IfOk result (λ code. PrintsBy self.old self.new no_code code (statement_site 0) prints.old.items prints.new.items (λ s. GoodBlock s (view_body body.now)) (block_prints (view_body body.now)) (λ first t. block_code t first (view_body body.now) ++ place t Leave ∷ [])) }
     {
         let mut code = self.body(prints, 0, body)?;
         code.put(Line(0), Instruction::Leave)?;

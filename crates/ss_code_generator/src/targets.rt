@@ -11,9 +11,10 @@ ghost use Rattle.ss_code_instructions.specs.declared.instruction.Instruction.The
 ghost use Rattle.ss_code_instructions.specs.Facts.{is_watched};
 ghost use Rattle.ss_code_instructions.specs.Translation.{Site as At, operand_code, forget, to_place_code, place as placed, let_code, change_code, reads_code, creates_code, give_code, place_code};
 ghost use Rattle.ss_code_instructions.specs.Forms.{storing, reading};
+ghost use Rattle.ss_code_pieces.specs.Lined.{on_line};
 ghost use Rattle.ss_code_generator.specs.declared.generator.Site.{Site as Here};
-ghost use Rattle.ss_code_generator.specs.Emitted.{Final, Around, Grows, IsLocated, AtTarget, Makes, NoMore, Emits, IsNumber};
-ghost use Rattle.ss_code_generator.specs.Spots.{HasRoom, HoldsMode, IsWatched, IsVariable, IsAttribute, IsSpot, IsPlaceOf, spot_cells, spot_code, landing as lands_at, GoodPlace, Gives, Takes, Changed, IsHeldBy};
+ghost use Rattle.ss_code_generator.specs.Emitted.{Final, Around, Grows, IsLocated, AtTarget, Generates, NoMore, Emits, IsInteger};
+ghost use Rattle.ss_code_generator.specs.Spots.{HasTargetRoom, HoldsMode, IsWatchedAs, IsVariable, IsAttribute, IsSpot, IsPlaceOf, spot_cells, spot_code, landing as lands_at, GoodPlace, Assigns, AssignsLanded, Changed, IsHeldBy};
 
 use crate::expressions::{move_of, signed};
 use crate::generator::{Generator, Site};
@@ -26,7 +27,7 @@ use ss_code_pieces::facts::{
 use ss_code_pieces::leaves::must_look;
 use ss_code_pieces::piece::{Piece, as_index};
 use ss_program::expression::{Expression, Sign, Variable};
-use ss_program::statement::{CountedClass, Place, Target};
+use ss_program::statement::{CountedClass, InputTarget, Place};
 use std::alloc::AllocError;
 
 /// A variable that is assigned: where it lies, its mode, and its number where a statistic watches it.
@@ -120,8 +121,7 @@ fn look_if(
     spot: AttributeSpot,
     is_looked: bool,
 ) -> Result<(), AllocError>
-    ensures instructions { OnOk result (code.new.instructions ≡ code.old.instructions ++ (if is_looked then LookEntity spot.class spot.entity ∷ [] else [])) }
-    ensures lines { OnOk result (code.new.lines ≡ code.old.lines ++ (if is_looked then site.line ∷ [] else [])) }
+    ensures { OnOk result (code.new ≡ code.old ++ (if is_looked then on_line site.line (LookEntity spot.class spot.entity) ∷ [] else [])) }
 {
     if is_looked {
         let (class, entity) = (spot.class, spot.entity);
@@ -143,7 +143,7 @@ fn read_of(mode: Mode, to: Address) -> Instruction
 impl Generator<'_> {
     // The number of a variable where a statistic watches it. None watches a local one.
     fn watched(&self, variable: Variable) -> Result<Option<u32>, AllocError>
-        ensures { IfOk result (λ k. IsWatched (is_watched self.now.program.now.statistics.items variable) variable k) }
+        ensures { IfOk result (λ k. IsWatchedAs (is_watched self.now.program.now.statistics.items variable) variable k) }
     {
         match variable {
             Variable::Global { number } => {
@@ -187,7 +187,7 @@ impl Generator<'_> {
         field: usize,
         of: &Expression,
     ) -> Result<AttributeSpot, AllocError>
-        ensures { IfOk result (λ s. Makes self.old self.new code.old code.new site (λ f t (u : Unit {0}). IsNumber (view_expression of.now) t.scope) (λ t u. operand_code t (view_expression of.now)) (λ f t u. IsAttribute f t class field (view_expression of.now) s)) }
+        ensures { IfOk result (λ s. Generates self.old self.new code.old code.new site (λ f t (u : Unit {0}). IsInteger (view_expression of.now) t.scope) (λ t u. operand_code t (view_expression of.now)) (λ f t u. IsAttribute f t class field (view_expression of.now) s)) }
     {
         let entity = self.operand(code, site, of)?;
         Ok(AttributeSpot {
@@ -202,7 +202,7 @@ impl Generator<'_> {
 
     // A place as what is assigned: the reference to the entity of an attribute is evaluated.
     fn spot(&mut self, code: &mut Piece, site: Site, place: &Place) -> Result<Spot, AllocError>
-        ensures { IfOk result (λ s. Makes self.old self.new code.old code.new site (λ f t (u : Unit {0}). GoodPlace (view_place place.now) t.scope) (λ t u. spot_code t (view_place place.now)) (λ f t u. IsSpot f t (view_place place.now) s)) }
+        ensures { IfOk result (λ s. Generates self.old self.new code.old code.new site (λ f t (u : Unit {0}). GoodPlace (view_place place.now) t.scope) (λ t u. spot_code t (view_place place.now)) (λ f t u. IsSpot f t (view_place place.now) s)) }
     {
         match place {
             Place::ToVariable { variable } => Ok(Spot::Variable(self.variable_spot(*variable)?)),
@@ -221,7 +221,7 @@ impl Generator<'_> {
         site: Site,
         place: &Place,
     ) -> Result<Spot, AllocError>
-        ensures { IfOk result (λ s. Makes self.old self.new code.old code.new site (λ f t (u : Unit {0}). GoodPlace (view_place place.now) t.scope) (λ t u. place_code t (view_place place.now)) (λ f t u. IsSpot f t (view_place place.now) s)) }
+        ensures { IfOk result (λ s. Generates self.old self.new code.old code.new site (λ f t (u : Unit {0}). GoodPlace (view_place place.now) t.scope) (λ t u. place_code t (view_place place.now)) (λ f t u. IsSpot f t (view_place place.now) s)) }
     {
         match place {
             Place::ToVariable { variable } => Ok(Spot::Variable(self.variable_spot(*variable)?)),
@@ -238,7 +238,7 @@ impl Generator<'_> {
     /// Where the value that a place will be assigned lies at first: in the variable itself, unless it is watched, or in the next cell.
     pub fn landing(&mut self, site: Site, spot: Spot) -> Result<Address, AllocError>
         ensures grows { OnOk result (Grows self.old self.new) }
-        ensures at { IfOk result (λ to. (f : Final) (t u : At) (p : Plain) → Around f self.new → IsLocated f self.new site u → t.scope ≡ u.scope → IsSpot f t p spot → AtTarget f u (lands_at u p) to × HasRoom f (lands_at u p)) }
+        ensures at { IfOk result (λ to. (f : Final) (t u : At) (p : Plain) → Around f self.new → IsLocated f self.new site u → t.scope ≡ u.scope → IsSpot f t p spot → AtTarget f u (lands_at u p) to × HasTargetRoom f (lands_at u p)) }
     {
         match spot {
             Spot::Variable(variable) => match variable.watched {
@@ -258,7 +258,7 @@ impl Generator<'_> {
         variable: VariableSpot,
         from: Address,
     ) -> Result<(), AllocError>
-        ensures { OnOk result (Gives self.now code.old code.new site from (λ f t p. IsPlaceOf t p variable)) }
+        ensures { OnOk result (Assigns self.now code.old code.new site from (λ f t p. IsPlaceOf t p variable)) }
     {
         match variable.watched {
             Some(variable) => code.put(site.line, Instruction::Keep { from, variable }),
@@ -274,7 +274,7 @@ impl Generator<'_> {
         spot: Spot,
         from: Address,
     ) -> Result<(), AllocError>
-        ensures { OnOk result (Gives self.now code.old code.new site from (λ f t p. IsSpot f t p spot)) }
+        ensures { OnOk result (Assigns self.now code.old code.new site from (λ f t p. IsSpot f t p spot)) }
     {
         match spot {
             Spot::Variable(variable) => self.assign_variable(code, site, variable, from),
@@ -294,7 +294,7 @@ impl Generator<'_> {
         spot: Spot,
         from: Address,
     ) -> Result<(), AllocError>
-        ensures { OnOk result (Takes self.now code.old code.new site from (λ f t p. IsSpot f t p spot)) }
+        ensures { OnOk result (AssignsLanded self.now code.old code.new site from (λ f t p. IsSpot f t p spot)) }
     {
         match spot {
             Spot::Variable(variable) => match variable.watched {
@@ -335,14 +335,13 @@ impl Generator<'_> {
         spot: VariableSpot,
         value: &Expression,
     ) -> Result<(), AllocError>
-        ensures { OnOk result (Makes self.old self.new code.old code.new site (λ f t x. IsVariable t x spot × Good t.scope (Let site.line (ToVariable x) (view_expression value.now))) (λ t x. let_code t (ToVariable x) (view_expression value.now)) NoMore) }
+        ensures { OnOk result (Generates self.old self.new code.old code.new site (λ f t x. IsVariable t x spot × Good t.scope (Let site.line (ToVariable x) (view_expression value.now))) (λ t x. let_code t (ToVariable x) (view_expression value.now)) NoMore) }
     {
         match spot.watched {
             None => self.expression(code, site, value, spot.address),
             Some(variable) => {
                 let from = self.operand(code, site, value)?.address;
-                code.put(site.line, Instruction::Keep { from, variable })?;
-                Ok(())
+                code.put(site.line, Instruction::Keep { from, variable })
             }
         }
     }
@@ -385,7 +384,7 @@ impl Generator<'_> {
         changed: ChangedSpot,
         value: &Expression,
     ) -> Result<(), AllocError>
-        ensures { OnOk result (Makes self.old self.new code.old code.new site (λ f t (c : Changed). IsSpot f t c.place changed.spot × IsVariable t c.variable changed.variable × IsHeldBy c × IsNumber (view_expression value.now) t.scope × HoldsMode t.scope c.place Integer) (λ t c. change_code t sign c.place (view_expression value.now)) NoMore) }
+        ensures { OnOk result (Generates self.old self.new code.old code.new site (λ f t (c : Changed). IsSpot f t c.place changed.spot × IsVariable t c.variable changed.variable × IsHeldBy c × IsInteger (view_expression value.now) t.scope × HoldsMode t.scope c.place Integer) (λ t c. change_code t sign c.place (view_expression value.now)) NoMore) }
     {
         let by = self.operand(code, site, value)?.address;
         let to = self.landing(site, changed.spot)?;
@@ -427,7 +426,7 @@ impl Generator<'_> {
     }
 
     // A target takes a word of input.
-    fn read(&mut self, code: &mut Piece, site: Site, target: &Target) -> Result<(), AllocError>
+    fn read(&mut self, code: &mut Piece, site: Site, target: &InputTarget) -> Result<(), AllocError>
         ensures { OnOk result (Emits self.old self.new code.old code.new site (λ s. TakesMode s (view_place target.now.place) target.now.mode) (λ t. to_place_code t (view_place target.now.place) target.now.mode (λ u to. placed u (Read target.now.mode to) ∷ []))) }
     {
         let spot = self.looked_spot(code, site, &target.place)?;
@@ -442,7 +441,7 @@ impl Generator<'_> {
         &mut self,
         code: &mut Piece,
         site: Site,
-        targets: &[Target],
+        targets: &[InputTarget],
     ) -> Result<(), AllocError>
         ensures { OnOk result (Emits self.old self.new code.old code.new site (λ s. Every (λ x. TakesMode s x.place x.mode) (map view_target targets.now)) (λ t. reads_code t (map view_target targets.now))) }
     {

@@ -10,11 +10,11 @@ use Rattle.ss_code_instructions.specs.Running.{begin_store, start}
 use Rattle.ss_code_instructions.specs.Translation.{code_of}
 use Rattle.ss_code_instructions.specs.Shape.{FitsCode}
 use Rattle.ss_code_instructions.specs.Laws.{HasShape, ShapeStays}
-use Rattle.ss_code_instructions.specs.Reached.{ReachedIn, ReachedFits, ReachedGoes, with_input, at_core}
+use Rattle.ss_code_instructions.specs.Reached.{ReachedIn, ReachedFits, ReachedGoes, core_with_input, at_core}
 use Rattle.ss_code_instructions.proofs.ShapeKept.{fits_goes}
 
 -- a state fits as well with another input
-fits_input : (p : Program) (code : Code) (c : Core) (input : List ℕ) → FitsCode p code c → FitsCode p code (with_input input c)
+fits_input : (p : Program) (code : Code) (c : Core) (input : List ℕ) → FitsCode p code c → FitsCode p code (core_with_input input c)
 fits_input p code c input f =
     let s = f.fits.store.sound in
     record {

@@ -16,7 +16,7 @@ use Rattle.ss_meaning.specs.Places.{InVariable, InCount, assigned_variable}
 use Rattle.ss_meaning.specs.Parts.{World, WentOn, Left, Outcome, Part, outcome_then, looked, settle, write}
 use Rattle.ss_code_instructions.specs.Instructions.{Operand, Target, Into, Placed}
 use Rattle.ss_code_instructions.specs.Instructions as i
-use Rattle.ss_code_instructions.specs.States.{Frame, MachineState, Moved, Written, did, core_at, with_value, onward, deliver}
+use Rattle.ss_code_instructions.specs.States.{Frame, MachineState, Moved, Written, did, core_at, with_operand_value, onward, deliver}
 use Rattle.ss_code_instructions.specs.Machine.{Code, assignable_count}
 use Rattle.ss_code_instructions.specs.Translation.{Site, height, above, place, next, is_kept, variable_code, assignment, count_code}
 use Rattle.ss_code_instructions.proofs.Steps.{HasAt, Reaches, here, at, arrive}
@@ -40,7 +40,7 @@ module _ (code : Code) where
   change_leads l (Err Misfit) go w k frames f h = whatever
 
   -- an operand goes to a variable
-  pub assigns : (u : Site) (x : Variable) (from : Operand) (v : Value) (q : ℕ) (cells0 cells : List Value) (frames : List Frame) (w : World) → ((go : Value → List Value → Moved) → with_value from w.store cells0 go ≡ go v cells) → slice_get code.places q ≡ Some (place u (assignment u x from)) → Reaches code (at q cells0 frames w) (arrive (λ o w'. at (q + 1) cells frames w') frames (write u.line (InVariable x) v w))
+  pub assigns : (u : Site) (x : Variable) (from : Operand) (v : Value) (q : ℕ) (cells0 cells : List Value) (frames : List Frame) (w : World) → ((go : Value → List Value → Moved) → with_operand_value from w.store cells0 go ≡ go v cells) → slice_get code.places q ≡ Some (place u (assignment u x from)) → Reaches code (at q cells0 frames w) (arrive (λ o w'. at (q + 1) cells frames w') frames (write u.line (InVariable x) v w))
   assigns u x from v q cells0 cells frames w reads has = by (is_kept u x) has
     where
       moved : (r : OkOr Store Trouble) → Leads code w (did {A = Written} u.line (turned (λ t. record { cells = cells; store = t }) r) (λ b. onward b.cells (core_at q cells0 frames w.store) b.store)) (arrive (λ o w'. at (q + 1) cells frames w') frames (outcome_then (looked u.line r w) settle))
@@ -59,7 +59,7 @@ module _ (code : Code) where
           (moved (assigned_variable x v w.store))
 
   -- an operand goes to N. of a permanent class
-  pub count_run : (u : Site) (c : CountedClass) (from : Operand) (v : Value) (q : ℕ) (cells0 cells : List Value) (frames : List Frame) (w : World) → ((go : Value → List Value → Moved) → with_value from w.store cells0 go ≡ go v cells) → HasAt code.places q (count_code u c from) → Reaches code (at q cells0 frames w) (arrive (λ o w'. at (q + 2) cells frames w') frames (write u.line (InCount c) v w))
+  pub count_run : (u : Site) (c : CountedClass) (from : Operand) (v : Value) (q : ℕ) (cells0 cells : List Value) (frames : List Frame) (w : World) → ((go : Value → List Value → Moved) → with_operand_value from w.store cells0 go ≡ go v cells) → HasAt code.places q (count_code u c from) → Reaches code (at q cells0 frames w) (arrive (λ o w'. at (q + 2) cells frames w') frames (write u.line (InCount c) v w))
   count_run u c from v q cells0 cells frames w reads has =
       step_leads code (place u (i.LookCount c.class)) (core_at q cells0 frames w.store) w _ _ has.0 refl refl
       (subst (λ o. Leads code w (did u.line (assignable_count c.class w.store) (λ _. onward cells0 (core_at q cells0 frames w.store) w.store)) (arrive ends frames o)) (after_look (is_permanent (class_at c.class w.store)) (is_made w.store.scene.heap c.class))

@@ -18,7 +18,7 @@ use Rattle.ss_meaning.specs.Parts.{World, Faulted, Part, outcome_then, looked, l
 use Rattle.ss_meaning.specs.Statements.{give_to}
 use Rattle.ss_code_instructions.specs.Instructions.{Operand, Held, Taken, Stays, Placed}
 use Rattle.ss_code_instructions.specs.Instructions as i
-use Rattle.ss_code_instructions.specs.States.{Frame, Core, Moved, did, or_zero, core_at, with_value, with_values, lies_above, onward}
+use Rattle.ss_code_instructions.specs.States.{Frame, Core, Moved, did, or_zero, core_at, with_operand_value, with_values, lies_above, onward}
 use Rattle.ss_code_instructions.specs.Machine.{Code, act, is_due}
 use Rattle.ss_code_instructions.specs.Facts.{is_leaf, is_constant, same_variable, is_fetch_of, looks_first, must_look}
 use Rattle.ss_code_instructions.specs.Translation.{Site, height, with_cells, place, leaf, operand, after, operand_code, with_operand, stay, entity_code, let_code}
@@ -168,14 +168,14 @@ module _ (code : Code) (n : ℕ) where
       (two_change last (operand t r) (operand (after t r) e) (assigned_attribute class field) v z (q + length c) (held (leaf e) z (held (leaf r) v cells)) cells frames w refl refl (λ go. reads_both t r e v z w.store cells go high p found) has'.0))
 
   -- the assignment of a constant or a variable finds the fault of the reference
-  leaf_faults : (t : Site) (us : List Mode) (class field : ℕ) (r : Expression) (y : Operand) (v z : Value) (kind : FaultKind) (q : ℕ) (cells : List Value) (frames : List Frame) (w : World) → length cells ≡ height t → value r w.store ≡ Ok v → entity class v w.store ≡ Err (Fails kind) → lies_above (operand t r) y ≡ false → ((cs : List Value) (go : Value → List Value → Moved) → with_value y w.store cs go ≡ go z cs) → slice_get code.places q ≡ Some (place (with_cells t us) (i.SetAttribute class field (operand t r) y)) → Reaches code (at q (held (leaf r) v cells) frames w) (left_to (Faulted kind t.line) frames w)
+  leaf_faults : (t : Site) (us : List Mode) (class field : ℕ) (r : Expression) (y : Operand) (v z : Value) (kind : FaultKind) (q : ℕ) (cells : List Value) (frames : List Frame) (w : World) → length cells ≡ height t → value r w.store ≡ Ok v → entity class v w.store ≡ Err (Fails kind) → lies_above (operand t r) y ≡ false → ((cs : List Value) (go : Value → List Value → Moved) → with_operand_value y w.store cs go ≡ go z cs) → slice_get code.places q ≡ Some (place (with_cells t us) (i.SetAttribute class field (operand t r) y)) → Reaches code (at q (held (leaf r) v cells) frames w) (left_to (Faulted kind t.line) frames w)
   leaf_faults t us class field r y v z kind q cells frames w high p h low reads_y has =
       let h0 : List Value = held (leaf r) v cells in
       let c : Core = core_at q h0 frames w.store in
       let go : Value → Value → List Value → Moved = λ v z below. did t.line (assigned_attribute class field v z w.store) (λ u. onward below c u) in
       step_leads code (place (with_cells t us) (i.SetAttribute class field (operand t r) y)) c w _ _ has refl
-      (ap (λ (b : Bool). if b then with_value (operand t r) w.store h0 (λ v above. with_value y w.store above (λ z below. go v z below)) else with_value y w.store h0 (λ z above. with_value (operand t r) w.store above (λ v below. go v z below))) low
-      ∙ reads_y h0 (λ z above. with_value (operand t r) w.store above (λ v below. go v z below))
+      (ap (λ (b : Bool). if b then with_operand_value (operand t r) w.store h0 (λ v above. with_operand_value y w.store above (λ z below. go v z below)) else with_operand_value y w.store h0 (λ z above. with_operand_value (operand t r) w.store above (λ v below. go v z below))) low
+      ∙ reads_y h0 (λ z above. with_operand_value (operand t r) w.store above (λ v below. go v z below))
       ∙ reads t r v w.store cells (λ v below. go v z below) high p
       ∙ ap (λ o. did t.line o (λ u. onward cells c u)) (err_first (entity class v w.store) _ (Fails kind) h))
       breaks

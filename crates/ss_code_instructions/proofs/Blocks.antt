@@ -8,7 +8,7 @@ use Rattle.ss_meaning.specs.Parts.{Part, outcome_then, choose, look}
 use Rattle.ss_meaning.specs.Statements.{Calls, effects}
 use Rattle.ss_code_instructions.specs.Instructions.{Placed}
 use Rattle.ss_code_instructions.specs.Machine.{Code}
-use Rattle.ss_code_instructions.specs.Translation.{Site, height, at_line, no_line, in_loop, after_values, condition_code, if_code, statement_prints, block_prints, block_code}
+use Rattle.ss_code_instructions.specs.Translation.{Site, height, site_at_line, no_line, in_loop, after_values, condition_code, if_code, statement_prints, block_prints, block_code}
 use Rattle.ss_code_instructions.proofs.Steps.{has_front, has_back}
 use Rattle.ss_code_instructions.proofs.Parts.{Runs, same, done, onto, seq}
 use Rattle.ss_code_instructions.proofs.Branching.{if_run, if_alone_run}
@@ -30,7 +30,7 @@ use Rattle.ss_code_instructions.proofs.Simulating.{simulate_runs, stop_run, retu
 use Rattle.ss_code_instructions.proofs.Scheduling.{schedule_runs, schedule_new_runs}
 
 -- the cells of a loop are as many at each line
-line_high : (t : Site) (l : Line) (head : Head) → height (in_loop t head) ≡ height (in_loop (at_line t l) head)
+line_high : (t : Site) (l : Line) (head : Head) → height (in_loop t head) ≡ height (in_loop (site_at_line t l) head)
 line_high t l (Numbers x a b c) = refl
 line_high t l (Each x class) = refl
 line_high t l (Members x set TheSystem start reverse) = refl
@@ -46,44 +46,44 @@ module _ (code : Code) (n : ℕ) where
   module _ (h : Calls) (ok : CallsRun code n h) where
     mutual
       pub statement_runs : (t : Site) → Sited code t → (first : ℕ) (s : Statement) → StatementRuns code n h t first s
-      statement_runs t sited first (Let l p e) prints = let_runs code n (at_line t l) p e
-      statement_runs t sited first (Change l sign p e) prints = change_runs_at code n (at_line t l) sign p e
+      statement_runs t sited first (Let l p e) prints = let_runs code n (site_at_line t l) p e
+      statement_runs t sited first (Change l sign p e) prints = change_runs_at code n (site_at_line t l) sign p e
       statement_runs t sited first (Call l routine given yielding) prints =
-          seq code n (height t) {mid = onto} (values_run code n (at_line t l) given) (λ vs.
+          seq code n (height t) {mid = onto} (values_run code n (site_at_line t l) given) (λ vs.
           seq_such code n (height t) {mid = heap_on} (λ (us : List Value). length us ≡ length yielding) (λ w. ok.such routine (length yielding) vs w)
-          (ok.by (after_values (at_line t l) given) routine (height t) (length yielding) vs) (λ us many.
-          gives_run code n (at_line t l) yielding us many))
-      statement_runs t sited first Return prints = return_run code n (at_line t no_line)
-      statement_runs t sited first Stop prints = stop_run code n (at_line t no_line)
-      statement_runs t sited first (Read l targets) prints = reads_run code n (at_line t l) targets
-      statement_runs t sited first Simulate prints = simulate_runs code n (at_line t no_line) h ok
+          (ok.by (after_values (site_at_line t l) given) routine (height t) (length yielding) vs) (λ us many.
+          gives_run code n (site_at_line t l) yielding us many))
+      statement_runs t sited first Return prints = return_run code n (site_at_line t no_line)
+      statement_runs t sited first Stop prints = stop_run code n (site_at_line t no_line)
+      statement_runs t sited first (Read l targets) prints = reads_run code n (site_at_line t l) targets
+      statement_runs t sited first Simulate prints = simulate_runs code n (site_at_line t no_line) h ok
       statement_runs t sited first (If l c a b) prints =
-          if_runs (at_line t l) c (block_code t first a) (block_code t (first + length (block_prints a)) b) (effects h n a) (effects h n b)
+          if_runs (site_at_line t l) c (block_code t first a) (block_code t (first + length (block_prints a)) b) (effects h n a) (effects h n b)
           (block_runs t sited first a (has_front code.prints first (block_prints a) (block_prints b) prints))
           (block_runs t sited (first + length (block_prints a)) b (has_back code.prints first (block_prints a) (block_prints b) prints))
       statement_runs t sited first (Loop l gs a) prints =
-          guarded_runs code n (at_line t l) gs (block_code t first a) (effects h n a) (block_runs t sited first a prints)
+          guarded_runs code n (site_at_line t l) gs (block_code t first a) (effects h n a) (block_runs t sited first a prints)
       statement_runs t sited first (For l head ps a) prints =
-          for_runs code n (at_line t l) head (head_for code n (at_line t l) head) ps (block_code (in_loop t head) first a) (effects h n a)
+          for_runs code n (site_at_line t l) head (head_for code n (site_at_line t l) head) ps (block_code (in_loop t head) first a) (effects h n a)
           (subst (λ k. Runs code n k same (block_code (in_loop t head) first a) done (effects h n a)) (line_high t l head)
           (block_runs (in_loop t head) sited first a prints))
       statement_runs t sited first (Find l head ps a b) prints =
-          find_runs code n (at_line t l) head (head_for code n (at_line t l) head) ps
+          find_runs code n (site_at_line t l) head (head_for code n (site_at_line t l) head) ps
           (block_code t first a) (block_code t (first + length (block_prints a)) b) (effects h n a) (effects h n b)
           (block_runs t sited first a (has_front code.prints first (block_prints a) (block_prints b) prints))
           (block_runs t sited (first + length (block_prints a)) b (has_back code.prints first (block_prints a) (block_prints b) prints))
-      statement_runs t sited first (Create l class p) prints = create_runs code n (at_line t l) class p
-      statement_runs t sited first (CreateEvery l classes) prints = creates_run code n (at_line t l) classes
-      statement_runs t sited first (Destroy l class e) prints = destroy_runs code n (at_line t l) class e
-      statement_runs t sited first (File l set e position o) prints = file_runs code n (at_line t l) set e position o sited
-      statement_runs t sited first (RemoveEnd l end set p o) prints = remove_end_runs code n (at_line t l) end set p o
-      statement_runs t sited first (Remove l set e o) prints = remove_runs code n (at_line t l) set e o
-      statement_runs t sited first (ScheduleNew l class p given when) prints = schedule_new_runs code n (at_line t l) class p given when
-      statement_runs t sited first (Schedule l class e given when) prints = schedule_runs code n (at_line t l) class e given when
-      statement_runs t sited first (Cancel l class e) prints = cancel_runs code n (at_line t l) class e
-      statement_runs t sited first (Reset l restarts) prints = restarts_run code n (at_line t l) restarts
-      statement_runs t sited first (Print l items pictures) prints = print_runs code n (at_line t l) first items pictures prints.0
-      statement_runs t sited first (Skip l e) prints = skip_runs code n (at_line t l) e
+      statement_runs t sited first (Create l class p) prints = create_runs code n (site_at_line t l) class p
+      statement_runs t sited first (CreateEvery l classes) prints = creates_run code n (site_at_line t l) classes
+      statement_runs t sited first (Destroy l class e) prints = destroy_runs code n (site_at_line t l) class e
+      statement_runs t sited first (File l set e position o) prints = file_runs code n (site_at_line t l) set e position o sited
+      statement_runs t sited first (RemoveEnd l end set p o) prints = remove_end_runs code n (site_at_line t l) end set p o
+      statement_runs t sited first (Remove l set e o) prints = remove_runs code n (site_at_line t l) set e o
+      statement_runs t sited first (ScheduleNew l class p given when) prints = schedule_new_runs code n (site_at_line t l) class p given when
+      statement_runs t sited first (Schedule l class e given when) prints = schedule_runs code n (site_at_line t l) class e given when
+      statement_runs t sited first (Cancel l class e) prints = cancel_runs code n (site_at_line t l) class e
+      statement_runs t sited first (Reset l restarts) prints = restarts_run code n (site_at_line t l) restarts
+      statement_runs t sited first (Print l items pictures) prints = print_runs code n (site_at_line t l) first items pictures prints.0
+      statement_runs t sited first (Skip l e) prints = skip_runs code n (site_at_line t l) e
 
       pub block_runs : (t : Site) → Sited code t → (first : ℕ) (b : Block) → BlockRuns code n h t first b
       block_runs t sited first Done prints = done_runs code n h t first prints

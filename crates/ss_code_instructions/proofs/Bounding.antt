@@ -20,7 +20,7 @@ use Rattle.ss_code_instructions.specs.Instructions as i
 use Rattle.ss_code_instructions.specs.States.{Frame, Core, MachineState, Done, Breaks, Moved, To, Sends, Rest, Stuck, did, back_if, take_off, deliver_with, put_to, onward, onward_if}
 use Rattle.ss_code_instructions.specs.Machine.{Code, changed_attribute, assignable_count, Walk, walk_at, walk_cells, has_item, unsigned, has_next, next_item, walk_further, values_shown, cells_of_kinds, leave, act, is_due, Stepped, Goes, Over, NoStep, with_rest, when_due, step_at, step}
 use Rattle.ss_program.specs.Program.{Program}
-use Rattle.ss_meaning.specs.Expressions.{unless}
+use Rattle.ss_meaning.specs.Expressions.{not_if}
 use Rattle.ss_code_instructions.specs.Running.{Underway, Lands, goes_back, start, after_one_step, steps}
 use Rattle.ss_code_instructions.specs.Measure.{left_in, is_due_at, left_from, left_at, left_to_do}
 use Rattle.ss_code_instructions.specs.Reached.{StepsFall}
@@ -94,10 +94,10 @@ act_way code l (i.ChangeAttribute sign class field x by) c calm =
 act_way code l (i.Reset j x) c calm = bearer (Way None c) x c.store c.cells _ (λ x below. changes l (reset j x c.store) below c)
 act_way code l (i.Jump skip) c calm = skips c skip false c.cells
 act_way code l (i.Unless relation left right skip) c calm = values (Way None c) left right c.store c.cells _ (λ x y below. fit_any (Way None c) (related relation x y) _ (λ b. skips c skip b below))
-act_way code l (i.UnlessEnded negated skip) c calm = did_any (Way None c) l (due (is_ended c.store.scene.input)) _ (λ b. skips c skip (unless negated b) c.cells)
-act_way code l (i.UnlessEmpty negated set owner skip) c calm = bearer (Way None c) owner c.store c.cells _ (λ o below. did_any (Way None c) l (is_empty set o c.store) _ (λ b. skips c skip (unless negated b) below))
+act_way code l (i.UnlessEnded negated skip) c calm = did_any (Way None c) l (due (is_ended c.store.scene.input)) _ (λ b. skips c skip (not_if negated b) c.cells)
+act_way code l (i.UnlessEmpty negated set owner skip) c calm = bearer (Way None c) owner c.store c.cells _ (λ o below. did_any (Way None c) l (is_empty set o c.store) _ (λ b. skips c skip (not_if negated b) below))
 act_way code l (i.UnlessMember negated set x owner skip) c calm =
-    bearer (Way None c) owner c.store c.cells _ (λ o above. value (Way None c) x c.store above _ (λ x below. did_any (Way None c) l (is_in set x o c.store) _ (λ b. skips c skip (unless negated b) below)))
+    bearer (Way None c) owner c.store c.cells _ (λ o above. value (Way None c) x c.store above _ (λ x below. did_any (Way None c) l (is_in set x o c.store) _ (λ b. skips c skip (not_if negated b) below)))
 act_way code l i.Turn c calm = absurd cc
 act_way code l (i.Repeat back) c calm = backs c back true c.cells
 act_way code l (i.Begin h skip) c calm = three (Way None c) h c.cells _ (λ item limit step below. did_any (Way None c) l (range_of (Whole item) (Whole limit) (Some (Whole step))) _ (λ r. skips c skip (has_item item limit) c.cells))

@@ -15,7 +15,7 @@ use Rattle.ss_meaning.specs.Parts.{World, outcome_then, looked, look, settle, ch
 use Rattle.ss_meaning.specs.Statements.{change_by}
 use Rattle.ss_code_instructions.specs.Instructions.{Operand, Held, Taken, Placed}
 use Rattle.ss_code_instructions.specs.Instructions as i
-use Rattle.ss_code_instructions.specs.States.{MachineState, Moved, with_value, with_values, lies_above}
+use Rattle.ss_code_instructions.specs.States.{MachineState, Moved, with_operand_value, with_values, lies_above}
 use Rattle.ss_code_instructions.specs.Machine.{Code, changed_attribute}
 use Rattle.ss_code_instructions.specs.Translation.{Site, height, leaf, or_cell, or_in_cell, expression_mode, operand, after, operand_code, place, change_code}
 use Rattle.ss_code_instructions.proofs.Steps.{Reaches, at, arrive}
@@ -45,19 +45,19 @@ under_none (Unary op e) x y q = absurd cc
 under_none (Calculate op a b) x y q = absurd cc
 
 -- which of two operands is read first
-pub by_order : (k : Bool) (x y : Operand) (s : Store) (cs : List Value) (go : Value → Value → List Value → Moved) → lies_above x y ≡ k → with_values x y s cs go ≡ (if k then with_value x s cs (λ v above. with_value y s above (λ w below. go v w below)) else with_value y s cs (λ w above. with_value x s above (λ v below. go v w below)))
+pub by_order : (k : Bool) (x y : Operand) (s : Store) (cs : List Value) (go : Value → Value → List Value → Moved) → lies_above x y ≡ k → with_values x y s cs go ≡ (if k then with_operand_value x s cs (λ v above. with_operand_value y s above (λ w below. go v w below)) else with_operand_value y s cs (λ w above. with_operand_value x s above (λ v below. go v w below)))
 by_order k x y s cs go q =
-    ap (λ (b : Bool). if b then with_value x s cs (λ v above. with_value y s above (λ w below. go v w below)) else with_value y s cs (λ w above. with_value x s above (λ v below. go v w below))) q
+    ap (λ (b : Bool). if b then with_operand_value x s cs (λ v above. with_operand_value y s above (λ w below. go v w below)) else with_operand_value y s cs (λ w above. with_operand_value x s above (λ v below. go v w below))) q
 
 -- the value first, and then the reference
 takes_over : (t : Site) (e r : Expression) (z v : Value) (s : Store) (cells : List Value) (go : Value → Value → List Value → Moved) → length cells ≡ height t → value e s ≡ Ok z → value r s ≡ Ok v → with_values (operand (after t e) r) (operand t e) s (held (leaf r) v (held (leaf e) z cells)) go ≡ go v z cells
 takes_over t e r z v s cells go h q p = by (leaf r) refl (leaf e) refl
   where
     -- where the value is read first, and the reference after it
-    value_first : lies_above (operand (after t e) r) (operand t e) ≡ false → ((go : Value → List Value → Moved) → with_value (operand t e) s (held (leaf r) v (held (leaf e) z cells)) go ≡ go z (held (leaf r) v cells)) → ((go : Value → List Value → Moved) → with_value (operand (after t e) r) s (held (leaf r) v cells) go ≡ go v cells) → with_values (operand (after t e) r) (operand t e) s (held (leaf r) v (held (leaf e) z cells)) go ≡ go v z cells
+    value_first : lies_above (operand (after t e) r) (operand t e) ≡ false → ((go : Value → List Value → Moved) → with_operand_value (operand t e) s (held (leaf r) v (held (leaf e) z cells)) go ≡ go z (held (leaf r) v cells)) → ((go : Value → List Value → Moved) → with_operand_value (operand (after t e) r) s (held (leaf r) v cells) go ≡ go v cells) → with_values (operand (after t e) r) (operand t e) s (held (leaf r) v (held (leaf e) z cells)) go ≡ go v z cells
     value_first low one two =
         by_order false (operand (after t e) r) (operand t e) s (held (leaf r) v (held (leaf e) z cells)) go low
-        ∙ one (λ w above. with_value (operand (after t e) r) s above (λ v below. go v w below))
+        ∙ one (λ w above. with_operand_value (operand (after t e) r) s above (λ v below. go v w below))
         ∙ two (λ v below. go v z below)
 
     by : (a : Option Operand) → leaf r ≡ a → (b : Option Operand) → leaf e ≡ b → with_values (operand (after t e) r) (operand t e) s (held (leaf r) v (held (leaf e) z cells)) go ≡ go v z cells
@@ -66,22 +66,22 @@ takes_over t e r z v s cells go h q p = by (leaf r) refl (leaf e) refl
         let low : lies_above (operand (after t e) r) (operand t e) ≡ false = ap (λ k. lies_above k (operand t e)) is ∙ leaf_low r x (operand t e) f in
         let plain : (cs : List Value) → held (leaf r) v cs ≡ cs = λ cs. ap (λ o. held o v cs) f in
         value_first low
-        (λ go. ap (λ cs. with_value (operand t e) s cs go) (plain (held (leaf e) z cells)) ∙ reads t e z s cells go h q ∙ ap (go z) (sym (plain cells)))
-        (λ go. ap (λ k. with_value k s (held (leaf r) v cells) go) is ∙ leaf_reads r x v s f p (held (leaf r) v cells) go ∙ ap (go v) (plain cells))
+        (λ go. ap (λ cs. with_operand_value (operand t e) s cs go) (plain (held (leaf e) z cells)) ∙ reads t e z s cells go h q ∙ ap (go z) (sym (plain cells)))
+        (λ go. ap (λ k. with_operand_value k s (held (leaf r) v cells) go) is ∙ leaf_reads r x v s f p (held (leaf r) v cells) go ∙ ap (go v) (plain cells))
     by None f (Some y) g =
         let is : operand t e ≡ y = ap (or_cell (height t)) g in
         let low : lies_above (operand (after t e) r) (operand t e) ≡ false = ap (lies_above (operand (after t e) r)) is ∙ under_none e (operand (after t e) r) y g in
         let plain : held (leaf e) z cells ≡ cells = ap (λ o. held o z cells) g in
         value_first low
-        (λ go. ap (λ k. with_value k s (held (leaf r) v (held (leaf e) z cells)) go) is ∙ leaf_reads e y z s g q (held (leaf r) v (held (leaf e) z cells)) go ∙ ap (λ cs. go z (held (leaf r) v cs)) plain)
-        (λ go. ap (λ cs. with_value (operand (after t e) r) s (held (leaf r) v cs) go) (sym plain) ∙ reads (after t e) r v s (held (leaf e) z cells) go (held_height t e z cells h) p ∙ ap (go v) plain)
+        (λ go. ap (λ k. with_operand_value k s (held (leaf r) v (held (leaf e) z cells)) go) is ∙ leaf_reads e y z s g q (held (leaf r) v (held (leaf e) z cells)) go ∙ ap (λ cs. go z (held (leaf r) v cs)) plain)
+        (λ go. ap (λ cs. with_operand_value (operand (after t e) r) s (held (leaf r) v cs) go) (sym plain) ∙ reads (after t e) r v s (held (leaf e) z cells) go (held_height t e z cells h) p ∙ ap (go v) plain)
     by None f None g =
         let higher : height (after t e) ≡ suc (height t) = ap (λ o. length (or_in_cell o (expression_mode t.scope e) t.cells)) g in
         let x_is : operand (after t e) r ≡ Taken (suc (height t)) = ap (or_cell (height (after t e))) f ∙ ap Taken higher in
         let y_is : operand t e ≡ Taken (height t) = ap (or_cell (height t)) g in
         let high : lies_above (operand (after t e) r) (operand t e) ≡ true = ap (λ k. lies_above k (operand t e)) x_is ∙ ap (lies_above (Taken (suc (height t)))) y_is ∙ next_above (height t) in
         by_order true (operand (after t e) r) (operand t e) s (held (leaf r) v (held (leaf e) z cells)) go high
-        ∙ reads (after t e) r v s (held (leaf e) z cells) (λ v above. with_value (operand t e) s above (λ w below. go v w below)) (held_height t e z cells h) p
+        ∙ reads (after t e) r v s (held (leaf e) z cells) (λ v above. with_operand_value (operand t e) s above (λ w below. go v w below)) (held_height t e z cells h) p
         ∙ reads t e z s cells (λ w below. go v w below) h q
 
 module _ (code : Code) (n : ℕ) where

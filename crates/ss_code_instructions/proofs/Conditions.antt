@@ -10,7 +10,7 @@ use Rattle.ss_base.specs.declared.words.GuardKind.TheVariants as guards
 use Rattle.ss_program.specs.Program.{Expression, SetOwner, Test, Compare, DataEnded, Empty, Member, Condition, Guard}
 use Rattle.ss_meaning.specs.Values.{Trouble, Fails, Misfit, if_ok, turned, due, sure, related}
 use Rattle.ss_meaning.specs.Sets.{member, is_empty, is_in}
-use Rattle.ss_meaning.specs.Expressions.{member_value, owner_value, unless, passed, both, either, all_hold, holds, passes, all_pass}
+use Rattle.ss_meaning.specs.Expressions.{member_value, owner_value, not_if, passed, both, either, all_hold, holds, passes, all_pass}
 use Rattle.ss_meaning.specs.Parts.{World, WentOn, outcome_then, looked, look}
 use Rattle.ss_code_instructions.specs.Instructions as i
 use Rattle.ss_code_instructions.specs.States.{Moved, did, fit, core_at, past, onward_if}
@@ -39,22 +39,22 @@ module _ (code : Code) (n : ℕ) (t : Site) where
     by = λ p cells frames w high has in_.
         let c = looked_code t (may_fault (expression_of o)) e (i.LookMember set) ++ with_owner (after t e) o (λ y. i.UnlessMember negated set (operand t e) y skip) in
         subst (λ z. Reaches code (at p cells frames w) (arrive (λ b w'. at (past skip b (p + length c)) cells frames w') frames z)) (in_set (member_value set e w.store) w)
-        (member_owner_run code n {A = Bool} {B = Bool} t set e o (λ x y. i.UnlessMember negated set x y skip) (λ v u. is_in set v u) (λ q cells0 frames s below b. onward_if skip (unless negated b) below (core_at q cells0 frames s)) (λ b w'. at (past skip b (p + length c)) cells frames w') (λ b. WentOn (unless negated b))
+        (member_owner_run code n {A = Bool} {B = Bool} t set e o (λ x y. i.UnlessMember negated set x y skip) (λ v u. is_in set v u) (λ q cells0 frames s below b. onward_if skip (not_if negated b) below (core_at q cells0 frames s)) (λ b w'. at (past skip b (p + length c)) cells frames w') (λ b. WentOn (not_if negated b))
         (λ v u s kind q. first_fails (member set v s) _ kind q) (λ x y. refl) (λ x y p cells frames s. refl) p cells frames w high has in_
-        (λ q cells0 b len. onwards (subst (λ j. Reaches code (at (past skip (unless negated b) (q + 1)) cells frames w) (Comes (at (past skip (unless negated b) j) cells frames w))) len here)));
+        (λ q cells0 b len. onwards (subst (λ j. Reaches code (at (past skip (not_if negated b) (q + 1)) cells frames w) (Comes (at (past skip (not_if negated b) j) cells frames w))) len here)));
   }
     where
-      last : (r : OkOr Bool Trouble) (w : World) → outcome_then (looked t.line r w) (λ b. WentOn (unless negated b)) ≡ looked t.line (turned (unless negated) r) w
+      last : (r : OkOr Bool Trouble) (w : World) → outcome_then (looked t.line r w) (λ b. WentOn (not_if negated b)) ≡ looked t.line (turned (not_if negated) r) w
       last (Ok b) w = refl
       last (Err (Fails kind)) w = refl
       last (Err Misfit) w = refl
 
-      owned : (v : Value) (r : OkOr (Option Value) Trouble) (w : World) → outcome_then (looked t.line r w) (λ u w. outcome_then (look t.line (is_in set v u) w) (λ b. WentOn (unless negated b))) ≡ looked t.line (if_ok r (λ u. turned (unless negated) (is_in set v u w.store))) w
+      owned : (v : Value) (r : OkOr (Option Value) Trouble) (w : World) → outcome_then (looked t.line r w) (λ u w. outcome_then (look t.line (is_in set v u) w) (λ b. WentOn (not_if negated b))) ≡ looked t.line (if_ok r (λ u. turned (not_if negated) (is_in set v u w.store))) w
       owned v (Ok u) w = last (is_in set v u w.store) w
       owned v (Err (Fails kind)) w = refl
       owned v (Err Misfit) w = refl
 
-      in_set : (r : OkOr Value Trouble) (w : World) → outcome_then (looked t.line r w) (λ v w. outcome_then (look t.line (owner_value o) w) (λ u w. outcome_then (look t.line (is_in set v u) w) (λ b. WentOn (unless negated b)))) ≡ looked t.line (if_ok r (λ v. if_ok (owner_value o w.store) (λ u. turned (unless negated) (is_in set v u w.store)))) w
+      in_set : (r : OkOr Value Trouble) (w : World) → outcome_then (looked t.line r w) (λ v w. outcome_then (look t.line (owner_value o) w) (λ u w. outcome_then (look t.line (is_in set v u) w) (λ b. WentOn (not_if negated b)))) ≡ looked t.line (if_ok r (λ v. if_ok (owner_value o w.store) (λ u. turned (not_if negated) (is_in set v u w.store)))) w
       in_set (Ok v) w = owned v (owner_value o w.store) w
       in_set (Err (Fails kind)) w = refl
       in_set (Err Misfit) w = refl
@@ -64,11 +64,11 @@ module _ (code : Code) (n : ℕ) (t : Site) where
       two_lands code n t a b (λ x y. i.Unless relation x y skip) (past skip) (λ x y s. sure (related relation x y)) (λ p cells frames s x y below. fit (related relation x y) (λ b. onward_if skip b below (core_at p cells frames s))) (λ x y. refl) (λ x y p cells frames s. refl)
       (λ p cells frames s x y below. fit_did t.line (related relation x y) (λ b. onward_if skip b below (core_at p cells frames s)))
   test_lands skip (DataEnded negated) =
-      look_lands code n (height t) (place t (i.UnlessEnded negated skip)) same (past skip) done (λ s. turned (unless negated) (due (is_ended s.scene.input))) refl
-      (λ p cells frames s h. turned_did t.line (due (is_ended s.scene.input)) (unless negated) (λ b. onward_if skip b cells (core_at p cells frames s)))
+      look_lands code n (height t) (place t (i.UnlessEnded negated skip)) same (past skip) done (λ s. turned (not_if negated) (due (is_ended s.scene.input))) refl
+      (λ p cells frames s h. turned_did t.line (due (is_ended s.scene.input)) (not_if negated) (λ b. onward_if skip b cells (core_at p cells frames s)))
   test_lands skip (Empty negated set o) =
-      owner_lands code n t o (λ o. i.UnlessEmpty negated set o skip) (past skip) (λ o s. turned (unless negated) (is_empty set o s)) (λ p cells frames s o below. did t.line (is_empty set o s) (λ b. onward_if skip (unless negated b) below (core_at p cells frames s))) (λ x. refl) (λ x p cells frames s. refl)
-      (λ p cells frames s o below. turned_did t.line (is_empty set o s) (unless negated) (λ b. onward_if skip b below (core_at p cells frames s)))
+      owner_lands code n t o (λ o. i.UnlessEmpty negated set o skip) (past skip) (λ o s. turned (not_if negated) (is_empty set o s)) (λ p cells frames s o below. did t.line (is_empty set o s) (λ b. onward_if skip (not_if negated b) below (core_at p cells frames s))) (λ x. refl) (λ x p cells frames s. refl)
+      (λ p cells frames s o below. turned_did t.line (is_empty set o s) (not_if negated) (λ b. onward_if skip b below (core_at p cells frames s)))
   test_lands skip (Member negated set e o) = member_lands skip negated set e o
 
   -- no instruction: it holds

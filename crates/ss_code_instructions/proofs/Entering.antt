@@ -4,7 +4,7 @@ use Rattle.std.proofs.lemmas.Bool.{eqb-true}
 use Rattle.std.specs.Prelude.{slice_get}
 use Rattle.ss_base.specs.declared.line.Line.{Line}
 use Rattle.ss_base.specs.declared.value.Value.{Value}
-use Rattle.ss_program.specs.WellTyped.{Scope}
+use Rattle.ss_program.specs.WellTyped.{TypedScope}
 use Rattle.ss_program.specs.Program.{Block, Routine, Event, Program}
 use Rattle.ss_meaning.specs.Store.{Store, opened, yielded}
 use Rattle.ss_meaning.specs.Events.{Beginning, Coming, next_event, event_begun}
@@ -30,7 +30,7 @@ use Rattle.ss_code_instructions.proofs.Yielding.{AsWanted, enclosed_such, calls_
 -- ## Where routines and events lie in the code
 
 -- a section with this body lies in the code, and its entry point is made by its place
-pub record IsSection (code : Code) (s : Scope) (body : Block) (entry : ℕ → EntryPoint) (e : EntryPoint) : Type 0 where
+pub record IsSection (code : Code) (s : TypedScope) (body : Block) (entry : ℕ → EntryPoint) (e : EntryPoint) : Type 0 where
   pub begins : ℕ
   pub first : ℕ
   pub is : e ≡ entry begins
@@ -74,7 +74,7 @@ module _ (code : Code) where
 
   module _ (n : ℕ) (h : Calls) (ok : CallsRun code n h) where
     -- a section from its beginning on
-    section_run : (s : Scope) → Sited code (first_site s) → (body : Block) (first p : ℕ) → HasAt code.places p (section_code s first body) → HasAt code.prints first (block_prints body) → (f : Frame) (frames : List Frame) (w : World) → Within code n w → Reaches code (at p [] (f ∷ frames) w) (arrive (λ us w'. at f.back (us ++ f.cells) frames w') frames (come_back f.first f.count f.locals (effects h n body w)))
+    section_run : (s : TypedScope) → Sited code (first_site s) → (body : Block) (first p : ℕ) → HasAt code.places p (section_code s first body) → HasAt code.prints first (block_prints body) → (f : Frame) (frames : List Frame) (w : World) → Within code n w → Reaches code (at p [] (f ∷ frames) w) (arrive (λ us w'. at f.back (us ++ f.cells) frames w') frames (come_back f.first f.count f.locals (effects h n body w)))
     section_run s sited body first p lies prints f frames w in_ =
         let b : List Placed = block_code (first_site s) first body in
         let last : List Placed = place (first_site s) i.Leave ∷ [] in
@@ -82,7 +82,7 @@ module _ (code : Code) where
         ((block_runs code n h ok (first_site s) sited first body prints).by p [] (f ∷ frames) w refl (has_front code.places p b last lies) in_)
 
     -- An instruction that enters a section leads to what the section does. The meaning may have another store by then, in which the section begins.
-    enclosed_leads : (s : Scope) → Sited code (first_site s) → (body : Block) (first : ℕ) (e : EntryPoint) → HasAt code.places e.place (section_code s first body) → HasAt code.prints first (block_prints body) → (called : Called) (vs : List Value) (q : ℕ) (cells0 cells : List Value) (frames : List Frame) (w : World) (u : Store) → Within code n (record w { store = u }) → Leads code w (enter e called vs cells (core_at q cells0 frames w.store) u) (arrive (λ us w'. at (q + 1) (us ++ cells) frames w') frames (enclosed e.given e.others (effects h n body) vs e.yielding (record w { store = u })))
+    enclosed_leads : (s : TypedScope) → Sited code (first_site s) → (body : Block) (first : ℕ) (e : EntryPoint) → HasAt code.places e.place (section_code s first body) → HasAt code.prints first (block_prints body) → (called : Called) (vs : List Value) (q : ℕ) (cells0 cells : List Value) (frames : List Frame) (w : World) (u : Store) → Within code n (record w { store = u }) → Leads code w (enter e called vs cells (core_at q cells0 frames w.store) u) (arrive (λ us w'. at (q + 1) (us ++ cells) frames w') frames (enclosed e.given e.others (effects h n body) vs e.yielding (record w { store = u })))
     enclosed_leads s sited body first e lies prints called vs q cells0 cells frames w u in_ =
         let w1 : World = record w { store = u } in
         needed_leads code (opened e.given e.others vs) (λ variables. enter_with variables e called cells (core_at q cells0 frames w.store) u) w w1 (λ us w'. at (q + 1) (us ++ cells) frames w') frames (λ ls w. come_back (length e.given) e.yielding w.store.locals (effects h n body (with_locals ls w))) (λ ls known.

@@ -16,9 +16,9 @@ use Rattle.ss_meaning.specs.Expressions.{value}
 use Rattle.ss_meaning.specs.Parts.{World, Part, outcome_then, looked, look}
 use Rattle.ss_code_instructions.specs.Instructions.{Operand, Target, Instruction, Placed}
 use Rattle.ss_code_instructions.specs.Instructions as i
-use Rattle.ss_code_instructions.specs.States.{Frame, core_at, with_value, with_values, deliver}
+use Rattle.ss_code_instructions.specs.States.{Frame, core_at, with_operand_value, with_values, deliver}
 use Rattle.ss_code_instructions.specs.Machine.{Code, act, is_due}
-use Rattle.ss_code_instructions.specs.Translation.{Site, height, place, leaf, operand, after, operand_code, one, expression_code, next}
+use Rattle.ss_code_instructions.specs.Translation.{Site, height, place, leaf, operand, after, operand_code, one_operand, expression_code, next}
 use Rattle.ss_code_instructions.proofs.Steps.{Reaches, at, arrive}
 use Rattle.ss_code_instructions.proofs.Parts.{Leads, step_leads, Runs, same, put_on, went, look_then, alike}
 use Rattle.ss_code_instructions.proofs.Operands.{on, Tops, put_then, computes, held, reads, reads_both, Evaluates, leaf_runs, operand_runs, one_join, two_join}
@@ -44,7 +44,7 @@ module _ (code : Code) (n : ℕ) where
   }
 
   -- one instruction that computes a value from that of an operand
-  one_runs : (t : Site) (to : Target) (e : Expression) (make : Operand → Instruction) (f : Value → Store → OkOr Value Trouble) → Tops to (height t) → Evaluates code n t e → ((x : Operand) → is_due (make x) ≡ false) → ((x : Operand) (p : ℕ) (cells : List Value) (frames : List Frame) (s : Store) → act code t.line (make x) (core_at p cells frames s) ≡ with_value x s cells (λ v below. deliver t.line to (f v s) below (core_at p cells frames s))) → Runs code n (height t) same (one t e (expression_code t (next t) e) make) (on to) (λ w. outcome_then (look t.line (λ s. if_ok (value e s) (λ v. f v s)) w) (put_then t.line to))
+  one_runs : (t : Site) (to : Target) (e : Expression) (make : Operand → Instruction) (f : Value → Store → OkOr Value Trouble) → Tops to (height t) → Evaluates code n t e → ((x : Operand) → is_due (make x) ≡ false) → ((x : Operand) (p : ℕ) (cells : List Value) (frames : List Frame) (s : Store) → act code t.line (make x) (core_at p cells frames s) ≡ with_operand_value x s cells (λ v below. deliver t.line to (f v s) below (core_at p cells frames s))) → Runs code n (height t) same (one_operand t e (expression_code t (next t) e) make) (on to) (λ w. outcome_then (look t.line (λ s. if_ok (value e s) (λ v. f v s)) w) (put_then t.line to))
   one_runs t to e make f tops r calm acts = record {
     by = λ p cells frames w high has in_.
         let c = operand_code t e in
@@ -60,7 +60,7 @@ module _ (code : Code) (n : ℕ) where
   }
 
   -- and from those of two operands
-  two_runs : (t : Site) (to : Target) (a b : Expression) (make : (x y : Operand) → Instruction) (f : Value → Value → Store → OkOr Value Trouble) → Tops to (height t) → Evaluates code n t a → Evaluates code n (after t a) b → ((x y : Operand) → is_due (make x y) ≡ false) → ((x y : Operand) (p : ℕ) (cells : List Value) (frames : List Frame) (s : Store) → act code t.line (make x y) (core_at p cells frames s) ≡ with_values x y s cells (λ v w below. deliver t.line to (f v w s) below (core_at p cells frames s))) → Runs code n (height t) same (operand_code t a ++ one (after t a) b (expression_code (after t a) (next (after t a)) b) (make (operand t a))) (on to) (λ w. outcome_then (look t.line (λ s. if_ok (value a s) (λ x. if_ok (value b s) (λ y. f x y s))) w) (put_then t.line to))
+  two_runs : (t : Site) (to : Target) (a b : Expression) (make : (x y : Operand) → Instruction) (f : Value → Value → Store → OkOr Value Trouble) → Tops to (height t) → Evaluates code n t a → Evaluates code n (after t a) b → ((x y : Operand) → is_due (make x y) ≡ false) → ((x y : Operand) (p : ℕ) (cells : List Value) (frames : List Frame) (s : Store) → act code t.line (make x y) (core_at p cells frames s) ≡ with_values x y s cells (λ v w below. deliver t.line to (f v w s) below (core_at p cells frames s))) → Runs code n (height t) same (operand_code t a ++ one_operand (after t a) b (expression_code (after t a) (next (after t a)) b) (make (operand t a))) (on to) (λ w. outcome_then (look t.line (λ s. if_ok (value a s) (λ x. if_ok (value b s) (λ y. f x y s))) w) (put_then t.line to))
   two_runs t to a b make f tops ra rb calm acts = record {
     by = λ p cells frames w high has in_.
         let ca = operand_code t a in

@@ -14,7 +14,7 @@ use Rattle.ss_base.specs.declared.layout.RankKey.{RankKey}
 use Rattle.ss_base.specs.declared.layout.SetLayout.{SetLayout}
 use Rattle.ss_base.specs.declared.value.Value.{Value}
 use Rattle.ss_world.specs.Lists.{In}
-use Rattle.ss_world.specs.State.{Record, Members, State, and_then, kind_of, issued_record, numbered, indexed_record, records_in, of_class, entity_of_kind, entity_in, notice, number_in, first_record, with_value, with_time, with_indexed, with_entity_of_kind, assigned, timed, with_created, created, LAST_NUMBER, MOST_ENTITIES, is_made_in, is_made, with_made, made_many, created_all, members_of, contains, owner_among, is_filed, with_members, in_a_set, owns_members, let_go, destroyed, first_state}
+use Rattle.ss_world.specs.State.{Record, Members, State, and_then, kind_of, issued_record, numbered_record, indexed_record, records_in, of_class, entity_of_kind, entity_in, notice, number_in, first_record, record_with_value, with_time, with_indexed, with_entity_of_kind, assigned, timed, with_created, created, LAST_NUMBER, MOST_ENTITIES, is_made_in, is_made, with_made, made_many, created_all, members_of, contains, owner_among, is_filed, with_members, in_a_set, owns_members, let_go, destroyed, first_state}
 use Rattle.ss_world.specs.Sets.{member_in, member_class, joiner, owner, first_in, last_in, put_before, put_after, less, with_list_of, put_in, put_beside, taken_out, filed_first, filed_last, filed_before, filed_after, removed, Apart}
 use Rattle.ss_world.specs.Disciplines.{ranks_after, put_ranked, filed, take, first_removed, last_removed}
 use Rattle.ss_meaning.specs.Fitting.{class_of_record, living, made, IsIndex, LivesAs, Lives}
@@ -36,7 +36,7 @@ there [] k q = absurd (omega (arith, q))
 there (x ∷ xs) zero q = (x, refl)
 there (x ∷ xs) (suc k) q = let h : k < length xs = omega (arith, q) in there xs k h
 
-single_known : (h : State) (c x : ℕ) → living h (pos x) ≡ Some c → (r : Record) × (and_then (numbered h (pos x)) (of_class c) ≡ Ok r)
+single_known : (h : State) (c x : ℕ) → living h (pos x) ≡ Some c → (r : Record) × (and_then (numbered_record h (pos x)) (of_class c) ≡ Ok r)
 single_known h c zero q = absurd cc
 single_known h c (suc i) q = by (slice_get h.records i) q
   where
@@ -144,8 +144,8 @@ entity_set Notice h c x r q e g j = recorded h (number_in x - 1) r q (number_is 
 
 pub assigned_joined : (h : State) (c f : ℕ) (x : ℤ) (v : Value) → Joined h → Sane Joined (assigned h c f x v)
 assigned_joined h c f x v j =
-    sane_then Joined (entity_in h c x) (λ r. Ok (with_entity_of_kind h (kind_of h.layout c) c (number_in x) (with_value r f v))) (entity_known h c x) (λ r e.
-    entity_set (kind_of h.layout c) h c x r (with_value r f v) e refl j)
+    sane_then Joined (entity_in h c x) (λ r. Ok (with_entity_of_kind h (kind_of h.layout c) c (number_in x) (record_with_value r f v))) (entity_known h c x) (λ r e.
+    entity_set (kind_of h.layout c) h c x r (record_with_value r f v) e refl j)
 
 pub timed_joined : (h : State) (x t : ℤ) → Joined h → Sane Joined (timed h x t)
 timed_joined h x t j =

@@ -11,7 +11,7 @@ use Rattle.ss_base.specs.declared.value.Value.TheVariants.{Whole}
 use Rattle.ss_world.specs.State.{State, kind_in, notice, assigned, created, created_all, destroyed, timed}
 use Rattle.ss_world.specs.Sets.{count_in, filed_first, filed_last, filed_before, filed_after, removed}
 use Rattle.ss_world.specs.Disciplines.{filed}
-use Rattle.ss_world.specs.PendingList.{is_pending, scheduled, cancelled, next}
+use Rattle.ss_world.specs.PendingList.{is_pending, scheduled, cancelled, least_event}
 use Rattle.ss_meaning.specs.Words.{Given, value_given}
 use Rattle.ss_program.specs.declared.sections.Subject.{Subject}
 use Rattle.ss_program.specs.declared.sections.Subject.TheVariants.{OfVariable, OfAttribute, OfCount}
@@ -28,7 +28,7 @@ use Rattle.ss_meaning.specs.Entities.{class_at, field_at, entity, attribute, com
 use Rattle.ss_meaning.specs.Places.{is_of_mode, assigned_variable, assigned_attribute}
 use Rattle.ss_meaning.specs.Sets.{Filing, ByRule, Foremost, Hindmost, JustBefore, JustAfter, member, owner_number, is_fit, recounted, filed_by, filed_in, removed_from, end_removed, removed_at}
 use Rattle.ss_meaning.specs.Events.{Ranked, ranked, ties_of, attributes_given, with_notice_time, endowed, prepared, made_notice, filed_notice, rescheduled, unscheduled, saved_or_gone, Beginning, Coming, coming_as, coming_with, ranked_as, next_event, event_begun}
-use Rattle.ss_meaning.specs.Statistics.{subject_of, bearer, present, reset}
+use Rattle.ss_meaning.specs.Statistics.{subject_of_statistic, bearer_number, present, reset}
 use Rattle.ss_meaning.specs.Statements.{with_input, read_value}
 use Rattle.ss_meaning.proofs.Fine.{Sane}
 use Rattle.ss_code_instructions.specs.Machine.{Code, changed_attribute}
@@ -259,7 +259,7 @@ read_takes mode s = by (value_given mode s.scene.input) refl
 
 pub reset_same : (j : ℕ) (x : Option Value) (s : Store) → Only (Same s) (reset j x s)
 reset_same j x s =
-    each (Same s) (subject_of j s) _ (λ t. each (Same s) (bearer t x s) _ (λ n. each (Same s) (present t x s) _ (λ v. each (Same s) (number_of v) _ (λ z.
+    each (Same s) (subject_of_statistic j s) _ (λ t. each (Same s) (bearer_number t x s) _ (λ n. each (Same s) (present t x s) _ (λ v. each (Same s) (number_of v) _ (λ z.
     made (Same s) (with_histories s) (renewed j n s.scene.time z s.scene.histories) (λ hs. same_here s)))))
 
 -- ## Events
@@ -276,7 +276,7 @@ next_same None s = tt
 next_same (Some n) s = coming_same (ranked_as (notice s.scene.heap n.1) s) n.0 n.1 s
 
 pub event_same : (s : Store) → Where (ComingSame s) (next_event s)
-event_same s = next_same (next s.scene.pending) s
+event_same s = next_same (least_event s.scene.pending) s
 
 saved_same : (saved : Option ℕ) (class : ℕ) (x : Value) (s : Store) → Only (Same s) (saved_or_gone saved class x s)
 saved_same (Some k) class x s = variable_same (Global k) x s

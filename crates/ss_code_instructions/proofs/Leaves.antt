@@ -6,7 +6,7 @@ use Rattle.ss_meaning.specs.Store.{Store}
 use Rattle.ss_meaning.specs.Expressions.{value}
 use Rattle.ss_code_instructions.specs.Instructions.{Operand, Held, Taken, Stays}
 use Rattle.ss_code_instructions.specs.Instructions as i
-use Rattle.ss_code_instructions.specs.States.{Moved, fit, with_value, lies_above}
+use Rattle.ss_code_instructions.specs.States.{Moved, fit, with_operand_value, lies_above}
 use Rattle.ss_code_instructions.specs.Translation.{Site, height, leaf, or_cell, operand, stay}
 use Rattle.ss_code_instructions.proofs.Operands.{held, leaf_reads}
 use Rattle.ss_code_instructions.proofs.Members.{leaf_stays}
@@ -21,11 +21,11 @@ stay_low (Taken h) y = refl
 stay_low (Stays h) y = refl
 
 -- an operand that stays gives the same value later, under further cells
-pub stay_later : (t : Site) (r : Expression) (y : Value) (s u : Store) (more cells : List Value) (go : Value → List Value → Moved) → length cells ≡ height t → value r s ≡ Ok y → Alike s u → with_value (stay (operand t r)) u (more ++ held (leaf r) y cells) go ≡ go y (more ++ held (leaf r) y cells)
+pub stay_later : (t : Site) (r : Expression) (y : Value) (s u : Store) (more cells : List Value) (go : Value → List Value → Moved) → length cells ≡ height t → value r s ≡ Ok y → Alike s u → with_operand_value (stay (operand t r)) u (more ++ held (leaf r) y cells) go ≡ go y (more ++ held (leaf r) y cells)
 stay_later t r y s u more cells go h q a = by (leaf r) refl
   where
-    by : (o : Option Operand) → leaf r ≡ o → with_value (stay (or_cell (height t) o)) u (more ++ held o y cells) go ≡ go y (more ++ held o y cells)
+    by : (o : Option Operand) → leaf r ≡ o → with_operand_value (stay (or_cell (height t) o)) u (more ++ held o y cells) go ≡ go y (more ++ held o y cells)
     by (Some x) f =
-        ap (λ z. with_value z u (more ++ cells) go) (leaf_stays r x f)
+        ap (λ z. with_operand_value z u (more ++ cells) go) (leaf_stays r x f)
         ∙ leaf_reads r x y u f (leaf_later r x s u f a ∙ q) (more ++ cells) go
     by None f = ap (λ o. fit o (λ v. go v (more ++ (y ∷ cells)))) (under_cell more (height t) y cells h)

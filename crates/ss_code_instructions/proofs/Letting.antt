@@ -16,7 +16,7 @@ use Rattle.ss_meaning.specs.Parts.{World, Part, outcome_then, looked, look, sett
 use Rattle.ss_meaning.specs.Statements.{give_to, change_by}
 use Rattle.ss_code_instructions.specs.Instructions.{Held, Taken, Placed, Target as To}
 use Rattle.ss_code_instructions.specs.Instructions as i
-use Rattle.ss_code_instructions.specs.States.{Frame, MachineState, did, or_zero, core_at, onward, with_value, deliver}
+use Rattle.ss_code_instructions.specs.States.{Frame, MachineState, did, or_zero, core_at, onward, with_operand_value, deliver}
 use Rattle.ss_code_instructions.specs.Machine.{Code}
 use Rattle.ss_code_instructions.specs.Translation.{Site, height, above, place, leaf, operand, after, operand_code, with_operand, expression_code, next, is_kept, count_code, let_code, change_code}
 use Rattle.ss_code_instructions.proofs.Steps.{has_front, has_back, Comes, Reaches, here, at, arrive, join}
@@ -81,7 +81,7 @@ module _ (code : Code) (n : ℕ) where
         subst (λ o. Reaches code (at p cells frames w) (arrive k frames o)) (sym (then_then (look t.line (value e) w) (λ y. look t.line (λ s. if_ok (sure (fetched x s)) (λ v. calculated (operator_of sign) v y))) (put_then t.line to)))
         (one_join code n t e (evaluates code n t e) (last ∷ []) k (λ y w. outcome_then (look t.line (λ s. if_ok (sure (fetched x s)) (λ v. calculated (operator_of sign) v y)) w) (put_then t.line to)) p cells frames w high has in_ (λ y found has'.
         step_leads code last (core_at (p + length ce) (held (leaf e) y cells) frames w.store) w _ _ has'.0 refl
-        (reads t e y w.store cells (λ u above. with_value (Held x) w.store above (λ v below. deliver t.line to (calculated (operator_of sign) v u) below (core_at (p + length ce) (held (leaf e) y cells) frames w.store))) high found)
+        (reads t e y w.store cells (λ u above. with_operand_value (Held x) w.store above (λ v below. deliver t.line to (calculated (operator_of sign) v u) below (core_at (p + length ce) (held (leaf e) y cells) frames w.store))) high found)
         (subst (λ j. Leads code w (deliver t.line to (calculated (operator_of sign) (or_zero (fetched x w.store)) y) cells (core_at (p + length ce) (held (leaf e) y cells) frames w.store)) (arrive (λ v w'. at j (on to v cells) frames w') frames (outcome_then (looked t.line (if_ok (sure (fetched x w.store)) (λ v. calculated (operator_of sign) v y)) w) (put_then t.line to)))) end
         (sum_leads (fetched x w.store) y (p + length ce) cells (held (leaf e) y cells) frames w (subst (Tops to) (sym high) tops)))));
   }

@@ -9,7 +9,7 @@ use Rattle.ss_meaning.specs.Store.{Store}
 use Rattle.ss_meaning.specs.Expressions.{value, value_if_any, owner_value}
 use Rattle.ss_meaning.specs.Parts.{World, WentOn, Part, outcome_then, looked, look}
 use Rattle.ss_code_instructions.specs.Instructions.{Operand, Bearer, Instruction, Placed}
-use Rattle.ss_code_instructions.specs.States.{Frame, MachineState, Moved, To, did, fit, core_at, with_value, with_values, with_bearer}
+use Rattle.ss_code_instructions.specs.States.{Frame, MachineState, Moved, To, did, fit, core_at, with_operand_value, with_values, with_bearer}
 use Rattle.ss_code_instructions.specs.Machine.{Code, act, is_due}
 use Rattle.ss_code_instructions.specs.Facts.{expression_of}
 use Rattle.ss_code_instructions.specs.Translation.{Site, height, place, leaf, operand, after, operand_code, with_operand, bearer, bearer_code, after_bearer, with_owner}
@@ -49,7 +49,7 @@ module _ (code : Code) (n : ℕ) where
   -- ## Instructions that look and go on, or jump
 
   -- one operand, and an instruction that looks at it
-  pub one_lands : {A : Type 0} (t : Site) (e : Expression) (make : Operand → Instruction) (land : A → ℕ → ℕ) (f : Value → Store → OkOr A Trouble) (go : ℕ → List Value → List Frame → Store → Value → List Value → Moved) → ((x : Operand) → is_due (make x) ≡ false) → ((x : Operand) (p : ℕ) (cells : List Value) (frames : List Frame) (s : Store) → act code t.line (make x) (core_at p cells frames s) ≡ with_value x s cells (go p cells frames s)) → ((p : ℕ) (cells : List Value) (frames : List Frame) (s : Store) (v : Value) (below : List Value) → go p cells frames s v below ≡ did t.line (f v s) (λ a. To (core_at (land a (p + 1)) below frames s))) → Lands code n (height t) same (with_operand t e make) land done (look t.line (λ s. if_ok (value e s) (λ v. f v s)))
+  pub one_lands : {A : Type 0} (t : Site) (e : Expression) (make : Operand → Instruction) (land : A → ℕ → ℕ) (f : Value → Store → OkOr A Trouble) (go : ℕ → List Value → List Frame → Store → Value → List Value → Moved) → ((x : Operand) → is_due (make x) ≡ false) → ((x : Operand) (p : ℕ) (cells : List Value) (frames : List Frame) (s : Store) → act code t.line (make x) (core_at p cells frames s) ≡ with_operand_value x s cells (go p cells frames s)) → ((p : ℕ) (cells : List Value) (frames : List Frame) (s : Store) (v : Value) (below : List Value) → go p cells frames s v below ≡ did t.line (f v s) (λ a. To (core_at (land a (p + 1)) below frames s))) → Lands code n (height t) same (with_operand t e make) land done (look t.line (λ s. if_ok (value e s) (λ v. f v s)))
   one_lands t e make land f go calm acts goes = record {
     by = λ p cells frames w high has in_.
         let c = operand_code t e in

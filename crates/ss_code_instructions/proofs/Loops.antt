@@ -22,7 +22,7 @@ leads_on w m x r q (writes {bytes = bytes} {c = c} f) h =
     let lasts : Lasts w.store x.core.store = lasts_then w.store c.store x.core.store q t.same in
     writes (reaches_on f (h t.fewer lasts))
 
--- the same of a part, and then another one
+-- where a part leads, if another one follows it
 pub leads_join : {A B : Type 0} {code : Code} (w : World) (m : Moved) (k : A → World → MachineState) (k' : B → World → MachineState) (frames : List Frame) (o : Outcome A) (f : A → Part B) → Endures w.store m → Leads code w m (arrive k frames o) → ((a : A) (w' : World) → (k a w').ticks ≤ w.ticks → Lasts w.store (k a w').core.store → Reaches code (k a w') (arrive k' frames (f a w'))) → Leads code w m (arrive k' frames (outcome_then o f))
 leads_join w m k k' frames (Left e w') f q g h = g
 leads_join w m k k' frames (WentOn a w') f q g h = leads_on w m (k a w') (arrive k' frames (f a w')) q g (h a w')

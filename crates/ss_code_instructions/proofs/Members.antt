@@ -11,7 +11,7 @@ use Rattle.ss_meaning.specs.Sets.{member}
 use Rattle.ss_meaning.specs.Expressions.{value, looked_at, member_value, owner_value}
 use Rattle.ss_meaning.specs.Parts.{World, Part, outcome_then, looked, look}
 use Rattle.ss_code_instructions.specs.Instructions.{Operand, Bearer, Instruction, Placed, Constant as AConstant, Held, LookMember}
-use Rattle.ss_code_instructions.specs.States.{Frame, MachineState, Moved, did, fit, core_at, onward, cell_at, or_zero, with_value, with_bearer}
+use Rattle.ss_code_instructions.specs.States.{Frame, MachineState, Moved, did, fit, core_at, onward, cell_at, or_zero, with_operand_value, with_bearer}
 use Rattle.ss_code_instructions.specs.Machine.{Code, act, is_due}
 use Rattle.ss_code_instructions.specs.Facts.{expression_of, may_fault}
 use Rattle.ss_code_instructions.specs.Translation.{Site, height, place, leaf, or_cell, operand, after, operand_code, stay, bearer, bearer_code, after_bearer, with_owner, looked_code}
@@ -42,11 +42,11 @@ leaf_stays (Unary op e) x q = absurd cc
 leaf_stays (Calculate op a b) x q = absurd cc
 
 -- an operand that stays gives the value of its expression
-pub stay_reads : (t : Site) (e : Expression) (v : Value) (s : Store) (cells : List Value) (go : Value → List Value → Moved) → length cells ≡ height t → value e s ≡ Ok v → with_value (stay (operand t e)) s (held (leaf e) v cells) go ≡ go v (held (leaf e) v cells)
+pub stay_reads : (t : Site) (e : Expression) (v : Value) (s : Store) (cells : List Value) (go : Value → List Value → Moved) → length cells ≡ height t → value e s ≡ Ok v → with_operand_value (stay (operand t e)) s (held (leaf e) v cells) go ≡ go v (held (leaf e) v cells)
 stay_reads t e v s cells go h q = by (leaf e) refl (reads t e v s cells go h q)
   where
-    by : (o : Option Operand) → leaf e ≡ o → with_value (or_cell (height t) o) s (held o v cells) go ≡ go v cells → with_value (stay (or_cell (height t) o)) s (held o v cells) go ≡ go v (held o v cells)
-    by (Some x) p r = ap (λ x. with_value x s cells go) (leaf_stays e x p) ∙ r
+    by : (o : Option Operand) → leaf e ≡ o → with_operand_value (or_cell (height t) o) s (held o v cells) go ≡ go v cells → with_operand_value (stay (or_cell (height t) o)) s (held o v cells) go ≡ go v (held o v cells)
+    by (Some x) p r = ap (λ x. with_operand_value x s cells go) (leaf_stays e x p) ∙ r
     by None p r = ap (λ o. fit o (λ u. go u (v ∷ cells))) (top_cell (height t) v cells h)
 
 -- ## Owners whose evaluation has no fault
@@ -78,7 +78,7 @@ abbrev pub LooksFirst : {A : Type 0} → (set : ℕ) → (Value → Option Value
 LooksFirst set op = (v : Value) (o : Option Value) (s : Store) (kind : FaultKind) → member set v s ≡ Err (Fails kind) → op v o s ≡ Err (Fails kind)
 
 module _ (code : Code) (n : ℕ) where
-  pub member_owner_run : {A B : Type 0} (t : Site) (set : ℕ) (e : Expression) (o : SetOwner) (make : Operand → Bearer → Instruction) (op : Value → Option Value → Store → OkOr A Trouble) (next : ℕ → List Value → List Frame → Store → List Value → A → Moved) (k : B → World → MachineState) (go : A → Part B) → LooksFirst set op → ((x : Operand) (y : Bearer) → is_due (make x y) ≡ false) → ((x : Operand) (y : Bearer) (p : ℕ) (cells : List Value) (frames : List Frame) (s : Store) → act code t.line (make x y) (core_at p cells frames s) ≡ with_bearer y s cells (λ u above. with_value x s above (λ v below. did t.line (op v u s) (next p cells frames s below)))) → (p : ℕ) (cells : List Value) (frames : List Frame) (w : World) → length cells ≡ height t → HasAt code.places p (looked_code t (may_fault (expression_of o)) e (LookMember set) ++ with_owner (after t e) o (make (operand t e))) → Within code n w → ((q : ℕ) (cells0 : List Value) (a : A) → q + 1 ≡ p + length (looked_code t (may_fault (expression_of o)) e (LookMember set) ++ with_owner (after t e) o (make (operand t e))) → Leads code w (next q cells0 frames w.store cells a) (arrive k frames (go a w))) → Reaches code (at p cells frames w) (arrive k frames (outcome_then (look t.line (member_value set e) w) (λ v w. outcome_then (look t.line (owner_value o) w) (λ u w. outcome_then (look t.line (op v u) w) go))))
+  pub member_owner_run : {A B : Type 0} (t : Site) (set : ℕ) (e : Expression) (o : SetOwner) (make : Operand → Bearer → Instruction) (op : Value → Option Value → Store → OkOr A Trouble) (next : ℕ → List Value → List Frame → Store → List Value → A → Moved) (k : B → World → MachineState) (go : A → Part B) → LooksFirst set op → ((x : Operand) (y : Bearer) → is_due (make x y) ≡ false) → ((x : Operand) (y : Bearer) (p : ℕ) (cells : List Value) (frames : List Frame) (s : Store) → act code t.line (make x y) (core_at p cells frames s) ≡ with_bearer y s cells (λ u above. with_operand_value x s above (λ v below. did t.line (op v u s) (next p cells frames s below)))) → (p : ℕ) (cells : List Value) (frames : List Frame) (w : World) → length cells ≡ height t → HasAt code.places p (looked_code t (may_fault (expression_of o)) e (LookMember set) ++ with_owner (after t e) o (make (operand t e))) → Within code n w → ((q : ℕ) (cells0 : List Value) (a : A) → q + 1 ≡ p + length (looked_code t (may_fault (expression_of o)) e (LookMember set) ++ with_owner (after t e) o (make (operand t e))) → Leads code w (next q cells0 frames w.store cells a) (arrive k frames (go a w))) → Reaches code (at p cells frames w) (arrive k frames (outcome_then (look t.line (member_value set e) w) (λ v w. outcome_then (look t.line (owner_value o) w) (λ u w. outcome_then (look t.line (op v u) w) go))))
   member_owner_run {A} {B} t set e o make op next k go first calm acts p cells frames w high has in_ f = by (may_fault y) refl has f
     where
       y : Option Expression
@@ -95,7 +95,7 @@ module _ (code : Code) (n : ℕ) where
       works v u on_top r found q h g =
           step_leads code last (core_at q (on_top (held (leaf e) v cells)) frames w.store) w _ _ h (calm (operand t e) (bearer (after t e) y))
           (acts (operand t e) (bearer (after t e) y) q (on_top (held (leaf e) v cells)) frames w.store
-          ∙ found.reads (held (leaf e) v cells) (λ u above. with_value (operand t e) w.store above (λ x below. did t.line (op x u w.store) (next q (on_top (held (leaf e) v cells)) frames w.store below))) (held_height t e v cells high)
+          ∙ found.reads (held (leaf e) v cells) (λ u above. with_operand_value (operand t e) w.store above (λ x below. did t.line (op x u w.store) (next q (on_top (held (leaf e) v cells)) frames w.store below))) (held_height t e v cells high)
           ∙ reads t e v w.store cells (λ x below. did t.line (op x u w.store) (next q (on_top (held (leaf e) v cells)) frames w.store below)) high r)
           (did_leads code t.line (op v u w.store) _ w k frames go (λ a m. g (on_top (held (leaf e) v cells)) a))
 
@@ -115,7 +115,7 @@ module _ (code : Code) (n : ℕ) where
           let h' : HasAt code.places (p + length c) (last ∷ []) = subst (λ b. HasAt code.places (p + length c) (b ++ last ∷ [])) s.empty h in
           step_leads code last (core_at (p + length c) (held (leaf e) v cells) frames w.store) w _ _ h'.0 (calm (operand t e) (bearer (after t e) y))
           (acts (operand t e) (bearer (after t e) y) (p + length c) (held (leaf e) v cells) frames w.store
-          ∙ s.gives w.store (held (leaf e) v cells) (λ u above. with_value (operand t e) w.store above (λ x below. did t.line (op x u w.store) (next (p + length c) (held (leaf e) v cells) frames w.store below)))
+          ∙ s.gives w.store (held (leaf e) v cells) (λ u above. with_operand_value (operand t e) w.store above (λ x below. did t.line (op x u w.store) (next (p + length c) (held (leaf e) v cells) frames w.store below)))
           ∙ reads t e v w.store cells (λ x below. did t.line (op x (s.given w.store) w.store) (next (p + length c) (held (leaf e) v cells) frames w.store below)) high r
           ∙ ap (λ z. did t.line z (next (p + length c) (held (leaf e) v cells) frames w.store cells)) (first v (s.given w.store) w.store kind z))
           breaks

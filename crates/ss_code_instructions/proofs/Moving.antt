@@ -7,9 +7,9 @@ use Rattle.ss_base.specs.declared.value.Value.TheVariants.{Whole, Text}
 use Rattle.ss_meaning.specs.Values.{Trouble, Fails, Misfit}
 use Rattle.ss_meaning.specs.Store.{Store, fetched}
 use Rattle.ss_meaning.specs.Sets.{Filing as Position, ByRule, Foremost, Hindmost, JustBefore, JustAfter}
-use Rattle.ss_code_instructions.specs.Instructions.{Operand, Constant, Held, Taken, Stays, Bearer, Filing, First, Last, Ranked, Before, After}
-use Rattle.ss_code_instructions.specs.States.{Core, Moved, To, Sends, Rest, Stuck, did, fit, cell_at, at_height, take_off, or_zero, with_block, with_number, with_topmost, with_value, with_values, lies_above, with_bearer, with_position}
-use Rattle.ss_code_instructions.specs.Machine.{Walk, with_loop, with_walk}
+use Rattle.ss_code_instructions.specs.Instructions.{Operand, Constant, Held, Taken, Stays, Bearer, FilingPlace, First, Last, Ranked, Before, After}
+use Rattle.ss_code_instructions.specs.States.{Core, Moved, To, Sends, Rest, Stuck, did, fit, cell_at, at_height, take_off, or_zero, with_block, with_top_number, with_topmost, with_operand_value, with_values, lies_above, with_bearer, with_position}
+use Rattle.ss_code_instructions.specs.Machine.{Walk, with_loop, with_walk_in_cells}
 use Rattle.ss_code_instructions.proofs.Keeping.{Only, Where}
 
 module _ (Good : Core → Type 0) where
@@ -48,7 +48,7 @@ module _ (Good : Core → Type 0) where
   pub block : (count h : ℕ) (cells : List Value) (go : List Value → List Value → Moved) → ((vs below : List Value) → Every (go vs below)) → Every (with_block count h cells go)
   block count h cells go k = fit_any (take_off count cells []) _ (λ b. high h b.below _ (k b.values b.below))
 
-  pub number : (cells : List Value) (go : ℤ → List Value → Moved) → ((z : ℤ) (below : List Value) → Every (go z below)) → Every (with_number cells go)
+  pub number : (cells : List Value) (go : ℤ → List Value → Moved) → ((z : ℤ) (below : List Value) → Every (go z below)) → Every (with_top_number cells go)
   number [] go k = tt
   number (Whole z ∷ below) go k = k z below
   number (Text t ∷ below) go k = tt
@@ -57,7 +57,7 @@ module _ (Good : Core → Type 0) where
   top h [] go k = tt
   top h (v ∷ below) go k = high h below (go v below) (k v below)
 
-  pub value : (x : Operand) (t : Store) (cells : List Value) (go : Value → List Value → Moved) → ((v : Value) (below : List Value) → Every (go v below)) → Every (with_value x t cells go)
+  pub value : (x : Operand) (t : Store) (cells : List Value) (go : Value → List Value → Moved) → ((v : Value) (below : List Value) → Every (go v below)) → Every (with_operand_value x t cells go)
   value (Constant v) t cells go k = k v cells
   value (Held x) t cells go k = k (or_zero (fetched x t)) cells
   value (Taken h) t cells go k = top h cells go k
@@ -65,7 +65,7 @@ module _ (Good : Core → Type 0) where
 
   pub values : (x y : Operand) (t : Store) (cells : List Value) (go : Value → Value → List Value → Moved) → ((v w : Value) (below : List Value) → Every (go v w below)) → Every (with_values x y t cells go)
   values x y t cells go k =
-      if_every (lies_above x y) (with_value x t cells (λ v above. with_value y t above (λ w below. go v w below))) (with_value y t cells (λ w above. with_value x t above (λ v below. go v w below)))
+      if_every (lies_above x y) (with_operand_value x t cells (λ v above. with_operand_value y t above (λ w below. go v w below))) (with_operand_value y t cells (λ w above. with_operand_value x t above (λ v below. go v w below)))
       (value x t cells _ (λ v above. value y t above _ (λ w below. k v w below)))
       (value y t cells _ (λ w above. value x t above _ (λ v below. k v w below)))
 
@@ -73,7 +73,7 @@ module _ (Good : Core → Type 0) where
   bearer None t cells go k = k None cells
   bearer (Some x) t cells go k = value x t cells _ (λ v below. k (Some v) below)
 
-  pub position : (f : Filing) (t : Store) (cells : List Value) (go : Position → List Value → Moved) → ((p : Position) (below : List Value) → Every (go p below)) → Every (with_position f t cells go)
+  pub position : (f : FilingPlace) (t : Store) (cells : List Value) (go : Position → List Value → Moved) → ((p : Position) (below : List Value) → Every (go p below)) → Every (with_position f t cells go)
   position First t cells go k = k Foremost cells
   position Last t cells go k = k Hindmost cells
   position Ranked t cells go k = k ByRule cells
@@ -83,7 +83,7 @@ module _ (Good : Core → Type 0) where
   pub three : (h : ℕ) (cells : List Value) (go : ℤ → ℤ → ℤ → List Value → Moved) → ((x y z : ℤ) (below : List Value) → Every (go x y z below)) → Every (with_loop h cells go)
   three h cells go k = number cells _ (λ z above. number above _ (λ y over. number over _ (λ x below. high h below _ (k x y z below))))
 
-  pub walk : (h : ℕ) (cells : List Value) (go : Walk → List Value → Moved) → ((w : Walk) (below : List Value) → Every (go w below)) → Every (with_walk h cells go)
+  pub walk : (h : ℕ) (cells : List Value) (go : Walk → List Value → Moved) → ((w : Walk) (below : List Value) → Every (go w below)) → Every (with_walk_in_cells h cells go)
   walk h cells go k = number cells _ (λ next over. number over _ (λ member below. high h below _ (k (record { member = member; next = next }) below)))
 
 -- what is good is good otherwise

@@ -15,7 +15,7 @@ use Rattle.ss_meaning.specs.Expressions.{value}
 use Rattle.ss_meaning.specs.Parts.{World, WentOn, Part, outcome_then, looked, look, settle, change, settle_with}
 use Rattle.ss_code_instructions.specs.Instructions.{Operand, Held, Taken, Stays, Target, Into, Onto, Placed}
 use Rattle.ss_code_instructions.specs.Instructions as i
-use Rattle.ss_code_instructions.specs.States.{Frame, MachineState, Moved, did, core_at, or_zero, with_value, with_values, lies_above, Written, deliver, deliver_with, onward}
+use Rattle.ss_code_instructions.specs.States.{Frame, MachineState, Moved, did, core_at, or_zero, with_operand_value, with_values, lies_above, Written, deliver, deliver_with, onward}
 use Rattle.ss_code_instructions.specs.Machine.{Code}
 use Rattle.ss_code_instructions.specs.Translation.{Site, height, place, leaf, or_cell, or_in_cell, expression_mode, operand, after, unless_leaf, operand_code, expression_code, next}
 use Rattle.ss_code_instructions.proofs.Steps.{HasAt, has_front, has_back, Comes, Reaches, here, free, reaches_on, at, arrive}
@@ -100,14 +100,14 @@ leaf_is (Unary op e) x q = absurd cc
 leaf_is (Calculate op a b) x q = absurd cc
 
 -- a constant and a variable are read as they are
-pub leaf_reads : (e : Expression) (x : Operand) (v : Value) (s : Store) → leaf e ≡ Some x → value e s ≡ Ok v → (cells : List Value) (go : Value → List Value → Moved) → with_value x s cells go ≡ go v cells
+pub leaf_reads : (e : Expression) (x : Operand) (v : Value) (s : Store) → leaf e ≡ Some x → value e s ≡ Ok v → (cells : List Value) (go : Value → List Value → Moved) → with_operand_value x s cells go ≡ go v cells
 leaf_reads (Constant u) x v s q r cells go =
     let e : i.Constant u ≡ x = cc in
     let p : u ≡ v = cc in
-    subst (λ x. with_value x s cells go ≡ go v cells) e (ap (λ u. go u cells) p)
+    subst (λ x. with_operand_value x s cells go ≡ go v cells) e (ap (λ u. go u cells) p)
 leaf_reads (Fetch y) x v s q r cells go =
     let e : Held y ≡ x = cc in
-    subst (λ x. with_value x s cells go ≡ go v cells) e (ap (λ o. go (or_zero o) cells) (sure_is (fetched y s) v r))
+    subst (λ x. with_operand_value x s cells go ≡ go v cells) e (ap (λ o. go (or_zero o) cells) (sure_is (fetched y s) v r))
 leaf_reads (Attribute class field e) x v s q _ cells go = absurd cc
 leaf_reads (OfSystemSet query set) x v s q _ cells go = absurd cc
 leaf_reads (OfSet query set e) x v s q _ cells go = absurd cc
@@ -121,10 +121,10 @@ leaf_reads (Unary op e) x v s q _ cells go = absurd cc
 leaf_reads (Calculate op a b) x v s q _ cells go = absurd cc
 
 -- an operand gives the value of its expression, and takes its cell off
-pub reads : (t : Site) (e : Expression) (v : Value) (s : Store) (cells : List Value) (go : Value → List Value → Moved) → length cells ≡ height t → value e s ≡ Ok v → with_value (operand t e) s (held (leaf e) v cells) go ≡ go v cells
+pub reads : (t : Site) (e : Expression) (v : Value) (s : Store) (cells : List Value) (go : Value → List Value → Moved) → length cells ≡ height t → value e s ≡ Ok v → with_operand_value (operand t e) s (held (leaf e) v cells) go ≡ go v cells
 reads t e v s cells go h q = by (leaf e) refl
   where
-    by : (o : Option Operand) → leaf e ≡ o → with_value (or_cell (height t) o) s (held o v cells) go ≡ go v cells
+    by : (o : Option Operand) → leaf e ≡ o → with_operand_value (or_cell (height t) o) s (held o v cells) go ≡ go v cells
     by (Some x) p = leaf_reads e x v s p q cells go
     by None p = at_the_height (height t) cells (go v cells) h
 
@@ -180,8 +180,8 @@ not_above t a b = by (leaf a) refl
 
 pub reads_both : (t : Site) (a b : Expression) (x y : Value) (s : Store) (cells : List Value) (go : Value → Value → List Value → Moved) → length cells ≡ height t → value a s ≡ Ok x → value b s ≡ Ok y → with_values (operand t a) (operand (after t a) b) s (held (leaf b) y (held (leaf a) x cells)) go ≡ go x y cells
 reads_both t a b x y s cells go h p q =
-    ap (λ (c : Bool). if c then with_value (operand t a) s (held (leaf b) y (held (leaf a) x cells)) (λ v above. with_value (operand (after t a) b) s above (λ w below. go v w below)) else with_value (operand (after t a) b) s (held (leaf b) y (held (leaf a) x cells)) (λ w above. with_value (operand t a) s above (λ v below. go v w below))) (not_above t a b)
-    ∙ reads (after t a) b y s (held (leaf a) x cells) (λ w above. with_value (operand t a) s above (λ v below. go v w below)) (held_height t a x cells h) q
+    ap (λ (c : Bool). if c then with_operand_value (operand t a) s (held (leaf b) y (held (leaf a) x cells)) (λ v above. with_operand_value (operand (after t a) b) s above (λ w below. go v w below)) else with_operand_value (operand (after t a) b) s (held (leaf b) y (held (leaf a) x cells)) (λ w above. with_operand_value (operand t a) s above (λ v below. go v w below))) (not_above t a b)
+    ∙ reads (after t a) b y s (held (leaf a) x cells) (λ w above. with_operand_value (operand t a) s above (λ v below. go v w below)) (held_height t a x cells h) q
     ∙ reads t a x s cells (λ v below. go v y below) h p
 
 -- ## Evaluating operands

@@ -146,7 +146,7 @@ looked_then l (Ok a) g f w = refl
 looked_then l (Err (Fails k)) g f w = refl
 looked_then l (Err Misfit) g f w = refl
 
--- the same where each look is at the present store
+-- two looks in turn, each at the present store
 pub look_then : {A B D : Type 0} (l : Line) (r : OkOr A Trouble) (g : A → Store → OkOr B Trouble) (f : B → Part D) (w : World) → outcome_then (looked l r w) (λ a w. outcome_then (look l (g a) w) f) ≡ outcome_then (looked l (if_ok r (λ a. g a w.store)) w) f
 look_then l (Ok a) g f w = refl
 look_then l (Err (Fails k)) g f w = refl

@@ -15,7 +15,7 @@ use Rattle.ss_meaning.specs.Parts.{World, Part, outcome_then, looked, look, sett
 use Rattle.ss_meaning.specs.Statements.{file}
 use Rattle.ss_code_instructions.specs.Instructions.{Operand, Bearer, Placed}
 use Rattle.ss_code_instructions.specs.Instructions as i
-use Rattle.ss_code_instructions.specs.States.{Frame, MachineState, Moved, did, core_at, with_value, with_bearer, onward}
+use Rattle.ss_code_instructions.specs.States.{Frame, MachineState, Moved, did, core_at, with_operand_value, with_bearer, onward}
 use Rattle.ss_code_instructions.specs.Machine.{Code, act}
 use Rattle.ss_code_instructions.specs.Facts.{expression_of, may_fault}
 use Rattle.ss_code_instructions.specs.Translation.{Site, height, place, leaf, operand, after, operand_code, stay, bearer, bearer_code, after_bearer, with_owner, looked_code, member_code, filing_by, file_code}
@@ -83,7 +83,7 @@ module _ (code : Code) (n : ℕ) where
 
   -- ## Where no other member is beside it
 
-  alone_runs : (t : Site) (set : ℕ) (e : Expression) (o : SetOwner) (f : i.Filing) (g : Filing) → ((x : Operand) (y : Bearer) (p : ℕ) (cells : List Value) (frames : List Frame) (s : Store) → act code t.line (i.File f set x y) (core_at p cells frames s) ≡ with_bearer y s cells (λ u above. with_value x s above (λ v below. did t.line (filed_in g set v u s) (λ u. onward below (core_at p cells frames s) u)))) → (p : ℕ) (cells : List Value) (frames : List Frame) (w : World) → length cells ≡ height t → HasAt code.places p (looked_code t (may_fault (expression_of o)) e (i.LookMember set) ++ with_owner (after t e) o (i.File f set (operand t e))) → Within code n w → Reaches code (at p cells frames w) (arrive (λ (u : Unit {0}) w'. at (p + length (looked_code t (may_fault (expression_of o)) e (i.LookMember set) ++ with_owner (after t e) o (i.File f set (operand t e)))) cells frames w') frames (outcome_then (look t.line (member_value set e) w) (λ v w. outcome_then (look t.line (owner_value o) w) (λ u. change t.line (filed_in g set v u)))))
+  alone_runs : (t : Site) (set : ℕ) (e : Expression) (o : SetOwner) (f : i.FilingPlace) (g : Filing) → ((x : Operand) (y : Bearer) (p : ℕ) (cells : List Value) (frames : List Frame) (s : Store) → act code t.line (i.File f set x y) (core_at p cells frames s) ≡ with_bearer y s cells (λ u above. with_operand_value x s above (λ v below. did t.line (filed_in g set v u s) (λ u. onward below (core_at p cells frames s) u)))) → (p : ℕ) (cells : List Value) (frames : List Frame) (w : World) → length cells ≡ height t → HasAt code.places p (looked_code t (may_fault (expression_of o)) e (i.LookMember set) ++ with_owner (after t e) o (i.File f set (operand t e))) → Within code n w → Reaches code (at p cells frames w) (arrive (λ (u : Unit {0}) w'. at (p + length (looked_code t (may_fault (expression_of o)) e (i.LookMember set) ++ with_owner (after t e) o (i.File f set (operand t e)))) cells frames w') frames (outcome_then (look t.line (member_value set e) w) (λ v w. outcome_then (look t.line (owner_value o) w) (λ u. change t.line (filed_in g set v u)))))
   alone_runs t set e o f g acts p cells frames w high has in_ =
       let all : List Placed = looked_code t (may_fault (expression_of o)) e (i.LookMember set) ++ with_owner (after t e) o (i.File f set (operand t e)) in
       let ends : Unit {0} → World → MachineState = λ u w'. at (p + length all) cells frames w' in
@@ -107,7 +107,7 @@ module _ (code : Code) (n : ℕ) where
       subst (λ z. Reaches code (at p cells frames w) (arrive (λ (u : Unit {0}) w'. at (p + length (looked_code t (may_fault (expression_of o)) e (i.LookMember set) ++ with_owner (after t e) o (i.File (filing_by d) set (operand t e)))) cells frames w') frames z)) (rule_is t set o d w (member_value set e w.store) q)
       (alone_runs t set e o (filing_by d) (position_by d) (acts d) p cells frames w high has in_)
     where
-      acts : (d : Option Discipline) (x : Operand) (y : Bearer) (p : ℕ) (cells : List Value) (frames : List Frame) (s : Store) → act code t.line (i.File (filing_by d) set x y) (core_at p cells frames s) ≡ with_bearer y s cells (λ u above. with_value x s above (λ v below. did t.line (filed_in (position_by d) set v u s) (λ u. onward below (core_at p cells frames s) u)))
+      acts : (d : Option Discipline) (x : Operand) (y : Bearer) (p : ℕ) (cells : List Value) (frames : List Frame) (s : Store) → act code t.line (i.File (filing_by d) set x y) (core_at p cells frames s) ≡ with_bearer y s cells (λ u above. with_operand_value x s above (λ v below. did t.line (filed_in (position_by d) set v u s) (λ u. onward below (core_at p cells frames s) u)))
       acts None x y p cells frames s = refl
       acts (Some disciplines.Fifo) x y p cells frames s = refl
       acts (Some disciplines.Lifo) x y p cells frames s = refl
@@ -115,7 +115,7 @@ module _ (code : Code) (n : ℕ) where
 
   -- ## Directly before or after another member
 
-  beside_runs : (t : Site) (set : ℕ) (e y : Expression) (o : SetOwner) (f : Operand → i.Filing) (g : Value → Filing) → ((x z : Operand) (b : Bearer) (p : ℕ) (cells : List Value) (frames : List Frame) (s : Store) → act code t.line (i.File (f z) set x b) (core_at p cells frames s) ≡ with_bearer b s cells (λ u over. with_value z s over (λ k above. with_value x s above (λ v below. did t.line (filed_in (g k) set v u s) (λ u. onward below (core_at p cells frames s) u))))) → (p : ℕ) (cells : List Value) (frames : List Frame) (w : World) → length cells ≡ height t → HasAt code.places p (member_code t true set e ++ (member_code (after t e) true set y ++ with_owner (after (after t e) y) o (i.File (f (operand (after t e) y)) set (operand t e)))) → Within code n w → Reaches code (at p cells frames w) (arrive (λ (u : Unit {0}) w'. at (p + length (member_code t true set e ++ (member_code (after t e) true set y ++ with_owner (after (after t e) y) o (i.File (f (operand (after t e) y)) set (operand t e))))) cells frames w') frames (outcome_then (look t.line (member_value set e) w) (λ v w. outcome_then (look t.line (λ s. turned g (member_value set y s)) w) (λ h w. outcome_then (look t.line (owner_value o) w) (λ u. change t.line (filed_in h set v u))))))
+  beside_runs : (t : Site) (set : ℕ) (e y : Expression) (o : SetOwner) (f : Operand → i.FilingPlace) (g : Value → Filing) → ((x z : Operand) (b : Bearer) (p : ℕ) (cells : List Value) (frames : List Frame) (s : Store) → act code t.line (i.File (f z) set x b) (core_at p cells frames s) ≡ with_bearer b s cells (λ u over. with_operand_value z s over (λ k above. with_operand_value x s above (λ v below. did t.line (filed_in (g k) set v u s) (λ u. onward below (core_at p cells frames s) u))))) → (p : ℕ) (cells : List Value) (frames : List Frame) (w : World) → length cells ≡ height t → HasAt code.places p (member_code t true set e ++ (member_code (after t e) true set y ++ with_owner (after (after t e) y) o (i.File (f (operand (after t e) y)) set (operand t e)))) → Within code n w → Reaches code (at p cells frames w) (arrive (λ (u : Unit {0}) w'. at (p + length (member_code t true set e ++ (member_code (after t e) true set y ++ with_owner (after (after t e) y) o (i.File (f (operand (after t e) y)) set (operand t e))))) cells frames w') frames (outcome_then (look t.line (member_value set e) w) (λ v w. outcome_then (look t.line (λ s. turned g (member_value set y s)) w) (λ h w. outcome_then (look t.line (owner_value o) w) (λ u. change t.line (filed_in h set v u))))))
   beside_runs t set e y o f g acts p cells frames w high has in_ =
       let t1 : Site = after t e in
       let t2 : Site = after t1 y in
@@ -140,8 +140,8 @@ module _ (code : Code) (n : ℕ) where
       let q : ℕ = p + length ce + length cy + length co in
       step_leads code last (core_at q (on_top c2) frames w.store) w _ _ has3.0 refl
       (acts (operand t e) (operand t1 y) (bearer t2 x) q (on_top c2) frames w.store
-      ∙ found.reads c2 (λ u over. with_value (operand t1 y) w.store over (λ k above. with_value (operand t e) w.store above (λ v below. did t.line (filed_in (g k) set v u w.store) (λ s. onward below (core_at q (on_top c2) frames w.store) s)))) high2
-      ∙ reads t1 y k w.store c1 (λ k above. with_value (operand t e) w.store above (λ v below. did t.line (filed_in (g k) set v u w.store) (λ s. onward below (core_at q (on_top c2) frames w.store) s))) high1 found_k
+      ∙ found.reads c2 (λ u over. with_operand_value (operand t1 y) w.store over (λ k above. with_operand_value (operand t e) w.store above (λ v below. did t.line (filed_in (g k) set v u w.store) (λ s. onward below (core_at q (on_top c2) frames w.store) s)))) high2
+      ∙ reads t1 y k w.store c1 (λ k above. with_operand_value (operand t e) w.store above (λ v below. did t.line (filed_in (g k) set v u w.store) (λ s. onward below (core_at q (on_top c2) frames w.store) s))) high1 found_k
       ∙ reads t e v w.store cells (λ v below. did t.line (filed_in (g k) set v u w.store) (λ s. onward below (core_at q (on_top c2) frames w.store) s)) high found_v)
       (did_leads code t.line (filed_in (g k) set v u w.store) (λ s. onward cells (core_at q (on_top c2) frames w.store) s) w ends frames settle (λ s done_.
       onwards (subst (λ j. Reaches code (at (q + 1) cells frames (record w { store = s })) (Comes (at j cells frames (record w { store = s })))) end here))))))))

@@ -14,7 +14,7 @@ use Rattle.ss_meaning.specs.Parts.{World, outcome_then, looked, look, settle, ch
 use Rattle.ss_meaning.specs.Statements.{create_every, destroy, cancel, restart_each}
 use Rattle.ss_code_instructions.specs.Instructions.{Operand, Placed, Instruction}
 use Rattle.ss_code_instructions.specs.Instructions as i
-use Rattle.ss_code_instructions.specs.States.{Frame, MachineState, Sends, did, core_at, with_value, onward}
+use Rattle.ss_code_instructions.specs.States.{Frame, MachineState, Sends, did, core_at, with_operand_value, onward}
 use Rattle.ss_code_instructions.specs.Machine.{Code, act, is_due}
 use Rattle.ss_code_instructions.specs.Translation.{Site, height, place, leaf, operand, after, operand_code, with_operand, bearer, bearer_code, after_bearer, creates_code, restarts_code}
 use Rattle.ss_code_instructions.proofs.Steps.{Comes, Reaches, here, at, arrive}
@@ -25,7 +25,7 @@ use Rattle.ss_code_instructions.proofs.Looking.{bearer_join}
 
 module _ (code : Code) (n : ℕ) where
   -- an operand, and an instruction that changes the store by it
-  one_changes : (t : Site) (e : Expression) (make : Operand → Instruction) (f : Value → Store → OkOr Store Trouble) → ((x : Operand) → is_due (make x) ≡ false) → ((x : Operand) (p : ℕ) (cells : List Value) (frames : List Frame) (s : Store) → act code t.line (make x) (core_at p cells frames s) ≡ with_value x s cells (λ v below. did t.line (f v s) (λ u. onward below (core_at p cells frames s) u))) → Runs code n (height t) same (with_operand t e make) done (λ w. outcome_then (look t.line (value e) w) (λ v. change t.line (f v)))
+  one_changes : (t : Site) (e : Expression) (make : Operand → Instruction) (f : Value → Store → OkOr Store Trouble) → ((x : Operand) → is_due (make x) ≡ false) → ((x : Operand) (p : ℕ) (cells : List Value) (frames : List Frame) (s : Store) → act code t.line (make x) (core_at p cells frames s) ≡ with_operand_value x s cells (λ v below. did t.line (f v s) (λ u. onward below (core_at p cells frames s) u))) → Runs code n (height t) same (with_operand t e make) done (λ w. outcome_then (look t.line (value e) w) (λ v. change t.line (f v)))
   one_changes t e make f calm acts = record {
     by = λ p cells frames w high has in_.
         let ce : List Placed = operand_code t e in

@@ -17,7 +17,7 @@ use Rattle.ss_code_instructions.specs.Instructions.{Stays, Placed, ItemKind, Sho
 use Rattle.ss_code_instructions.specs.Instructions as i
 use Rattle.ss_code_instructions.specs.States.{Frame, Moved, Sends, did, fit, core_at, onward}
 use Rattle.ss_code_instructions.specs.Machine.{Code, act, is_due, mean_item, item_before, values_shown, cells_of_kinds, print_lines}
-use Rattle.ss_code_instructions.specs.Translation.{Site, height, above, with_cells, place, next, expression_code, expression_mode, items_code, after_items, item_kind, lines_of}
+use Rattle.ss_code_instructions.specs.Translation.{Site, height, above, with_cells, place, next, expression_code, expression_mode, items_code, after_items, item_kind, lines_of_items}
 use Rattle.ss_code_instructions.proofs.Keeping.{Only, each, made_from}
 use Rattle.ss_code_instructions.proofs.Steps.{here, at}
 use Rattle.ss_code_instructions.proofs.Parts.{writes, step_leads, did_leads, at_end, Runs, same, done, put_on, onto, seq_look, alike, none, look_lands}
@@ -179,7 +179,7 @@ module _ (code : Code) (n : ℕ) where
       (above_cells code n (height t) (put_on x) (suc (height t)) (λ cells q. ap suc q) (items_run (with_cells t (Integer ∷ t.cells)) xs)))
 
   -- the lines, from the values in cells
-  lines_run : (u : Site) (h first : ℕ) (xs : List PrintItem) (pictures : List (List ℕ)) (vs : List Value) → slice_get code.prints first ≡ Some (lines_of xs pictures) → AsMany (cells_of_kinds (map item_kind xs)) vs → Runs code n h (onto vs) (place u (i.Print first h) ∷ []) done (λ w. outcome_then (look u.line (lines_shown (map item_kind xs) pictures vs) w) send)
+  lines_run : (u : Site) (h first : ℕ) (xs : List PrintItem) (pictures : List (List ℕ)) (vs : List Value) → slice_get code.prints first ≡ Some (lines_of_items xs pictures) → AsMany (cells_of_kinds (map item_kind xs)) vs → Runs code n h (onto vs) (place u (i.Print first h) ∷ []) done (λ w. outcome_then (look u.line (lines_shown (map item_kind xs) pictures vs) w) send)
   lines_run u h first xs pictures vs has many =
       let ks : List ItemKind = map item_kind xs in
       output_runs h (place u (i.Print first h)) (onto vs) (lines_shown ks pictures vs) refl (λ p cells frames s high.
@@ -187,7 +187,7 @@ module _ (code : Code) (n : ℕ) where
       ∙ block_takes vs cells (cells_of_kinds ks) h (λ us below. fit (values_shown ks us s) (λ ys. fit (printed pictures ys) (λ bytes. Sends bytes (core_at (p + 1) below frames s)))) many high
       ∙ fit_lines u.line (values_shown ks vs s) pictures (λ bytes. Sends bytes (core_at (p + 1) cells frames s)))
 
-  pub print_runs : (t : Site) (first : ℕ) (xs : List PrintItem) (pictures : List (List ℕ)) → slice_get code.prints first ≡ Some (lines_of xs pictures) → Runs code n (height t) same (items_code t xs ++ place (after_items t xs) (i.Print first (height t)) ∷ []) done (print t.line xs pictures)
+  pub print_runs : (t : Site) (first : ℕ) (xs : List PrintItem) (pictures : List (List ℕ)) → slice_get code.prints first ≡ Some (lines_of_items xs pictures) → Runs code n (height t) same (items_code t xs ++ place (after_items t xs) (i.Print first (height t)) ∷ []) done (print t.line xs pictures)
   print_runs t first xs pictures has =
       let ks : List ItemKind = map item_kind xs in
       alike code n (height t) (λ w. then_sent t.line (values_looked xs w.store) (lines_shown ks pictures) w ∙ ap (λ o. outcome_then (looked t.line o w) send) (lines_meant xs pictures w.store))

@@ -10,7 +10,7 @@ use Rattle.ss_meaning.specs.Words.{value_given}
 use Rattle.ss_program.specs.declared.expression.Variable.{Variable}
 use Rattle.ss_program.specs.declared.statement.CountedClass.{CountedClass}
 use Rattle.ss_program.specs.declared.expression.Variable.TheVariants.{Global, Local}
-use Rattle.ss_program.specs.Program.{Expression, Constant, Fetch, Clock, Place, ToVariable, ToAttribute, ToCount, Target}
+use Rattle.ss_program.specs.Program.{Expression, Constant, Fetch, Clock, Place, ToVariable, ToAttribute, ToCount, InputTarget}
 use Rattle.ss_meaning.specs.Values.{Trouble, Fails, Misfit, if_ok, turned, due, sure}
 use Rattle.ss_meaning.specs.Store.{Store, fetched}
 use Rattle.ss_meaning.specs.Entities.{class_at, entity, is_single, with_new, made_one}
@@ -20,7 +20,7 @@ use Rattle.ss_meaning.specs.Parts.{World, WentOn, Part, outcome_then, looked, se
 use Rattle.ss_meaning.specs.Statements.{give_to, with_input, read_value, read_each}
 use Rattle.ss_code_instructions.specs.Instructions.{Operand, Taken, Instruction, Placed, Target as To}
 use Rattle.ss_code_instructions.specs.Instructions as i
-use Rattle.ss_code_instructions.specs.States.{Frame, MachineState, Moved, did, core_at, with_value, with_values, deliver_with, onward}
+use Rattle.ss_code_instructions.specs.States.{Frame, MachineState, Moved, did, core_at, with_operand_value, with_values, deliver_with, onward}
 use Rattle.ss_code_instructions.specs.Machine.{Code, act, is_due}
 use Rattle.ss_code_instructions.specs.Translation.{Site, height, above, place, leaf, or_cell, operand, after, operand_code, next, stay, count_code, to_place_code, reads_code}
 use Rattle.ss_code_instructions.proofs.Keeping.{Only, Says, made, fitting}
@@ -70,10 +70,10 @@ made_quietly l class =
     get_quietly l (made_one class) (λ s. fitting (λ (b : Value × Store). Alike s b.1) (is_single (class_at class s)) _ (made (λ (b : Value × Store). Alike s b.1) (with_new class s) (due (created s.scene.heap class)) (λ b. (refl, refl, refl))))
 
 -- an operand later, where variables hold the same
-reads_later : (t : Site) (r : Expression) (v : Value) (s u : Store) (cells : List Value) (go : Value → List Value → Moved) → length cells ≡ height t → value r s ≡ Ok v → Alike s u → with_value (operand t r) u (held (leaf r) v cells) go ≡ go v cells
+reads_later : (t : Site) (r : Expression) (v : Value) (s u : Store) (cells : List Value) (go : Value → List Value → Moved) → length cells ≡ height t → value r s ≡ Ok v → Alike s u → with_operand_value (operand t r) u (held (leaf r) v cells) go ≡ go v cells
 reads_later t r v s u cells go h q a = by (leaf r) refl
   where
-    by : (p : Option Operand) → leaf r ≡ p → with_value (or_cell (height t) p) u (held p v cells) go ≡ go v cells
+    by : (p : Option Operand) → leaf r ≡ p → with_operand_value (or_cell (height t) p) u (held p v cells) go ≡ go v cells
     by (Some x) e = leaf_reads r x v u e (leaf_later r x s u e a ∙ q) cells go
     by None e = at_the_height (height t) cells (go v cells) h
 
@@ -81,7 +81,7 @@ reads_later t r v s u cells go h q a = by (leaf r) refl
 top_takes : (t : Site) (r : Expression) (v z : Value) (s u : Store) (cells : List Value) (go : Value → Value → List Value → Moved) → length cells ≡ height t → value r s ≡ Ok v → Alike s u → with_values (operand t r) (Taken (height (after t r))) u (z ∷ held (leaf r) v cells) go ≡ go v z cells
 top_takes t r v z s u cells go h q a =
     by_order false (operand t r) (Taken (height (after t r))) u (z ∷ held (leaf r) v cells) go (not_above t r Clock)
-    ∙ at_the_height (height (after t r)) (held (leaf r) v cells) (with_value (operand t r) u (held (leaf r) v cells) (λ v below. go v z below)) (held_height t r v cells h)
+    ∙ at_the_height (height (after t r)) (held (leaf r) v cells) (with_operand_value (operand t r) u (held (leaf r) v cells) (λ v below. go v z below)) (held_height t r v cells h)
     ∙ reads_later t r v s u cells (λ v below. go v z below) h q a
 
 module _ (code : Code) (n : ℕ) where
@@ -164,7 +164,7 @@ module _ (code : Code) (n : ℕ) where
       subst (λ k. Runs code n (height u) same (place u (i.Read mode to) ∷ []) (on to) (λ w. outcome_then (get k (read_value mode) w) (put_then k to))) e
       (get_runs u to (i.Read mode to) (read_value mode) tops refl (λ p cells frames s. refl))
 
-  pub reads_run : (t : Site) (xs : List Target) → Runs code n (height t) same (reads_code t xs) done (read_each t.line xs)
+  pub reads_run : (t : Site) (xs : List InputTarget) → Runs code n (height t) same (reads_code t xs) done (read_each t.line xs)
   reads_run t [] = none code n (height t) tt
   reads_run t (x ∷ xs) =
       seq code n (height t) {mid = λ v cells. cells}

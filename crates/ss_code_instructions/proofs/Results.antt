@@ -17,7 +17,7 @@ use Rattle.ss_meaning.specs.Parts.{World, WentOn, outcome_then, looked, settle, 
 use Rattle.ss_meaning.specs.Statements.{give_to, give_each}
 use Rattle.ss_code_instructions.specs.Instructions.{Operand, Taken, Placed}
 use Rattle.ss_code_instructions.specs.Instructions as i
-use Rattle.ss_code_instructions.specs.States.{MachineState, Moved, with_value, with_values}
+use Rattle.ss_code_instructions.specs.States.{MachineState, Moved, with_operand_value, with_values}
 use Rattle.ss_code_instructions.specs.Machine.{Code}
 use Rattle.ss_code_instructions.specs.Translation.{Site, height, above, place, leaf, or_cell, operand, after, operand_code, place_mode, results_cells, with_results, give_code, gives_code}
 use Rattle.ss_code_instructions.proofs.Steps.{Reaches, at, arrive}
@@ -38,7 +38,7 @@ under_takes t m r v z s cells go h q = by (leaf r) refl
     by : (o : Option Operand) → leaf r ≡ o → with_values (or_cell (suc (height t)) o) (Taken (height t)) s (held o v (z ∷ cells)) go ≡ go v z cells
     by (Some x) f =
         by_order false x (Taken (height t)) s (z ∷ cells) go (leaf_low r x (Taken (height t)) f)
-        ∙ at_the_height (height t) cells (with_value x s cells (λ v below. go v z below)) h
+        ∙ at_the_height (height t) cells (with_operand_value x s cells (λ v below. go v z below)) h
         ∙ leaf_reads r x v s f q cells (λ v below. go v z below)
     by None f = two_off (height t) v z s cells go h
 

@@ -16,7 +16,7 @@ use Rattle.ss_meaning.specs.Parts.{World, Part, outcome_then, look, settle, chan
 use Rattle.ss_meaning.specs.Statements.{schedule_new, schedule}
 use Rattle.ss_code_instructions.specs.Instructions.{Operand, Held, Taken, Stays, Target, Placed}
 use Rattle.ss_code_instructions.specs.Instructions as i
-use Rattle.ss_code_instructions.specs.States.{Frame, MachineState, Moved, did, fit, or_zero, core_at, with_value, with_values, onward, deliver_with}
+use Rattle.ss_code_instructions.specs.States.{Frame, MachineState, Moved, did, fit, or_zero, core_at, with_operand_value, with_values, onward, deliver_with}
 use Rattle.ss_code_instructions.specs.Machine.{Code}
 use Rattle.ss_code_instructions.specs.Translation.{Site, height, with_cells, above, place, next, leaf, or_in_cell, expression_mode, operand, after, stay, forget_to, values_code, after_values, entity_code, count_code, when_code, variable_code, schedule_new_code, schedule_code}
 use Rattle.ss_code_instructions.proofs.Steps.{HasAt, has_front, has_back, Comes, Reaches, here, at, arrive, join, join_known, follow}
@@ -39,7 +39,7 @@ both_stay : (t : Site) (r : Expression) (v x time : Value) (s u : Store) (cells 
 both_stay t r v x time s u cells go h q a =
     let cs : List Value = x ∷ time ∷ held (leaf r) v cells in
     by_order false (stay (operand t r)) (Stays (suc (height (after t r)))) u cs go (stay_low (operand t r) (Stays (suc (height (after t r)))))
-    ∙ ap (λ o. fit o (λ y. with_value (stay (operand t r)) u cs (λ z below. go z y below))) (top_cell (suc (height (after t r))) x (time ∷ held (leaf r) v cells) (ap suc (held_height t r v cells h)))
+    ∙ ap (λ o. fit o (λ y. with_operand_value (stay (operand t r)) u cs (λ z below. go z y below))) (top_cell (suc (height (after t r))) x (time ∷ held (leaf r) v cells) (ap suc (held_height t r v cells h)))
     ∙ stay_later t r v s u (x ∷ time ∷ []) cells (λ z below. go z x below) h q a
 
 module _ (code : Code) (n : ℕ) where
@@ -88,7 +88,7 @@ module _ (code : Code) (n : ℕ) where
         let c1 : List Value = held (leaf e) x cells in
         let c2 : List Value = Whole time ∷ onto vs c1 in
         step_leads code last (core_at q c2 frames w.store) w _ _ has2.0 refl
-        (block_takes vs c1 (length given) (height t1) (λ us over. with_value (operand t e) w.store over (λ y below. did t.line (rescheduled class y us time w.store) (λ s. onward below (core_at q c2 frames w.store) s))) many (held_height t e x cells high)
+        (block_takes vs c1 (length given) (height t1) (λ us over. with_operand_value (operand t e) w.store over (λ y below. did t.line (rescheduled class y us time w.store) (λ s. onward below (core_at q c2 frames w.store) s))) many (held_height t e x cells high)
         ∙ reads t e x w.store cells (λ y below. did t.line (rescheduled class y vs time w.store) (λ s. onward below (core_at q c2 frames w.store) s)) high found)
         (did_leads code t.line (rescheduled class x vs time w.store) (λ s. onward cells (core_at q c2 frames w.store) s) w ends frames settle (λ s known.
         onwards (subst (λ j. Reaches code (at (q + 1) cells frames (record w { store = s })) (Comes (at j cells frames (record w { store = s })))) end here)))));

@@ -17,7 +17,7 @@ use Rattle.ss_base.specs.declared.words.Relation.{Relation}
 use Rattle.ss_base.specs.declared.words.Sign.{Sign}
 use Rattle.ss_program.specs.Program.{Event, Program}
 use Rattle.ss_program.specs.WellTyped.{WellTyped, IsSet, field_mode}
-use Rattle.ss_meaning.specs.PendingList.{next}
+use Rattle.ss_meaning.specs.PendingList.{least_event}
 use Rattle.ss_meaning.specs.Words.{is_ended, value_given}
 use Rattle.ss_meaning.specs.State.{is_made}
 use Rattle.ss_meaning.specs.Values.{Trouble, Fails, Misfit, if_ok, turned, due, unless_fault, line_end, same_mode, number_of, calculated, operator_of, applied, related, empty_lines, printed}
@@ -27,7 +27,7 @@ use Rattle.ss_meaning.specs.Places.{assigned_variable, assigned_attribute}
 use Rattle.ss_meaning.specs.Sets.{is_none, filed_in, removed_from, removed_at, of_set, of_member, is_empty, is_in, begun, begun_at, coming as coming_in, goes_on, member, known_owner}
 use Rattle.ss_meaning.specs.Events.{clock, time_at, AtTime, Later, made_notice, filed_notice, rescheduled, unscheduled, is_awaited, Coming, coming_with, next_event, event_begun}
 use Rattle.ss_meaning.specs.Statistics.{figure, mean, reset}
-use Rattle.ss_meaning.specs.Expressions.{unless}
+use Rattle.ss_meaning.specs.Expressions.{not_if}
 use Rattle.ss_meaning.specs.Loops.{range_of, indices}
 use Rattle.ss_meaning.specs.Statements.{with_input, read_value}
 use Rattle.ss_meaning.specs.Fitting.{Hold, Fits}
@@ -44,7 +44,7 @@ use Rattle.ss_code_instructions.specs.Instructions as i
 use Rattle.ss_code_instructions.specs.States.{Called, ARoutine, AnEvent, Frame, Core, MachineState, Done, Breaks, Moved, To, Sends, Rest, Stuck, TakenOff, did, fit, core_at, onward, take_off, with_block, cell_at, deliver, deliver_with}
 use Rattle.ss_code_instructions.specs.Machine.{Code, changed_attribute, assignable_count, has_item, unsigned, has_next, Walk, walk_at, walk_cells, begin_walk, walk_further, next_item, mean_item, item_before, cells_of_kinds, values_shown, print_lines, enter, leave, take_event, take_next, act, is_due, Stepped, Goes, Over, NoStep, with_rest, when_due, step_at, step}
 use Rattle.ss_code_instructions.specs.Running.{Underway, after_one_step, start, steps}
-use Rattle.ss_code_instructions.specs.Shape.{GivenFit, ItemsFit, IsOfKind, At, Delivers, Suits, Begins, Shaped, FramesFit, FitsCode}
+use Rattle.ss_code_instructions.specs.Shape.{GivenFit, ItemsFit, IsOfKind, At, DeliversTo, Suits, HasEntryShape, Shaped, FramesFit, FitsCode}
 use Rattle.ss_code_instructions.specs.Translation.{code_of}
 use Rattle.ss_code_instructions.specs.Laws.{ShapeStays, StatesSuit, NeverStuck}
 use Rattle.ss_code_instructions.proofs.ShapingPrograms.{has_shape}
@@ -197,7 +197,7 @@ module _ (p : Program) (typed : WellTyped p) (code : Code) where
   module _ (ls : List Mode) where
     -- ## Into a section
 
-    enter_well : (e : EntryPoint) (called : Called) (vs below : List Value) (rest : List Mode) (c : Core) (s : Store) → Hold vs e.given → Begins p code e → Fits p ls s → At p code (c.place + 1) ls (take e.yielding e.others ++ rest) → Hold below rest → FramesFit p code ls c.frames → Well (enter e called vs below c s)
+    enter_well : (e : EntryPoint) (called : Called) (vs below : List Value) (rest : List Mode) (c : Core) (s : Store) → Hold vs e.given → HasEntryShape p code e → Fits p ls s → At p code (c.place + 1) ls (take e.yielding e.others ++ rest) → Hold below rest → FramesFit p code ls c.frames → Well (enter e called vs below c s)
     enter_well e called vs below rest c s given begins fits at h k =
         fit_well p typed code (λ (us : List Value). Hold us (e.given ++ e.others)) (opened e.given e.others vs) _ (opened_there e.given e.others vs given) (λ variables q.
         let f : Frame = record { back = c.place + 1; cells = below; locals = s.locals; first = length e.given; count = e.yielding; called = called } in
@@ -217,14 +217,14 @@ module _ (p : Program) (typed : WellTyped p) (code : Code) where
         did_well p typed code (Fits p ls) l r (λ s. onward cells c s) fine (λ s fits. goes_to p typed code ls (c.place + 1) rest cells c.frames s at fits h k)
 
     -- a value for a target
-    give_on : (l : Line) (to : Target) (m : Mode) (ms rest : List Mode) (r : OkOr Value Trouble) (cells : List Value) (c : Core) → Delivers p code c.place ls ms to m rest → Fine (λ v. mode_of v ≡ m) r → Fits p ls c.store → Hold cells rest → FramesFit p code ls c.frames → Well (deliver l to r cells c)
+    give_on : (l : Line) (to : Target) (m : Mode) (ms rest : List Mode) (r : OkOr Value Trouble) (cells : List Value) (c : Core) → DeliversTo p code c.place ls ms to m rest → Fine (λ v. mode_of v ≡ m) r → Fits p ls c.store → Hold cells rest → FramesFit p code ls c.frames → Well (deliver l to r cells c)
     give_on l to m ms rest r cells c d fine fits h k = deliver_well p typed code ls l to m rest d.0 r cells c fine d.1 d.2 fits h k
 
-    give_with : (l : Line) (to : Target) (m : Mode) (ms rest : List Mode) (r : OkOr (Value × Store) Trouble) (cells : List Value) (c : Core) → Delivers p code c.place ls ms to m rest → Fine (λ (b : Value × Store). (mode_of b.0 ≡ m) × Fits p ls b.1) r → Hold cells rest → FramesFit p code ls c.frames → Well (deliver_with l to r cells c)
+    give_with : (l : Line) (to : Target) (m : Mode) (ms rest : List Mode) (r : OkOr (Value × Store) Trouble) (cells : List Value) (c : Core) → DeliversTo p code c.place ls ms to m rest → Fine (λ (b : Value × Store). (mode_of b.0 ≡ m) × Fits p ls b.1) r → Hold cells rest → FramesFit p code ls c.frames → Well (deliver_with l to r cells c)
     give_with l to m ms rest r cells c d fine h k = delivered_well p typed code ls l to m rest d.0 r cells c fine d.1 d.2 h k
 
     -- a time to schedule for
-    time_well : (l : Line) (to : Target) (ms rest : List Mode) (r : OkOr ℤ Trouble) (cells : List Value) (c : Core) → Delivers p code c.place ls ms to Integer rest → Fine (λ z. Unit {0}) r → Fits p ls c.store → Hold cells rest → FramesFit p code ls c.frames → Well (deliver l to (turned Whole r) cells c)
+    time_well : (l : Line) (to : Target) (ms rest : List Mode) (r : OkOr ℤ Trouble) (cells : List Value) (c : Core) → DeliversTo p code c.place ls ms to Integer rest → Fine (λ z. Unit {0}) r → Fits p ls c.store → Hold cells rest → FramesFit p code ls c.frames → Well (deliver l to (turned Whole r) cells c)
     time_well l to ms rest r cells c d fine fits h k = give_on l to Integer ms rest (turned Whole r) cells c d (fine_turned (λ v. mode_of v ≡ Integer) Whole r fine (λ z u. refl)) fits h k
 
     -- a walk begins
@@ -294,9 +294,9 @@ module _ (p : Program) (typed : WellTyped p) (code : Code) where
 
     -- the event that comes next
     coming : (s : Store) (n : Coming) → next_event s ≡ Some n → Fits p ls s → ComingAs p typed ls n
-    coming s n e fits = by (next s.scene.pending) refl e
+    coming s n e fits = by (least_event s.scene.pending) refl e
       where
-        by : (o : Option (ℤ × ℤ)) → next s.scene.pending ≡ o → coming_with o s ≡ Some n → ComingAs p typed ls n
+        by : (o : Option (ℤ × ℤ)) → least_event s.scene.pending ≡ o → coming_with o s ≡ Some n → ComingAs p typed ls n
         by None q f = absurd cc
         by (Some k) q f = subst (There (ComingAs p typed ls)) e (next_event_there p typed ls s (ap is_some q) fits)
 
@@ -371,14 +371,14 @@ module _ (p : Program) (typed : WellTyped p) (code : Code) where
           both_well p typed code ls left right g.0 g.0 ms g.1.0 c.store c.cells _ g.1.1 fits q (λ v w below hv hw h.
           fit_well p typed code Any (related relation v w) _ (related_there relation v w g.0 hv hw) (λ b e. ways_well p typed code ls skip b g.1.0 below c g.1.2 fits h k))
       act_well l (i.UnlessEnded negated skip) c ms g fits q k =
-          did_well p typed code Any l (due (is_ended c.store.scene.input)) _ (any_due (is_ended c.store.scene.input)) (λ b e. ways_well p typed code ls skip (unless negated b) ms c.cells c g fits q k)
+          did_well p typed code Any l (due (is_ended c.store.scene.input)) _ (any_due (is_ended c.store.scene.input)) (λ b e. ways_well p typed code ls skip (not_if negated b) ms c.cells c g fits q k)
       act_well l (i.UnlessEmpty negated set owner skip) c ms g fits q k =
           bearer_well p typed code ls owner ms g.1.0 c.store c.cells _ g.1.1 fits q (λ o below e h.
-          did_well p typed code Any l (is_empty set o c.store) _ (is_empty_fine p typed ls set o c.store (owner_ok p typed ls set owner o g.0 e) fits) (λ b u. ways_well p typed code ls skip (unless negated b) g.1.0 below c g.1.2 fits h k))
+          did_well p typed code Any l (is_empty set o c.store) _ (is_empty_fine p typed ls set o c.store (owner_ok p typed ls set owner o g.0 e) fits) (λ b u. ways_well p typed code ls skip (not_if negated b) g.1.0 below c g.1.2 fits h k))
       act_well l (i.UnlessMember negated set x owner skip) c ms g fits q k =
           bearer_well p typed code ls owner ms g.1.0 c.store c.cells _ g.1.1 fits q (λ o above e a.
           value_well p typed code ls x Integer g.1.0 g.1.2.0 c.store above _ g.1.2.1 fits a (λ v below f h.
-          did_well p typed code Any l (is_in set v o c.store) _ (is_in_fine p typed ls set v o c.store f (owner_ok p typed ls set owner o g.0 e) fits) (λ b u. ways_well p typed code ls skip (unless negated b) g.1.2.0 below c g.1.2.2 fits h k)))
+          did_well p typed code Any l (is_in set v o c.store) _ (is_in_fine p typed ls set v o c.store f (owner_ok p typed ls set owner o g.0 e) fits) (λ b u. ways_well p typed code ls skip (not_if negated b) g.1.2.0 below c g.1.2.2 fits h k)))
       act_well l i.Turn c ms g fits q k = goes_to p typed code ls (c.place + 1) ms c.cells c.frames c.store g fits q k
       act_well l (i.Repeat back) c ms g fits q k = goes_to p typed code ls (c.place - back) ms c.cells c.frames c.store g.at fits q k
       act_well l (i.Begin h skip) c ms g fits q k =

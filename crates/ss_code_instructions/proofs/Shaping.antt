@@ -16,7 +16,7 @@ use Rattle.ss_program.specs.declared.expression.Variable.TheVariants.{Global, Lo
 use Rattle.ss_base.specs.declared.words.GuardKind.{GuardKind}
 use Rattle.ss_base.specs.declared.words.GuardKind.TheVariants as guards
 use Rattle.ss_program.specs.Program.{Expression, Constant, Fetch, Attribute, OfSystemSet, OfSet, OfMember, Clock, TimeOf, Figure, FigureOf, Signed, Unary, Calculate, SetOwner, TheSystem, Entity, Test, Compare, DataEnded, Empty, Member, Condition, Guard, Program}
-use Rattle.ss_program.specs.WellTyped.{Scope, mode_at, field_mode, fields_of, owner_of_set, IsSet, HasMode, HaveModes, OwnerFits, GoodTest, GoodCondition}
+use Rattle.ss_program.specs.WellTyped.{TypedScope, mode_at, field_mode, fields_of, owner_of_set, IsSet, HasMode, HaveModes, OwnerFits, GoodTest, GoodCondition}
 use Rattle.ss_meaning.specs.Values.{operator_of}
 use Rattle.ss_meaning.proofs.Entities.{field_said}
 use Rattle.ss_code_instructions.specs.Instructions.{Operand, Taken, Bearer, Instruction, Placed}
@@ -25,7 +25,7 @@ use Rattle.ss_code_instructions.specs.Instructions as i
 use Rattle.ss_code_instructions.specs.Machine.{Code}
 use Rattle.ss_code_instructions.specs.States.{lies_above}
 use Rattle.ss_code_instructions.specs.Facts.{expression_of, may_fault}
-use Rattle.ss_code_instructions.specs.Shape.{Gives, GivesBy, GivesBoth, GivesBearer, Accepts, modes_onto, OwnerFits as BearerFits, At, Suits}
+use Rattle.ss_code_instructions.specs.Shape.{GivesMode, GivesBy, GivesBoth, GivesBearer, Accepts, modes_onto, SetFits as BearerFits, At, Suits}
 use Rattle.ss_code_instructions.specs.Translation.{Site, place, next, leaf, or_cell, or_in_cell, expression_mode, or_integer, operand, operand_cells, after, unless_leaf, stay, expression_code, operand_code, with_operand, values_code, values_cells, looked_code, entity_code, member_code, with_owner, test_code, tests_code, alternatives_code, condition_code, negated_code, guard_code, guards_code}
 use Rattle.ss_code_instructions.proofs.Operands.{leaf_low, not_above}
 use Rattle.ss_code_instructions.proofs.Changing.{next_above, under_none}
@@ -48,14 +48,14 @@ owned_set p set o q = by (slice_get p.layout.sets set) refl q
     by None g h = absurd cc
     by (Some t) g h = (t, g)
 
-pub set_there : (s : Scope) (set : ℕ) (o : SetOwner) → OwnerFits s set o → IsSet s.program set
+pub set_there : (s : TypedScope) (set : ℕ) (o : SetOwner) → OwnerFits s set o → IsSet s.program set
 set_there s set TheSystem g = owned_set s.program set System g
 set_there s set (Entity e) g = owned_set s.program set (Class g.0.0) g.0.1
 
 -- ## Modes
 
 -- the mode of an expression is the one that it has
-pub mode_so : (s : Scope) (e : Expression) (m : Mode) → HasMode s e m → expression_mode s e ≡ m
+pub mode_so : (s : TypedScope) (e : Expression) (m : Mode) → HasMode s e m → expression_mode s e ≡ m
 mode_so s (Constant v) m h = h
 mode_so s (Fetch x) m h = ap or_integer h
 mode_so s (Attribute class field e) m h = ap or_integer h.0
@@ -71,13 +71,13 @@ mode_so s (Unary op e) m h = sym h.0
 mode_so s (Calculate op a c) m h = sym h.0
 
 -- values that lie one above the other
-pub values_so : (s : Scope) (es : List Expression) (ws ms : List Mode) → HaveModes s es ws → values_cells s es ms ≡ modes_onto ws ms
+pub values_so : (s : TypedScope) (es : List Expression) (ws ms : List Mode) → HaveModes s es ws → values_cells s es ms ≡ modes_onto ws ms
 values_so s [] [] ms h = refl
 values_so s [] (w ∷ ws) ms h = absurd h
 values_so s (e ∷ es) [] ms h = absurd h
 values_so s (e ∷ es) (w ∷ ws) ms h = ap (λ m. values_cells s es (m ∷ ms)) (mode_so s e w h.0) ∙ values_so s es ws (w ∷ ms) h.1
 
-pub values_many : (s : Scope) (es : List Expression) (ws : List Mode) → HaveModes s es ws → length ws ≡ length es
+pub values_many : (s : TypedScope) (es : List Expression) (ws : List Mode) → HaveModes s es ws → length ws ≡ length es
 values_many s [] [] h = refl
 values_many s [] (w ∷ ws) h = absurd h
 values_many s (e ∷ es) [] h = absurd h
@@ -86,11 +86,11 @@ values_many s (e ∷ es) (w ∷ ws) h = ap suc (values_many s es ws h.1)
 module _ (p : Program) (code : Code) (ls : List Mode) (b : Bool) where
   -- ## Where code is
 
-  abbrev pub here : Scope
+  abbrev pub here : TypedScope
   here = record { program = p; locals = ls; is_main = b }
 
   -- what an instruction is reported of variables
-  abbrev pub view : Scope
+  abbrev pub view : TypedScope
   view = record { program = p; locals = ls; is_main = true }
 
   abbrev pub site : Line → List Mode → Site
@@ -110,10 +110,10 @@ module _ (p : Program) (code : Code) (ls : List Mode) (b : Bool) where
   -- ## Operands
 
   -- a value in the topmost cell
-  pub cell_gives : (k m : Mode) (ms : List Mode) → k ≡ m → Gives view (Taken (length ms)) m (k ∷ ms) ms
+  pub cell_gives : (k m : Mode) (ms : List Mode) → k ≡ m → GivesMode view (Taken (length ms)) m (k ∷ ms) ms
   cell_gives k m ms e = (ap (λ n. n ∷ ms) e, refl)
 
-  pub gives : (l : Line) (e : Expression) (m : Mode) (ms : List Mode) → HasMode here e m → Gives view (operand (site l ms) e) m (operand_cells (site l ms) e) ms
+  pub gives : (l : Line) (e : Expression) (m : Mode) (ms : List Mode) → HasMode here e m → GivesMode view (operand (site l ms) e) m (operand_cells (site l ms) e) ms
   gives l (Constant v) m ms h = (h, refl)
   gives l (Fetch x) m ms h = (same_mode_at x ∙ h, refl)
   gives l (Attribute class field e) m ms h = cell_gives (expression_mode here (Attribute class field e)) m ms (mode_so here (Attribute class field e) m h)
@@ -129,12 +129,12 @@ module _ (p : Program) (code : Code) (ls : List Mode) (b : Bool) where
   gives l (Calculate op a c) m ms h = cell_gives Integer m ms (sym h.0)
 
   -- a constant and a variable are read where they are
-  pub leaf_gives : (l : Line) (e : Expression) (x : Operand) (m : Mode) (ms : List Mode) → leaf e ≡ Some x → HasMode here e m → Gives view x m ms ms
+  pub leaf_gives : (l : Line) (e : Expression) (x : Operand) (m : Mode) (ms : List Mode) → leaf e ≡ Some x → HasMode here e m → GivesMode view x m ms ms
   leaf_gives l e x m ms q h =
-      subst (λ o. Gives view (or_cell (length ms) o) m (or_in_cell o (expression_mode here e) ms) ms) q (gives l e m ms h)
+      subst (λ o. GivesMode view (or_cell (length ms) o) m (or_in_cell o (expression_mode here e) ms) ms) q (gives l e m ms h)
 
   -- an operand that stays, under further cells
-  pub stays : (l : Line) (e : Expression) (m : Mode) (more ms : List Mode) → HasMode here e m → Gives view (stay (operand (site l ms) e)) m (more ++ operand_cells (site l ms) e) (more ++ operand_cells (site l ms) e)
+  pub stays : (l : Line) (e : Expression) (m : Mode) (more ms : List Mode) → HasMode here e m → GivesMode view (stay (operand (site l ms) e)) m (more ++ operand_cells (site l ms) e) (more ++ operand_cells (site l ms) e)
   stays l (Constant v) m more ms h = (h, refl)
   stays l (Fetch x) m more ms h = (same_mode_at x ∙ h, refl)
   stays l (Attribute class field e) m more ms h = (under_cell more (length ms) (expression_mode here (Attribute class field e)) ms refl ∙ ap Some (mode_so here (Attribute class field e) m h), refl)
@@ -150,10 +150,10 @@ module _ (p : Program) (code : Code) (ls : List Mode) (b : Bool) where
   stays l (Calculate op a c) m more ms h = (under_cell more (length ms) Integer ms refl ∙ ap Some (sym h.0), refl)
 
   -- two operands that are read the second first, and the first first
-  pub second_first : (x y : Operand) (m n : Mode) (ms mid rest : List Mode) → lies_above x y ≡ false → Gives view y n ms mid → Gives view x m mid rest → GivesBoth view x y m n ms rest
+  pub second_first : (x y : Operand) (m n : Mode) (ms mid rest : List Mode) → lies_above x y ≡ false → GivesMode view y n ms mid → GivesMode view x m mid rest → GivesBoth view x y m n ms rest
   second_first x y m n ms mid rest low gy gx = subst (λ z. GivesBy z view x y m n ms rest) (sym low) (mid, gy, gx)
 
-  pub first_first : (x y : Operand) (m n : Mode) (ms mid rest : List Mode) → lies_above x y ≡ true → Gives view x m ms mid → Gives view y n mid rest → GivesBoth view x y m n ms rest
+  pub first_first : (x y : Operand) (m n : Mode) (ms mid rest : List Mode) → lies_above x y ≡ true → GivesMode view x m ms mid → GivesMode view y n mid rest → GivesBoth view x y m n ms rest
   first_first x y m n ms mid rest high gx gy = subst (λ z. GivesBy z view x y m n ms rest) (sym high) (mid, gx, gy)
 
   -- two expressions, and the instruction has them in their order

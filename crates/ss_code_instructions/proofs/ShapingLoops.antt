@@ -11,13 +11,13 @@ use Rattle.ss_program.specs.declared.expression.Variable.{Variable}
 use Rattle.ss_base.specs.declared.words.PhraseKind.{PhraseKind}
 use Rattle.ss_base.specs.declared.words.PhraseKind.TheVariants as kinds
 use Rattle.ss_program.specs.Program.{Expression, SetOwner, TheSystem, Entity, Condition, Head, Numbers, Members, Each, Start, AtEnd, From, After, Phrase, Guard, Program}
-use Rattle.ss_program.specs.WellTyped.{Scope, WellTyped, mode_at, HasMode, OwnerFits, GoodCondition, GoodStart, GoodHead, GoodPhrase}
+use Rattle.ss_program.specs.WellTyped.{TypedScope, WellTyped, mode_at, HasMode, OwnerFits, GoodCondition, GoodStart, GoodHead, GoodPhrase}
 use Rattle.ss_code_instructions.specs.Instructions.{Bearer, Instruction, Placed}
 use Rattle.ss_code_instructions.specs.Instructions as i
 use Rattle.ss_code_instructions.specs.Machine.{Code}
 use Rattle.ss_code_instructions.specs.States.{cell_at}
 use Rattle.ss_code_instructions.specs.Facts.{is_watched}
-use Rattle.ss_code_instructions.specs.Shape.{GivesBearer, Block, loop_modes, walk_modes, OwnerFits as BearerFits, DueAt, Suits}
+use Rattle.ss_code_instructions.specs.Shape.{GivesBearer, HasOnTop, loop_modes, walk_modes, SetFits as BearerFits, DueAt, Suits}
 use Rattle.ss_code_instructions.specs.Translation.{Site, place, next, expression_code, forget, forget_to, guards_code, if_code, loop_code, phrase_code, phrases_code, owner_cells, owner_kept, walk_loop, loop_cells, in_loop, turns_code, step_code, range_code, owner_code, start_code, begin_code, for_code, find_code}
 use Rattle.ss_code_instructions.proofs.Forgetting.{two_more, three_more}
 use Rattle.ss_code_instructions.proofs.Stacked.{under_cell}
@@ -27,10 +27,10 @@ use Rattle.ss_code_instructions.proofs.ShapingPlaces.{plain_mode}
 
 module _ (p : Program) (typed : WellTyped p) (code : Code) (ls : List Mode) (b : Bool) where
   -- the section's variables, and how Shape sees them; sites in the section; and places with such cells
-  abbrev section_scope : Scope
+  abbrev section_scope : TypedScope
   section_scope = here p code ls b
 
-  abbrev shape_scope : Scope
+  abbrev shape_scope : TypedScope
   shape_scope = view p code ls b
 
   abbrev at_site : Line → List Mode → Site
@@ -121,7 +121,7 @@ module _ (p : Program) (typed : WellTyped p) (code : Code) (ls : List Mode) (b :
       let many : length (m ∷ gone) ≡ suc k = omega (arith, e) in
       one p code (Comes ms) (place (at_site l ((m ∷ gone) ++ ms)) (i.Forget (suc k))) (λ q end. (m ∷ gone, ms, refl, many, end))
 
-  -- more may be said of where the machine is then
+  -- more may hold of where the machine is then
   forgets_then : (l : Line) (m : Mode) (gone ms : List Mode) (count : ℕ) (more : ℕ → Type 0) → count ≡ suc (length gone) → Shapes p code (And ((m ∷ gone) ++ ms) (Later more)) (forget (at_site l ((m ∷ gone) ++ ms)) count) (And ms more)
   forgets_then l m gone ms zero more e = absurd (omega (arith, e))
   forgets_then l m gone ms (suc k) more e =
@@ -159,7 +159,7 @@ module _ (p : Program) (typed : WellTyped p) (code : Code) (ls : List Mode) (b :
       by true e = kept
       by false e = taken e
 
-  -- what is so as a turn ends: there is the instruction that goes on, after it the one that forgets, and more may be said of the place after both
+  -- what is so as a turn ends: there is the instruction that goes on, after it the one that forgets, and more may hold of the place after both
   abbrev TurnEnds : List Mode → (ℕ → Type 0) → ℕ → Type 0
   TurnEnds ms more q = Comes ms q × (Comes ms (q + 1) × more (q + 2))
 
@@ -179,7 +179,7 @@ module _ (p : Program) (typed : WellTyped p) (code : Code) (ls : List Mode) (b :
   abbrev numbers : List Mode → List Mode
   numbers ms = Integer ∷ Integer ∷ Integer ∷ ms
 
-  number_block : (ms : List Mode) → Block (length ms) loop_modes (numbers ms) ms
+  number_block : (ms : List Mode) → HasOnTop (length ms) loop_modes (numbers ms) ms
   number_block ms = record { is = refl; height = refl }
 
   number_rounds : (l : Line) (ms : List Mode) (x : Variable) (turn : List Placed) (more : ℕ → Type 0) → mode_at shape_scope x ≡ Some Integer → Shapes p code (Comes (numbers ms)) turn (TurnEnds (numbers ms) more) → Shapes p code (Ways (length (turns_code (at_site l (numbers ms)) (length ms) x turn (i.Next (length ms)))) (numbers ms)) (turns_code (at_site l (numbers ms)) (length ms) x turn (i.Next (length ms)) ++ forget_to (at_site l ms) (at_site l (numbers ms))) (And ms more)
@@ -207,7 +207,7 @@ module _ (p : Program) (typed : WellTyped p) (code : Code) (ls : List Mode) (b :
   abbrev members : List Mode → List Mode
   members cells = Integer ∷ Integer ∷ cells
 
-  member_block : (cells : List Mode) → Block (length cells) walk_modes (members cells) cells
+  member_block : (cells : List Mode) → HasOnTop (length cells) walk_modes (members cells) cells
   member_block cells = record { is = refl; height = refl }
 
   -- an owner that stays in its cell, if it has one

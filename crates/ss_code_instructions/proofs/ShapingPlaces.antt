@@ -12,8 +12,8 @@ use Rattle.ss_program.specs.declared.statement.CountedClass.{CountedClass}
 use Rattle.ss_program.specs.declared.sections.Subject.{Subject}
 use Rattle.ss_program.specs.declared.sections.Subject.TheVariants.{OfVariable}
 use Rattle.ss_program.specs.declared.sections.Statistic.{Statistic}
-use Rattle.ss_program.specs.Program.{Expression, Clock, Place, ToVariable, ToAttribute, ToCount, Target, Program}
-use Rattle.ss_program.specs.WellTyped.{Scope, WellTyped, mode_at, HasMode, TakesMode, GoodSubject, GoodCount}
+use Rattle.ss_program.specs.Program.{Expression, Clock, Place, ToVariable, ToAttribute, ToCount, InputTarget, Program}
+use Rattle.ss_program.specs.WellTyped.{TypedScope, WellTyped, mode_at, HasMode, TakesMode, GoodSubject, GoodCount}
 use Rattle.ss_meaning.specs.Values.{operator_of}
 use Rattle.ss_meaning.specs.Histories.{same_subject}
 use Rattle.ss_meaning.proofs.Kept.{same_subject_is}
@@ -23,7 +23,7 @@ use Rattle.ss_code_instructions.specs.Instructions.{Target as To}
 use Rattle.ss_code_instructions.specs.Instructions as i
 use Rattle.ss_code_instructions.specs.Machine.{Code}
 use Rattle.ss_code_instructions.specs.Facts.{watch, is_watched, must_look}
-use Rattle.ss_code_instructions.specs.Shape.{Gives, Accepts, At, Suits}
+use Rattle.ss_code_instructions.specs.Shape.{GivesMode, Accepts, At, Suits}
 use Rattle.ss_code_instructions.specs.Translation.{Site, place, next, or_integer, place_mode, operand, operand_cells, with_operand, expression_code, variable_code, assignment, count_code, let_code, change_code, to_place_code, reads_code, results_cells, give_code, gives_code}
 use Rattle.ss_code_instructions.proofs.Operands.{not_above}
 use Rattle.ss_code_instructions.proofs.Suiting.{Shapes, seq, none, one, put_before, lead}
@@ -48,17 +48,17 @@ watched_number p typed ls (Global k) m h q =
 watched_number p typed ls (Local k) m h q = absurd cc
 
 -- the mode that a place takes
-place_so : (s : Scope) (x : Place) (m : Mode) → TakesMode s x m → place_mode s x ≡ m
+place_so : (s : TypedScope) (x : Place) (m : Mode) → TakesMode s x m → place_mode s x ≡ m
 place_so s (ToVariable x) m h = ap or_integer h.0
 place_so s (ToAttribute class field r) m h = ap or_integer h.0
 place_so s (ToCount c) m h = sym h.0
 
 module _ (p : Program) (typed : WellTyped p) (code : Code) (ls : List Mode) (b : Bool) where
   -- the section's variables, and how Shape sees them; sites in the section; and places with such cells
-  abbrev section_scope : Scope
+  abbrev section_scope : TypedScope
   section_scope = here p code ls b
 
-  abbrev shape_scope : Scope
+  abbrev shape_scope : TypedScope
   shape_scope = view p code ls b
 
   abbrev at_site : Line → List Mode → Site
@@ -83,17 +83,17 @@ module _ (p : Program) (typed : WellTyped p) (code : Code) (ls : List Mode) (b :
       by false e = r (i.Into x) ms ((h, e), refl)
 
   -- a variable takes an operand
-  assigns : (q : ℕ) (x : Variable) (m : Mode) (from : Operand) (ms rest : List Mode) → mode_at shape_scope x ≡ Some m → Gives shape_scope from m ms rest → At p code (q + 1) ls rest → Suits p code q ls ms (if is_watched p.statistics x then i.Keep from x else i.Move from (i.Into x))
+  assigns : (q : ℕ) (x : Variable) (m : Mode) (from : Operand) (ms rest : List Mode) → mode_at shape_scope x ≡ Some m → GivesMode shape_scope from m ms rest → At p code (q + 1) ls rest → Suits p code q ls ms (if is_watched p.statistics x then i.Keep from x else i.Move from (i.Into x))
   assigns q x m from ms rest h g end = by (is_watched p.statistics x) refl
     where
       by : (k : Bool) → is_watched p.statistics x ≡ k → Suits p code q ls ms (if k then i.Keep from x else i.Move from (i.Into x))
       by true e =
           let number : m ≡ Integer = watched_number p typed ls x m h e in
-          (h ∙ ap Some number, (rest, subst (λ n. Gives shape_scope from n ms rest) number g, end))
+          (h ∙ ap Some number, (rest, subst (λ n. GivesMode shape_scope from n ms rest) number g, end))
       by false e = (m, (rest, g, (rest, ((h, e), refl), end)))
 
   -- N. of a permanent class takes an operand
-  pub count_shapes : (l : Line) (c : CountedClass) (from : Operand) (ms rest : List Mode) → Contains p.counts c → Gives shape_scope from Integer ms rest → Shapes p code (Comes ms) (count_code (at_site l ms) c from) (Comes rest)
+  pub count_shapes : (l : Line) (c : CountedClass) (from : Operand) (ms rest : List Mode) → Contains p.counts c → GivesMode shape_scope from Integer ms rest → Shapes p code (Comes ms) (count_code (at_site l ms) c from) (Comes rest)
   count_shapes l c from ms rest known g =
       let good : GoodCount p c = count_said p typed ls c known in
       let take : Placed = place (at_site l ms) (assignment (at_site l ms) (Global c.variable) from) in
@@ -154,7 +154,7 @@ module _ (p : Program) (typed : WellTyped p) (code : Code) (ls : List Mode) (b :
   to_place_shapes l (ToCount c) m ms source h r =
       seq (r ms (m ∷ ms) (next (at_site l ms)) (refl, refl)) (count_shapes l c (i.Taken (length ms)) (m ∷ ms) ms h.1 (cell_gives p code ls b m Integer ms h.0))
 
-  pub reads_shapes : (l : Line) (xs : List Target) (ms : List Mode) → Every (λ (x : Target). TakesMode section_scope x.place x.mode) xs → Shapes p code (Comes ms) (reads_code (at_site l ms) xs) (Comes ms)
+  pub reads_shapes : (l : Line) (xs : List InputTarget) (ms : List Mode) → Every (λ (x : InputTarget). TakesMode section_scope x.place x.mode) xs → Shapes p code (Comes ms) (reads_code (at_site l ms) xs) (Comes ms)
   reads_shapes l [] ms h = none p code (Comes ms)
   reads_shapes l (x ∷ xs) ms h =
       seq

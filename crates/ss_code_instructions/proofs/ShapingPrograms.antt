@@ -8,7 +8,7 @@ use Rattle.ss_program.specs.WellTyped.{WellTyped, GoodBlock, GoodRoutine, GoodEv
 use Rattle.ss_meaning.proofs.Lists.{every_get}
 use Rattle.ss_code_instructions.specs.Instructions.{Placed, EntryPoint}
 use Rattle.ss_code_instructions.specs.Machine.{Code}
-use Rattle.ss_code_instructions.specs.Shape.{At, Suits, Begins, IsServed, Shaped}
+use Rattle.ss_code_instructions.specs.Shape.{At, Suits, HasEntryShape, IsServed, Shaped}
 use Rattle.ss_code_instructions.specs.Laws.{HasShape}
 use Rattle.ss_code_instructions.specs.Translation.{block_prints, section_code, routine_code, event_code, routines_code, events_code, routines_prints, events_prints, routine_entry, event_entry, main_prints, prints_before_events, main_code, all_routines, all_events, code_of}
 use Rattle.ss_code_instructions.proofs.Steps.{HasAt, has_front, has_back}
@@ -54,32 +54,32 @@ module _ (p : Program) (typed : WellTyped p) where
   -- ## Where sections begin
 
   -- a routine
-  routine_begins : (k : ℕ) (e : EntryPoint) → slice_get code.routines k ≡ Some e → Begins p code e
+  routine_begins : (k : ℕ) (e : EntryPoint) → slice_get code.routines k ≡ Some e → HasEntryShape p code e
   routine_begins k e q = by (slice_get p.routines k) refl (subst (RoutineAt code p (slice_get p.routines k)) q (linked.routines k))
     where
-      by : (o : Option Routine) → slice_get p.routines k ≡ o → RoutineAt code p o (Some e) → Begins p code e
+      by : (o : Option Routine) → slice_get p.routines k ≡ o → RoutineAt code p o (Some e) → HasEntryShape p code e
       by None g at = absurd at
       by (Some r) g at =
           let good : GoodRoutine p r = every_get (GoodRoutine p) p.routines k r typed.routines g in
-          let found : Begins p code (routine_entry at.begins r) = (
+          let found : HasEntryShape p code (routine_entry at.begins r) = (
             (section_suits (r.given ++ (r.yielding ++ r.others)) false at.begins at.first r.body good at.lies at.prints).1,
             ap length (front_of r.yielding r.others),
           ) in
-          subst (Begins p code) (sym at.is) found
+          subst (HasEntryShape p code) (sym at.is) found
 
   -- an event, which yields nothing
-  event_begins : (k : ℕ) (e : EntryPoint) → slice_get code.events k ≡ Some e → Begins p code e × (e.yielding ≡ 0)
+  event_begins : (k : ℕ) (e : EntryPoint) → slice_get code.events k ≡ Some e → HasEntryShape p code e × (e.yielding ≡ 0)
   event_begins k e q = by (slice_get p.events k) refl (subst (EventAt code p (slice_get p.events k)) q (linked.events k))
     where
-      by : (o : Option Event) → slice_get p.events k ≡ o → EventAt code p o (Some e) → Begins p code e × (e.yielding ≡ 0)
+      by : (o : Option Event) → slice_get p.events k ≡ o → EventAt code p o (Some e) → HasEntryShape p code e × (e.yielding ≡ 0)
       by None g at = absurd at
       by (Some v) g at =
           let good : GoodEvent p v = every_get (GoodEvent p) p.events k v typed.events g in
-          let found : Begins p code (event_entry at.begins v) × ((event_entry at.begins v).yielding ≡ 0) = (
+          let found : HasEntryShape p code (event_entry at.begins v) × ((event_entry at.begins v).yielding ≡ 0) = (
             ((section_suits (v.given ++ v.others) false at.begins at.first v.body good.body at.lies at.prints).1, refl),
             refl,
           ) in
-          subst (λ (x : EntryPoint). Begins p code x × (x.yielding ≡ 0)) (sym at.is) found
+          subst (λ (x : EntryPoint). HasEntryShape p code x × (x.yielding ≡ 0)) (sym at.is) found
 
   event_served : (rank : ℕ) (v : Event) → slice_get p.events rank ≡ Some v → IsServed p code rank v
   event_served rank v q = by (slice_get code.events rank) refl (subst (λ o. EventAt code p o (slice_get code.events rank)) q (linked.events rank))

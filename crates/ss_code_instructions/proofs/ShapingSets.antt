@@ -14,15 +14,15 @@ use Rattle.ss_base.specs.declared.words.End.{End}
 use Rattle.ss_program.specs.Program.{Expression, SetOwner, Place, ToVariable, ToAttribute, ToCount, Position, ByDiscipline, AsFirst, AsLast, BeforeMember, AfterMember, When, At as AtTime, In, Now, Restart, PrintItem, AValue, AMean, AMeanOf, Program}
 use Rattle.ss_program.specs.Item.{Item}
 use Rattle.ss_program.specs.Item.TheVariants.{Is, Mean}
-use Rattle.ss_program.specs.WellTyped.{Scope, WellTyped, kind_of_class, HasMode, OwnerFits, TakesMode, GoodPosition, GoodWhen, GoodGiven, GoodRestart, TakesItem, GoodPrint, HasSubject, IsAlone, IsOfEntities}
+use Rattle.ss_program.specs.WellTyped.{TypedScope, WellTyped, kind_of_class, HasMode, OwnerFits, TakesMode, GoodPosition, GoodWhen, GoodGiven, GoodRestart, TakesItem, GoodPrint, HasSubject, IsAlone, IsOfEntities}
 use Rattle.ss_meaning.specs.Values.{lines_with, takes, take_all}
-use Rattle.ss_code_instructions.specs.Instructions.{Operand, Filing, Placed}
+use Rattle.ss_code_instructions.specs.Instructions.{Operand, FilingPlace, Placed}
 use Rattle.ss_code_instructions.specs.Instructions.{Target as To}
 use Rattle.ss_code_instructions.specs.Instructions as i
 use Rattle.ss_code_instructions.specs.Machine.{Code}
-use Rattle.ss_code_instructions.specs.Facts.{expression_of, may_fault, needs_look, beside}
-use Rattle.ss_code_instructions.specs.Shape.{Gives, GivesPosition, Accepts, Block, modes_onto, GivenFit, ItemsFit, IsOfKind, FieldsTake}
-use Rattle.ss_code_instructions.specs.Translation.{Site, place, next, leaf, or_in_cell, filing_by, expression_mode, operand, operand_cells, stay, forget, forget_to, values_cells, beside_code, filing, file_code, remove_code, remove_end_code, with_owner, creates_code, when_code, place_code, place_cells, notice_code, schedule_new_code, schedule_code, bearer, bearer_code, after_bearer, restarts_code, item_code, item_cells, items_code, items_cells, item_kind, lines_of}
+use Rattle.ss_code_instructions.specs.Facts.{expression_of, may_fault, needs_look, neighbour_of}
+use Rattle.ss_code_instructions.specs.Shape.{GivesMode, GivesPosition, Accepts, HasOnTop, modes_onto, GivenFit, ItemsFit, IsOfKind, FieldsTake}
+use Rattle.ss_code_instructions.specs.Translation.{Site, place, next, leaf, or_in_cell, filing_by, expression_mode, operand, operand_cells, stay, forget, forget_to, values_cells, beside_code, filing_place, file_code, remove_code, remove_end_code, with_owner, creates_code, when_code, place_code, place_cells, notice_code, schedule_new_code, schedule_code, bearer, bearer_code, after_bearer, restarts_code, item_code, item_cells, items_code, items_cells, item_kind, lines_of_items}
 use Rattle.ss_code_instructions.proofs.Changing.{next_above}
 use Rattle.ss_code_instructions.proofs.Stacked.{under_cell}
 use Rattle.ss_code_instructions.proofs.Leaves.{stay_low}
@@ -33,30 +33,30 @@ use Rattle.ss_code_instructions.proofs.ShapingLoops.{forgets}
 
 -- ## What is given to a notice, and what a PRINT shows
 
-given_fit : (s : Scope) (class : ℕ) (given : List Expression) (g : GoodGiven s class given) → GivenFit s.program class (take (length given) g.1.0)
+given_fit : (s : TypedScope) (class : ℕ) (given : List Expression) (g : GoodGiven s class given) → GivenFit s.program class (take (length given) g.1.0)
 given_fit s class given g =
     (g.0, (g.1.0, g.1.1, ap (λ n. take n g.1.0) (sym (values_many s given (take (length given) g.1.0) g.1.2))))
 
 -- the modes of the cells of items
-abbrev pub shown_modes : Scope → List PrintItem → List Mode
+abbrev pub shown_modes : TypedScope → List PrintItem → List Mode
 shown_modes s [] = []
 shown_modes s (AValue e ∷ xs) = expression_mode s e ∷ shown_modes s xs
 shown_modes s (AMean j ∷ xs) = shown_modes s xs
 shown_modes s (AMeanOf j e ∷ xs) = Integer ∷ shown_modes s xs
 
-pub items_so : (s : Scope) (xs : List PrintItem) (ms : List Mode) → items_cells s xs ms ≡ modes_onto (shown_modes s xs) ms
+pub items_so : (s : TypedScope) (xs : List PrintItem) (ms : List Mode) → items_cells s xs ms ≡ modes_onto (shown_modes s xs) ms
 items_so s [] ms = refl
 items_so s (AValue e ∷ xs) ms = items_so s xs (expression_mode s e ∷ ms)
 items_so s (AMean j ∷ xs) ms = items_so s xs ms
 items_so s (AMeanOf j e ∷ xs) ms = items_so s xs (Integer ∷ ms)
 
 -- an item shows what is there
-abbrev pub GoodItem : Scope → PrintItem → Type 0
+abbrev pub GoodItem : TypedScope → PrintItem → Type 0
 GoodItem s (AValue e) = (m : Mode) × HasMode s e m
 GoodItem s (AMean j) = HasSubject s.program IsAlone j
 GoodItem s (AMeanOf j e) = HasSubject s.program IsOfEntities j × HasMode s e Integer
 
-pub items_good : (s : Scope) (fields : _) (xs : List PrintItem) → AllZip (TakesItem s) fields xs → Every (GoodItem s) xs
+pub items_good : (s : TypedScope) (fields : _) (xs : List PrintItem) → AllZip (TakesItem s) fields xs → Every (GoodItem s) xs
 items_good s [] [] h = tt
 items_good s [] (x ∷ xs) h = absurd h
 items_good s (f ∷ fields) [] h = absurd h
@@ -64,14 +64,14 @@ items_good s (f ∷ fields) (AValue e ∷ xs) h = (h.0.0, items_good s fields xs
 items_good s (f ∷ fields) (AMean j ∷ xs) h = (h.0.0, items_good s fields xs h.1)
 items_good s (f ∷ fields) (AMeanOf j e ∷ xs) h = ((h.0.0, h.0.1), items_good s fields xs h.1)
 
-pub items_fit : (s : Scope) (xs : List PrintItem) → Every (GoodItem s) xs → ItemsFit s.program (map item_kind xs) (shown_modes s xs)
+pub items_fit : (s : TypedScope) (xs : List PrintItem) → Every (GoodItem s) xs → ItemsFit s.program (map item_kind xs) (shown_modes s xs)
 items_fit s [] h = tt
 items_fit s (AValue e ∷ xs) h = items_fit s xs h.1
 items_fit s (AMean j ∷ xs) h = (h.0, items_fit s xs h.1)
 items_fit s (AMeanOf j e ∷ xs) h = (refl, h.0.0, items_fit s xs h.1)
 
 -- the fields take whatever the items show
-items_take : (s : Scope) (fields : _) (xs : List PrintItem) (shown : List Item) → AllZip (TakesItem s) fields xs → AllZip IsOfKind (map item_kind xs) shown → take_all fields shown ≡ true
+items_take : (s : TypedScope) (fields : _) (xs : List PrintItem) (shown : List Item) → AllZip (TakesItem s) fields xs → AllZip IsOfKind (map item_kind xs) shown → take_all fields shown ≡ true
 items_take s [] [] [] h k = refl
 items_take s [] [] (y ∷ shown) h k = absurd k
 items_take s [] (x ∷ xs) shown h k = absurd h
@@ -87,15 +87,15 @@ items_take s (f ∷ fields) (x ∷ xs) (y ∷ shown) h k = ap (λ b. b && take_a
     one (AMeanOf j e) (Is v) h k = absurd k
     one (AMeanOf j e) (Mean sum number) h k = le-leb f.decimals 9 h.2
 
-pub fields_take : (s : Scope) (xs : List PrintItem) (pictures : List (List ℕ)) → GoodPrint s xs pictures → FieldsTake (lines_of xs pictures)
+pub fields_take : (s : TypedScope) (xs : List PrintItem) (pictures : List (List ℕ)) → GoodPrint s xs pictures → FieldsTake (lines_of_items xs pictures)
 fields_take s xs pictures g = λ shown k. ap (λ b. is_some (if b then Some (lines_with pictures shown) else None)) (items_take s _ xs shown g k)
 
 module _ (p : Program) (typed : WellTyped p) (code : Code) (ls : List Mode) (b : Bool) where
   -- the section's variables, and how Shape sees them; sites in the section; and places with such cells
-  abbrev section_scope : Scope
+  abbrev section_scope : TypedScope
   section_scope = here p code ls b
 
-  abbrev shape_scope : Scope
+  abbrev shape_scope : TypedScope
   shape_scope = view p code ls b
 
   abbrev at_site : Line → List Mode → Site
@@ -114,14 +114,14 @@ module _ (p : Program) (typed : WellTyped p) (code : Code) (ls : List Mode) (b :
   by_rule (Some (disciplines.Ranked keys)) ms = refl
 
   -- the owner, and a FILE that takes no other member
-  file_plain : (l : Line) (set : ℕ) (e : Expression) (o : SetOwner) (f : Filing) (ms : List Mode) → HasMode section_scope e Integer → OwnerFits section_scope set o → GivesPosition shape_scope f (operand_cells (at_site l ms) e) (operand_cells (at_site l ms) e) → Shapes p code (Comes (operand_cells (at_site l ms) e)) (with_owner (at_site l (operand_cells (at_site l ms) e)) o (i.File f set (operand (at_site l ms) e))) (Comes ms)
+  file_plain : (l : Line) (set : ℕ) (e : Expression) (o : SetOwner) (f : FilingPlace) (ms : List Mode) → HasMode section_scope e Integer → OwnerFits section_scope set o → GivesPosition shape_scope f (operand_cells (at_site l ms) e) (operand_cells (at_site l ms) e) → Shapes p code (Comes (operand_cells (at_site l ms) e)) (with_owner (at_site l (operand_cells (at_site l ms) e)) o (i.File f set (operand (at_site l ms) e))) (Comes ms)
   file_plain l set e o f ms h g k =
       let mid : List Mode = operand_cells (at_site l ms) e in
       owner_then p code ls b (Comes ms) l set o mid (i.File f set (operand (at_site l ms) e)) g (λ x cells q fits reads end.
       (fits, (mid, reads, (mid, k, (ms, gives p code ls b l e Integer ms h, end)))))
 
   -- the member beside which it is filed, the owner, and a FILE
-  file_beside : (l : Line) (set : ℕ) (e y : Expression) (o : SetOwner) (f : Operand → Filing) (ms : List Mode) → HasMode section_scope e Integer → HasMode section_scope y Integer → OwnerFits section_scope set o → ((x : Operand) (over under : List Mode) → Gives shape_scope x Integer over under → GivesPosition shape_scope (f x) over under) → Shapes p code (Comes (operand_cells (at_site l (operand_cells (at_site l ms) e)) y)) (with_owner (at_site l (operand_cells (at_site l (operand_cells (at_site l ms) e)) y)) o (i.File (f (operand (at_site l (operand_cells (at_site l ms) e)) y)) set (operand (at_site l ms) e))) (Comes ms)
+  file_beside : (l : Line) (set : ℕ) (e y : Expression) (o : SetOwner) (f : Operand → FilingPlace) (ms : List Mode) → HasMode section_scope e Integer → HasMode section_scope y Integer → OwnerFits section_scope set o → ((x : Operand) (over under : List Mode) → GivesMode shape_scope x Integer over under → GivesPosition shape_scope (f x) over under) → Shapes p code (Comes (operand_cells (at_site l (operand_cells (at_site l ms) e)) y)) (with_owner (at_site l (operand_cells (at_site l (operand_cells (at_site l ms) e)) y)) o (i.File (f (operand (at_site l (operand_cells (at_site l ms) e)) y)) set (operand (at_site l ms) e))) (Comes ms)
   file_beside l set e y o f ms h hy g k =
       let mid : List Mode = operand_cells (at_site l ms) e in
       let top : List Mode = operand_cells (at_site l mid) y in
@@ -131,9 +131,9 @@ module _ (p : Program) (typed : WellTyped p) (code : Code) (ls : List Mode) (b :
 
   pub file_shapes : (l : Line) (set : ℕ) (e : Expression) (position : Position) (o : SetOwner) (ms : List Mode) → HasMode section_scope e Integer → GoodPosition section_scope position → OwnerFits section_scope set o → Shapes p code (Comes ms) (file_code (at_site l ms) set e position o) (Comes ms)
   file_shapes l set e position o ms h k g =
-      seq (member_shapes p code ls b l (needs_look (beside position) (expression_of o)) set e ms (set_there section_scope set o g) h) (rest position k)
+      seq (member_shapes p code ls b l (needs_look (neighbour_of position) (expression_of o)) set e ms (set_there section_scope set o g) h) (rest position k)
     where
-      rest : (position : Position) → GoodPosition section_scope position → Shapes p code (Comes (operand_cells (at_site l ms) e)) (beside_code (at_site l (operand_cells (at_site l ms) e)) set (beside position) ++ with_owner (after_bearer (at_site l (operand_cells (at_site l ms) e)) (beside position)) o (i.File (filing (at_site l (operand_cells (at_site l ms) e)) set position) set (operand (at_site l ms) e))) (Comes ms)
+      rest : (position : Position) → GoodPosition section_scope position → Shapes p code (Comes (operand_cells (at_site l ms) e)) (beside_code (at_site l (operand_cells (at_site l ms) e)) set (neighbour_of position) ++ with_owner (after_bearer (at_site l (operand_cells (at_site l ms) e)) (neighbour_of position)) o (i.File (filing_place (at_site l (operand_cells (at_site l ms) e)) set position) set (operand (at_site l ms) e))) (Comes ms)
       rest ByDiscipline k = file_plain l set e o (filing_by (slice_get p.disciplines set)) ms h g (by_rule (slice_get p.disciplines set) (operand_cells (at_site l ms) e))
       rest AsFirst k = file_plain l set e o i.First ms h g refl
       rest AsLast k = file_plain l set e o i.Last ms h g refl
@@ -235,7 +235,7 @@ module _ (p : Program) (typed : WellTyped p) (code : Code) (ls : List Mode) (b :
       (k, (ms, first_first p code ls b (i.Taken (suc (length ms))) (i.Taken (length ms)) Integer Integer top (Integer ∷ ms) ms (next_above (length ms)) (refl, refl) (refl, refl), end)))))
 
   -- values lie in cells as a notice of the class takes them
-  given_block : (class : ℕ) (given : List Expression) (cells : List Mode) (g : GoodGiven section_scope class given) → Block (length cells) (take (length given) g.1.0) (values_cells section_scope given cells) cells
+  given_block : (class : ℕ) (given : List Expression) (cells : List Mode) (g : GoodGiven section_scope class given) → HasOnTop (length cells) (take (length given) g.1.0) (values_cells section_scope given cells) cells
   given_block class given cells g = record { is = values_so section_scope given (take (length given) g.1.0) cells g.1.2; height = refl }
 
   pub schedule_new_shapes : (l : Line) (class : ℕ) (x : Place) (given : List Expression) (when : When) (ms : List Mode) → GoodGiven section_scope class given → TakesMode section_scope x Integer → GoodWhen section_scope when → Shapes p code (Comes ms) (schedule_new_code (at_site l ms) class x given when) (Comes ms)

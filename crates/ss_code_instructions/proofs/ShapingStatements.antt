@@ -6,12 +6,12 @@ use Rattle.ss_base.specs.declared.line.Line.{Line}
 use Rattle.ss_base.specs.declared.layout.Mode.{Mode}
 use Rattle.ss_base.specs.declared.layout.Mode.TheVariants.{Integer}
 use Rattle.ss_program.specs.Program.{Expression, TheSystem, Entity, Head, Numbers, Members, Each, Place, PrintItem, Statement, Let, Change, Call, Return, Stop, Read, Simulate, If, Loop, For, Find, Create, CreateEvery, Destroy, File, RemoveEnd, Remove, ScheduleNew, Schedule, Cancel, Reset, Print, Skip, Block, Done, Then, Routine, Program}
-use Rattle.ss_program.specs.WellTyped.{Scope, WellTyped, HaveModes, TakesMode, GoodCall, Good, GoodBlock}
+use Rattle.ss_program.specs.WellTyped.{TypedScope, WellTyped, HaveModes, TakesMode, GoodCall, Good, GoodBlock}
 use Rattle.ss_code_instructions.specs.Instructions.{Placed, EntryPoint}
 use Rattle.ss_code_instructions.specs.Instructions as i
 use Rattle.ss_code_instructions.specs.Machine.{Code}
-use Rattle.ss_code_instructions.specs.Shape.{Block as CellBlock, FieldsTake, At, DueAt, Suits}
-use Rattle.ss_code_instructions.specs.Translation.{Site, place, loop_cells, values_code, values_cells, results_cells, gives_code, items_code, items_cells, lines_of, statement_prints, block_prints, no_line, statement_code, block_code, section_code, routine_entry}
+use Rattle.ss_code_instructions.specs.Shape.{HasOnTop as CellBlock, FieldsTake, At, DueAt, Suits}
+use Rattle.ss_code_instructions.specs.Translation.{Site, place, loop_cells, values_code, values_cells, results_cells, gives_code, items_code, items_cells, lines_of_items, statement_prints, block_prints, no_line, statement_code, block_code, section_code, routine_entry}
 use Rattle.ss_code_instructions.proofs.Steps.{HasAt, has_front, has_back}
 use Rattle.ss_code_instructions.proofs.Entering.{RoutineAt, Linked}
 use Rattle.ss_code_instructions.proofs.Suiting.{Shapes, seq, none, one, put_before, lead, looped}
@@ -39,7 +39,7 @@ entry_there code p linked k r q = by (slice_get code.routines k) refl (subst (λ
 
 module _ (p : Program) (typed : WellTyped p) (code : Code) (linked : Linked code p) (ls : List Mode) (b : Bool) where
   -- the section's variables; sites in the section; and places with such cells
-  abbrev section_scope : Scope
+  abbrev section_scope : TypedScope
   section_scope = here p code ls b
 
   abbrev at_site : Line → List Mode → Site
@@ -68,12 +68,12 @@ module _ (p : Program) (typed : WellTyped p) (code : Code) (linked : Linked code
 
   -- ## PRINT, START SIMULATION
 
-  print_shapes : (l : Line) (first : ℕ) (items : List PrintItem) (pictures : List (List ℕ)) (ms : List Mode) → slice_get code.prints first ≡ Some (lines_of items pictures) → Every (GoodItem section_scope) items → FieldsTake (lines_of items pictures) → Shapes p code (Comes ms) (items_code (at_site l ms) items ++ place (at_site l (items_cells section_scope items ms)) (i.Print first (length ms)) ∷ []) (Comes ms)
+  print_shapes : (l : Line) (first : ℕ) (items : List PrintItem) (pictures : List (List ℕ)) (ms : List Mode) → slice_get code.prints first ≡ Some (lines_of_items items pictures) → Every (GoodItem section_scope) items → FieldsTake (lines_of_items items pictures) → Shapes p code (Comes ms) (items_code (at_site l ms) items ++ place (at_site l (items_cells section_scope items ms)) (i.Print first (length ms)) ∷ []) (Comes ms)
   print_shapes l first items pictures ms there g take =
       let block : CellBlock (length ms) (shown_modes section_scope items) (items_cells section_scope items ms) ms = record { is = items_so section_scope items ms; height = refl } in
       seq (items_shapes p typed code ls b l items ms g)
       (one p code (Comes ms) (place (at_site l (items_cells section_scope items ms)) (i.Print first (length ms))) (λ q end.
-      (lines_of items pictures, there, (shown_modes section_scope items, items_fit section_scope items g, (ms, block, end)), take)))
+      (lines_of_items items pictures, there, (shown_modes section_scope items, items_fit section_scope items g, (ms, block, end)), take)))
 
   abbrev BackToEvent : List Mode → ℕ → Type 0
   BackToEvent ms q = Comes ms q × DueAt p code (q - (1 + 1)) ls ms

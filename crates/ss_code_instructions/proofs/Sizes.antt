@@ -12,8 +12,8 @@ use Rattle.ss_base.specs.declared.words.PhraseKind.TheVariants as kinds
 use Rattle.ss_program.specs.declared.statement.CountedClass.{CountedClass}
 use Rattle.ss_base.specs.declared.words.End.{End}
 use Rattle.ss_base.specs.declared.words.Sign.{Sign}
-use Rattle.ss_program.specs.Program.{Expression, Constant, Fetch, Attribute, OfSystemSet, OfSet, OfMember, Clock, TimeOf, Figure, FigureOf, Signed, Unary, Calculate, SetOwner, TheSystem, Entity, Test, Compare, DataEnded, Empty, Member, Condition, Head, Numbers, Members, Each, Start, AtEnd, From, After, Phrase, Guard, Place, ToVariable, ToAttribute, ToCount, Target, Position, When, At, In, Now, Restart, PrintItem, AValue, AMean, AMeanOf, Statement, Let, Change, Call, Return, Stop, Read, Simulate, If, Loop, For, Find, Create, CreateEvery, Destroy, File, RemoveEnd, Remove, ScheduleNew, Schedule, Cancel, Reset, Print, Skip, Block, Done, Then, Routine, Event, Program}
-use Rattle.ss_program.specs.WellTyped.{Scope}
+use Rattle.ss_program.specs.Program.{Expression, Constant, Fetch, Attribute, OfSystemSet, OfSet, OfMember, Clock, TimeOf, Figure, FigureOf, Signed, Unary, Calculate, SetOwner, TheSystem, Entity, Test, Compare, DataEnded, Empty, Member, Condition, Head, Numbers, Members, Each, Start, AtEnd, From, After, Phrase, Guard, Place, ToVariable, ToAttribute, ToCount, InputTarget, Position, When, At, In, Now, Restart, PrintItem, AValue, AMean, AMeanOf, Statement, Let, Change, Call, Return, Stop, Read, Simulate, If, Loop, For, Find, Create, CreateEvery, Destroy, File, RemoveEnd, Remove, ScheduleNew, Schedule, Cancel, Reset, Print, Skip, Block, Done, Then, Routine, Event, Program}
+use Rattle.ss_program.specs.WellTyped.{TypedScope}
 use Rattle.std.specs.Prelude.{pos}
 use Rattle.ss_base.specs.declared.value.Value.TheVariants.{Whole}
 use Rattle.ss_meaning.specs.Values.{operator_of}
@@ -22,14 +22,14 @@ use Rattle.ss_code_instructions.specs.Instructions as i
 use Rattle.ss_code_instructions.specs.Instructions.{Target as To}
 use Rattle.ss_code_instructions.specs.Translation as t
 use Rattle.ss_code_instructions.specs.Translation.{Site, height, place, leaf, operand, after, next, expression_code, operand_code}
-use Rattle.ss_code_instructions.specs.Facts.{must_look, needs_look, expression_of, may_fault, beside}
+use Rattle.ss_code_instructions.specs.Facts.{must_look, needs_look, expression_of, may_fault, neighbour_of}
 use Rattle.ss_code_instructions.specs.Size as z
 use Rattle.ss_code_instructions.specs.Size.{expression_size, operand_size}
 use Rattle.ss_code_instructions.specs.Laws.{HasSize}
 
 -- ## Expressions
 
-leaf_length : (e : Expression) (code : List Placed) (n : ℕ) → length code ≡ n → length (t.unless_leaf (leaf e) code) ≡ z.unless_leaf e n
+leaf_length : (e : Expression) (code : List Placed) (n : ℕ) → length code ≡ n → length (t.unless_leaf (leaf e) code) ≡ z.count_unless_leaf e n
 leaf_length (Constant v) code n q = refl
 leaf_length (Fetch x) code n q = refl
 leaf_length (Attribute class field e) code n q = q
@@ -51,8 +51,8 @@ after_code c x n q = omega (arith, length-append c (x ∷ []), q)
 pub both_codes : (a b : List Placed) (m n : ℕ) → length a ≡ m → length b ≡ n → length (a ++ b) ≡ m + n
 both_codes a b m n p q = omega (arith, length-append a b, p, q)
 
-one_length : (s : Site) (e : Expression) (code : List Placed) (make : Operand → Instruction) (n : ℕ) → length code ≡ n → length (t.one s e code make) ≡ z.unless_leaf e n + 1
-one_length s e code make n q = after_code (t.unless_leaf (leaf e) code) (place (after s e) (make (operand s e))) (z.unless_leaf e n) (leaf_length e code n q)
+one_length : (s : Site) (e : Expression) (code : List Placed) (make : Operand → Instruction) (n : ℕ) → length code ≡ n → length (t.one_operand s e code make) ≡ z.count_unless_leaf e n + 1
+one_length s e code make n q = after_code (t.unless_leaf (leaf e) code) (place (after s e) (make (operand s e))) (z.count_unless_leaf e n) (leaf_length e code n q)
 
 pub expression_length : (s : Site) (to : To) (e : Expression) → length (expression_code s to e) ≡ expression_size e
 expression_length s to (Constant v) = refl
@@ -68,7 +68,7 @@ expression_length s to (FigureOf fold j e) = one_length s e (expression_code s (
 expression_length s to (Signed sign e) = one_length s e (expression_code s (next s) e) (λ x. i.Calculate (operator_of sign) (i.Constant (Whole (pos 0))) x to) (expression_size e) (expression_length s (next s) e)
 expression_length s to (Unary op e) = one_length s e (expression_code s (next s) e) (λ x. i.Unary op x to) (expression_size e) (expression_length s (next s) e)
 expression_length s to (Calculate op a b) =
-    both_codes (t.unless_leaf (leaf a) (expression_code s (next s) a)) (t.one (after s a) b (expression_code (after s a) (next (after s a)) b) (λ y. i.Calculate op (operand s a) y to)) (z.unless_leaf a (expression_size a)) (z.unless_leaf b (expression_size b) + 1)
+    both_codes (t.unless_leaf (leaf a) (expression_code s (next s) a)) (t.one_operand (after s a) b (expression_code (after s a) (next (after s a)) b) (λ y. i.Calculate op (operand s a) y to)) (z.count_unless_leaf a (expression_size a)) (z.count_unless_leaf b (expression_size b) + 1)
     (leaf_length a (expression_code s (next s) a) (expression_size a) (expression_length s (next s) a))
     (one_length (after s a) b (expression_code (after s a) (next (after s a)) b) (λ y. i.Calculate op (operand s a) y to) (expression_size b) (expression_length (after s a) (next (after s a)) b))
 
@@ -164,7 +164,7 @@ loop_length s gs body n q =
 -- ## Cells that stay
 
 -- an operand takes a cell, or none
-operand_height : (s : Site) (e : Expression) → height (after s e) ≡ height s + z.operand_cells e
+operand_height : (s : Site) (e : Expression) → height (after s e) ≡ height s + z.operand_cell_count e
 operand_height s (Constant v) = omega arith
 operand_height s (Fetch x) = omega arith
 operand_height s (Attribute class field e) = omega arith
@@ -180,7 +180,7 @@ operand_height s (Unary op e) = omega arith
 operand_height s (Calculate op a b) = omega arith
 
 -- at most one
-one_cell : (e : Expression) → z.one_if_some (z.operand_cells e) ≡ z.operand_cells e
+one_cell : (e : Expression) → z.one_if_some (z.operand_cell_count e) ≡ z.operand_cell_count e
 one_cell (Constant v) = refl
 one_cell (Fetch x) = refl
 one_cell (Attribute class field e) = refl
@@ -244,7 +244,7 @@ to_place_length s (ToAttribute class field r) m source n q =
     (after_code (source (after s r) (next (after s r))) set_ n (q (after s r) (next (after s r))))
 to_place_length s (ToCount c) m source n q = both_codes (source s (next s)) (t.count_code (t.above s m) c (i.Taken (height s))) n 2 (q s (next s)) refl
 
-reads_length : (s : Site) (xs : List Target) → length (t.reads_code s xs) ≡ z.reads_size s.scope.program xs
+reads_length : (s : Site) (xs : List InputTarget) → length (t.reads_code s xs) ≡ z.reads_size s.scope.program xs
 reads_length s [] = refl
 reads_length s (x ∷ xs) =
     let source : Site → To → List Placed = λ u to. place u (i.Read x.mode to) ∷ [] in
@@ -337,13 +337,13 @@ beside_length : (s : Site) (set : ℕ) (y : Option Expression) → length (t.bes
 beside_length s set None = refl
 beside_length s set (Some e) = looked_length s true e (i.LookMember set)
 
-file_length : (s : Site) (set : ℕ) (e : Expression) (position : Position) (o : SetOwner) → length (t.file_code s set e position o) ≡ z.file_size s.scope.program e (beside position) (expression_of o)
+file_length : (s : Site) (set : ℕ) (e : Expression) (position : Position) (o : SetOwner) → length (t.file_code s set e position o) ≡ z.file_size s.scope.program e (neighbour_of position) (expression_of o)
 file_length s set e position o =
-    let y : Option Expression = beside position in
+    let y : Option Expression = neighbour_of position in
     let x : Option Expression = expression_of o in
     let s1 : Site = after s e in
     let s2 : Site = t.after_bearer s1 y in
-    let make : Bearer → Instruction = i.File (t.filing s1 set position) set (operand s e) in
+    let make : Bearer → Instruction = i.File (t.filing_place s1 set position) set (operand s e) in
     both_codes (t.member_code s (needs_look y x) set e) (t.beside_code s1 set y ++ t.with_owner s2 o make) (z.looked_size (needs_look y x) e) (z.beside_size s.scope.program y + (z.any_size x + 1)) (looked_length s (needs_look y x) e (i.LookMember set))
     (both_codes (t.beside_code s1 set y) (t.with_owner s2 o make) (z.beside_size s.scope.program y) (z.any_size x + 1) (beside_length s1 set y) (owner_length s2 o make))
 
@@ -377,7 +377,7 @@ notice_length s u class (ToVariable x) make q =
     let file : Placed = place u (i.FileNotice class (i.Held x) (i.Taken (height s))) in
     after_code (t.variable_code u x (λ to. make to ∷ [])) file (1 + z.kept_size s.scope.program x) (variable_length u x (λ to. make to ∷ []) 1 (λ to. refl) ∙ ap (λ p. 1 + z.kept_size p x) q)
 notice_length s u class (ToAttribute c field r) make q =
-    let e : length (t.forget_to s (after s r)) ≡ z.operand_cells r = forget_to_length s (after s r) (z.operand_cells r) (operand_height s r) ∙ one_cell r in
+    let e : length (t.forget_to s (after s r)) ≡ z.operand_cell_count r = forget_to_length s (after s r) (z.operand_cell_count r) (operand_height s r) ∙ one_cell r in
     omega (arith, e)
 notice_length s u class (ToCount c) make q = refl
 
@@ -433,46 +433,46 @@ items_length s (x ∷ xs) =
 
 mutual
   statement_length : (s : Site) (first : ℕ) (x : Statement) → length (t.statement_code s first x) ≡ z.statement_size s.scope.program x
-  statement_length s first (Let l p e) = let_length (t.at_line s l) p e
-  statement_length s first (Change l sign p e) = change_length (t.at_line s l) sign p e
+  statement_length s first (Let l p e) = let_length (t.site_at_line s l) p e
+  statement_length s first (Change l sign p e) = change_length (t.site_at_line s l) sign p e
   statement_length s first (Call l routine given yielding) =
-      let u : Site = t.at_line s l in
+      let u : Site = t.site_at_line s l in
       let tail : List Placed = place (t.after_values u given) (i.Call routine (height s)) ∷ t.gives_code u yielding in
       omega (arith, length-append (t.values_code u given) tail, values_length u given, gives_length u yielding)
   statement_length s first Return = refl
   statement_length s first Stop = refl
-  statement_length s first (Read l targets) = reads_length (t.at_line s l) targets
+  statement_length s first (Read l targets) = reads_length (t.site_at_line s l) targets
   statement_length s first Simulate = refl
   statement_length s first (If l c a b) =
-      if_length (t.at_line s l) c (t.block_code s first a) (t.block_code s (first + length (t.block_prints a)) b) (z.block_size s.scope.program a) (z.block_size s.scope.program b) (block_length s first a) (block_length s (first + length (t.block_prints a)) b)
-  statement_length s first (Loop l gs a) = loop_length (t.at_line s l) gs (t.block_code s first a) (z.block_size s.scope.program a) (block_length s first a)
+      if_length (t.site_at_line s l) c (t.block_code s first a) (t.block_code s (first + length (t.block_prints a)) b) (z.block_size s.scope.program a) (z.block_size s.scope.program b) (block_length s first a) (block_length s (first + length (t.block_prints a)) b)
+  statement_length s first (Loop l gs a) = loop_length (t.site_at_line s l) gs (t.block_code s first a) (z.block_size s.scope.program a) (block_length s first a)
   statement_length s first (For l head ps a) =
-      let u : Site = t.at_line s l in
+      let u : Site = t.site_at_line s l in
       for_length u head (t.phrases_code (t.in_loop u head) ps (t.block_code (t.in_loop s head) first a)) (z.phrases_size ps (z.block_size s.scope.program a))
       (phrases_length (t.in_loop u head) ps (t.block_code (t.in_loop s head) first a) (z.block_size s.scope.program a) (block_length (t.in_loop s head) first a))
   statement_length s first (Find l head ps a b) =
-      find_length (t.at_line s l) head ps (t.block_code s first a) (t.block_code s (first + length (t.block_prints a)) b) (z.block_size s.scope.program a) (z.block_size s.scope.program b) (block_length s first a) (block_length s (first + length (t.block_prints a)) b)
-  statement_length s first (Create l class p) = to_place_length (t.at_line s l) p Integer (λ u to. place u (i.Create class to) ∷ []) 1 (λ u to. refl)
-  statement_length s first (CreateEvery l classes) = creates_length (t.at_line s l) classes
-  statement_length s first (Destroy l class e) = with_length (t.at_line s l) e (i.Destroy class)
-  statement_length s first (File l set e position o) = file_length (t.at_line s l) set e position o
-  statement_length s first (RemoveEnd l end set p o) = remove_end_length (t.at_line s l) end set p o
-  statement_length s first (Remove l set e o) = remove_length (t.at_line s l) set e o
-  statement_length s first (ScheduleNew l class p given when) = schedule_new_length (t.at_line s l) class p given when
-  statement_length s first (Schedule l class e given when) = schedule_length (t.at_line s l) class e given when
-  statement_length s first (Cancel l class e) = with_length (t.at_line s l) e (i.Cancel class)
-  statement_length s first (Reset l restarts) = restarts_length (t.at_line s l) restarts
+      find_length (t.site_at_line s l) head ps (t.block_code s first a) (t.block_code s (first + length (t.block_prints a)) b) (z.block_size s.scope.program a) (z.block_size s.scope.program b) (block_length s first a) (block_length s (first + length (t.block_prints a)) b)
+  statement_length s first (Create l class p) = to_place_length (t.site_at_line s l) p Integer (λ u to. place u (i.Create class to) ∷ []) 1 (λ u to. refl)
+  statement_length s first (CreateEvery l classes) = creates_length (t.site_at_line s l) classes
+  statement_length s first (Destroy l class e) = with_length (t.site_at_line s l) e (i.Destroy class)
+  statement_length s first (File l set e position o) = file_length (t.site_at_line s l) set e position o
+  statement_length s first (RemoveEnd l end set p o) = remove_end_length (t.site_at_line s l) end set p o
+  statement_length s first (Remove l set e o) = remove_length (t.site_at_line s l) set e o
+  statement_length s first (ScheduleNew l class p given when) = schedule_new_length (t.site_at_line s l) class p given when
+  statement_length s first (Schedule l class e given when) = schedule_length (t.site_at_line s l) class e given when
+  statement_length s first (Cancel l class e) = with_length (t.site_at_line s l) e (i.Cancel class)
+  statement_length s first (Reset l restarts) = restarts_length (t.site_at_line s l) restarts
   statement_length s first (Print l items pictures) =
-      let u : Site = t.at_line s l in
+      let u : Site = t.site_at_line s l in
       after_code (t.items_code u items) (place (t.after_items u items) (i.Print first (height s))) (z.items_size s.scope.program items) (items_length u items)
-  statement_length s first (Skip l e) = with_length (t.at_line s l) e i.Skip
+  statement_length s first (Skip l e) = with_length (t.site_at_line s l) e i.Skip
 
   block_length : (s : Site) (first : ℕ) (b : Block) → length (t.block_code s first b) ≡ z.block_size s.scope.program b
   block_length s first Done = refl
   block_length s first (Then x rest) =
       both_codes (t.statement_code s first x) (t.block_code s (first + length (t.statement_prints x)) rest) (z.statement_size s.scope.program x) (z.block_size s.scope.program rest) (statement_length s first x) (block_length s (first + length (t.statement_prints x)) rest)
 
-section_length : (s : Scope) (first : ℕ) (b : Block) → length (t.section_code s first b) ≡ z.section_size s.program b
+section_length : (s : TypedScope) (first : ℕ) (b : Block) → length (t.section_code s first b) ≡ z.section_size s.program b
 section_length s first b = after_code (t.block_code (t.first_site s) first b) (place (t.first_site s) i.Leave) (z.block_size s.program b) (block_length (t.first_site s) first b)
 
 routines_length : (p : Program) (first : ℕ) (rs : List Routine) → length (t.routines_code p first rs) ≡ z.routines_size p rs

@@ -4,7 +4,7 @@ use Rattle.std.proofs.lemmas.Bool.{ne_eqb}
 use Rattle.ss_base.specs.declared.layout.Mode.{Mode}
 use Rattle.ss_base.specs.declared.value.Value.{Value}
 use Rattle.ss_program.specs.Program.{Expression}
-use Rattle.ss_program.specs.WellTyped.{Scope}
+use Rattle.ss_program.specs.WellTyped.{TypedScope}
 use Rattle.ss_meaning.specs.Store.{Store}
 use Rattle.ss_meaning.specs.Expressions.{value, values}
 use Rattle.ss_code_instructions.specs.Instructions.{Taken}
@@ -23,7 +23,7 @@ onto_length (v ∷ vs) cells =
     let e : length vs + suc (length cells) ≡ suc (length vs) + length cells = omega arith in
     onto_length vs (v ∷ cells) ∙ e
 
-pub values_high : (s : Scope) (es : List Expression) (ms : List Mode) → length (values_cells s es ms) ≡ length es + length ms
+pub values_high : (s : TypedScope) (es : List Expression) (ms : List Mode) → length (values_cells s es ms) ≡ length es + length ms
 values_high s [] ms = let e : length ms ≡ 0 + length ms = omega arith in e
 values_high s (x ∷ es) ms =
     let e : length es + suc (length ms) ≡ suc (length es) + length ms = omega arith in

@@ -12,7 +12,7 @@ use Rattle.ss_meaning.specs.Expressions.{value, values, looked_at, entity_value,
 use Rattle.ss_meaning.specs.Parts.{World, Part, outcome_then, looked, look}
 use Rattle.ss_code_instructions.specs.Instructions.{Operand, Placed, Instruction}
 use Rattle.ss_code_instructions.specs.Instructions as i
-use Rattle.ss_code_instructions.specs.States.{Frame, MachineState, did, core_at, with_value, onward, deliver}
+use Rattle.ss_code_instructions.specs.States.{Frame, MachineState, did, core_at, with_operand_value, onward, deliver}
 use Rattle.ss_code_instructions.specs.Machine.{Code, act, is_due}
 use Rattle.ss_code_instructions.specs.Translation.{Site, height, place, next, leaf, operand, after, operand_code, with_operand, stay, values_code, after_values, entity_code, when_code}
 use Rattle.ss_code_instructions.proofs.Keeping.{Only}
@@ -38,7 +38,7 @@ module _ (code : Code) (n : ℕ) where
   -- ## A time
 
   -- by an operand
-  moment_runs : (t : Site) (e : Expression) (make : Operand → Instruction) (moment : Value → Moment) → ((x : Operand) → is_due (make x) ≡ false) → ((x : Operand) (p : ℕ) (cells : List Value) (frames : List Frame) (s : Store) → act code t.line (make x) (core_at p cells frames s) ≡ with_value x s cells (λ v below. deliver t.line (next t) (turned Whole (time_at (moment v) s)) below (core_at p cells frames s))) → Runs code n (height t) same (with_operand t e make) put_time (λ w. outcome_then (look t.line (value e) w) (λ v. look t.line (time_at (moment v))))
+  moment_runs : (t : Site) (e : Expression) (make : Operand → Instruction) (moment : Value → Moment) → ((x : Operand) → is_due (make x) ≡ false) → ((x : Operand) (p : ℕ) (cells : List Value) (frames : List Frame) (s : Store) → act code t.line (make x) (core_at p cells frames s) ≡ with_operand_value x s cells (λ v below. deliver t.line (next t) (turned Whole (time_at (moment v) s)) below (core_at p cells frames s))) → Runs code n (height t) same (with_operand t e make) put_time (λ w. outcome_then (look t.line (value e) w) (λ v. look t.line (time_at (moment v))))
   moment_runs t e make moment calm acts = record {
     by = λ p cells frames w high has in_.
         let c : List Placed = operand_code t e in

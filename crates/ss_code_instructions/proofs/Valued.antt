@@ -9,7 +9,7 @@ use Rattle.ss_base.specs.declared.value.Value.{Value}
 use Rattle.ss_base.specs.declared.value.Value.TheVariants.{Whole, Text}
 use Rattle.ss_base.specs.Layout.{mode_of}
 use Rattle.ss_program.specs.Program.{Program}
-use Rattle.ss_program.specs.WellTyped.{Scope, WellTyped}
+use Rattle.ss_program.specs.WellTyped.{TypedScope, WellTyped}
 use Rattle.ss_meaning.specs.Values.{Trouble, Fails, Misfit, turned}
 use Rattle.ss_meaning.specs.Store.{Store, fetched}
 use Rattle.ss_meaning.specs.Places.{assigned_variable}
@@ -20,10 +20,10 @@ use Rattle.ss_meaning.proofs.Entities.{variable_fine, fetched_there}
 use Rattle.ss_meaning.proofs.Sets.{OwnerOk, FilingOk, AskedStatistic}
 use Rattle.ss_meaning.proofs.Expressions.{asked_alone, asked_of}
 use Rattle.ss_meaning.proofs.Statements.{held_length}
-use Rattle.ss_code_instructions.specs.Instructions.{Operand, Constant, Held, Taken, Stays, Bearer, Target, Into, Onto, Filing, First, Last, Ranked, Before, After}
-use Rattle.ss_code_instructions.specs.States.{Frame, Core, Moved, To, Sends, Rest, Stuck, did, fit, core_at, onward_if, back_if, cell_at, at_height, with_block, with_number, with_topmost, or_zero, lies_above, with_value, with_values, with_bearer, with_position, Written, put_to, deliver, deliver_with}
-use Rattle.ss_code_instructions.specs.Machine.{Code, Walk, with_loop, with_walk}
-use Rattle.ss_code_instructions.specs.Shape.{Gives, GivesBy, GivesBoth, GivesBearer, GivesPosition, Accepts, modes_onto, Block, loop_modes, walk_modes, OwnerFits as BearerFits, SubjectFits, At, FramesFit, FitsCode}
+use Rattle.ss_code_instructions.specs.Instructions.{Operand, Constant, Held, Taken, Stays, Bearer, Target, Into, Onto, FilingPlace, First, Last, Ranked, Before, After}
+use Rattle.ss_code_instructions.specs.States.{Frame, Core, Moved, To, Sends, Rest, Stuck, did, fit, core_at, onward_if, back_if, cell_at, at_height, with_block, with_top_number, with_topmost, or_zero, lies_above, with_operand_value, with_values, with_bearer, with_position, Written, put_to, deliver, deliver_with}
+use Rattle.ss_code_instructions.specs.Machine.{Code, Walk, with_loop, with_walk_in_cells}
+use Rattle.ss_code_instructions.specs.Shape.{GivesMode, GivesBy, GivesBoth, GivesBearer, GivesPosition, Accepts, modes_onto, HasOnTop, loop_modes, walk_modes, SetFits as BearerFits, SubjectFits, At, FramesFit, FitsCode}
 use Rattle.ss_code_instructions.proofs.Parts.{onto}
 use Rattle.ss_code_instructions.proofs.Stacked.{block_takes}
 
@@ -109,7 +109,7 @@ module _ (p : Program) (typed : WellTyped p) (code : Code) where
   height_well h cells m e g = if_well (length cells == h) m (eq-eqb (length cells) h e) g
 
   -- a number in the topmost cell
-  pub number_well : (ms above : List Mode) (cells : List Value) (go : ℤ → List Value → Moved) → ms ≡ Integer ∷ above → Hold cells ms → ((z : ℤ) (below : List Value) → Hold below above → GoesWell (go z below)) → GoesWell (with_number cells go)
+  pub number_well : (ms above : List Mode) (cells : List Value) (go : ℤ → List Value → Moved) → ms ≡ Integer ∷ above → Hold cells ms → ((z : ℤ) (below : List Value) → Hold below above → GoesWell (go z below)) → GoesWell (with_top_number cells go)
   number_well ms above [] go e q f =
       let none : Hold [] (Integer ∷ above) = q ∙ e in
       absurd cc
@@ -123,7 +123,7 @@ module _ (p : Program) (typed : WellTyped p) (code : Code) where
       f z below rest
 
   -- so many cells down to a height
-  pub block_well : (count h : ℕ) (modes ms rest : List Mode) (cells : List Value) (go : List Value → List Value → Moved) → Block h modes ms rest → count ≡ length modes → Hold cells ms → ((vs below : List Value) → Hold vs modes → Hold below rest → GoesWell (go vs below)) → GoesWell (with_block count h cells go)
+  pub block_well : (count h : ℕ) (modes ms rest : List Mode) (cells : List Value) (go : List Value → List Value → Moved) → HasOnTop h modes ms rest → count ≡ length modes → Hold cells ms → ((vs below : List Value) → Hold vs modes → Hold below rest → GoesWell (go vs below)) → GoesWell (with_block count h cells go)
   block_well count h modes ms rest cells go block many q f =
       let d = split_off modes rest cells (q ∙ block.is) in
       let long : count ≡ length d.them = many ∙ sym (held_length d.them modes d.modes) in
@@ -131,21 +131,21 @@ module _ (p : Program) (typed : WellTyped p) (code : Code) where
       subst (λ c. GoesWell (with_block count h c go)) (sym d.is) (subst GoesWell (sym (block_takes d.them d.below count h go long high)) (f d.them d.below d.modes d.rest))
 
   -- the cells of a loop, and those of a walk
-  pub loop_well : (h : ℕ) (ms rest : List Mode) (cells : List Value) (go : ℤ → ℤ → ℤ → List Value → Moved) → Block h loop_modes ms rest → Hold cells ms → ((item limit step : ℤ) (below : List Value) → Hold below rest → GoesWell (go item limit step below)) → GoesWell (with_loop h cells go)
+  pub loop_well : (h : ℕ) (ms rest : List Mode) (cells : List Value) (go : ℤ → ℤ → ℤ → List Value → Moved) → HasOnTop h loop_modes ms rest → Hold cells ms → ((item limit step : ℤ) (below : List Value) → Hold below rest → GoesWell (go item limit step below)) → GoesWell (with_loop h cells go)
   loop_well h ms rest cells go block q f =
-      number_well ms (Integer ∷ Integer ∷ rest) cells (λ step above. with_number above (λ limit over. with_number over (λ item below. at_height h below (go item limit step below)))) block.is q (λ step above ha.
-      number_well (Integer ∷ Integer ∷ rest) (Integer ∷ rest) above (λ limit over. with_number over (λ item below. at_height h below (go item limit step below))) refl ha (λ limit over ho.
+      number_well ms (Integer ∷ Integer ∷ rest) cells (λ step above. with_top_number above (λ limit over. with_top_number over (λ item below. at_height h below (go item limit step below)))) block.is q (λ step above ha.
+      number_well (Integer ∷ Integer ∷ rest) (Integer ∷ rest) above (λ limit over. with_top_number over (λ item below. at_height h below (go item limit step below))) refl ha (λ limit over ho.
       number_well (Integer ∷ rest) rest over (λ item below. at_height h below (go item limit step below)) refl ho (λ item below hb.
       height_well h below (go item limit step below) (held_length below rest hb ∙ block.height) (f item limit step below hb))))
 
-  pub walk_well : (h : ℕ) (ms rest : List Mode) (cells : List Value) (go : Walk → List Value → Moved) → Block h walk_modes ms rest → Hold cells ms → ((k : Walk) (below : List Value) → Hold below rest → GoesWell (go k below)) → GoesWell (with_walk h cells go)
+  pub walk_well : (h : ℕ) (ms rest : List Mode) (cells : List Value) (go : Walk → List Value → Moved) → HasOnTop h walk_modes ms rest → Hold cells ms → ((k : Walk) (below : List Value) → Hold below rest → GoesWell (go k below)) → GoesWell (with_walk_in_cells h cells go)
   walk_well h ms rest cells go block q f =
-      number_well ms (Integer ∷ rest) cells (λ next over. with_number over (λ member below. at_height h below (go (record { member = member; next = next }) below))) block.is q (λ next over ho.
+      number_well ms (Integer ∷ rest) cells (λ next over. with_top_number over (λ member below. at_height h below (go (record { member = member; next = next }) below))) block.is q (λ next over ho.
       number_well (Integer ∷ rest) rest over (λ member below. at_height h below (go (record { member = member; next = next }) below)) refl ho (λ member below hb.
       height_well h below (go (record { member = member; next = next }) below) (held_length below rest hb ∙ block.height) (f (record { member = member; next = next }) below hb)))
 
   module _ (ls : List Mode) where
-    abbrev view : Scope
+    abbrev view : TypedScope
     view = record { program = p; locals = ls; is_main = true }
 
     -- ## Operands
@@ -164,7 +164,7 @@ module _ (p : Program) (typed : WellTyped p) (code : Code) where
         let under : Hold below rest = cc in
         height_well h below (go v below) (held_length below rest under ∙ high) (f v below here under)
 
-    pub value_well : (x : Operand) (m : Mode) (ms rest : List Mode) (s : Store) (cells : List Value) (go : Value → List Value → Moved) → Gives view x m ms rest → Fits p ls s → Hold cells ms → ((v : Value) (below : List Value) → mode_of v ≡ m → Hold below rest → GoesWell (go v below)) → GoesWell (with_value x s cells go)
+    pub value_well : (x : Operand) (m : Mode) (ms rest : List Mode) (s : Store) (cells : List Value) (go : Value → List Value → Moved) → GivesMode view x m ms rest → Fits p ls s → Hold cells ms → ((v : Value) (below : List Value) → mode_of v ≡ m → Hold below rest → GoesWell (go v below)) → GoesWell (with_operand_value x s cells go)
     value_well (Constant v) m ms rest s cells go g fits q f = f v cells g.0 (q ∙ sym g.1)
     value_well (Held x) m ms rest s cells go g fits q f =
         f (or_zero (fetched x s)) cells (held_mode (fetched x s) m (fetched_there p typed ls true x m s g.0 fits)) (q ∙ sym g.1)
@@ -175,12 +175,12 @@ module _ (p : Program) (typed : WellTyped p) (code : Code) where
     pub both_well : (x y : Operand) (m n : Mode) (ms rest : List Mode) (s : Store) (cells : List Value) (go : Value → Value → List Value → Moved) → GivesBoth view x y m n ms rest → Fits p ls s → Hold cells ms → ((v w : Value) (below : List Value) → mode_of v ≡ m → mode_of w ≡ n → Hold below rest → GoesWell (go v w below)) → GoesWell (with_values x y s cells go)
     both_well x y m n ms rest s cells go g fits q f = by (lies_above x y) g
       where
-        by : (b : Bool) → GivesBy b view x y m n ms rest → GoesWell (if b then with_value x s cells (λ v above. with_value y s above (λ w below. go v w below)) else with_value y s cells (λ w above. with_value x s above (λ v below. go v w below)))
+        by : (b : Bool) → GivesBy b view x y m n ms rest → GoesWell (if b then with_operand_value x s cells (λ v above. with_operand_value y s above (λ w below. go v w below)) else with_operand_value y s cells (λ w above. with_operand_value x s above (λ v below. go v w below)))
         by true g =
-            value_well x m ms g.0 s cells (λ v above. with_value y s above (λ w below. go v w below)) g.1 fits q (λ v above hv ha.
+            value_well x m ms g.0 s cells (λ v above. with_operand_value y s above (λ w below. go v w below)) g.1 fits q (λ v above hv ha.
             value_well y n g.0 rest s above (λ w below. go v w below) g.2 fits ha (λ w below hw hb. f v w below hv hw hb))
         by false g =
-            value_well y n ms g.0 s cells (λ w above. with_value x s above (λ v below. go v w below)) g.1 fits q (λ w above hw ha.
+            value_well y n ms g.0 s cells (λ w above. with_operand_value x s above (λ v below. go v w below)) g.1 fits q (λ w above hw ha.
             value_well x m g.0 rest s above (λ v below. go v w below) g.2 fits ha (λ v below hv hb. f v w below hv hw hb))
 
     pub bearer_well : (x : Bearer) (ms rest : List Mode) (s : Store) (cells : List Value) (go : Option Value → List Value → Moved) → GivesBearer view x ms rest → Fits p ls s → Hold cells ms → ((o : Option Value) (below : List Value) → IsBearer x o → Hold below rest → GoesWell (go o below)) → GoesWell (with_bearer x s cells go)
@@ -188,7 +188,7 @@ module _ (p : Program) (typed : WellTyped p) (code : Code) where
     bearer_well (Some x) ms rest s cells go g fits q f =
         value_well x Integer ms rest s cells (λ v below. go (Some v) below) g fits q (λ v below hv hb. f (Some v) below hv hb)
 
-    pub position_well : (x : Filing) (ms rest : List Mode) (s : Store) (cells : List Value) (go : Position → List Value → Moved) → GivesPosition view x ms rest → Fits p ls s → Hold cells ms → ((k : Position) (below : List Value) → FilingOk p typed ls k → Hold below rest → GoesWell (go k below)) → GoesWell (with_position x s cells go)
+    pub position_well : (x : FilingPlace) (ms rest : List Mode) (s : Store) (cells : List Value) (go : Position → List Value → Moved) → GivesPosition view x ms rest → Fits p ls s → Hold cells ms → ((k : Position) (below : List Value) → FilingOk p typed ls k → Hold below rest → GoesWell (go k below)) → GoesWell (with_position x s cells go)
     position_well First ms rest s cells go g fits q f = f Foremost cells tt (q ∙ sym g)
     position_well Last ms rest s cells go g fits q f = f Hindmost cells tt (q ∙ sym g)
     position_well Ranked ms rest s cells go g fits q f = f ByRule cells tt (q ∙ sym g)

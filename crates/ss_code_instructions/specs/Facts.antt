@@ -35,12 +35,12 @@ may_fault None = false
 may_fault (Some e) = not (is_leaf e)
 
 -- the member beside which another one is filed
-abbrev pub beside : Position → Option Expression
-beside ByDiscipline = None
-beside AsFirst = None
-beside AsLast = None
-beside (BeforeMember e) = Some e
-beside (AfterMember e) = Some e
+abbrev pub neighbour_of : Position → Option Expression
+neighbour_of ByDiscipline = None
+neighbour_of AsFirst = None
+neighbour_of AsLast = None
+neighbour_of (BeforeMember e) = Some e
+neighbour_of (AfterMember e) = Some e
 
 -- whether a member that is filed is looked at before: where another one beside it is, or where the evaluation of the owner may fault
 abbrev pub needs_look : (beside owner : Option Expression) → Bool

@@ -5,8 +5,8 @@ use Rattle.ss_base.specs.declared.words.GuardKind.{GuardKind}
 use Rattle.ss_base.specs.declared.words.GuardKind.TheVariants as guards
 use Rattle.ss_base.specs.declared.words.PhraseKind.{PhraseKind}
 use Rattle.ss_base.specs.declared.words.PhraseKind.TheVariants as kinds
-use Rattle.ss_program.specs.Program.{Expression, Constant, Fetch, Attribute, OfSystemSet, OfSet, OfMember, Clock, TimeOf, Figure, FigureOf, Signed, Unary, Calculate, SetOwner, TheSystem, Entity, Test, Compare, DataEnded, Empty, Member, Condition, Head, Numbers, Members, Each, Start, AtEnd, From, After, Phrase, Guard, Place, ToVariable, ToAttribute, ToCount, Target, When, At, In, Now, Restart, PrintItem, AValue, AMean, AMeanOf, Statement, Let, Change, Call, Return, Stop, Read, Simulate, If, Loop, For, Find, Create, CreateEvery, Destroy, File, RemoveEnd, Remove, ScheduleNew, Schedule, Cancel, Reset, Print, Skip, Block, Done, Then, Routine, Event, Program}
-use Rattle.ss_code_instructions.specs.Facts.{is_watched, must_look, needs_look, expression_of, may_fault, beside}
+use Rattle.ss_program.specs.Program.{Expression, Constant, Fetch, Attribute, OfSystemSet, OfSet, OfMember, Clock, TimeOf, Figure, FigureOf, Signed, Unary, Calculate, SetOwner, TheSystem, Entity, Test, Compare, DataEnded, Empty, Member, Condition, Head, Numbers, Members, Each, Start, AtEnd, From, After, Phrase, Guard, Place, ToVariable, ToAttribute, ToCount, InputTarget, When, At, In, Now, Restart, PrintItem, AValue, AMean, AMeanOf, Statement, Let, Change, Call, Return, Stop, Read, Simulate, If, Loop, For, Find, Create, CreateEvery, Destroy, File, RemoveEnd, Remove, ScheduleNew, Schedule, Cancel, Reset, Print, Skip, Block, Done, Then, Routine, Event, Program}
+use Rattle.ss_code_instructions.specs.Facts.{is_watched, must_look, needs_look, expression_of, may_fault, neighbour_of}
 
 -- one where something is so, and else none
 abbrev pub one_if : Bool → ℕ
@@ -19,31 +19,31 @@ one_if_some (suc n) = 1
 
 -- ## Expressions: a constant and a variable are operands as they are, anything else takes a cell and as much code as it needs
 
-abbrev pub unless_leaf : Expression → ℕ → ℕ
-unless_leaf (Constant v) n = 0
-unless_leaf (Fetch x) n = 0
-unless_leaf _ n = n
+abbrev pub count_unless_leaf : Expression → ℕ → ℕ
+count_unless_leaf (Constant v) n = 0
+count_unless_leaf (Fetch x) n = 0
+count_unless_leaf _ n = n
 
 abbrev pub expression_size : Expression → ℕ
 expression_size (Constant v) = 1
 expression_size (Fetch x) = 1
-expression_size (Attribute class field e) = unless_leaf e (expression_size e) + 1
+expression_size (Attribute class field e) = count_unless_leaf e (expression_size e) + 1
 expression_size (OfSystemSet query set) = 1
-expression_size (OfSet query set e) = unless_leaf e (expression_size e) + 1
-expression_size (OfMember query set e) = unless_leaf e (expression_size e) + 1
+expression_size (OfSet query set e) = count_unless_leaf e (expression_size e) + 1
+expression_size (OfMember query set e) = count_unless_leaf e (expression_size e) + 1
 expression_size Clock = 1
-expression_size (TimeOf e) = unless_leaf e (expression_size e) + 1
+expression_size (TimeOf e) = count_unless_leaf e (expression_size e) + 1
 expression_size (Figure fold j) = 1
-expression_size (FigureOf fold j e) = unless_leaf e (expression_size e) + 1
-expression_size (Signed sign e) = unless_leaf e (expression_size e) + 1
-expression_size (Unary op e) = unless_leaf e (expression_size e) + 1
-expression_size (Calculate op a b) = unless_leaf a (expression_size a) + (unless_leaf b (expression_size b) + 1)
+expression_size (FigureOf fold j e) = count_unless_leaf e (expression_size e) + 1
+expression_size (Signed sign e) = count_unless_leaf e (expression_size e) + 1
+expression_size (Unary op e) = count_unless_leaf e (expression_size e) + 1
+expression_size (Calculate op a b) = count_unless_leaf a (expression_size a) + (count_unless_leaf b (expression_size b) + 1)
 
 abbrev pub operand_size : Expression → ℕ
-operand_size e = unless_leaf e (expression_size e)
+operand_size e = count_unless_leaf e (expression_size e)
 
-abbrev pub operand_cells : Expression → ℕ
-operand_cells e = unless_leaf e 1
+abbrev pub operand_cell_count : Expression → ℕ
+operand_cell_count e = count_unless_leaf e 1
 
 abbrev pub values_size : List Expression → ℕ
 values_size [] = 0
@@ -122,7 +122,7 @@ module _ (p : Program) where
   to_place_size (ToAttribute class field r) source = looked_size true r + (source + 1)
   to_place_size (ToCount c) source = source + 2
 
-  abbrev pub reads_size : List Target → ℕ
+  abbrev pub reads_size : List InputTarget → ℕ
   reads_size [] = 0
   reads_size (t ∷ ts) = to_place_size t.place 1 + reads_size ts
 
@@ -158,14 +158,14 @@ module _ (p : Program) where
   head_size (Each x class) = 0
   head_size (Members x set o start reverse) = owner_size o + start_size start
 
-  abbrev pub loop_variable : Head → Variable
-  loop_variable (Numbers x a b c) = x
-  loop_variable (Each x class) = x
-  loop_variable (Members x set o start reverse) = x
+  abbrev pub head_variable : Head → Variable
+  head_variable (Numbers x a b c) = x
+  head_variable (Each x class) = x
+  head_variable (Members x set o start reverse) = x
 
   -- the instruction that begins the loop, its turns, and the end
   abbrev pub for_size : Head → (turn : ℕ) → ℕ
-  for_size head turn = head_size head + (1 + (turns_size (loop_variable head) turn + 1))
+  for_size head turn = head_size head + (1 + (turns_size (head_variable head) turn + 1))
 
   -- ## Sets and events
 
@@ -195,7 +195,7 @@ module _ (p : Program) where
   -- a notice is made, assigned, and filed; a reference in a cell is forgotten
   abbrev pub notice_size : Place → ℕ
   notice_size (ToVariable x) = 1 + kept_size x + 1
-  notice_size (ToAttribute class field r) = 3 + operand_cells r
+  notice_size (ToAttribute class field r) = 3 + operand_cell_count r
   notice_size (ToCount c) = 1 + (2 + 1)
 
   abbrev pub schedule_new_size : Place → List Expression → When → ℕ
@@ -235,7 +235,7 @@ module _ (p : Program) where
     statement_size (Create l class t) = to_place_size t 1
     statement_size (CreateEvery l classes) = length classes
     statement_size (Destroy l class e) = operand_size e + 1
-    statement_size (File l set e position o) = file_size e (beside position) (expression_of o)
+    statement_size (File l set e position o) = file_size e (neighbour_of position) (expression_of o)
     statement_size (RemoveEnd l end set t o) = remove_end_size t (expression_of o)
     statement_size (Remove l set e o) = remove_size e (expression_of o)
     statement_size (ScheduleNew l class t given when) = schedule_new_size t given when

@@ -17,21 +17,21 @@ use Rattle.ss_base.specs.declared.words.PhraseKind.{PhraseKind}
 use Rattle.ss_base.specs.declared.words.PhraseKind.TheVariants as kinds
 use Rattle.ss_base.specs.declared.words.End.{End}
 use Rattle.ss_program.specs.declared.statement.CountedClass.{CountedClass}
-use Rattle.ss_program.specs.Program.{Expression, Constant, Fetch, Attribute, OfSystemSet, OfSet, OfMember, Clock, TimeOf, Figure, FigureOf, Signed, Unary, Calculate, SetOwner, TheSystem, Entity, Test, Compare, DataEnded, Empty, Member, Condition, Head, Numbers, Members, Each, Start, AtEnd, From, After, Phrase, Guard, Place, ToVariable, ToAttribute, ToCount, Target, Position, ByDiscipline, AsFirst, AsLast, BeforeMember, AfterMember, When, At, In, Now, Restart, PrintItem, AValue, AMean, AMeanOf, Statement, Let, Change, Call, Return, Stop, Read, Simulate, If, Loop, For, Find, Create, CreateEvery, Destroy, File, RemoveEnd, Remove, ScheduleNew, Schedule, Cancel, Reset, Print, Skip, Block, Done, Then, Routine, Event, Program}
-use Rattle.ss_program.specs.WellTyped.{Scope, mode_at, field_mode}
+use Rattle.ss_program.specs.Program.{Expression, Constant, Fetch, Attribute, OfSystemSet, OfSet, OfMember, Clock, TimeOf, Figure, FigureOf, Signed, Unary, Calculate, SetOwner, TheSystem, Entity, Test, Compare, DataEnded, Empty, Member, Condition, Head, Numbers, Members, Each, Start, AtEnd, From, After, Phrase, Guard, Place, ToVariable, ToAttribute, ToCount, InputTarget, Position, ByDiscipline, AsFirst, AsLast, BeforeMember, AfterMember, When, At, In, Now, Restart, PrintItem, AValue, AMean, AMeanOf, Statement, Let, Change, Call, Return, Stop, Read, Simulate, If, Loop, For, Find, Create, CreateEvery, Destroy, File, RemoveEnd, Remove, ScheduleNew, Schedule, Cancel, Reset, Print, Skip, Block, Done, Then, Routine, Event, Program}
+use Rattle.ss_program.specs.WellTyped.{TypedScope, mode_at, field_mode}
 use Rattle.ss_meaning.specs.Values.{operator_of}
 use Rattle.ss_meaning.specs.Meaning.{setting_of, tie_shapes}
 use Rattle.ss_code_instructions.specs.Instructions as i
-use Rattle.ss_code_instructions.specs.Instructions.{Operand, Bearer, Filing, Instruction, Placed, ItemKind, Lines, EntryPoint}
+use Rattle.ss_code_instructions.specs.Instructions.{Operand, Bearer, FilingPlace, Instruction, Placed, ItemKind, Lines, EntryPoint}
 use Rattle.ss_code_instructions.specs.Instructions.{Target as To}
 use Rattle.ss_code_instructions.specs.Machine.{Code}
-use Rattle.ss_code_instructions.specs.Facts.{is_watched, must_look, needs_look, expression_of, may_fault, beside}
+use Rattle.ss_code_instructions.specs.Facts.{is_watched, must_look, needs_look, expression_of, may_fault, neighbour_of}
 
 -- ## Where code is made
 
 -- the section, the line of the statement, and the modes of the cells that are in use, the topmost first
 pub record Site : Type 0 where
-  pub scope : Scope
+  pub scope : TypedScope
   pub line : Line
   pub cells : List Mode
 
@@ -50,8 +50,8 @@ with_cells t ms = record t { cells = ms }
 abbrev pub above : Site → Mode → Site
 above t m = with_cells t (m ∷ t.cells)
 
-abbrev pub at_line : Site → Line → Site
-at_line t l = record t { line = l }
+abbrev pub site_at_line : Site → Line → Site
+site_at_line t l = record t { line = l }
 
 -- an instruction here
 abbrev pub place : Site → Instruction → Placed
@@ -72,7 +72,7 @@ abbrev pub is_kept : Site → Variable → Bool
 is_kept t x = is_watched t.scope.program.statistics x
 
 -- where the discipline of a set files a member
-abbrev pub filing_by : Option Discipline → Filing
+abbrev pub filing_by : Option Discipline → FilingPlace
 filing_by None = i.Ranked
 filing_by (Some disciplines.Fifo) = i.Last
 filing_by (Some disciplines.Lifo) = i.First
@@ -84,13 +84,13 @@ abbrev pub or_integer : Option Mode → Mode
 or_integer None = Integer
 or_integer (Some m) = m
 
-abbrev pub expression_mode : Scope → Expression → Mode
+abbrev pub expression_mode : TypedScope → Expression → Mode
 expression_mode s (Constant v) = mode_of v
 expression_mode s (Fetch x) = or_integer (mode_at s x)
 expression_mode s (Attribute class field e) = or_integer (field_mode s.program class field)
 expression_mode s _ = Integer
 
-abbrev pub place_mode : Scope → Place → Mode
+abbrev pub place_mode : TypedScope → Place → Mode
 place_mode s (ToVariable x) = or_integer (mode_at s x)
 place_mode s (ToAttribute class field e) = or_integer (field_mode s.program class field)
 place_mode s (ToCount c) = Integer
@@ -137,27 +137,27 @@ stay (i.Held x) = i.Held x
 -- ## Expressions
 
 -- an operand with its code, and then an instruction that reads it
-abbrev pub one : Site → Expression → (code : List Placed) → (Operand → Instruction) → List Placed
-one t a code make = unless_leaf (leaf a) code ++ place (after t a) (make (operand t a)) ∷ []
+abbrev pub one_operand : Site → Expression → (code : List Placed) → (Operand → Instruction) → List Placed
+one_operand t a code make = unless_leaf (leaf a) code ++ place (after t a) (make (operand t a)) ∷ []
 
 -- an expression: its last instruction leaves its value at a target
 abbrev pub expression_code : Site → To → Expression → List Placed
 expression_code t to (Constant v) = place t (i.Move (i.Constant v) to) ∷ []
 expression_code t to (Fetch x) = place t (i.Move (i.Held x) to) ∷ []
-expression_code t to (Attribute class field e) = one t e (expression_code t (next t) e) (λ x. i.Attribute class field x to)
+expression_code t to (Attribute class field e) = one_operand t e (expression_code t (next t) e) (λ x. i.Attribute class field x to)
 expression_code t to (OfSystemSet query set) = place t (i.OfSet query set None to) ∷ []
-expression_code t to (OfSet query set e) = one t e (expression_code t (next t) e) (λ x. i.OfSet query set (Some x) to)
-expression_code t to (OfMember query set e) = one t e (expression_code t (next t) e) (λ x. i.OfMember query set x to)
+expression_code t to (OfSet query set e) = one_operand t e (expression_code t (next t) e) (λ x. i.OfSet query set (Some x) to)
+expression_code t to (OfMember query set e) = one_operand t e (expression_code t (next t) e) (λ x. i.OfMember query set x to)
 expression_code t to Clock = place t (i.Clock to) ∷ []
-expression_code t to (TimeOf e) = one t e (expression_code t (next t) e) (λ x. i.TimeOf x to)
+expression_code t to (TimeOf e) = one_operand t e (expression_code t (next t) e) (λ x. i.TimeOf x to)
 expression_code t to (Figure fold j) = place t (i.Figure fold j None to) ∷ []
-expression_code t to (FigureOf fold j e) = one t e (expression_code t (next t) e) (λ x. i.Figure fold j (Some x) to)
+expression_code t to (FigureOf fold j e) = one_operand t e (expression_code t (next t) e) (λ x. i.Figure fold j (Some x) to)
 expression_code t to (Signed sign e) =
-    one t e (expression_code t (next t) e) (λ x. i.Calculate (operator_of sign) (i.Constant (Whole (pos 0))) x to)
-expression_code t to (Unary op e) = one t e (expression_code t (next t) e) (λ x. i.Unary op x to)
+    one_operand t e (expression_code t (next t) e) (λ x. i.Calculate (operator_of sign) (i.Constant (Whole (pos 0))) x to)
+expression_code t to (Unary op e) = one_operand t e (expression_code t (next t) e) (λ x. i.Unary op x to)
 expression_code t to (Calculate op a b) =
     unless_leaf (leaf a) (expression_code t (next t) a)
-    ++ one (after t a) b (expression_code (after t a) (next (after t a)) b) (λ y. i.Calculate op (operand t a) y to)
+    ++ one_operand (after t a) b (expression_code (after t a) (next (after t a)) b) (λ y. i.Calculate op (operand t a) y to)
 
 -- the code of an operand
 abbrev pub operand_code : Site → Expression → List Placed
@@ -165,14 +165,14 @@ operand_code t e = unless_leaf (leaf e) (expression_code t (next t) e)
 
 -- an operand, and the instruction that reads it
 abbrev pub with_operand : Site → Expression → (Operand → Instruction) → List Placed
-with_operand t e make = one t e (expression_code t (next t) e) make
+with_operand t e make = one_operand t e (expression_code t (next t) e) make
 
 -- several values in new cells, one above the other
 abbrev pub values_code : Site → List Expression → List Placed
 values_code t [] = []
 values_code t (e ∷ es) = expression_code t (next t) e ++ values_code (above t (expression_mode t.scope e)) es
 
-abbrev pub values_cells : Scope → List Expression → List Mode → List Mode
+abbrev pub values_cells : TypedScope → List Expression → List Mode → List Mode
 values_cells s [] ms = ms
 values_cells s (e ∷ es) ms = values_cells s es (expression_mode s e ∷ ms)
 
@@ -299,7 +299,7 @@ to_place_code t (ToAttribute class field r) m source =
     ++ place (above (after t r) m) (i.SetAttribute class field (operand t r) (i.Taken (height (after t r)))) ∷ [])
 to_place_code t (ToCount c) m source = source t (next t) ++ count_code (above t m) c (i.Taken (height t))
 
-abbrev pub reads_code : Site → List Target → List Placed
+abbrev pub reads_code : Site → List InputTarget → List Placed
 reads_code t [] = []
 reads_code t (x ∷ xs) = to_place_code t x.place x.mode (λ u to. place u (i.Read x.mode to) ∷ []) ++ reads_code t xs
 
@@ -424,20 +424,20 @@ abbrev pub beside_code : Site → (set : ℕ) → Option Expression → List Pla
 beside_code t set None = []
 beside_code t set (Some e) = member_code t true set e
 
-abbrev pub filing : Site → (set : ℕ) → Position → Filing
-filing t set ByDiscipline = filing_by (slice_get t.scope.program.disciplines set)
-filing t set AsFirst = i.First
-filing t set AsLast = i.Last
-filing t set (BeforeMember e) = i.Before (operand t e)
-filing t set (AfterMember e) = i.After (operand t e)
+abbrev pub filing_place : Site → (set : ℕ) → Position → FilingPlace
+filing_place t set ByDiscipline = filing_by (slice_get t.scope.program.disciplines set)
+filing_place t set AsFirst = i.First
+filing_place t set AsLast = i.Last
+filing_place t set (BeforeMember e) = i.Before (operand t e)
+filing_place t set (AfterMember e) = i.After (operand t e)
 
 -- FILE: the member, the one beside it, the owner
 abbrev pub file_code : Site → (set : ℕ) → Expression → Position → SetOwner → List Placed
 file_code t set e position o =
-    let y : Option Expression = beside position in
+    let y : Option Expression = neighbour_of position in
     let t1 : Site = after t e in
     member_code t (needs_look y (expression_of o)) set e
-    ++ (beside_code t1 set y ++ with_owner (after_bearer t1 y) o (i.File (filing t1 set position) set (operand t e)))
+    ++ (beside_code t1 set y ++ with_owner (after_bearer t1 y) o (i.File (filing_place t1 set position) set (operand t e)))
 
 -- REMOVE: the member, which is looked at where the evaluation of the owner may fault; the owner
 abbrev pub remove_code : Site → (set : ℕ) → Expression → SetOwner → List Placed
@@ -520,7 +520,7 @@ item_code t (AValue e) = expression_code t (next t) e
 item_code t (AMean j) = place t (i.LookMean j None) ∷ []
 item_code t (AMeanOf j e) = expression_code t (next t) e ++ place (above t Integer) (i.LookMean j (Some (i.Stays (height t)))) ∷ []
 
-abbrev pub item_cells : Scope → PrintItem → List Mode → List Mode
+abbrev pub item_cells : TypedScope → PrintItem → List Mode → List Mode
 item_cells s (AValue e) ms = expression_mode s e ∷ ms
 item_cells s (AMean j) ms = ms
 item_cells s (AMeanOf j e) ms = Integer ∷ ms
@@ -529,7 +529,7 @@ abbrev pub items_code : Site → List PrintItem → List Placed
 items_code t [] = []
 items_code t (x ∷ xs) = item_code t x ++ items_code (with_cells t (item_cells t.scope x t.cells)) xs
 
-abbrev pub items_cells : Scope → List PrintItem → List Mode → List Mode
+abbrev pub items_cells : TypedScope → List PrintItem → List Mode → List Mode
 items_cells s [] ms = ms
 items_cells s (x ∷ xs) ms = items_cells s xs (item_cells s x ms)
 
@@ -543,8 +543,8 @@ item_kind (AMean j) = i.ShowsMean j
 item_kind (AMeanOf j e) = i.ShowsMeanOf j
 
 -- the lines of a PRINT of these items
-abbrev pub lines_of : List PrintItem → (pictures : List (List ℕ)) → Lines
-lines_of items pictures = record { pictures = pictures; items = map item_kind items }
+abbrev pub lines_of_items : List PrintItem → (pictures : List (List ℕ)) → Lines
+lines_of_items items pictures = record { pictures = pictures; items = map item_kind items }
 
 -- ## Statements
 
@@ -555,7 +555,7 @@ abbrev mutual
   statement_prints (Loop l gs a) = block_prints a
   statement_prints (For l head ps a) = block_prints a
   statement_prints (Find l head ps a b) = block_prints a ++ block_prints b
-  statement_prints (Print l items pictures) = lines_of items pictures ∷ []
+  statement_prints (Print l items pictures) = lines_of_items items pictures ∷ []
   statement_prints _ = []
 
   pub block_prints : Block → List Lines
@@ -569,35 +569,35 @@ no_line = record { 0 = 0 }
 abbrev mutual
   -- a statement, before which there are so many PRINTs
   pub statement_code : Site → ℕ → Statement → List Placed
-  statement_code t first (Let l p e) = let_code (at_line t l) p e
-  statement_code t first (Change l sign p e) = change_code (at_line t l) sign p e
+  statement_code t first (Let l p e) = let_code (site_at_line t l) p e
+  statement_code t first (Change l sign p e) = change_code (site_at_line t l) sign p e
   statement_code t first (Call l routine given yielding) =
-      values_code (at_line t l) given ++ (place (after_values (at_line t l) given) (i.Call routine (height t)) ∷ gives_code (at_line t l) yielding)
-  statement_code t first Return = place (at_line t no_line) i.Leave ∷ []
-  statement_code t first Stop = place (at_line t no_line) i.Halt ∷ []
-  statement_code t first (Read l targets) = reads_code (at_line t l) targets
+      values_code (site_at_line t l) given ++ (place (after_values (site_at_line t l) given) (i.Call routine (height t)) ∷ gives_code (site_at_line t l) yielding)
+  statement_code t first Return = place (site_at_line t no_line) i.Leave ∷ []
+  statement_code t first Stop = place (site_at_line t no_line) i.Halt ∷ []
+  statement_code t first (Read l targets) = reads_code (site_at_line t l) targets
   statement_code t first Simulate =
-      place (at_line t no_line) (i.Await 2) ∷ (place (at_line t no_line) (i.TakeEvent (height t)) ∷ (place (at_line t no_line) (i.NextEvent 1) ∷ []))
+      place (site_at_line t no_line) (i.Await 2) ∷ (place (site_at_line t no_line) (i.TakeEvent (height t)) ∷ (place (site_at_line t no_line) (i.NextEvent 1) ∷ []))
   statement_code t first (If l c a b) =
-      if_code (at_line t l) c (block_code t first a) (block_code t (first + length (block_prints a)) b)
-  statement_code t first (Loop l gs a) = loop_code (at_line t l) gs (block_code t first a)
+      if_code (site_at_line t l) c (block_code t first a) (block_code t (first + length (block_prints a)) b)
+  statement_code t first (Loop l gs a) = loop_code (site_at_line t l) gs (block_code t first a)
   statement_code t first (For l head ps a) =
-      for_code (at_line t l) head (phrases_code (in_loop (at_line t l) head) ps (block_code (in_loop t head) first a))
+      for_code (site_at_line t l) head (phrases_code (in_loop (site_at_line t l) head) ps (block_code (in_loop t head) first a))
   statement_code t first (Find l head ps a b) =
-      find_code (at_line t l) head ps (block_code t first a) (block_code t (first + length (block_prints a)) b)
-  statement_code t first (Create l class p) = to_place_code (at_line t l) p Integer (λ t to. place t (i.Create class to) ∷ [])
-  statement_code t first (CreateEvery l classes) = creates_code (at_line t l) classes
-  statement_code t first (Destroy l class e) = with_operand (at_line t l) e (i.Destroy class)
-  statement_code t first (File l set e position o) = file_code (at_line t l) set e position o
-  statement_code t first (RemoveEnd l end set p o) = remove_end_code (at_line t l) end set p o
-  statement_code t first (Remove l set e o) = remove_code (at_line t l) set e o
-  statement_code t first (ScheduleNew l class p given when) = schedule_new_code (at_line t l) class p given when
-  statement_code t first (Schedule l class e given when) = schedule_code (at_line t l) class e given when
-  statement_code t first (Cancel l class e) = with_operand (at_line t l) e (i.Cancel class)
-  statement_code t first (Reset l restarts) = restarts_code (at_line t l) restarts
+      find_code (site_at_line t l) head ps (block_code t first a) (block_code t (first + length (block_prints a)) b)
+  statement_code t first (Create l class p) = to_place_code (site_at_line t l) p Integer (λ t to. place t (i.Create class to) ∷ [])
+  statement_code t first (CreateEvery l classes) = creates_code (site_at_line t l) classes
+  statement_code t first (Destroy l class e) = with_operand (site_at_line t l) e (i.Destroy class)
+  statement_code t first (File l set e position o) = file_code (site_at_line t l) set e position o
+  statement_code t first (RemoveEnd l end set p o) = remove_end_code (site_at_line t l) end set p o
+  statement_code t first (Remove l set e o) = remove_code (site_at_line t l) set e o
+  statement_code t first (ScheduleNew l class p given when) = schedule_new_code (site_at_line t l) class p given when
+  statement_code t first (Schedule l class e given when) = schedule_code (site_at_line t l) class e given when
+  statement_code t first (Cancel l class e) = with_operand (site_at_line t l) e (i.Cancel class)
+  statement_code t first (Reset l restarts) = restarts_code (site_at_line t l) restarts
   statement_code t first (Print l items pictures) =
-      items_code (at_line t l) items ++ place (after_items (at_line t l) items) (i.Print first (height t)) ∷ []
-  statement_code t first (Skip l e) = with_operand (at_line t l) e i.Skip
+      items_code (site_at_line t l) items ++ place (after_items (site_at_line t l) items) (i.Print first (height t)) ∷ []
+  statement_code t first (Skip l e) = with_operand (site_at_line t l) e i.Skip
 
   pub block_code : Site → ℕ → Block → List Placed
   block_code t first Done = []
@@ -605,21 +605,21 @@ abbrev mutual
 
 -- ## Programs: MAIN, the routines, and the events' routines
 
-abbrev pub main_scope : Program → Scope
+abbrev pub main_scope : Program → TypedScope
 main_scope p = record { program = p; locals = p.locals; is_main = true }
 
-abbrev pub routine_scope : Program → Routine → Scope
+abbrev pub routine_scope : Program → Routine → TypedScope
 routine_scope p r = record { program = p; locals = r.given ++ (r.yielding ++ r.others); is_main = false }
 
-abbrev pub event_scope : Program → Event → Scope
+abbrev pub event_scope : Program → Event → TypedScope
 event_scope p e = record { program = p; locals = e.given ++ e.others; is_main = false }
 
 -- where a section begins: there are no cells
-abbrev pub first_site : Scope → Site
+abbrev pub first_site : TypedScope → Site
 first_site s = record { scope = s; line = no_line; cells = [] }
 
 -- each section ends with a return
-abbrev pub section_code : Scope → ℕ → Block → List Placed
+abbrev pub section_code : TypedScope → ℕ → Block → List Placed
 section_code s first body = block_code (first_site s) first body ++ place (first_site s) i.Leave ∷ []
 
 abbrev pub routine_code : Program → ℕ → Routine → List Placed

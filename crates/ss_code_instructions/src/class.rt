@@ -1,16 +1,15 @@
 //! A class of notices.
 
-ghost use Rattle.std.specs.Prelude.{◌≡◌, IfOk};
+ghost use Rattle.std.specs.Prelude.{◌≡◌};
 
 use ss_base::{Line, RankKeys};
-use std::alloc::{AllocError, Global};
 use std::marker::Model;
 
 /// What a program says of a class of notices: the attributes that break ties, the line of its event routine, how many
 /// attributes that takes, and the global variable that a notice is saved in, if it is saved.
 ///
 /// A contract sees it as a record of these.
-#[derive(Drop)]
+#[derive(Clone, Drop)]
 pub struct NoticeClass {
     class: usize,
     ties: RankKeys,
@@ -85,16 +84,5 @@ impl NoticeClass {
         ensures { result ≡ self.now.saved }
     {
         self.saved
-    }
-
-    /// A copy of this class, in memory of its own.
-    ///
-    /// # Errors
-    /// `AllocError` where memory was refused.
-    pub fn copied(&self, alloc: Global) -> Result<NoticeClass, AllocError>
-        ensures { IfOk result (λ copy. copy ≡ self.now) }
-    {
-        let ties = self.ties.copied(alloc)?;
-        Ok(NoticeClass::new(self.class, ties, self.line, self.given, self.saved))
     }
 }

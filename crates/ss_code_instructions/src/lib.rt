@@ -3,7 +3,6 @@
 
 pub mod address;
 mod class;
-mod copies;
 pub mod entry;
 pub mod instruction;
 pub mod item;
@@ -11,4 +10,3 @@ pub mod laws;
 pub mod limit;
 
 pub use class::NoticeClass;
-pub use copies::copied_notices;

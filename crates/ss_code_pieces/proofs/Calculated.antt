@@ -11,10 +11,10 @@ use Rattle.ss_program.specs.declared.expression.Operation.{Operation}
 use Rattle.ss_program.specs.Program.{Expression}
 use Rattle.ss_program.specs.View.{view_expression}
 use Rattle.ss_program.specs.Views.{with_operation, view_calculate_made}
-use Rattle.ss_program.specs.WellTyped.{Scope}
+use Rattle.ss_program.specs.WellTyped.{TypedScope}
 use Rattle.ss_code_instructions.specs.Translation.{expression_mode}
 
-module _ (s : Scope) where
+module _ (s : TypedScope) where
   mode_more : (e : Expression) (os : List Operation) → expression_mode s e ≡ Integer → expression_mode s (fold with_operation e os) ≡ Integer
   mode_more e [] h = h
   mode_more e (o ∷ os) h = mode_more (with_operation e o) os refl

@@ -1,7 +1,7 @@
 //! Code that is made from its end to its beginning.
 
 ghost use Rattle.std.specs.Prelude.{◌≡◌, ◌++◌, ◌<◌, ◌^◌, length, OnOk};
-ghost use Rattle.ss_code_pieces.specs.Lined.{nothing};
+ghost use Rattle.ss_code_pieces.specs.Lined.{no_code};
 
 use crate::piece::Piece;
 use std::alloc::{AllocError, Global};
@@ -22,22 +22,30 @@ impl Model for Backward {
 
     ghost Value = { Lined };
 
-    ghost view = { λ b. record { instructions = reverse b.piece.instructions; lines = reverse b.piece.lines } };
+    ghost view = { λ b. reverse b.piece };
 }
 
 impl Backward {
     /// No instruction.
     pub fn new(alloc: Global) -> Backward
-        ensures { result ≡ nothing }
+        ensures { result ≡ no_code }
     {
         Backward {
             piece: Piece::new(alloc),
         }
     }
 
+    /// The instructions of a piece, which others will come before.
+    pub fn of(mut piece: Piece) -> Backward
+        ensures { result ≡ piece }
+    {
+        piece.reverse();
+        Backward { piece }
+    }
+
     /// How many instructions there are.
     pub fn len(&self) -> usize
-        ensures value { result ≡ length self.now.instructions }
+        ensures value { result ≡ length self.now }
         ensures small { result < 2 ^ 63 }
     {
         self.piece.len()
@@ -45,8 +53,7 @@ impl Backward {
 
     /// What comes before the instructions that were made so far.
     pub fn put_before(&mut self, mut piece: Piece) -> Result<(), AllocError>
-        ensures instructions { OnOk result (self.new.instructions ≡ piece.instructions ++ self.old.instructions) }
-        ensures lines { OnOk result (self.new.lines ≡ piece.lines ++ self.old.lines) }
+        ensures { OnOk result (self.new ≡ piece ++ self.old) }
     {
         piece.reverse();
         self.piece.append(piece)

@@ -7,7 +7,7 @@ ghost use Rattle.ss_program.specs.WellTyped.{field_mode};
 ghost use Rattle.ss_meaning.specs.Histories.{same_subject};
 ghost use Rattle.ss_code_instructions.specs.Facts.{watch};
 ghost use Rattle.ss_code_instructions.specs.Translation.{or_integer, expression_mode as mode_of_expression, filing_by};
-ghost use Rattle.ss_code_pieces.specs.Preamble.{mode_in, scope_of, filing_of};
+ghost use Rattle.ss_code_pieces.specs.Preamble.{mode_in, scope_for_modes, filing_of};
 
 use ss_base::{Discipline, Mode};
 use ss_program::expression::{Expression, Variable};
@@ -101,7 +101,7 @@ pub fn variable_mode(program: &Program, locals: &[Mode], variable: Variable) -> 
 /// The mode of an expression, where these are the local variables.
 #[tactic(auto, unfolding(ss_program::specs::View::view_expression))]
 pub fn expression_mode(program: &Program, locals: &[Mode], e: &Expression) -> Mode
-    ensures { result ≡ mode_of_expression (scope_of program.now locals.now) (view_expression e.now) }
+    ensures { result ≡ mode_of_expression (scope_for_modes program.now locals.now) (view_expression e.now) }
 {
     match e {
         Expression::Constant { value } => value.mode(),

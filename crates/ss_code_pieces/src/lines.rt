@@ -52,7 +52,7 @@ impl Lines {
         &self.pictures
     }
 
-    /// What the items are, in the order in which they stand in the fields.
+    /// What the items are, in the order of their fields.
     pub fn items(&self) -> &[ItemKind]
         ensures { result.now ≡ self.now.items }
     {

@@ -1,20 +1,26 @@
 //! Pieces of code.
 
 ghost use Rattle.std.specs.Prelude.{◌≡◌, [], ◌∷◌, ◌++◌, ◌<◌, ◌^◌, length, reverse, IfOk, OnOk};
-ghost use Rattle.ss_code_pieces.specs.Lined.{Lined, nothing};
+ghost use Rattle.ss_code_pieces.specs.Lined.{no_code, on_line};
 
 use ss_base::Line;
 use ss_code_instructions::instruction::Instruction;
 use std::alloc::{AllocError, Global};
 use std::marker::Model;
 
-/// Instructions one after another, and beside them the line of each.
+/// An instruction with the line of its statement.
+#[derive(Clone, Copy)]
+pub struct LinedInstruction {
+    pub line: Line,
+    pub instruction: Instruction,
+}
+
+/// Instructions one after another, each with its line.
 ///
-/// A contract sees it as a record of both.
+/// A contract sees it as a list of these.
 #[derive(Drop)]
 pub struct Piece {
-    instructions: Vec<Instruction>,
-    lines: Vec<Line>,
+    items: Vec<LinedInstruction>,
 }
 
 impl Model for Piece {
@@ -22,69 +28,68 @@ impl Model for Piece {
 
     ghost Value = { Lined };
 
-    ghost view = { λ p. record { instructions = p.instructions.items; lines = p.lines.items } };
+    ghost view = { λ p. p.items.items };
 }
 
 impl Piece {
     /// No instruction.
     pub fn new(alloc: Global) -> Piece
-        ensures { result ≡ nothing }
+        ensures { result ≡ no_code }
     {
         Piece {
-            instructions: Vec::new(alloc),
-            lines: Vec::new(alloc),
+            items: Vec::new(alloc),
         }
     }
 
     /// How many instructions there are. They lie in memory, so that more can be counted.
     pub fn len(&self) -> usize
-        ensures value { result ≡ length self.now.instructions }
+        ensures value { result ≡ length self.now }
         ensures small { result < 2 ^ 63 }
     {
-        self.instructions.len()
+        self.items.len()
     }
 
-    /// The instructions, and the line of each.
-    pub fn into_parts(self) -> (Vec<Instruction>, Vec<Line>)
-        ensures instructions { result.0.items ≡ self.instructions }
-        ensures lines { result.1.items ≡ self.lines }
+    /// The instructions with their lines.
+    pub fn items(&self) -> &[LinedInstruction]
+        ensures { result.now ≡ self.now }
     {
-        (self.instructions, self.lines)
+        &self.items
     }
 
     /// One instruction more.
     pub fn put(&mut self, line: Line, instruction: Instruction) -> Result<(), AllocError>
-        ensures instructions { OnOk result (self.new.instructions ≡ self.old.instructions ++ instruction ∷ []) }
-        ensures lines { OnOk result (self.new.lines ≡ self.old.lines ++ line ∷ []) }
+        ensures { OnOk result (self.new ≡ self.old ++ on_line line instruction ∷ []) }
     {
-        self.instructions.push(instruction)?;
-        self.lines.push(line)?;
+        self.items.push(LinedInstruction { line, instruction })?;
+        Ok(())
+    }
+
+    /// Those of another piece after these, which is kept.
+    pub fn append_copy(&mut self, following: &Piece) -> Result<(), AllocError>
+        ensures { OnOk result (self.new ≡ self.old ++ following.now) }
+    {
+        self.items.extend_from_slice(&following.items)?;
         Ok(())
     }
 
     /// Those of another piece after these.
     pub fn append(&mut self, following: Piece) -> Result<(), AllocError>
-        ensures instructions { OnOk result (self.new.instructions ≡ self.old.instructions ++ following.instructions) }
-        ensures lines { OnOk result (self.new.lines ≡ self.old.lines ++ following.lines) }
+        ensures { OnOk result (self.new ≡ self.old ++ following) }
     {
-        let (mut instructions, mut lines) = following.into_parts();
-        self.instructions.append(&mut instructions)?;
-        self.lines.append(&mut lines)
+        self.append_copy(&following)
     }
 
-    /// Turns the order of the instructions round, and that of their lines.
+    /// Turns the order of the instructions round.
     pub fn reverse(&mut self)
-        ensures { self.new ≡ record { instructions = reverse self.old.instructions; lines = reverse self.old.lines } }
+        ensures { self.new ≡ reverse self.old }
     {
-        self.instructions.reverse();
-        self.lines.reverse();
+        self.items.reverse();
     }
 }
 
 /// A number as instructions hold it.
 ///
-/// The error says that memory was refused: no machine has room for so many variables, constants or cells, and none for so many
-/// instructions.
+/// It fails from 2^32 on, as where memory is refused. No text makes so many variables, constants, cells or instructions.
 pub fn as_index(number: usize) -> Result<u32, AllocError>
     ensures { IfOk result (λ index. index ≡ number) }
 {

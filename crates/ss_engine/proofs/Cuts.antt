@@ -6,10 +6,10 @@ use Rattle.ss_input.specs.declared.source.Source.{Source}
 use Rattle.ss_input.specs.Inputs.{IsFresh, source_block, source_reader}
 use Rattle.ss_program.specs.Program.{Program}
 use Rattle.ss_meaning.specs.Meaning.{Ended as EndedThere, Fault as FaultThere}
-use Rattle.ss_code.specs.Running.{Compiled as Generated}
+use Rattle.ss_code.specs.Running.{Generated}
 use Rattle.ss_code_instructions.specs.Running.{start}
 use Rattle.ss_code_instructions.specs.Translation.{code_of}
-use Rattle.ss_machine.specs.Situations.{Situation, IsOf}
+use Rattle.ss_machine.specs.Situations.{Situation, IsCodeOf}
 use Rattle.ss_machine.specs.declared.stop.Stop.{Stop}
 use Rattle.ss_machine.specs.declared.stop.Stop.TheVariants.{Ended, Fault, Paused, Memory, Output, Input, Failed}
 use Rattle.ss_machine.specs.Start.{IsAtStart}
@@ -22,7 +22,7 @@ use Rattle.ss_engine.proofs.Pieces.{Saying, EachSays, EachLed, finishing, cuttin
 use Rattle.ss_engine.proofs.Headline.{compiled_of, at_first}
 
 module _ {R W : Type 0} (remaining : R → Option (List ℕ)) (contents : W → Option (List ℕ)) (reader last_reader : R) (writer last_writer : W) (text : List ℕ) (p : Program) (is_program : IsProgramOf text p) (code : Generated) (first new : Situation) (source last : Source R) (used made : ℕ)
-    (of : IsOf code (compiled_of p code)) (starts : IsAtStart code first) (fresh : IsFresh reader source) (at_last : source_reader last ≡ last_reader) (knows : KnowsEnd remaining (source_block last)) where
+    (of : IsCodeOf code (compiled_of p code)) (starts : IsAtStart code first) (fresh : IsFresh reader source) (at_last : source_reader last ≡ last_reader) (knows : KnowsEnd remaining (source_block last)) where
   -- a run after which no more is read
   took_last : (stop : Stop) (Q : Saying) → ((bytes input : List ℕ) → ((more : ℕ) → Q (code_of p) made (start (code_of p) input (used + more)) bytes more) → CutBy stop (code_of p) used made bytes input)
       → TookLast remaining source last (contents writer) (contents last_writer) (EachSays Q code first used made) → WasCut remaining contents text stop used reader last_reader writer last_writer

@@ -28,7 +28,7 @@ use Rattle.ss_code_instructions.specs.Translation.{code_of}
 use Rattle.ss_code_instructions.specs.Size.{code_size}
 use Rattle.ss_engine.specs.declared.refusal.Refusal.{Refusal}
 use Rattle.ss_engine.specs.declared.refusal.Refusal.TheVariants.{Lexed, Parsed, Declared, Used}
-use Rattle.ss_engine.specs.Refusals.{coded, declared, lexed, parsed, used}
+use Rattle.ss_engine.specs.Refusals.{coded, table_refusal, lexed, parsed, used}
 use Rattle.ss_engine.specs.Accepting.{IsTreeOf, IsProgramOf, IsRefusedWith}
 
 -- ---- an error other than that for memory is wrapped
@@ -41,7 +41,7 @@ pub parsed_other : (e : ParseError) → (e ≡ parsing.Memory → ⊥) → Parse
 parsed_other parsing.Memory h = absurd (h refl)
 parsed_other e h = refl
 
-pub declared_other : (e : TableError) → (e ≡ declaring.Memory → ⊥) → Declared e ≡ declared e
+pub declared_other : (e : TableError) → (e ≡ declaring.Memory → ⊥) → Declared e ≡ table_refusal e
 declared_other declaring.Memory h = absurd (h refl)
 declared_other e h = refl
 
@@ -59,7 +59,7 @@ pub parser_refused : (text : List ℕ) (ts : List Token) → AreTokens text ts �
 parser_refused text ts are parsing.Memory h l = tt
 parser_refused text ts are e h l = record { tokens = ts; are = are; refused = h; other = λ q. cc; line = l }
 
-pub tables_refused : (text : List ℕ) (tree : ProgramTree) → IsTreeOf text tree → (e : TableError) → ReportsTableError e (declaration_refusal tree) → IsRefusedWith text (declared e)
+pub tables_refused : (text : List ℕ) (tree : ProgramTree) → IsTreeOf text tree → (e : TableError) → ReportsTableError e (declaration_refusal tree) → IsRefusedWith text (table_refusal e)
 tables_refused text tree r declaring.Memory h = tt
 tables_refused text tree r e h = record { tree = tree; read = r; broken = h }
 
@@ -70,8 +70,8 @@ checker_refused text tree r d e h = record { tree = tree; read = r; declared = d
 larger : (n m : ℕ) → n ≤ m → (n ≤ small_program → ⊥) → small_program < m
 larger n m k h = omega (arith, k, h)
 
-pub generator_refused : (text : List ℕ) (p : Program) (m : IsProgramOf text p) → resolved.nodes p ≤ tree.nodes m.tree → (e : CodeError) → (resolved.nodes p ≤ small_program → e ≡ generating.CodeTooLong → ⊥) → (e ≡ generating.CodeTooLong → instruction_limit < length (code_of p).places) → length (code_of p).places ≡ code_size p → IsRefusedWith text (coded e)
-generator_refused text p m k generating.CodeTooLong h l size = record { program = p; meant = m; large = larger (resolved.nodes p) (tree.nodes m.tree) k (λ small. h small refl); long = subst (λ n. instruction_limit < n) size (l refl) }
+pub generator_refused : (text : List ℕ) (p : Program) (m : IsProgramOf text p) → resolved.nodes p ≤ tree.tree_nodes m.tree → (e : CodeError) → (resolved.nodes p ≤ small_program → e ≡ generating.CodeTooLong → ⊥) → (e ≡ generating.CodeTooLong → instruction_limit < length (code_of p).places) → length (code_of p).places ≡ code_size p → IsRefusedWith text (coded e)
+generator_refused text p m k generating.CodeTooLong h l size = record { program = p; meant = m; large = larger (resolved.nodes p) (tree.tree_nodes m.tree) k (λ small. h small refl); long = subst (λ n. instruction_limit < n) size (l refl) }
 generator_refused text p m k generating.Memory h l size = tt
 
 -- the exit of a `?`, by what the error becomes

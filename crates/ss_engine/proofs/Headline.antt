@@ -7,14 +7,14 @@ use Rattle.ss_input.specs.Inputs.{IsFresh, Finds, source_block, source_reader}
 use Rattle.ss_program.specs.Program.{Program}
 use Rattle.ss_program.specs.WellTyped.{WellTyped}
 use Rattle.ss_meaning.specs.Meaning.{Ending, Ended as EndedThere, Fault as FaultThere, Paused as PausedThere, WentWrong, Run, meaning}
-use Rattle.ss_code.specs.Running.{Compiled as Generated, IsFor}
+use Rattle.ss_code.specs.Running.{Generated, IsFor}
 use Rattle.ss_code_instructions.specs.States.{MachineState}
 use Rattle.ss_code_instructions.specs.Machine.{Code, Goes, step}
 use Rattle.ss_code_instructions.specs.Running.{Underway, Ends, Behaves, start, steps, after_one_step as goes_on}
 use Rattle.ss_code_instructions.specs.Translation.{code_of}
-use Rattle.ss_code_instructions.specs.Laws.{EndingsStay, Grows, HasShape, OnTheWay, OneTickFewer, Pauses, Prefixes, StepsGoOn}
+use Rattle.ss_code_instructions.specs.Laws.{EndingsStay, ExtendsReport, HasShape, OnTheWay, OneTickFewer, Pauses, Prefixes, StepsGoOn}
 use Rattle.ss_machine_instructions.specs.Doing.{Compiled}
-use Rattle.ss_machine.specs.Situations.{Situation, IsOf}
+use Rattle.ss_machine.specs.Situations.{Situation, IsCodeOf}
 use Rattle.ss_machine.specs.declared.stop.Stop.{Stop}
 use Rattle.ss_machine.specs.declared.stop.Stop.TheVariants.{Ended, Fault, Paused, Memory, Output, Input, Failed}
 use Rattle.ss_machine.specs.Start.{IsAtStart}
@@ -32,11 +32,11 @@ use Rattle.ss_engine.proofs.Ticks.{pauses_with_fewer}
 abbrev pub compiled_of : Program → Generated → Compiled
 compiled_of p code = record { program = p; code = code_of p; run = code.run }
 
-pub is_of : HasShape → (p : Program) (code : Generated) → WellTyped p → IsFor p code → IsOf code (compiled_of p code)
+pub is_of : HasShape → (p : Program) (code : Generated) → WellTyped p → IsFor p code → IsCodeOf code (compiled_of p code)
 is_of shape p code typed f = record { compiled = record { typed = typed; code = refl; shaped = shape p typed; run = f.code }; run = refl; said = f.said; globals = f.globals }
 
--- what is said of each state that a machine at its start may hold is said of the first state
-pub at_first : (Q : Saying) (p : Program) (code : Generated) (first : Situation) → IsOf code (compiled_of p code) → IsAtStart code first → (used made : ℕ) (bytes input : List ℕ) →
+-- what holds of each state that a machine at its start may hold also holds of the first state
+pub at_first : (Q : Saying) (p : Program) (code : Generated) (first : Situation) → IsCodeOf code (compiled_of p code) → IsAtStart code first → (used made : ℕ) (bytes input : List ℕ) →
     EachSays Q code first used made bytes input → (ticks : ℕ) → Q (code_of p) made (start (code_of p) input (used + ticks)) bytes ticks
 at_first Q p code first of starts used made bytes input s ticks = s (compiled_of p code) of (start (code_of p) input 0).core refl (starts (compiled_of p code) of input) [] ticks
 
@@ -45,7 +45,7 @@ at_first Q p code first of starts used made bytes input s ticks = s (compiled_of
 no_more : (n : ℕ) → n + 0 ≡ n
 no_more n = omega arith
 
-grows_first : (a b c : List ℕ) (part : List ℕ) → b ≡ a ++ part → Grows b c → Grows a c
+grows_first : (a b c : List ℕ) (part : List ℕ) → b ≡ a ++ part → ExtendsReport b c → ExtendsReport a c
 grows_first a b c part e g = record { by = (part ++ g.by.0, g.by.1 ∙ ap (λ l. l ++ g.by.0) e ∙ append_assoc a part g.by.0) }
 
 one_fewer : (fewer n : ℕ) → fewer < n → n ≡ suc (n - 1)
@@ -93,29 +93,29 @@ module _ (on_the_way : OnTheWay) (fewer_ticks : OneTickFewer) (pauses : Pauses) 
     within = by-part c.cut.within;
     beyond = λ fewer earlier lt h.
         let e = meant_so input fewer earlier h in
-        (ap (λ (r : Run). r.ending) (sym e) ∙ pauses_with_fewer stay p right code behaves input n m c.state passed c.left fewer lt, subst (λ (r : Run). Grows r.report bytes) e (begun fewer lt));
+        (ap (λ (r : Run). r.ending) (sym e) ∙ pauses_with_fewer stay p right code behaves input n m c.state passed c.left fewer lt, subst (λ (r : Run). ExtendsReport r.report bytes) e (begun fewer lt));
   } where
     passed : steps code m (start code input n) ≡ Underway c.state
     passed = c.passed
 
-    begun : (fewer : ℕ) → fewer < n → Grows (meaning p input fewer).report bytes
+    begun : (fewer : ℕ) → fewer < n → ExtendsReport (meaning p input fewer).report bytes
     begun fewer lt =
         let k = n - 1 in
         let g = fewer_ticks p code behaves input k m c.state (right input k) (right input (suc k)) (subst (λ j. steps code m (start code input j) ≡ Underway c.state) (one_fewer fewer n lt) passed) c.left in
-        let last : Grows (meaning p input k).report bytes = record { by = (g.by.0 ++ c.cut.part, c.cut.begins ∙ ap (λ l. l ++ c.cut.part) g.by.1 ∙ append_assoc (meaning p input k).report g.by.0 c.cut.part) } in
-        let first = subst (λ j. Grows (meaning p input fewer).report (meaning p input j).report) (up_to fewer n lt) (prefixes p input fewer (k - fewer) (right input fewer) (right input (fewer + (k - fewer)))) in
+        let last : ExtendsReport (meaning p input k).report bytes = record { by = (g.by.0 ++ c.cut.part, c.cut.begins ∙ ap (λ l. l ++ c.cut.part) g.by.1 ∙ append_assoc (meaning p input k).report g.by.0 c.cut.part) } in
+        let first = subst (λ j. ExtendsReport (meaning p input fewer).report (meaning p input j).report) (up_to fewer n lt) (prefixes p input fewer (k - fewer) (right input fewer) (right input (fewer + (k - fewer)))) in
         grows_first (meaning p input fewer).report (meaning p input k).report bytes first.by.0 first.by.1 last
 
-    by-part : (c.cut.part ≡ []) ⊎ ((next : MachineState) × (rest : List ℕ) × (step code c.state ≡ Goes next) × (next.report ≡ bytes ++ rest)) → Grows bytes (meaning p input n).report
+    by-part : (c.cut.part ≡ []) ⊎ ((next : MachineState) × (rest : List ℕ) × (step code c.state ≡ Goes next) × (next.report ≡ bytes ++ rest)) → ExtendsReport bytes (meaning p input n).report
     by-part (inl e) =
         let whole : bytes ≡ c.state.report = c.cut.begins ∙ ap (λ l. c.state.report ++ l) e ∙ append-nil c.state.report in
-        subst (λ l. Grows l (meaning p input n).report) (sym whole) (on_the_way p code behaves input n m c.state (right input n) passed)
+        subst (λ l. ExtendsReport l (meaning p input n).report) (sym whole) (on_the_way p code behaves input n m c.state (right input n) passed)
     by-part (inr f) =
         let next = one_step m (start code input n) c.state f.0 passed f.2 in
         grows_first bytes f.0.report (meaning p input n).report f.1 f.3 (on_the_way p code behaves input n (m + 1) f.0 (right input n) next)
 
   module _ {R W : Type 0} (remaining : R → Option (List ℕ)) (contents : W → Option (List ℕ)) (reader last_reader : R) (writer last_writer : W) (run : Generated) (first new : Situation) (source last : Source R) (used made : ℕ)
-      (of : IsOf run (compiled_of p run)) (starts : IsAtStart run first) (fresh : IsFresh reader source) (at_last : source_reader last ≡ last_reader) (knows : KnowsEnd remaining (source_block last)) where
+      (of : IsCodeOf run (compiled_of p run)) (starts : IsAtStart run first) (fresh : IsFresh reader source) (at_last : source_reader last ≡ last_reader) (knows : KnowsEnd remaining (source_block last)) where
     -- what holds of the input before a run holds of what the reader gave
     gave : (Says Means : List ℕ → Type 0) → ((input : List ℕ) → Says input → Means input) → Finds remaining source last Says → Gave remaining reader last_reader Means
     gave = fresh_gave remaining source last reader last_reader fresh at_last knows

@@ -1,6 +1,6 @@
 -- The last of the runs of a text, from the last call of a session.
 use Rattle.std.proofs.Common.{◌≡◌, ◌≢◌, ℕ, ◌≤◌, List, [], ◌∷◌, ◌++◌, Option, ap, ◌∙◌, subst, append_assoc}
-use Rattle.ss_code.specs.Running.{Compiled as Generated}
+use Rattle.ss_code.specs.Running.{Generated}
 use Rattle.ss_machine.specs.declared.stop.Stop.{Stop}
 use Rattle.ss_machine.specs.declared.stop.Stop.TheVariants.{Paused}
 use Rattle.ss_engine.specs.declared.outcome.Outcome.TheVariants.{Stopped}

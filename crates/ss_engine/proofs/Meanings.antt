@@ -8,11 +8,11 @@ use Rattle.ss_parse.specs.Promise.{One_tree, Is_refused}
 use Rattle.ss_parse.specs.SpelledPrograms.{Spell}
 use Rattle.ss_program.specs.Program.{Program}
 use Rattle.ss_program.specs.WellTyped.{WellTyped}
-use Rattle.ss_check.specs.Checking.{program_of, refusal_of as use_refusal}
+use Rattle.ss_check.specs.Checking.{resolved_program, refusal_of as use_refusal}
 use Rattle.ss_check.specs.ProgramLaws.{ProgramsResolve}
 use Rattle.ss_meaning.specs.Laws.{NeverWrong}
 use Rattle.ss_meaning.specs.Meaning.{Run, WentWrong, meaning}
-use Rattle.ss_code_instructions.specs.Laws.{EndingsStay, Grows, Prefixes}
+use Rattle.ss_code_instructions.specs.Laws.{EndingsStay, ExtendsReport, Prefixes}
 use Rattle.ss_parse.specs.Openers.{nesting_limit}
 use Rattle.ss_tree.specs.Tree.{ProgramTree}
 use Rattle.ss_tables_rules.specs.Broken.{refusal_of_declarations as declaration_refusal}
@@ -33,7 +33,7 @@ same_tree one_list one_tree text tree other a b =
 pub one_program : OneList → One_tree → OneProgram
 one_program one_list one_tree text p q m n =
     let trees = same_tree one_list one_tree text m.tree n.tree m.keeps.read n.keeps.read in
-    same_program p q (sym m.resolved ∙ ap program_of trees ∙ n.resolved)
+    same_program p q (sym m.resolved ∙ ap resolved_program trees ∙ n.resolved)
 
 none_is_no_some : {A : Type 0} (o : Option A) (x : A) → o ≡ None → o ≡ Some x → ⊥
 none_is_no_some o x none some = cc
@@ -86,7 +86,7 @@ reports_grow one never prefixes text input n more run longer a b =
     let p = a.program in
     let right = program_never_wrong never text p a.is_program input in
     let same : meaning p input (n + more) ≡ longer = ap (λ q. meaning q input (n + more)) (one text p b.program a.is_program b.is_program) ∙ b.is_run in
-    subst (λ (r : Run). Grows run.report r.report) same (subst (λ (r : Run). Grows r.report (meaning p input (n + more)).report) a.is_run (prefixes p input n more (right n) (right (n + more))))
+    subst (λ (r : Run). ExtendsReport run.report r.report) same (subst (λ (r : Run). ExtendsReport r.report (meaning p input (n + more)).report) a.is_run (prefixes p input n more (right n) (right (n + more))))
 
 pub endings_stay : NeverGoesWrong → EndingsStay → TextEndingsStay
 endings_stay never stay text input n more run a going =

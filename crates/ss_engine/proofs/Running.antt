@@ -6,7 +6,7 @@ use Rattle.ss_base.specs.Failures.{HasRisen, HasRisenBy}
 use Rattle.ss_input.specs.Blocks.{KnowsEnd}
 use Rattle.ss_input.specs.declared.source.Source.{Source}
 use Rattle.ss_input.specs.Inputs.{source_block}
-use Rattle.ss_code.specs.Running.{Compiled as Generated}
+use Rattle.ss_code.specs.Running.{Generated}
 use Rattle.ss_code_instructions.specs.Running.{Underway, steps}
 use Rattle.ss_code_instructions.specs.Reached.{at_core}
 use Rattle.ss_code_instructions.specs.Laws.{StepsGoOn}

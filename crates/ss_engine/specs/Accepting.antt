@@ -4,7 +4,7 @@ use Rattle.ss_lex.specs.declared.token.Token.{Token}
 use Rattle.ss_lex.specs.Tokens.{AreTokens}
 use Rattle.ss_lex.specs.Refusals.{IsRefused}
 use Rattle.ss_tree.specs.Tree.{ProgramTree}
-use Rattle.ss_tree.specs.Nodes.{nodes}
+use Rattle.ss_tree.specs.Nodes.{tree_nodes}
 use Rattle.ss_parse.specs.declared.error.ParseError.{ParseError}
 use Rattle.ss_parse.specs.declared.error.ParseError.TheVariants as parsing
 use Rattle.ss_parse.specs.Openers.{nesting_limit}
@@ -13,13 +13,13 @@ use Rattle.ss_parse.specs.SpelledPrograms.{Spell}
 use Rattle.ss_tables_rules.specs.declared.error.TableError.{TableError}
 use Rattle.ss_tables_rules.specs.Broken.{refusal_of_declarations as declaration_refusal}
 use Rattle.ss_check_rules.specs.declared.error.CheckError.{CheckError}
-use Rattle.ss_check.specs.Checking.{program_of, refusal_of as use_refusal}
+use Rattle.ss_check.specs.Checking.{resolved_program, refusal_of as use_refusal}
 use Rattle.ss_program.specs.Program.{Program}
 use Rattle.ss_code_instructions.specs.Running.{Behaves}
 use Rattle.ss_code_instructions.specs.Translation.{code_of}
 use Rattle.ss_code_instructions.specs.Size.{code_size}
 use Rattle.ss_code.specs.Limits.{instruction_limit, small_program}
-use Rattle.ss_code.specs.Running.{Compiled as Generated, IsFor}
+use Rattle.ss_code.specs.Running.{Generated, IsFor}
 use Rattle.ss_engine.specs.declared.refusal.Refusal.{Refusal}
 use Rattle.ss_engine.specs.declared.refusal.Refusal.TheVariants.{Lexed, Parsed, Declared, Used, CodeTooLong, Memory}
 
@@ -39,7 +39,7 @@ pub record IsKeptBy (text : List ℕ) (tree : ProgramTree) : Type 0 where
 pub record IsProgramOf (text : List ℕ) (p : Program) : Type 0 where
   pub tree : ProgramTree
   pub keeps : IsKeptBy text tree
-  pub resolved : program_of tree ≡ Some p
+  pub resolved : resolved_program tree ≡ Some p
 
 -- the text is well formed
 abbrev pub IsWellFormed : List ℕ → Type 0
@@ -80,7 +80,7 @@ pub record IsIllFormed (text : List ℕ) (e : CheckError) : Type 0 where
 pub record IsLarge (text : List ℕ) : Type 0 where
   pub program : Program
   pub meant : IsProgramOf text program
-  pub large : small_program < nodes meant.tree
+  pub large : small_program < tree_nodes meant.tree
   pub long : instruction_limit < code_size program
 
 -- when a text is refused so; a refusal for memory says nothing of the text

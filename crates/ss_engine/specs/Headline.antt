@@ -5,7 +5,7 @@ use Rattle.std.specs.declared.option.Option.{Option}
 use Rattle.std.specs.Io.KnownBytes.{Appends, Consumes, IsAtEnd}
 use Rattle.ss_program.specs.Program.{Program}
 use Rattle.ss_meaning.specs.Meaning.{Ended as EndedThere, Fault as FaultThere, Paused as PausedThere, Run, meaning}
-use Rattle.ss_code_instructions.specs.Laws.{Grows}
+use Rattle.ss_code_instructions.specs.Laws.{ExtendsReport}
 use Rattle.ss_machine.specs.declared.stop.Stop.{Stop}
 use Rattle.ss_machine.specs.declared.stop.Stop.TheVariants.{Ended, Fault, Paused, Memory, Output, Input, Failed}
 use Rattle.ss_engine.specs.declared.outcome.Outcome.{Outcome}
@@ -27,8 +27,8 @@ pub record IsMeaning (text input : List ℕ) (ticks : ℕ) (run : Run) : Type 0 
 pub record IsCutShort (text input : List ℕ) (used : ℕ) (bytes : List ℕ) : Type 0 where
   pub run : Run
   pub is_meaning : IsMeaning text input used run
-  pub within : Grows bytes run.report
-  pub beyond : (fewer : ℕ) (earlier : Run) → fewer < used → IsMeaning text input fewer earlier → (earlier.ending ≡ PausedThere) × Grows earlier.report bytes
+  pub within : ExtendsReport bytes run.report
+  pub beyond : (fewer : ℕ) (earlier : Run) → fewer < used → IsMeaning text input fewer earlier → (earlier.ending ≡ PausedThere) × ExtendsReport earlier.report bytes
 
 -- What a run says of its text that used so many ticks, wrote these bytes and stopped so: for these ticks the text means this report
 -- and this ending. After an end or a fault it means them for any more ticks too, which are left.

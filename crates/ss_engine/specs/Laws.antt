@@ -3,7 +3,7 @@ use Rattle.std.specs.Prelude.{◌≡◌, ◌≢◌, ℕ, ◌+◌, List}
 use Rattle.ss_program.specs.Program.{Program}
 use Rattle.ss_program.specs.WellTyped.{WellTyped}
 use Rattle.ss_meaning.specs.Meaning.{Paused, Run, WentWrong}
-use Rattle.ss_code_instructions.specs.Laws.{Grows}
+use Rattle.ss_code_instructions.specs.Laws.{ExtendsReport}
 use Rattle.ss_engine.specs.declared.refusal.Refusal.{Refusal}
 use Rattle.ss_engine.specs.declared.refusal.Refusal.TheVariants.{CodeTooLong, Memory}
 use Rattle.ss_engine.specs.Accepting.{IsProgramOf, IsRefusedWith, IsWellFormed}
@@ -31,7 +31,7 @@ NeverGoesWrong = (text input : List ℕ) (n : ℕ) (run : Run) → IsMeaning tex
 
 -- the report for some ticks begins that for more
 abbrev pub ReportsGrow : Type 0
-ReportsGrow = (text input : List ℕ) (n more : ℕ) (run longer : Run) → IsMeaning text input n run → IsMeaning text input (n + more) longer → Grows run.report longer.report
+ReportsGrow = (text input : List ℕ) (n more : ℕ) (run longer : Run) → IsMeaning text input n run → IsMeaning text input (n + more) longer → ExtendsReport run.report longer.report
 
 -- an ending other than a pause stays, with its report, for more ticks, which are left
 abbrev pub TextEndingsStay : Type 0

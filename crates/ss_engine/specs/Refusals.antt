@@ -2,10 +2,8 @@
 use Rattle.std.specs.Prelude.{ℕ, List, codes}
 use Rattle.ss_lex.specs.declared.error.LexError.{LexError}
 use Rattle.ss_lex.specs.declared.error.LexError.TheVariants as lexical
-use Rattle.ss_lex.specs.Errors.{lex_error_number, lex_error_name, lex_error_line}
 use Rattle.ss_parse.specs.declared.error.ParseError.{ParseError}
 use Rattle.ss_parse.specs.declared.error.ParseError.TheVariants as parsing
-use Rattle.ss_parse.specs.Errors.{parse_error_number, parse_error_name, parse_error_line}
 use Rattle.ss_tables_rules.specs.declared.error.TableError.{TableError}
 use Rattle.ss_tables_rules.specs.declared.error.TableError.TheVariants as declaring
 use Rattle.ss_check_rules.specs.declared.error.CheckError.{CheckError}
@@ -18,6 +16,23 @@ use Rattle.ss_engine.specs.declared.refusal.Refusal.TheVariants.{Lexed, Parsed, 
 -- a number, a name and a line
 abbrev pub Reported : Type 0
 Reported = ℕ × List ℕ × ℕ
+
+-- the tokens
+abbrev pub words_of_lexer : LexError → Reported
+words_of_lexer (lexical.TooLong line) = (31, codes "TooLong", line.0)
+words_of_lexer (lexical.NotAscii line) = (32, codes "NotAscii", line.0)
+words_of_lexer (lexical.BadNumber line) = (33, codes "BadNumber", line.0)
+words_of_lexer (lexical.OpenText line) = (34, codes "OpenText", line.0)
+words_of_lexer (lexical.AlphaTooLong line) = (35, codes "AlphaTooLong", line.0)
+words_of_lexer (lexical.PictureCut line) = (36, codes "PictureCut", line.0)
+words_of_lexer (lexical.NameTooLong line) = (37, codes "NameTooLong", line.0)
+words_of_lexer lexical.Memory = (0, codes "Memory", 0)
+
+-- which program they spell
+abbrev pub words_of_parser : ParseError → Reported
+words_of_parser (parsing.Syntax line) = (41, codes "Syntax", line.0)
+words_of_parser (parsing.TooDeep line) = (42, codes "TooDeep", line.0)
+words_of_parser parsing.Memory = (0, codes "Memory", 0)
 
 -- what is declared
 abbrev pub words_of_tables : TableError → Reported
@@ -48,8 +63,8 @@ words_of_checker using.Memory = (0, codes "Memory", 0)
 
 -- a refusal, by its cause
 abbrev pub words_of_refusal : Refusal → Reported
-words_of_refusal (Lexed e) = (lex_error_number e, lex_error_name e, (lex_error_line e).0)
-words_of_refusal (Parsed e) = (parse_error_number e, parse_error_name e, (parse_error_line e).0)
+words_of_refusal (Lexed e) = words_of_lexer e
+words_of_refusal (Parsed e) = words_of_parser e
 words_of_refusal (Declared e) = words_of_tables e
 words_of_refusal (Used e) = words_of_checker e
 words_of_refusal CodeTooLong = (81, codes "CodeTooLong", 0)
@@ -77,9 +92,9 @@ abbrev pub parsed : ParseError → Refusal
 parsed parsing.Memory = Memory
 parsed e = Parsed e
 
-abbrev pub declared : TableError → Refusal
-declared declaring.Memory = Memory
-declared e = Declared e
+abbrev pub table_refusal : TableError → Refusal
+table_refusal declaring.Memory = Memory
+table_refusal e = Declared e
 
 abbrev pub used : CheckError → Refusal
 used using.Memory = Memory

@@ -2,7 +2,7 @@
 use Rattle.std.specs.Prelude.{◌≡◌, ◌≢◌, ℕ, ◌≤◌, List, [], ◌∷◌, ◌++◌, Option, Some, None}
 use Rattle.ss_base.specs.Failures.{HasRisen, HasRisenBy}
 use Rattle.ss_input.specs.Blocks.{KnowsEnd}
-use Rattle.ss_code.specs.Running.{Compiled as Generated}
+use Rattle.ss_code.specs.Running.{Generated}
 use Rattle.ss_input.specs.declared.source.Source.{Source}
 use Rattle.ss_input.specs.Inputs.{IsFresh, source_block, source_missed, source_reader}
 use Rattle.ss_machine.specs.declared.stop.Stop.{Stop}

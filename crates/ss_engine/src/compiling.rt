@@ -1,7 +1,7 @@
 //! From a text to a model.
 
 ghost use Rattle.std.specs.Prelude.{◌≡◌, IfOk, IfErr};
-ghost use Rattle.ss_engine.specs.Refusals.{coded, declared, lexed, parsed, used};
+ghost use Rattle.ss_engine.specs.Refusals.{coded, table_refusal, lexed, parsed, used};
 ghost use Rattle.ss_engine.specs.Accepting.{Compiles, IsRefusedWith};
 
 use crate::refusal::Refusal;
@@ -40,7 +40,7 @@ impl From<ParseError> for Refusal {
 }
 
 impl From<TableError> for Refusal {
-    ghost from_gives = { λ error refusal. refusal ≡ declared error };
+    ghost from_gives = { λ error refusal. refusal ≡ table_refusal error };
 
     fn from(error: TableError) -> Refusal {
         match error {

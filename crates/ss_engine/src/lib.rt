@@ -21,9 +21,9 @@ pub use ss_base::{
     Alpha, Counted, FaultKind, Faulty, FaultyRead, FaultyWrite, Line, MemoryRead, MemoryWrite,
     Plan, WriteFailure,
 };
-pub use ss_check::CheckError;
+pub use ss_check_rules::CheckError;
 pub use ss_code::model::Model;
 pub use ss_lex::LexError;
 pub use ss_machine::Stop;
 pub use ss_parse::ParseError;
-pub use ss_tables::TableError;
+pub use ss_tables_rules::TableError;

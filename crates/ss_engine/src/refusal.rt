@@ -1,7 +1,7 @@
 //! Why a text is refused.
 
 ghost use Rattle.std.specs.Prelude.{◌≡◌};
-ghost use Rattle.ss_engine.specs.Refusals.{refusal_line, refusal_name, refusal_number, words_of_checker, words_of_refusal, words_of_tables};
+ghost use Rattle.ss_engine.specs.Refusals.{refusal_line, refusal_name, refusal_number, words_of_checker, words_of_lexer, words_of_parser, words_of_refusal, words_of_tables};
 
 use ss_check::CheckError;
 use ss_lex::LexError;
@@ -23,6 +23,33 @@ pub enum Refusal {
     CodeTooLong,
     /// Memory was refused.
     Memory,
+}
+
+// The number, the name and the line of what makes no tokens.
+fn words_of_lexer(error: &LexError) -> (u32, &str, u32)
+    ensures { words_of_lexer error.now ≡ (result.0, result.1.now, result.2) }
+{
+    match error {
+        LexError::TooLong(line) => (31, "TooLong", line.0),
+        LexError::NotAscii(line) => (32, "NotAscii", line.0),
+        LexError::BadNumber(line) => (33, "BadNumber", line.0),
+        LexError::OpenText(line) => (34, "OpenText", line.0),
+        LexError::AlphaTooLong(line) => (35, "AlphaTooLong", line.0),
+        LexError::PictureCut(line) => (36, "PictureCut", line.0),
+        LexError::NameTooLong(line) => (37, "NameTooLong", line.0),
+        LexError::Memory => (0, "Memory", 0),
+    }
+}
+
+// The number, the name and the line of what spells no program.
+fn words_of_parser(error: &ParseError) -> (u32, &str, u32)
+    ensures { words_of_parser error.now ≡ (result.0, result.1.now, result.2) }
+{
+    match error {
+        ParseError::Syntax(line) => (41, "Syntax", line.0),
+        ParseError::TooDeep(line) => (42, "TooDeep", line.0),
+        ParseError::Memory => (0, "Memory", 0),
+    }
 }
 
 // The number, the name and the line of what is declared.
@@ -68,8 +95,8 @@ impl Refusal {
         ensures { words_of_refusal self.now ≡ (result.0, result.1.now, result.2) }
     {
         match self {
-            Refusal::Lexed(error) => (error.number(), error.name(), error.line().0),
-            Refusal::Parsed(error) => (error.number(), error.name(), error.line().0),
+            Refusal::Lexed(error) => words_of_lexer(error),
+            Refusal::Parsed(error) => words_of_parser(error),
             Refusal::Declared(error) => words_of_tables(error),
             Refusal::Used(error) => words_of_checker(error),
             Refusal::CodeTooLong => (81, "CodeTooLong", 0),

@@ -3,7 +3,7 @@
 ghost use Rattle.std.specs.Prelude.{◌≡◌, ◌≤◌, ℕ, List, [], ◌++◌};
 ghost use Rattle.std.specs.List.{sum};
 ghost use Rattle.ss_base.specs.Failures.{HasRisen};
-ghost use Rattle.ss_code.specs.Running.{Compiled as Generated};
+ghost use Rattle.ss_code.specs.Running.{Generated};
 ghost use Rattle.ss_engine.specs.Accepting.{Compiles};
 ghost use Rattle.ss_engine.specs.Headline.{Simulated, handed_out};
 ghost use Rattle.ss_engine.specs.LastRun.{LastRun, runs_of};

@@ -4,7 +4,7 @@ ghost use Rattle.std.specs.Prelude.{◌≡◌, ℕ, ◌+◌, ◌-◌, ◌^◌, �
 ghost use Rattle.ss_base.specs.Failures.{HasRisen, HasRisenBy};
 ghost use Rattle.ss_input.specs.Blocks.{KnowsEnd};
 ghost use Rattle.ss_input.specs.Inputs.{source_block};
-ghost use Rattle.ss_code.specs.Running.{Compiled as Generated};
+ghost use Rattle.ss_code.specs.Running.{Generated};
 ghost use Rattle.ss_machine.specs.Held.{answer_again, kept_after};
 ghost use Rattle.ss_machine.specs.Runs.{Ran};
 ghost use Rattle.ss_engine.specs.Accepting.{Compiles};

@@ -1,7 +1,7 @@
 //! Laws of sessions.
 
 ghost use Rattle.std.specs.Prelude.{◌≡◌, ◌≢◌, ℕ, List, []};
-ghost use Rattle.ss_code.specs.Running.{Compiled as Generated};
+ghost use Rattle.ss_code.specs.Running.{Generated};
 ghost use Rattle.ss_engine.specs.declared.session.Session.{Session as SessionSeen};
 ghost use Rattle.ss_engine.specs.Accepting.{Compiles};
 ghost use Rattle.ss_engine.specs.Headline.{Simulated};

@@ -14,7 +14,7 @@ use Rattle.ss_events_entries.specs.Slots.{no_entry}
 use Rattle.ss_events.specs.Sifting.{IsLogarithmic}
 use Rattle.ss_events_entries.specs.HeapOrder.{IsHeap}
 use Rattle.ss_world.specs.Order.{comes_before}
-use Rattle.ss_world.specs.PendingList.{PendingList, scheduling_limit, is_pending, without_notice, earlier, least, next, after_next}
+use Rattle.ss_world.specs.PendingList.{PendingList, scheduling_limit, is_pending, without_notice, earlier_notice, least, least_event, after_next}
 use Rattle.ss_events.specs.InOrder.{put_in_order, in_order, numbers_of, IsAgenda}
 use Rattle.ss_events_entries.proofs.EntryOrder.{entries_rank, tied_numbers}
 use Rattle.ss_events_entries.proofs.Heaps.{first}
@@ -75,14 +75,14 @@ others_apart notice (e ∷ es) a x m = ⊎_elim (λ is. ap (λ y. int_eq notice 
 -- ---- the least entry
 
 -- starting from e, x is found where it is one of them and nothing comes before it
-finds : (e x : Entry) (es : List Entry) → (e ≡ x) ⊎ Member x es → ((y : Entry) → (y ≡ e) ⊎ Member y es → comes_before y x ≡ false) → ((y : Entry) → (y ≡ e) ⊎ Member y es → y.number ≡ x.number → y ≡ x) → fold earlier e es ≡ x
+finds : (e x : Entry) (es : List Entry) → (e ≡ x) ⊎ Member x es → ((y : Entry) → (y ≡ e) ⊎ Member y es → comes_before y x ≡ false) → ((y : Entry) → (y ≡ e) ⊎ Member y es → y.number ≡ x.number → y ≡ x) → fold earlier_notice e es ≡ x
 finds e x [] m none one = ⊎_elim (λ is. is) (λ n. elim n [ ]) m
 finds e x (f ∷ fs) m none one = ⊎_elim
-    (λ t. ap (λ c. fold earlier (cond c f e) fs) t ∙ finds f x fs
+    (λ t. ap (λ c. fold earlier_notice (cond c f e) fs) t ∙ finds f x fs
     (⊎_elim (λ is. absurd (let h = none f (inr (inl refl)) in let k : comes_before f x ≡ true = subst (λ z. comes_before f z ≡ true) is t in cc)) (λ n. ⊎_elim (λ is. inl (sym is)) inr n) m)
     (λ y n. none y (⊎_elim (λ is. inr (inl is)) (λ r. inr (inr r)) n))
     (λ y n. one y (⊎_elim (λ is. inr (inl is)) (λ r. inr (inr r)) n)))
-    (λ t. ap (λ c. fold earlier (cond c f e) fs) t ∙ finds e x fs
+    (λ t. ap (λ c. fold earlier_notice (cond c f e) fs) t ∙ finds e x fs
     (⊎_elim inl (λ n. ⊎_elim (λ is. inl (one e (inl refl) (tied_numbers e x (none e (inl refl)) (subst (λ z. comes_before z e ≡ false) (sym is) t)))) inr n) m)
     (λ y n. none y (⊎_elim inl (λ r. inr (inr r)) n))
     (λ y n. one y (⊎_elim inl (λ r. inr (inr r)) n)))
@@ -243,7 +243,7 @@ module _ (h : HeapEntries) (p : PendingList) (view : in_order (all_of h) ≡ p.e
   pub none_left : length h.entries ≡ 0 → p.entries ≡ []
   none_left e = nil_from_length p.entries (⊎_elim (λ some. absurd (omega (arith, e, some_head h p.entries view following some))) (λ none. omega (arith, none)) (cases_lt 0 (length p.entries)))
 
-  pub next-none : length h.entries ≡ 0 → next p ≡ None
+  pub next-none : length h.entries ≡ 0 → least_event p ≡ None
   next-none e = ap (λ es. option_map (λ (x : Entry). (x.key.time, x.notice)) (least es)) (none_left e)
 
   pub after_next-none : length h.entries ≡ 0 → after_next p ≡ p
@@ -255,7 +255,7 @@ module _ (h : HeapEntries) (p : PendingList) (view : in_order (all_of h) ≡ p.e
     least_now : least p.entries ≡ Some x
     least_now = ap least (sym view) ∙ least_first h.entries h.followers count a following x some is
 
-    pub next-first : next p ≡ Some (x.key.time, x.notice)
+    pub next-first : least_event p ≡ Some (x.key.time, x.notice)
     next-first = ap (option_map (λ (e : Entry). (e.key.time, e.notice))) least_now
 
     pub after_next-first : after_next p ≡ record p { entries = without_notice x.notice p.entries }

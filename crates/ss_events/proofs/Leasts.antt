@@ -5,7 +5,7 @@ use Rattle.std.proofs.lemmas.Bool.{cases_Bool}
 use Rattle.std.proofs.lemmas.List.{get_or_default}
 use Rattle.ss_events_entries.specs.declared.entry.Entry.{Entry}
 use Rattle.ss_world.specs.Order.{comes_before}
-use Rattle.ss_world.specs.PendingList.{earlier, least}
+use Rattle.ss_world.specs.PendingList.{earlier_notice, least}
 use Rattle.ss_events_entries.proofs.EntryOrder.{entries_rank}
 use Rattle.ss_events.proofs.InOrders.{Member, member_at, place_of}
 
@@ -18,35 +18,35 @@ record Found (e : Entry) (es : List Entry) (x : Entry) : Type 0 where
 itself : (x : Entry) → comes_before x x ≡ false
 itself x = ⊎_elim (λ t. entries_rank.one_way x x t) (λ f. f) (cases_Bool (comes_before x x))
 
-finds : (e : Entry) (es : List Entry) → Found e es (fold earlier e es)
+finds : (e : Entry) (es : List Entry) → Found e es (fold earlier_notice e es)
 finds e [] = record { one = inl refl; start = itself e; none = λ y m. elim m [ ] }
 finds e (f ∷ fs) = ⊎_elim
     (λ t.
     let r = finds f fs in
-    subst (Found e (f ∷ fs)) (sym (ap (λ c. fold earlier (cond c f e) fs) t))
+    subst (Found e (f ∷ fs)) (sym (ap (λ c. fold earlier_notice (cond c f e) fs) t))
     record {
       one = ⊎_elim (λ is. inr (inl is)) (λ m. inr (inr m)) r.one;
-      start = entries_rank.chain e f (fold earlier f fs) (entries_rank.one_way f e t) r.start;
-      none = λ y m. ⊎_elim (λ is. subst (λ z. comes_before z (fold earlier f fs) ≡ false) (sym is) r.start) (r.none y) m;
+      start = entries_rank.chain e f (fold earlier_notice f fs) (entries_rank.one_way f e t) r.start;
+      none = λ y m. ⊎_elim (λ is. subst (λ z. comes_before z (fold earlier_notice f fs) ≡ false) (sym is) r.start) (r.none y) m;
     })
     (λ t.
     let r = finds e fs in
-    subst (Found e (f ∷ fs)) (sym (ap (λ c. fold earlier (cond c f e) fs) t))
+    subst (Found e (f ∷ fs)) (sym (ap (λ c. fold earlier_notice (cond c f e) fs) t))
     record {
       one = ⊎_elim inl (λ m. inr (inr m)) r.one;
       start = r.start;
-      none = λ y m. ⊎_elim (λ is. subst (λ z. comes_before z (fold earlier e fs) ≡ false) (sym is) (entries_rank.chain f e (fold earlier e fs) t r.start)) (r.none y) m;
+      none = λ y m. ⊎_elim (λ is. subst (λ z. comes_before z (fold earlier_notice e fs) ≡ false) (sym is) (entries_rank.chain f e (fold earlier_notice e fs) t r.start)) (r.none y) m;
     })
     (cases_Bool (comes_before f e))
 
-least_of_some_one : (e : Entry) (es : List Entry) → Contains (e ∷ es) (fold earlier e es)
-least_of_some_one e es = place_of (e ∷ es) (fold earlier e es) (finds e es).one
+least_of_some_one : (e : Entry) (es : List Entry) → Contains (e ∷ es) (fold earlier_notice e es)
+least_of_some_one e es = place_of (e ∷ es) (fold earlier_notice e es) (finds e es).one
 
-least_of_some_first : (e : Entry) (es : List Entry) → All (λ f. comes_before f (fold earlier e es) ≡ false) (e ∷ es)
+least_of_some_first : (e : Entry) (es : List Entry) → All (λ f. comes_before f (fold earlier_notice e es) ≡ false) (e ∷ es)
 least_of_some_first e es = λ k d lt.
     let r = finds e es in
     let at = get_or (e ∷ es) k d in
-    ⊎_elim (λ is. subst (λ z. comes_before z (fold earlier e es) ≡ false) (sym is) r.start) (r.none at) (member_at (e ∷ es) k at lt (get_or_default (e ∷ es) k at d lt))
+    ⊎_elim (λ is. subst (λ z. comes_before z (fold earlier_notice e es) ≡ false) (sym is) r.start) (r.none at) (member_at (e ∷ es) k at lt (get_or_default (e ∷ es) k at d lt))
 
 pub least_one : (es : List Entry) → IfSome (least es) (Contains es)
 least_one [] = tt

@@ -2,7 +2,7 @@
 use Rattle.std.proofs.Common.{◌≡◌, ◌<◌, ◌≤◌, [], ◌∷◌, ◌++◌, ℕ, ℤ, zero, suc, ap, get_or, set, length, List, IsPermutation, sym, subst, ⊎_elim, arith}
 use Rattle.std.proofs.lemmas.List.Sorted.{IsPermutation-append_left, IsPermutation-append_right, IsPermutation-middle, IsPermutation-cons, IsPermutation-trans}
 use Rattle.ss_events_entries.specs.declared.entry.Entry.{Entry}
-use Rattle.ss_events_entries.specs.HeapEntries.{HeadsAndFollowers, Advances, Removes}
+use Rattle.ss_events_entries.specs.HeapEntries.{HeadsAndFollowers, Advances, RemovesEntry}
 use Rattle.ss_events_entries.specs.HeapOrder.{IsHeap, IsHeapBut}
 use Rattle.ss_world.specs.Order.{comes_before}
 use Rattle.ss_events_entries.proofs.HeadsAndFollowers.{swap_two}
@@ -17,7 +17,7 @@ replaced (x ∷ xs) (suc i) y e within is =
     IsPermutation-trans (y ∷ x ∷ xs) (x ∷ y ∷ xs) (e ∷ x ∷ set xs i y) (swap_two y x xs)
     (IsPermutation-trans (x ∷ y ∷ xs) (x ∷ e ∷ set xs i y) (e ∷ x ∷ set xs i y) (IsPermutation-cons x (y ∷ xs) (e ∷ set xs i y) rest) (swap_two x e (set xs i y)))
 
-module _ (old new : HeadsAndFollowers) (at : ℕ) (event : ℤ × ℤ) (within : at < length old.heads) (r : Removes old new at event) where
+module _ (old new : HeadsAndFollowers) (at : ℕ) (event : ℤ × ℤ) (within : at < length old.heads) (r : RemovesEntry old new at event) where
   pub removed_few : length new.heads ≤ length old.heads
   removed_few = ⊎_elim
       (λ is. omega (arith, taken_long old.heads new.heads at r.entry within r.there (ap (λ (l : HeadsAndFollowers). l.heads) is)))

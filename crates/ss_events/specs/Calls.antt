@@ -7,7 +7,7 @@ use Rattle.ss_events.specs.declared.calls.Call.TheVariants.{Schedule, Cancel, Le
 use Rattle.ss_events.specs.declared.calls.Answer.{Answer}
 use Rattle.ss_events.specs.declared.calls.Answer.TheVariants.{Done, Faulted, Next}
 use Rattle.ss_world.specs.declared.ties.TieShape.{TieShape}
-use Rattle.ss_world.specs.PendingList.{PendingList, FitsClass, scheduled, cancelled, next, after_next}
+use Rattle.ss_world.specs.PendingList.{PendingList, FitsClass, scheduled, cancelled, least_event, after_next}
 
 -- what a call fits, where it schedules: its key fits a class
 abbrev pub FitsCall : List (List TieShape) → Call → Type 0
@@ -25,22 +25,22 @@ done_or_fault (Err kind) = Faulted kind
 abbrev pub answer_of : Call → PendingList → Answer
 answer_of (Schedule time rank ties notice) p = done_or_fault (scheduled (record { time = time; rank = rank; ties = ties.now }) notice p)
 answer_of (Cancel notice) p = done_or_fault (cancelled notice p)
-answer_of Least p = Next (next p)
-answer_of Take p = Next (next p)
+answer_of Least p = Next (least_event p)
+answer_of Take p = Next (least_event p)
 
 -- the list after a call
-abbrev pub after_call : Call → PendingList → PendingList
-after_call (Schedule time rank ties notice) p = result_unwrap_or (scheduled (record { time = time; rank = rank; ties = ties.now }) notice p) p
-after_call (Cancel notice) p = result_unwrap_or (cancelled notice p) p
-after_call Least p = p
-after_call Take p = after_next p
+abbrev pub list_after_call : Call → PendingList → PendingList
+list_after_call (Schedule time rank ties notice) p = result_unwrap_or (scheduled (record { time = time; rank = rank; ties = ties.now }) notice p) p
+list_after_call (Cancel notice) p = result_unwrap_or (cancelled notice p) p
+list_after_call Least p = p
+list_after_call Take p = after_next p
 
 -- what each of some calls answers in turn
 abbrev pub answers_of : List Call → PendingList → List Answer
 answers_of [] p = []
-answers_of (call ∷ calls) p = answer_of call p ∷ answers_of calls (after_call call p)
+answers_of (call ∷ calls) p = answer_of call p ∷ answers_of calls (list_after_call call p)
 
 -- the list after all of them
 abbrev pub after_calls : List Call → PendingList → PendingList
 after_calls [] p = p
-after_calls (call ∷ calls) p = after_calls calls (after_call call p)
+after_calls (call ∷ calls) p = after_calls calls (list_after_call call p)

@@ -34,7 +34,7 @@ pub enum Answer {
 }
 
 impl Pending {
-    ghost use Rattle.ss_events.specs.Calls.{FitsCall, answer_of, after_call, answers_of, after_calls};
+    ghost use Rattle.ss_events.specs.Calls.{FitsCall, answer_of, list_after_call, answers_of, after_calls};
 
     /// Whether each key under which one of these calls schedules fits its class.
     pub fn fit(&self, calls: &[Call]) -> bool
@@ -70,7 +70,7 @@ impl Pending {
     fn make(&mut self, alloc: Global, call: &Call) -> Result<Answer, AllocError>
         requires { FitsCall self.old.list.classes call.now }
         ensures answer { IfOk result (λ answer. answer ≡ answer_of call.now self.old.list) }
-        ensures ok { OnOk result (self.new.list ≡ after_call call.now self.old.list) }
+        ensures ok { OnOk result (self.new.list ≡ list_after_call call.now self.old.list) }
         ensures err { OnErr result (self.new.list ≡ self.old.list) }
     {
         match call {

@@ -42,7 +42,7 @@ impl Model for Pending {
 impl Pending {
     ghost use Rattle.ss_events_entries.specs.CountedList.{no_work, with_work};
     ghost use Rattle.ss_events_entries.specs.Digits.{binary_digits};
-    ghost use Rattle.ss_world.specs.PendingList.{none_pending, FitsClass, is_pending, scheduled, IsRefusal, cancelled, next, after_next};
+    ghost use Rattle.ss_world.specs.PendingList.{none_pending, FitsClass, is_pending, scheduled, IsRefusal, cancelled, least_event, after_next};
 
     /// No notice is pending. `classes` has the shapes of the ties of each class, by its rank.
     pub fn new(alloc: Global, classes: &[Vec<TieShape>]) -> Result<Pending, AllocError>
@@ -143,7 +143,7 @@ impl Pending {
     /// The time and the notice that come out next, where one is pending. What will be read as that one is taken out is read ahead.
     #[inline(always)]
     pub fn least(&mut self) -> Option<(i64, i64)>
-        ensures next { result ≡ next self.old.list }
+        ensures next { result ≡ least_event self.old.list }
         ensures unchanged { self.new.list ≡ self.old.list }
         ensures comparisons { self.new.comparisons ≡ 0 }
         ensures moves { self.new.moves ≡ 0 }
@@ -161,7 +161,7 @@ impl Pending {
 
     /// Takes out what comes next, where a notice is pending, and answers its time and the notice.
     pub fn take(&mut self) -> Option<(i64, i64)>
-        ensures next { result ≡ next self.old.list }
+        ensures next { result ≡ least_event self.old.list }
         ensures rest { self.new.list ≡ after_next self.old.list }
 
         ensures comparisons { self.new.comparisons ≤ 3 * binary_digits (length self.old.list.entries) }

@@ -1,9 +1,7 @@
 -- Two places of a list that are exchanged.
-use Rattle.std.proofs.Common.{◌≡◌, ℕ, ◌-◌, ◌<◌, List, [], ◌∷◌, map, length, get_or, set, swap, sym, refl, ap, ◌∙◌, arith, ◌==◌, if◌then◌else◌}
-use Rattle.std.proofs.lemmas.List.{map-set}
+use Rattle.std.proofs.Common.{◌≡◌, ℕ, ◌<◌, List, length, get_or, swap, sym, refl, ap, ◌∙◌, arith, ◌==◌, if◌then◌else◌}
 use Rattle.std.proofs.lemmas.List.Edits.{swapped_from_swap}
 use Rattle.std.proofs.lemmas.Bool.Decides.{nat_tests}
-use lib.ListN.{get_or-map}
 use native.Mathlib.Decide.{ℕ_discrete}
 
 -- the index that i is exchanged with, where a and b change places
@@ -27,10 +25,3 @@ get_or-swap {X} xs a b d p q i =
         | no m ↦ w.2 i n m ∙ sym (read i (grind (arith, nat_tests)))
       ]
     ]
-
-module _ {X Y : Type 0} (f : X → Y) where
-  pub map-swap : (xs : List X) (i j : ℕ) → map f (swap xs i j) ≡ swap (map f xs) i j
-  map-swap [] i j = refl
-  map-swap (x ∷ xs) i j =
-      map-set f _ j _ ∙ (λ z. set (map-set f (x ∷ xs) i (get_or (x ∷ xs) j x) z) j (sym (get_or-map f (x ∷ xs) i x) z))
-      ∙ ap (λ y. set (set (map f (x ∷ xs)) i y) j (get_or (map f (x ∷ xs)) i (f x))) (sym (get_or-map f (x ∷ xs) j x))

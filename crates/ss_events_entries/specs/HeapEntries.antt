@@ -62,7 +62,7 @@ pub record Advances (old new : HeadsAndFollowers) (at : ℕ) : Type 0 where
 
 -- the entry went out of the place `at`, into which the next of its line came, or the last head, where its line had no other; this
 -- is its time and its notice
-pub record Removes (old new : HeadsAndFollowers) (at : ℕ) (event : ℤ × ℤ) : Type 0 where
+pub record RemovesEntry (old new : HeadsAndFollowers) (at : ℕ) (event : ℤ × ℤ) : Type 0 where
   pub entry : Entry
   pub there : entry ≡ slice_index_or old.heads at entry
   pub is : event ≡ event_of entry

@@ -32,7 +32,7 @@ const NOT_PLAIN: u64 = u64::MAX;
 /// What decides when a notice comes out: its time in units, the rank of its class, and its ties.
 ///
 /// The values are those at the moment when the key is made. A contract sees the record of the three.
-#[derive(Debug, Drop)]
+#[derive(Clone, Debug, Drop)]
 pub struct Key {
     time: i64,
     rank: usize,

@@ -1,21 +1,17 @@
 -- When the reader is asked.
 use Rattle.std.proofs.Common.{◌≡◌, ◌≢◌, inl, inr, ℕ, Bool, true, false, not, List, [], ◌∷◌, drop, Some, refl, sym, ap, ◌∙◌}
 use Rattle.ss_input.specs.Blocks.{BlockSeen, first_input_byte}
-use Rattle.ss_input.specs.Sources.{after, Suffices, Unasked, NextIs, HasWord}
+use Rattle.ss_input.specs.Sources.{after_while, Suffices, Unasked, NextIs, HasWord}
 use Rattle.ss_input.specs.Words.{is_separator, is_word_byte}
 use Rattle.ss_input.proofs.Passages.{some_first}
 
-skips : (passes : ℕ → Bool) (x : ℕ) (l : List ℕ) → passes x ≡ true → after passes (x ∷ l) ≡ after passes l
+skips : (passes : ℕ → Bool) (x : ℕ) (l : List ℕ) → passes x ≡ true → after_while passes (x ∷ l) ≡ after_while passes l
 skips passes x l e = rw e refl
 
 module _ {R : Type 0} (passes : ℕ → Bool) where
-  -- nothing was passed yet
-  pub unasked_begins : (a : BlockSeen R) → Suffices passes a → Unasked passes a a
-  unasked_begins a enough = record { reader = refl; ended = refl; same = refl }
-
   stays : (a b : BlockSeen R) → (a.left ≢ [] → b ≡ a) → (a.ended ≡ true → b ≡ a) → Suffices passes a → b ≡ a
   stays a b buffered after_end (inl end) = after_end end
-  stays a b buffered after_end (inr some) = buffered (λ none. some (ap (after passes) none))
+  stays a b buffered after_end (inr some) = buffered (λ none. some (ap (after_while passes) none))
 
   -- a look
   pub unasked_look : (a b : BlockSeen R) → (a.left ≢ [] → b ≡ a) → (a.ended ≡ true → b ≡ a) → Suffices passes a → Unasked passes a b
@@ -24,7 +20,7 @@ module _ {R : Type 0} (passes : ℕ → Bool) where
       record {
         reader = ap (λ (k : BlockSeen R). k.reader) same;
         ended = ap (λ (k : BlockSeen R). k.ended) same;
-        same = ap (λ (k : BlockSeen R). after passes k.left) same;
+        same = ap (λ (k : BlockSeen R). after_while passes k.left) same;
       }
 
   -- a look at a byte that is passed then
@@ -36,8 +32,8 @@ module _ {R : Type 0} (passes : ℕ → Bool) where
         reader = reader ∙ ap (λ (k : BlockSeen R). k.reader) same;
         ended = ended ∙ ap (λ (k : BlockSeen R). k.ended) same;
         same =
-            ap (after passes) left ∙ sym (skips passes x (drop 1 b.left) good) ∙ ap (after passes) (sym (some_first x b.left first))
-            ∙ ap (λ (k : BlockSeen R). after passes k.left) same;
+            ap (after_while passes) left ∙ sym (skips passes x (drop 1 b.left) good) ∙ ap (after_while passes) (sym (some_first x b.left first))
+            ∙ ap (λ (k : BlockSeen R). after_while passes k.left) same;
       }
 
   still : (a b : BlockSeen R) → Unasked passes a b → Suffices passes a → Suffices passes b
@@ -58,21 +54,21 @@ separator-no true e = absurd cc
 separator-no false e = refl
 
 -- before a word there is no separator
-no_gap : {R : Type 0} (b : BlockSeen R) → NextIs is_word_byte b → after is_separator b.left ≡ b.left
+no_gap : {R : Type 0} (b : BlockSeen R) → NextIs is_word_byte b → after_while is_separator b.left ≡ b.left
 no_gap b h = by-left b.left refl
   where
-    by-left : (l : List ℕ) → b.left ≡ l → after is_separator l ≡ l
+    by-left : (l : List ℕ) → b.left ≡ l → after_while is_separator l ≡ l
     by-left [] e = refl
     by-left (y ∷ l) e = rw (separator-no (is_separator y) (h.before y l e)) refl
 
 enough_gap : {R : Type 0} (a : BlockSeen R) → HasWord a → Suffices is_separator a
 enough_gap a (inl end) = inl end
-enough_gap a (inr some) = inr (λ none. some (ap (after is_word_byte) none))
+enough_gap a (inr some) = inr (λ none. some (ap (after_while is_word_byte) none))
 
 enough_word : {R : Type 0} (a b : BlockSeen R) → Unasked is_separator a b → NextIs is_word_byte b → HasWord a → Suffices is_word_byte b
 enough_word a b kept before (inl end) = inl (kept.ended ∙ end)
 enough_word a b kept before (inr some) =
-    inr (λ none. some (ap (after is_word_byte) (sym kept.same ∙ no_gap b before) ∙ none))
+    inr (λ none. some (ap (after_while is_word_byte) (sym kept.same ∙ no_gap b before) ∙ none))
 
 -- the separators before a word and its bytes
 pub gap_unasked : {R : Type 0} (a b : BlockSeen R) → (Suffices is_separator a → Unasked is_separator a b) → HasWord a → b.reader ≡ a.reader

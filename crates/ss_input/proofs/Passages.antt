@@ -4,8 +4,8 @@ use Rattle.std.proofs.lemmas.List.{append_assoc, append-nil, length-append, take
 use Rattle.std.proofs.lemmas.List.Folds.{list_all-append}
 use Rattle.std.specs.Io.KnownBytes.{Consumes, Keeps}
 use Rattle.std.specs.List.{list_all}
-use Rattle.ss_input.specs.Blocks.{BlockSeen, Looks, Unread, first_input_byte}
-use Rattle.ss_input.specs.Sources.{Gives, Passes, Passed, GapPassed, WordPassed, NextIs, Wants}
+use Rattle.ss_input.specs.Blocks.{BlockSeen, Peeks, Unread, first_input_byte}
+use Rattle.ss_input.specs.Sources.{GivesBytes, Passes, Passed, GapPassed, WordPassed, NextIs, Wants}
 use Rattle.ss_input.specs.Words.{is_separator, is_word_byte}
 
 pub some_first : (x : ℕ) (l : List ℕ) → Some x ≡ first_input_byte l → l ≡ x ∷ drop 1 l
@@ -13,7 +13,7 @@ some_first x [] e = absurd cc
 some_first x (y ∷ l) e = cc
 
 -- a byte that was looked at and passed
-pub passes_one : {R : Type 0} (remaining : R → Option (List ℕ)) (a b c : BlockSeen R) (x : ℕ) → Looks remaining a b (Some x) → c.left ≡ drop 1 b.left → c.reader ≡ b.reader → c.ended ≡ b.ended → Passes remaining a c (x ∷ [])
+pub passes_one : {R : Type 0} (remaining : R → Option (List ℕ)) (a b c : BlockSeen R) (x : ℕ) → Peeks remaining a b (Some x) → c.left ≡ drop 1 b.left → c.reader ≡ b.reader → c.ended ≡ b.ended → Passes remaining a c (x ∷ [])
 passes_one remaining a b c x l left reader ended = record {
   got = l.got;
   consumed = subst (λ r. Consumes (remaining a.reader) (remaining r) l.got) (sym reader) l.consumed;
@@ -22,16 +22,16 @@ passes_one remaining a b c x l left reader ended = record {
 }
 
 -- a byte that was looked at, and is still to be passed
-pub passes_look : {R : Type 0} (remaining : R → Option (List ℕ)) (a b : BlockSeen R) (byte : Option ℕ) → Looks remaining a b byte → Passes remaining a b []
+pub passes_look : {R : Type 0} (remaining : R → Option (List ℕ)) (a b : BlockSeen R) (byte : Option ℕ) → Peeks remaining a b byte → Passes remaining a b []
 passes_look remaining a b byte l = record { got = l.got; consumed = l.consumed; after_end = l.after_end; same = sym l.left }
 
-pub next_is : {R : Type 0} (remaining : R → Option (List ℕ)) (is_wanted : ℕ → Bool) (a b : BlockSeen R) (x : ℕ) → Looks remaining a b (Some x) → is_wanted x ≡ true → NextIs is_wanted b
+pub next_is : {R : Type 0} (remaining : R → Option (List ℕ)) (is_wanted : ℕ → Bool) (a b : BlockSeen R) (x : ℕ) → Peeks remaining a b (Some x) → is_wanted x ≡ true → NextIs is_wanted b
 next_is remaining is_wanted a b x l e = record {
   at_end = λ none. let no : Some x ≡ None = l.byte_is ∙ ap first_input_byte none in absurd cc;
   before = λ y bs here. let some : Some x ≡ Some y = l.byte_is ∙ ap first_input_byte here in let same : x ≡ y = cc in subst (λ z. is_wanted z ≡ true) same e;
 }
 
-pub next_is_end : {R : Type 0} (remaining : R → Option (List ℕ)) (is_wanted : ℕ → Bool) (a b : BlockSeen R) → Looks remaining a b None → NextIs is_wanted b
+pub next_is_end : {R : Type 0} (remaining : R → Option (List ℕ)) (is_wanted : ℕ → Bool) (a b : BlockSeen R) → Peeks remaining a b None → NextIs is_wanted b
 next_is_end remaining is_wanted a b l = record {
   at_end = λ none. l.at_end refl;
   before = λ y bs here. let no : None ≡ Some y = l.byte_is ∙ ap first_input_byte here in absurd cc;
@@ -52,20 +52,8 @@ passes_then remaining a b c xs ys h g = record {
   same = sym (append_assoc a.left h.got g.got) ∙ ap (λ t. t ++ g.got) h.same ∙ append_assoc xs b.left g.got ∙ ap (λ t. xs ++ t) g.same ∙ sym (append_assoc xs ys c.left);
 }
 
--- nothing was passed yet
-pub passes_nothing : {R : Type 0} (remaining : R → Option (List ℕ)) (a : BlockSeen R) → Passes remaining a a []
-passes_nothing remaining a = record {
-  got = [];
-  consumed = consumes_nothing (remaining a.reader);
-  after_end = λ e. (refl, e);
-  same = append-nil a.left;
-} where
-  consumes_nothing : (p : Option (List ℕ)) → Consumes p p []
-  consumes_nothing None = tt
-  consumes_nothing (Some a) = refl
-
 -- a passage, and then an error of the reader
-pub gives_after : {R : Type 0} (remaining : R → Option (List ℕ)) (a b c : BlockSeen R) (xs : List ℕ) → Passes remaining a b xs → Unread remaining b c → Gives remaining a c
+pub gives_after : {R : Type 0} (remaining : R → Option (List ℕ)) (a b c : BlockSeen R) (xs : List ℕ) → Passes remaining a b xs → Unread remaining b c → GivesBytes remaining a c
 gives_after remaining a b c xs h u = record {
   got = h.got;
   consumed = consumes_kept (remaining a.reader) (remaining b.reader) (remaining c.reader) h.got h.consumed u.kept;
@@ -93,7 +81,7 @@ wants_after remaining passes a b c xs h all u w =
     }
 
 -- and a passage that gave
-pub gives_then : {R : Type 0} (remaining : R → Option (List ℕ)) (a b c : BlockSeen R) (xs : List ℕ) → Passes remaining a b xs → Gives remaining b c → Gives remaining a c
+pub gives_then : {R : Type 0} (remaining : R → Option (List ℕ)) (a b c : BlockSeen R) (xs : List ℕ) → Passes remaining a b xs → GivesBytes remaining b c → GivesBytes remaining a c
 gives_then remaining a b c xs h g = record {
   got = h.got ++ g.got;
   consumed = consumes_more (remaining a.reader) (remaining b.reader) (remaining c.reader) h.got g.got h.consumed g.consumed;
@@ -103,9 +91,6 @@ gives_then remaining a b c xs h g = record {
 -- ---- separators
 
 module _ {R : Type 0} (remaining : R → Option (List ℕ)) where
-  pub gap_begins : (a : BlockSeen R) (before : ℕ) → GapPassed remaining a a before before
-  gap_begins a before = record { bytes = []; passes = passes_nothing remaining a; holds = (refl, omega arith) }
-
   pub gap_more : (a b c : BlockSeen R) (before n : ℕ) → GapPassed remaining a b before n → Passed remaining b c (λ bytes. (x : ℕ) × (bytes ≡ x ∷ []) × (is_separator x ≡ true)) → GapPassed remaining a c before (n + 1)
   gap_more a b c before n h g =
       let one : g.bytes ≡ g.holds.0 ∷ [] = g.holds.1 in
@@ -124,9 +109,6 @@ module _ {R : Type 0} (remaining : R → Option (List ℕ)) where
   }
 
   -- ---- words
-
-  pub word_begins : (a : BlockSeen R) (word : List ℕ) → WordPassed remaining a a (take 0 word)
-  word_begins a word = (passes_nothing remaining a, refl)
 
   pub word_more : (a b c : BlockSeen R) (word : List ℕ) (n x : ℕ) → n < length word → WordPassed remaining a b (take n word) → Passes remaining b c (x ∷ []) × (is_word_byte x ≡ true) → WordPassed remaining a c (take (n + 1) (slice_set word n x))
   word_more a b c word n x lt h g =

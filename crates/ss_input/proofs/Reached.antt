@@ -7,7 +7,7 @@ use Rattle.std.proofs.lemmas.List.Folds.{list_all-append}
 use Rattle.ss_base.specs.declared.fault.FaultKind.TheVariants.{BadData}
 use Rattle.ss_input.specs.declared.source.Source.{Source}
 use Rattle.ss_input.specs.Blocks.{BlockSeen, first_input_byte}
-use Rattle.ss_input.specs.Sources.{Gives, Passes, Passed, GapPassed, WordPassed, NextIs}
+use Rattle.ss_input.specs.Sources.{GivesBytes, Passes, Passed, GapPassed, WordPassed, NextIs}
 use Rattle.ss_input.specs.Inputs.{source_block, source_gap, Reaches, IsAhead, Reads, Finds}
 use Rattle.ss_input.specs.Words.{is_separator, is_word_byte, from_word, leading_word, next_word, is_ended, no_word}
 use Rattle.ss_input.proofs.Passages.{consumes_more}
@@ -183,7 +183,7 @@ module _ {R : Type 0} (remaining : R → Option (List ℕ)) where
   }
 
   -- some bytes were read, and nothing is found
-  pub nothing_found : (old a b : Source R) → source_block a ≡ source_block b → Gives remaining (source_block old) (source_block a) → Finds remaining old b (λ input. Unit {0})
+  pub nothing_found : (old a b : Source R) → source_block a ≡ source_block b → GivesBytes remaining (source_block old) (source_block a) → Finds remaining old b (λ input. Unit {0})
   nothing_found old a b block h = record {
     got = h.got;
     consumed = subst (λ k. Consumes (remaining (source_block old).reader) (remaining k.reader) h.got) block h.consumed;

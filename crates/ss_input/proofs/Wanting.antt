@@ -3,7 +3,7 @@ use Rattle.std.proofs.Common.{◌≡◌, ℕ, Bool, true, false, not, ◌&&◌, 
 use Rattle.std.specs.List.{list_all}
 use Rattle.std.proofs.lemmas.List.{append-nil}
 use Rattle.ss_input.specs.Blocks.{BlockSeen}
-use Rattle.ss_input.specs.Sources.{GapPassed, Wants, Lacks, after}
+use Rattle.ss_input.specs.Sources.{GapPassed, Wants, Lacks, after_while}
 use Rattle.ss_input.specs.Words.{is_separator, is_word_byte}
 use Rattle.ss_input.proofs.Passages.{passes_then}
 
@@ -16,7 +16,7 @@ and-right true b e = e
 and-right false b e = absurd cc
 
 -- nothing comes after bytes that all pass
-pub after_all : (p : ℕ → Bool) (bs : List ℕ) → list_all p bs ≡ true → after p bs ≡ []
+pub after_all : (p : ℕ → Bool) (bs : List ℕ) → list_all p bs ≡ true → after_while p bs ≡ []
 after_all p [] e = refl
 after_all p (b ∷ bs) e = rw (and-left (p b) (list_all p bs) e) (after_all p bs (and-right (p b) (list_all p bs) e))
 
@@ -24,17 +24,17 @@ no-separator : (b : Bool) → not b ≡ true → b ≡ false
 no-separator true e = absurd cc
 no-separator false e = refl
 
-word_first : (w : List ℕ) → list_all is_word_byte w ≡ true → after is_separator w ≡ w
+word_first : (w : List ℕ) → list_all is_word_byte w ≡ true → after_while is_separator w ≡ w
 word_first [] e = refl
 word_first (x ∷ w) e = rw (no-separator (is_separator x) (and-left (is_word_byte x) (list_all is_word_byte w) e)) refl
 
-after_gap : (gap w : List ℕ) → list_all is_separator gap ≡ true → list_all is_word_byte w ≡ true → after is_separator (gap ++ w) ≡ w
+after_gap : (gap w : List ℕ) → list_all is_separator gap ≡ true → list_all is_word_byte w ≡ true → after_while is_separator (gap ++ w) ≡ w
 after_gap [] w s e = word_first w e
 after_gap (b ∷ gap) w s e = rw (and-left (is_separator b) (list_all is_separator gap) s) (after_gap gap w (and-right (is_separator b) (list_all is_separator gap) s) e)
 
 -- separators and then the bytes of a word
-pub short_so : (gap w : List ℕ) → list_all is_separator gap ≡ true → list_all is_word_byte w ≡ true → after is_word_byte (after is_separator (gap ++ w)) ≡ []
-short_so gap w s e = ap (after is_word_byte) (after_gap gap w s e) ∙ after_all is_word_byte w e
+pub short_so : (gap w : List ℕ) → list_all is_separator gap ≡ true → list_all is_word_byte w ≡ true → after_while is_word_byte (after_while is_separator (gap ++ w)) ≡ []
+short_so gap w s e = ap (after_while is_word_byte) (after_gap gap w s e) ∙ after_all is_word_byte w e
 
 module _ {R : Type 0} (remaining : R → Option (List ℕ)) where
   -- the reader failed before the word
@@ -46,7 +46,7 @@ module _ {R : Type 0} (remaining : R → Option (List ℕ)) where
         got = p.got;
         consumed = p.consumed;
         after_end = p.after_end;
-        short = ap (λ l. after is_word_byte (after is_separator l)) all ∙ ap (after is_word_byte) (after_all is_separator h.passed.bytes h.passed.holds);
+        short = ap (λ l. after_while is_word_byte (after_while is_separator l)) all ∙ ap (after_while is_word_byte) (after_all is_separator h.passed.bytes h.passed.holds);
         goes_on = h.goes_on;
       }
 
@@ -59,6 +59,6 @@ module _ {R : Type 0} (remaining : R → Option (List ℕ)) where
         got = p.got;
         consumed = p.consumed;
         after_end = p.after_end;
-        short = ap (λ l. after is_word_byte (after is_separator l)) all ∙ short_so g.bytes h.passed.bytes g.holds.0 h.passed.holds;
+        short = ap (λ l. after_while is_word_byte (after_while is_separator l)) all ∙ short_so g.bytes h.passed.bytes g.holds.0 h.passed.holds;
         goes_on = h.goes_on;
       }

@@ -14,8 +14,8 @@ pub record BlockSeen (R : Type 0) : Type 0 where
   pub ended : Bool
 
 -- it is stored as its fields
-abbrev pub block_code : {R : Type 0} → Coded R → Coded (BlockSeen R)
-block_code {R} reader_code =
+abbrev pub coded_block : {R : Type 0} → Coded R → Coded (BlockSeen R)
+coded_block {R} reader_code =
     code_by (R × (List ℕ × Bool)) (coded× reader_code (coded× (coded_list coded_ℕ) coded_bool)) (λ s. (s.reader, (s.left, s.ended))) (λ p. record { reader = p.0; left = p.1.0; ended = p.1.1 }) (λ _. refl)
 
 -- the first byte, if there is one
@@ -37,7 +37,7 @@ pub record Unread {R : Type 0} (remaining : R → Option (List ℕ)) (old new : 
   pub ended : new.ended ≡ old.ended
 
 -- a look at the next byte: the reader gave some bytes, none after its end
-pub record Looks {R : Type 0} (remaining : R → Option (List ℕ)) (old new : BlockSeen R) (byte : Option ℕ) : Type 0 where
+pub record Peeks {R : Type 0} (remaining : R → Option (List ℕ)) (old new : BlockSeen R) (byte : Option ℕ) : Type 0 where
   pub got : List ℕ
   pub consumed : Consumes (remaining old.reader) (remaining new.reader) got
   pub left : new.left ≡ old.left ++ got

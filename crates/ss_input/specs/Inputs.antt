@@ -63,7 +63,7 @@ pub record IsAhead {R : Type 0} (s : Source R) (more input : List ℕ) : Type 0 
   pub input_is : input ≡ gap ++ ((source_block s).left ++ more)
 
 -- the rest of an input that a source has still to hand out, and a statement that holds of it
-pub record Left {R : Type 0} (s : Source R) (more : List ℕ) (Says : List ℕ → Type 0) : Type 0 where
+pub record HasRest {R : Type 0} (s : Source R) (more : List ℕ) (Says : List ℕ → Type 0) : Type 0 where
   pub rest : List ℕ
   pub ahead : IsAhead s more rest
   pub says : Says rest
@@ -74,7 +74,7 @@ pub record Reads {R : Type 0} (remaining : R → Option (List ℕ)) (old new : S
   pub got : List ℕ
   pub consumed : Consumes (remaining (source_reader old)) (remaining (source_reader new)) got
   pub after_end : (source_block old).ended ≡ true → (got ≡ []) × ((source_block new).ended ≡ true)
-  pub says : (more input : List ℕ) → ((source_block new).ended ≡ true → more ≡ []) → IsAhead old (got ++ more) input → Left new more (Says input)
+  pub says : (more input : List ℕ) → ((source_block new).ended ≡ true → more ≡ []) → IsAhead old (got ++ more) input → HasRest new more (Says input)
 
 -- a call after which no more is read: whatever the reader gives from here on, this holds of the input before it
 pub record Finds {R : Type 0} (remaining : R → Option (List ℕ)) (old new : Source R) (Says : (input : List ℕ) → Type 0) : Type 0 where

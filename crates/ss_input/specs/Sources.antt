@@ -6,7 +6,7 @@ use Rattle.ss_input.specs.Blocks.{BlockSeen}
 use Rattle.ss_input.specs.Words.{is_separator, is_word_byte}
 
 -- the reader gave some bytes, none after its end
-pub record Gives {R : Type 0} (remaining : R → Option (List ℕ)) (old new : BlockSeen R) : Type 0 where
+pub record GivesBytes {R : Type 0} (remaining : R → Option (List ℕ)) (old new : BlockSeen R) : Type 0 where
   pub got : List ℕ
   pub consumed : Consumes (remaining old.reader) (remaining new.reader) got
   pub after_end : old.ended ≡ true → (got ≡ []) × (new.ended ≡ true)
@@ -40,24 +40,24 @@ abbrev pub WordPassed : {R : Type 0} → (R → Option (List ℕ)) → BlockSeen
 WordPassed remaining old new bytes = Passes remaining old new bytes × (list_all is_word_byte bytes ≡ true)
 
 -- what comes after the first bytes that pass a test
-abbrev pub after : (ℕ → Bool) → List ℕ → List ℕ
-after passes [] = []
-after passes (b ∷ bs) = if passes b then after passes bs else b ∷ bs
+abbrev pub after_while : (ℕ → Bool) → List ℕ → List ℕ
+after_while passes [] = []
+after_while passes (b ∷ bs) = if passes b then after_while passes bs else b ∷ bs
 
 -- whether a block knows without its reader what comes after bytes that pass a test: a byte after them is buffered, or the
 -- reader has given its end
 abbrev pub Suffices : {R : Type 0} → (ℕ → Bool) → BlockSeen R → Type 0
-Suffices passes block = (block.ended ≡ true) ⊎ (after passes block.left ≢ [])
+Suffices passes block = (block.ended ≡ true) ⊎ (after_while passes block.left ≢ [])
 
 -- some such buffered bytes were passed, and the reader was not asked
 pub record Unasked {R : Type 0} (passes : ℕ → Bool) (old new : BlockSeen R) : Type 0 where
   pub reader : new.reader ≡ old.reader
   pub ended : new.ended ≡ old.ended
-  pub same : after passes new.left ≡ after passes old.left
+  pub same : after_while passes new.left ≡ after_while passes old.left
 
 -- whether a block knows without its reader where the next word ends
 abbrev pub HasWord : {R : Type 0} → BlockSeen R → Type 0
-HasWord block = (block.ended ≡ true) ⊎ (after is_word_byte (after is_separator block.left) ≢ [])
+HasWord block = (block.ended ≡ true) ⊎ (after_while is_word_byte (after_while is_separator block.left) ≢ [])
 
 -- all buffered bytes, and those that the reader gave, pass a test and were passed; it gave no end, and has to be asked for more
 pub record Wants {R : Type 0} (remaining : R → Option (List ℕ)) (passes : ℕ → Bool) (old new : BlockSeen R) : Type 0 where
@@ -70,5 +70,5 @@ pub record Lacks {R : Type 0} (remaining : R → Option (List ℕ)) (old new : B
   pub got : List ℕ
   pub consumed : Consumes (remaining old.reader) (remaining new.reader) got
   pub after_end : old.ended ≡ true → (got ≡ []) × (new.ended ≡ true)
-  pub short : after is_word_byte (after is_separator (old.left ++ got)) ≡ []
+  pub short : after_while is_word_byte (after_while is_separator (old.left ++ got)) ≡ []
   pub goes_on : new.ended ≡ false

@@ -91,14 +91,14 @@ abbrev pub as_whole : Option ℤ → Option Value
 as_whole None = None
 as_whole (Some z) = Some (Whole z)
 
-abbrev pub as_text : Option (List ℕ) → Option Value
-as_text None = None
-as_text (Some t) = Some (Text t)
+abbrev pub optional_text : Option (List ℕ) → Option Value
+optional_text None = None
+optional_text (Some t) = Some (Text t)
 
 -- what a word is in a mode
 abbrev pub word_value : Mode → List ℕ → Option Value
 word_value Integer word = as_whole (number_read word)
-word_value Alpha word = as_text (text_of word)
+word_value Alpha word = optional_text (text_of word)
 
 abbrev pub if_read : Option Value → List ℕ → Result (Given Value) FaultKind
 if_read None rest = Err BadData

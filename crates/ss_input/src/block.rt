@@ -3,7 +3,7 @@
 ghost use Rattle.std.specs.Prelude.{◌≡◌, ◌≢◌, ◌<◌, ◌≤◌, [], true, false, length, drop, IfOk, OnOk, OnErr};
 ghost use Rattle.std.specs.Io.KnownBytes.{Keeps};
 ghost use Rattle.ss_base.specs.Failures.{errors_after};
-ghost use Rattle.ss_input.specs.Blocks.{KnowsEnd, Looks, Fills, Unread, first_input_byte};
+ghost use Rattle.ss_input.specs.Blocks.{KnowsEnd, Peeks, Fills, Unread, first_input_byte};
 
 use ss_base::FaultyRead;
 use std::marker::Model;
@@ -29,11 +29,11 @@ pub struct Block<R> {
 
 impl<R> Model for Block<R> {
     ghost use Rattle.std.specs.Prelude.{◌≤◌, drop, take};
-    ghost use Rattle.ss_input.specs.Blocks.{BlockSeen, block_code, block_limit};
+    ghost use Rattle.ss_input.specs.Blocks.{BlockSeen, coded_block, block_limit};
 
     ghost Value = { BlockSeen R };
 
-    ghost coded = { block_code R.code };
+    ghost coded = { coded_block R.code };
 
     ghost view = { λ b. record { reader = b.reader; left = drop b.next (take b.end b.room); ended = b.ended } };
 
@@ -106,7 +106,7 @@ impl<R: FaultyRead> Block<R> {
     /// no byte is buffered and it gave no end. The error comes where it answered one; then nothing was
     /// read.
     pub fn peek(&mut self) -> Result<Option<u8>, ReadFailed>
-        ensures ok { IfOk result (λ byte. Looks R.remaining self.old self.new byte) }
+        ensures ok { IfOk result (λ byte. Peeks R.remaining self.old self.new byte) }
         ensures buffered { self.old.left ≢ [] → self.new ≡ self.old }
         ensures after_end { self.old.ended ≡ true → self.new ≡ self.old }
         ensures unread { OnErr result (Unread R.remaining self.old self.new) }

@@ -4,7 +4,7 @@ ghost use Rattle.std.specs.List.{list_all};
 ghost use Rattle.std.specs.Prelude.{length, take, ◌≡◌, ◌≤◌, ◌+◌, ◌∷◌, [], true, false, ℕ, Ok, Some, None, OnErr};
 ghost use Rattle.ss_base.specs.Failures.{errors_after};
 ghost use Rattle.ss_input.specs.Blocks.{KnowsEnd, Unread};
-ghost use Rattle.ss_input.specs.Sources.{Gives, Passes, Passed, GapPassed, WordPassed, NextIs, Suffices, Unasked, Wants};
+ghost use Rattle.ss_input.specs.Sources.{GivesBytes, Passes, Passed, GapPassed, WordPassed, NextIs, Suffices, Unasked, Wants};
 ghost use Rattle.ss_input.specs.Words.{is_separator, is_word_byte};
 
 use crate::block::{Block, ReadFailed};
@@ -71,7 +71,7 @@ pub(crate) fn pass_gap<R: FaultyRead>(
     requires { before ≤ SEPARATOR_LIMIT }
     ensures passed { (count : ℕ) → result ≡ Ok (Some count) → GapPassed R.remaining block.old block.new before count × (count ≤ SEPARATOR_LIMIT) × NextIs is_word_byte block.new }
     ensures too_many { result ≡ Ok None → GapPassed R.remaining block.old block.new before (SEPARATOR_LIMIT + 1) }
-    ensures gives { OnErr result (Gives R.remaining block.old block.new) }
+    ensures gives { OnErr result (GivesBytes R.remaining block.old block.new) }
     ensures wants { OnErr result (Wants R.remaining is_separator block.old block.new) }
     ensures counted { R.faults block.new.reader ≡ errors_after result (R.faults block.old.reader) }
     ensures unasked { Suffices is_separator block.old → Unasked is_separator block.old block.new }
@@ -97,7 +97,7 @@ pub(crate) fn pass_word<R: FaultyRead>(
 ) -> Result<Option<usize>, ReadFailed>
     ensures passed { (count : ℕ) → result ≡ Ok (Some count) → WordPassed R.remaining block.old block.new (take count word.new) × (count ≤ WORD_LIMIT) × NextIs is_separator block.new }
     ensures too_long { result ≡ Ok None → Passed R.remaining block.old block.new (λ bytes. (list_all is_word_byte bytes ≡ true) × (length bytes ≡ WORD_LIMIT + 1)) }
-    ensures gives { OnErr result (Gives R.remaining block.old block.new) }
+    ensures gives { OnErr result (GivesBytes R.remaining block.old block.new) }
     ensures wants { OnErr result (Wants R.remaining is_word_byte block.old block.new) }
     ensures counted { R.faults block.new.reader ≡ errors_after result (R.faults block.old.reader) }
     ensures unasked { Suffices is_word_byte block.old → Unasked is_word_byte block.old block.new }

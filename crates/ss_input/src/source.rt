@@ -7,7 +7,7 @@ ghost use Rattle.ss_base.specs.declared.layout.Mode.TheVariants.{Integer, Alpha 
 ghost use Rattle.ss_base.specs.Failures.{HasRisen, HasRisenBy};
 ghost use Rattle.ss_input.specs.declared.source.Missed.{Missed as MissedSeen};
 ghost use Rattle.ss_input.specs.Blocks.{KnowsEnd};
-ghost use Rattle.ss_input.specs.Sources.{Gives, GapPassed, NextIs, Suffices, Unasked, HasWord, Wants, Lacks};
+ghost use Rattle.ss_input.specs.Sources.{GivesBytes, GapPassed, NextIs, Suffices, Unasked, HasWord, Wants, Lacks};
 ghost use Rattle.ss_input.specs.Inputs.{source_block, source_gap, source_missed, source_reader, IsFresh, IsBuffered, IsBeforeWord, Reads, Finds, Reaches, missed_of, failures_after};
 ghost use Rattle.ss_input.specs.Words.{is_separator, is_word_byte, if_read, is_ended, next_word, value_given};
 
@@ -95,7 +95,7 @@ impl<R: FaultyRead> Source<R> {
     fn reach_word(&mut self) -> Result<(), Missed>
         ensures ok { OnOk result (Reaches R.remaining self.old self.new) }
         ensures fault { (kind : FaultSeen) → result ≡ Err (Missed.Fault kind) → (kind ≡ FaultKind.BadData) × GapPassed R.remaining (source_block self.old) (source_block self.new) (source_gap self.old) 1048577 }
-        ensures gives { result ≡ Err Missed.Input → Gives R.remaining (source_block self.old) (source_block self.new) }
+        ensures gives { result ≡ Err Missed.Input → GivesBytes R.remaining (source_block self.old) (source_block self.new) }
         ensures wants { result ≡ Err Missed.Input → Wants R.remaining is_separator (source_block self.old) (source_block self.new) }
         ensures missed { source_missed self.new ≡ source_missed self.old }
         ensures counted { R.faults (source_reader self.new) ≡ failures_after result (R.faults (source_reader self.old)) }
@@ -117,7 +117,7 @@ impl<R: FaultyRead> Source<R> {
         ensures ok { IfOk result (λ count. count ≤ WORD_LIMIT) }
         ensures read { (count : ℕ) → result ≡ Ok count → Reads R.remaining self.old self.new (λ input rest. next_word input ≡ Ok (record { value = take count word.new; rest = rest })) }
         ensures fault { (kind : FaultSeen) → result ≡ Err (Missed.Fault kind) → Finds R.remaining self.old self.new (λ input. next_word input ≡ Err kind) }
-        ensures gives { result ≡ Err Missed.Input → Gives R.remaining (source_block self.old) (source_block self.new) }
+        ensures gives { result ≡ Err Missed.Input → GivesBytes R.remaining (source_block self.old) (source_block self.new) }
         ensures lacks { result ≡ Err Missed.Input → Lacks R.remaining (source_block self.old) (source_block self.new) }
         ensures missed { source_missed self.new ≡ source_missed self.old }
         ensures counted { R.faults (source_reader self.new) ≡ failures_after result (R.faults (source_reader self.old)) }
@@ -142,7 +142,7 @@ impl<R: FaultyRead> Source<R> {
     fn read_value<V: WordValue>(&mut self) -> Result<V, Missed>
         ensures read { (value : V) → result ≡ Ok value → Reads R.remaining self.old self.new (λ input rest. value_given V.mode input ≡ if_read (V.values (Some value)) rest) }
         ensures fault { (kind : FaultSeen) → result ≡ Err (Missed.Fault kind) → Finds R.remaining self.old self.new (λ input. value_given V.mode input ≡ Err kind) }
-        ensures gives { result ≡ Err Missed.Input → Gives R.remaining (source_block self.old) (source_block self.new) }
+        ensures gives { result ≡ Err Missed.Input → GivesBytes R.remaining (source_block self.old) (source_block self.new) }
         ensures lacks { result ≡ Err Missed.Input → Lacks R.remaining (source_block self.old) (source_block self.new) }
         ensures missed { source_missed self.new ≡ source_missed self.old }
         ensures counted { R.faults (source_reader self.new) ≡ failures_after result (R.faults (source_reader self.old)) }
@@ -306,7 +306,7 @@ impl<R: FaultyRead> Source<R> {
     fn find_end(&mut self) -> Result<bool, Missed>
         ensures read { (ended : Bool) → result ≡ Ok ended → Reads R.remaining self.old self.new (λ input rest. (rest ≡ input) × (is_ended input ≡ Ok ended)) }
         ensures fault { (kind : FaultSeen) → result ≡ Err (Missed.Fault kind) → Finds R.remaining self.old self.new (λ input. is_ended input ≡ Err kind) }
-        ensures gives { result ≡ Err Missed.Input → Gives R.remaining (source_block self.old) (source_block self.new) }
+        ensures gives { result ≡ Err Missed.Input → GivesBytes R.remaining (source_block self.old) (source_block self.new) }
         ensures wants { result ≡ Err Missed.Input → Wants R.remaining is_separator (source_block self.old) (source_block self.new) }
         ensures missed { source_missed self.new ≡ source_missed self.old }
         ensures counted { R.faults (source_reader self.new) ≡ failures_after result (R.faults (source_reader self.old)) }

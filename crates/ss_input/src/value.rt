@@ -4,7 +4,7 @@ ghost use Rattle.std.specs.Prelude.{◌≡◌, Option, None, refl};
 ghost use Rattle.ss_base.specs.declared.layout.Mode.{Mode as ModeSeen};
 ghost use Rattle.ss_base.specs.declared.layout.Mode.TheVariants.{Integer, Alpha as AlphaMode};
 ghost use Rattle.ss_base.specs.declared.value.Value.{Value as ValueSeen};
-ghost use Rattle.ss_input.specs.Words.{as_text, as_whole, word_value};
+ghost use Rattle.ss_input.specs.Words.{optional_text, as_whole, word_value};
 
 use crate::number::number_read;
 use ss_base::Alpha;
@@ -37,7 +37,7 @@ impl WordValue for i64 {
 impl WordValue for Alpha {
     ghost mode = { AlphaMode };
 
-    ghost values = { as_text };
+    ghost values = { optional_text };
 
     ghost none = { refl };
 

@@ -12,7 +12,7 @@ use Rattle.ss_lex.specs.declared.error.LexError.TheVariants as errors
 use Rattle.ss_lex.specs.Pieces.{LinePiece, spelled, piece_meaning, fault_in, first_fault}
 use Rattle.ss_lex.specs.Tokens.{token_in, tokens_of, is_trigger, has_kind, called_by}
 use Rattle.ss_lex.specs.Refusals.{refusal_for, means_trigger, has_trigger, to_trigger, cut_of, line_refusal}
-use Rattle.ss_lex.specs.Reading.{piece_at, pieces, step_of, trigger_step_of, due_from, refusal_from, fault_refusal, IsCodeLineRead, IsReadTo}
+use Rattle.ss_lex.specs.Reading.{piece_at, pieces, step_of, trigger_step_of, due_from, refusal_from, fault_refusal, IsCodeLineRead, IsReadUpTo}
 use Rattle.ss_lex.proofs.Cutting.{which, cut_complete, pieces_sound, piece_place}
 
 -- ---- the piece at the front
@@ -153,7 +153,7 @@ refusal_step due before p ps at line left e =
 
 -- ---- a line of code
 
-pub read_none : (bytes : List ℕ) (start line left : ℕ) (old : List Token) → IsReadTo bytes start line left old old bytes start 0
+pub read_none : (bytes : List ℕ) (start line left : ℕ) (old : List Token) → IsReadUpTo bytes start line left old old bytes start 0
 unfolding refusal_from
 read_none bytes start line left old = record {
   place = refl;
@@ -162,7 +162,7 @@ read_none bytes start line left old = record {
   first = ap (λ n. option_or (refusal_for (first_fault (to_trigger (pieces bytes))) line) (option_or (cut_of left n line) (refusal_for (first_fault (pieces bytes)) line))) (from_none old (tokens_of (pieces bytes) start line));
 }
 
-pub read_more : (bytes : List ℕ) (start line left : ℕ) (old tokens new : List Token) (rest after : List ℕ) (at due due' : ℕ) (m : PieceMeaning) → IsReadTo bytes start line left old tokens rest at due → Stepped rest m after → fault_in m ≡ None → new ≡ tokens ++ token_in m at line → due' ≡ due_from due tokens (token_in m at line) → IsReadTo bytes start line left old new after (at + (length rest - length after)) due'
+pub read_more : (bytes : List ℕ) (start line left : ℕ) (old tokens new : List Token) (rest after : List ℕ) (at due due' : ℕ) (m : PieceMeaning) → IsReadUpTo bytes start line left old tokens rest at due → Stepped rest m after → fault_in m ≡ None → new ≡ tokens ++ token_in m at line → due' ≡ due_from due tokens (token_in m at line) → IsReadUpTo bytes start line left old new after (at + (length rest - length after)) due'
 read_more bytes start line left old tokens new rest after at due due' m r s f n d =
     let p = s.piece in
     let here : token_in m at line ≡ token_in (piece_meaning p) at line = ap (λ x. token_in x at line) (sym s.means) in
@@ -183,7 +183,7 @@ fault_at meanings.Nothing f e = absurd cc
 fault_at (meanings.Token kind spelling) f e = absurd cc
 fault_at (meanings.Fault g) f e = cc
 
-pub read_fault : (bytes : List ℕ) (start line left : ℕ) (old tokens : List Token) (rest after : List ℕ) (at due : ℕ) (m : PieceMeaning) (fault : Fault) → IsReadTo bytes start line left old tokens rest at due → Stepped rest m after → fault_in m ≡ Some fault → line_refusal (pieces bytes) old start line left ≡ Some (fault_refusal fault after due left line)
+pub read_fault : (bytes : List ℕ) (start line left : ℕ) (old tokens : List Token) (rest after : List ℕ) (at due : ℕ) (m : PieceMeaning) (fault : Fault) → IsReadUpTo bytes start line left old tokens rest at due → Stepped rest m after → fault_in m ≡ Some fault → line_refusal (pieces bytes) old start line left ≡ Some (fault_refusal fault after due left line)
 unfolding refusal_from
 read_fault bytes start line left old tokens rest after at due m fault r s f =
     let p = s.piece in
@@ -199,13 +199,13 @@ read_fault bytes start line left old tokens rest after at due m fault r s f =
           ]
     ])
 
-pub read_cut : (bytes : List ℕ) (start line left : ℕ) (old tokens : List Token) (rest : List ℕ) (at due : ℕ) → IsReadTo bytes start line left old tokens rest at due → length rest ≡ 0 → left < due → line_refusal (pieces bytes) old start line left ≡ Some (errors.PictureCut (record { 0 = line }))
+pub read_cut : (bytes : List ℕ) (start line left : ℕ) (old tokens : List Token) (rest : List ℕ) (at due : ℕ) → IsReadUpTo bytes start line left old tokens rest at due → length rest ≡ 0 → left < due → line_refusal (pieces bytes) old start line left ≡ Some (errors.PictureCut (record { 0 = line }))
 unfolding refusal_from
 read_cut bytes start line left old tokens rest at due r e lt =
     let c : nat_lt left due ≡ true = grind (arith, nat_tests) in
     sym r.first ∙ (ap (λ l. refusal_from due tokens l at line left) (none_left rest e) ∙ rw c refl)
 
-pub read_all : (bytes : List ℕ) (start line left : ℕ) (old tokens : List Token) (rest : List ℕ) (at due : ℕ) → IsReadTo bytes start line left old tokens rest at due → length rest ≡ 0 → due ≤ left → IsCodeLineRead bytes start line left old tokens due
+pub read_all : (bytes : List ℕ) (start line left : ℕ) (old tokens : List Token) (rest : List ℕ) (at due : ℕ) → IsReadUpTo bytes start line left old tokens rest at due → length rest ≡ 0 → due ≤ left → IsCodeLineRead bytes start line left old tokens due
 unfolding refusal_from
 read_all bytes start line left old tokens rest at due r e le =
     let c : nat_lt left due ≡ false = grind (arith, nat_tests) in

@@ -1,6 +1,5 @@
 pub mod Listings
 pub mod Collecting
-pub mod Errors
 pub mod Laws
 pub mod Lines
 pub mod Parts

@@ -100,7 +100,7 @@ pub record IsCodeLineRead (bytes : List ℕ) (start line left : ℕ) (old new : 
   pub called : due ≡ called_by old (tokens_of (pieces bytes) start line)
 
 -- A line of code is read up to some place in it. The tokens, pictures and refusal of its rest complete those of the line.
-pub record IsReadTo (bytes : List ℕ) (start line left : ℕ) (old tokens : List Token) (rest : List ℕ) (at due : ℕ) : Type 0 where
+pub record IsReadUpTo (bytes : List ℕ) (start line left : ℕ) (old tokens : List Token) (rest : List ℕ) (at due : ℕ) : Type 0 where
   pub place : at + length rest ≡ start + length bytes
   pub listed : tokens ++ tokens_of (pieces rest) at line ≡ old ++ tokens_of (pieces bytes) start line
   pub called : due_from due tokens (tokens_of (pieces rest) at line) ≡ called_by old (tokens_of (pieces bytes) start line)

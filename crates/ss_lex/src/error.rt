@@ -1,5 +1,4 @@
 ghost use Rattle.std.specs.Prelude.{◌≡◌};
-ghost use Rattle.ss_lex.specs.Errors.{lex_error_number, lex_error_name, lex_error_line};
 ghost use Rattle.ss_lex.specs.declared.error.LexError.TheVariants.{Memory};
 
 use ss_base::Line;
@@ -32,56 +31,6 @@ pub enum LexError {
     NameTooLong(Line),
     #[error("out of memory")]
     Memory,
-}
-
-impl LexError {
-    /// The number that the refusal is reported by, 31 to 37; 0 where memory ran out.
-    pub fn number(&self) -> u32
-        ensures { result ≡ lex_error_number self.now }
-    {
-        match self {
-            LexError::TooLong(_) => 31,
-            LexError::NotAscii(_) => 32,
-            LexError::BadNumber(_) => 33,
-            LexError::OpenText(_) => 34,
-            LexError::AlphaTooLong(_) => 35,
-            LexError::PictureCut(_) => 36,
-            LexError::NameTooLong(_) => 37,
-            LexError::Memory => 0,
-        }
-    }
-
-    /// The name that the refusal is reported by.
-    pub fn name(&self) -> &str
-        ensures { result.now ≡ lex_error_name self.now }
-    {
-        match self {
-            LexError::TooLong(_) => "TooLong",
-            LexError::NotAscii(_) => "NotAscii",
-            LexError::BadNumber(_) => "BadNumber",
-            LexError::OpenText(_) => "OpenText",
-            LexError::AlphaTooLong(_) => "AlphaTooLong",
-            LexError::PictureCut(_) => "PictureCut",
-            LexError::NameTooLong(_) => "NameTooLong",
-            LexError::Memory => "Memory",
-        }
-    }
-
-    /// The line that the refusal is reported with; 0 for `TooLong` and where memory ran out.
-    pub fn line(&self) -> Line
-        ensures { result ≡ lex_error_line self.now }
-    {
-        match self {
-            LexError::TooLong(line)
-            | LexError::NotAscii(line)
-            | LexError::BadNumber(line)
-            | LexError::OpenText(line)
-            | LexError::AlphaTooLong(line)
-            | LexError::PictureCut(line)
-            | LexError::NameTooLong(line) => *line,
-            LexError::Memory => Line(0),
-        }
-    }
 }
 
 impl From<AllocError> for LexError {

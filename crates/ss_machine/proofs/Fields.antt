@@ -7,7 +7,7 @@ use Rattle.ss_picture.specs.declared.field.Field.{Field}
 use Rattle.ss_picture.specs.declared.items.Item.{Item}
 use Rattle.ss_picture.specs.declared.items.Item.TheVariants.{Is, Mean}
 use Rattle.ss_picture.specs.Pictures.{picture_fields}
-use Rattle.ss_picture.specs.Suited.{Suits, EachSuits}
+use Rattle.ss_picture.specs.Suited.{SuitsField, EachSuits}
 use Rattle.ss_meaning.specs.Values.{takes, take_all}
 use Rattle.ss_machine.specs.Shown.{IsPrintable}
 
@@ -26,7 +26,7 @@ then_true : (a b : Bool) → (a && b) ≡ true → b ≡ true
 then_true true b e = e
 then_true false b e = absurd cc
 
-suits : (f : Field) (x : Item) → takes f x ≡ true → IsPrintable x → Suits f.decimals x
+suits : (f : Field) (x : Item) → takes f x ≡ true → IsPrintable x → SuitsField f.decimals x
 suits f (Is v) t p = eqb-true f.decimals 0 t
 suits f (Mean sum number) t p = (leb-true f.decimals 9 t, p)
 

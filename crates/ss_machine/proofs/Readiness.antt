@@ -1,7 +1,7 @@
 -- A machine before its first step, and one that goes on.
 use Rattle.std.proofs.Common.{◌≡◌, ℕ, ◌+◌, ◌-◌, ◌*◌, ◌≤◌, Bool, true, false, [], length, None, refl, sym, ap, subst, arith}
 use Rattle.std.specs.Prelude.{slice_get}
-use Rattle.ss_code.specs.Running.{Compiled as Generated, IsCompiled as IsGenerated}
+use Rattle.ss_code.specs.Running.{Generated, IsGenerated}
 use Rattle.ss_code_instructions.specs.Laws.{HasShape}
 use Rattle.ss_code_instructions.specs.Running.{start}
 use Rattle.ss_code_instructions.specs.Measure.{left_from}

@@ -1,7 +1,7 @@
 -- A run that goes on with other ticks.
 use Rattle.std.proofs.Common.{◌≡◌, ℕ, ◌-◌, ◌≤◌, List, Option, arith}
 use Rattle.ss_input.specs.declared.source.Source.{Source}
-use Rattle.ss_code.specs.Running.{Compiled as Generated}
+use Rattle.ss_code.specs.Running.{Generated}
 use Rattle.ss_code_instructions.specs.States.{Core}
 use Rattle.ss_machine_instructions.specs.declared.flow.Here.{Here}
 use Rattle.ss_machine_instructions.specs.declared.state.State.{State}

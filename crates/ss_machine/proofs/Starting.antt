@@ -9,7 +9,7 @@ use Rattle.ss_world.specs.State.{first_state}
 use Rattle.ss_world.specs.PendingList.{none_pending}
 use Rattle.ss_meaning.specs.Histories.{starting, no_histories}
 use Rattle.ss_meaning.specs.Store.{first_values}
-use Rattle.ss_code.specs.Running.{Compiled as Generated, IsCompiled as IsGenerated, Said}
+use Rattle.ss_code.specs.Running.{Generated, IsGenerated, Said}
 use Rattle.ss_code_instructions.specs.Machine.{Code}
 use Rattle.ss_code_instructions.specs.Running.{begin_store}
 use Rattle.ss_code_instructions.specs.Carried.{RunningCode, IsEntry, IsSized, main_entry}
@@ -27,14 +27,14 @@ use Rattle.ss_machine_frames.proofs.Entering.{cleared_all, cleared_below, cleare
 use Rattle.ss_machine_frames.proofs.Places.{agree_on, agree_within, all_agree}
 use Rattle.ss_machine_instructions.specs.declared.state.State.{State}
 use Rattle.ss_machine_instructions.specs.Doing.{Compiled, scene_of}
-use Rattle.ss_machine.specs.Beginning.{Laid, IsFirstScene, IsFirstState, first_here, values_laid, firsts_laid, none_laid}
-use Rattle.ss_machine.specs.Situations.{IsOf, situated}
+use Rattle.ss_machine.specs.Beginning.{IsLaidOut, IsFirstScene, IsFirstState, first_here, values_laid, firsts_laid, none_laid}
+use Rattle.ss_machine.specs.Situations.{IsCodeOf, situated}
 use Rattle.ss_machine.specs.Start.{IsAtStart}
 use Rattle.ss_machine.proofs.Laying.{laid_at, laid_agrees, laid_even, laid_long, firsts_long}
 
 -- ## Rows
 
-module _ (code : Generated) (rows : TwoRows) (h : Laid code rows) where
+module _ (code : Generated) (rows : TwoRows) (h : IsLaidOut code rows) where
   abbrev variables : TwoRows
   variables = firsts_laid none_laid code.globals
 
@@ -92,7 +92,7 @@ frame_small code s first = omega (arith, first.rows.room, first.rows.small)
 -- ## The scene
 
 -- what a scene is that holds no entity, with the histories of the system begun
-scene_first : (w : Compiled) (code : Generated) (s : State) → IsOf code w → IsFirstScene code s.scene → (input : List ℕ) → (begin_store w.code input).scene ≡ scene_of s.scene input
+scene_first : (w : Compiled) (code : Generated) (s : State) → IsCodeOf code w → IsFirstScene code s.scene → (input : List ℕ) → (begin_store w.code input).scene ≡ scene_of s.scene input
 scene_first w code s of e input =
     let said = of.said in
     let layout : code.said.layout ≡ w.code.layout = ap (λ (x : Said). x.layout) said ∙ sym (ap (λ (k : Code). k.layout) of.compiled.code) in
@@ -171,7 +171,7 @@ scene_made code layout disciplines notices shapes statistics (Err e) l d n t s i
 
 -- rows as they are laid
 pub laid : (code : Generated) (all grown rows : TwoRows) → all ≡ values_laid (firsts_laid none_laid code.globals) code.run.constants → Grown all grown → length grown.texts ≡ length grown.numbers
-    → length all.numbers + code.run.main.room ≤ length grown.numbers → length grown.numbers < 2 ^ 63 → rows ≡ cleared grown (length all.numbers) code.run.main.others.items → Laid code rows
+    → length all.numbers + code.run.main.room ≤ length grown.numbers → length grown.numbers < 2 ^ 63 → rows ≡ cleared grown (length all.numbers) code.run.main.others.items → IsLaidOut code rows
 laid code all grown rows is grows even room small made =
     let first : length (firsts_laid none_laid code.globals).numbers ≡ length code.globals = omega (arith, laid_long none_laid (first_values code.globals), firsts_long code.globals) in
     let long : length all.numbers ≡ length code.globals + length code.run.constants = ap (λ (r : TwoRows). length r.numbers) is ∙ omega (arith, laid_long (firsts_laid none_laid code.globals) code.run.constants, first) in

@@ -21,7 +21,7 @@ use Rattle.ss_code_instructions.specs.Instructions.{Lines}
 use Rattle.ss_code_instructions.specs.States.{Core, Moved, Sends, Rest, Stuck, Breaks, did, fit, core_at, with_block, at_height}
 use Rattle.ss_code_instructions.specs.Machine.{act, values_shown, print_lines, cells_of_kinds}
 use Rattle.ss_code_instructions.specs.Shape.{Suits, ItemsFit, modes_onto}
-use Rattle.ss_code_instructions.specs.Carried.{RunningLines, lines_of, kind_of_item, item_modes, onto, At, From, Is}
+use Rattle.ss_code_instructions.specs.Carried.{RunningLines, lines_of_running, kind_of_item, item_modes, onto, WithCell, From, Is}
 use Rattle.ss_machine_frames.specs.Rows.{place_at}
 use Rattle.ss_machine_frames.specs.Holding.{AllAt}
 use Rattle.ss_machine_frames.proofs.Entering.{Cut, cut}
@@ -53,9 +53,9 @@ cells_are (shows.Text ∷ ks) = omega (arith, cells_are ks)
 cells_are (shows.Mean j ∷ ks) = omega (arith, cells_are ks)
 cells_are (shows.MeanOf j ∷ ks) = omega (arith, cells_are ks)
 
-lines_there : (n : ℕ) (ls : List RunningLines) (l : RunningLines) → slice_get ls n ≡ Some l → slice_get (map lines_of ls) n ≡ Some (lines_of l)
+lines_there : (n : ℕ) (ls : List RunningLines) (l : RunningLines) → slice_get ls n ≡ Some l → slice_get (map lines_of_running ls) n ≡ Some (lines_of_running l)
 lines_there n [] l e = absurd cc
-lines_there zero (x ∷ ls) l e = let q : x ≡ l = cc in ap (λ y. Some (lines_of y)) q
+lines_there zero (x ∷ ls) l e = let q : x ≡ l = cc in ap (λ y. Some (lines_of_running y)) q
 lines_there (suc n) (x ∷ ls) l e = lines_there n ls l e
 
 module _ (w : Compiled) (c : Core) (here : Here) (s : State) (number cell : ℕ) (ready : Ready w c here s (r.Print number cell)) (l : RunningLines) (there : slice_get w.run.prints number ≡ Some l) where
@@ -65,10 +65,10 @@ module _ (w : Compiled) (c : Core) (here : Here) (s : State) (number cell : ℕ)
   abbrev low : ℕ
   low = here.frame + length c.store.locals
 
-  lines_is : slice_get w.code.prints number ≡ Some (lines_of l)
+  lines_is : slice_get w.code.prints number ≡ Some (lines_of_running l)
   lines_is = ap (λ ls. slice_get ls number) (sym ready.compiled.run.prints) ∙ lines_there number w.run.prints l there
 
-  abbrev z : At w.code w.run.constants ready.placed cell (λ h. Is w.code w.run.constants ready.placed (d.Print number h))
+  abbrev z : WithCell w.code w.run.constants ready.placed cell (λ h. Is w.code w.run.constants ready.placed (d.Print number h))
   z = ready.runs.carries
 
   pub shown_by : (rest : List Mode) × (ready.placed.cells ≡ onto modes rest)
@@ -164,8 +164,8 @@ module _ (w : Compiled) (c : Core) (here : Here) (s : State) (number cell : ℕ)
   kinds_fit : ItemsFit w.program (map kind_of_item l.items) (subst (Suits w.program w.code c.place ready.placed.locals ready.placed.cells) z.2 (suits w c here s (r.Print number cell) ready)).2.0
   kinds_fit =
       let y = subst (Suits w.program w.code c.place ready.placed.locals ready.placed.cells) z.2 (suits w c here s (r.Print number cell) ready) in
-      let q : Some y.0 ≡ Some (lines_of l) = sym y.1 ∙ lines_is in
-      let same : y.0 ≡ lines_of l = cc in
+      let q : Some y.0 ≡ Some (lines_of_running l) = sym y.1 ∙ lines_is in
+      let same : y.0 ≡ lines_of_running l = cc in
       subst (λ (x : Lines). ItemsFit w.program x.items y.2.0) same y.2.1
 
   can_from : (ks : List ItemKind) (ms : List Mode) (k : ℕ) → ItemsFit w.program (map kind_of_item ks) ms → k + length (item_modes ks) ≤ length s.rows.numbers → CanShow s.scene s.rows k ks

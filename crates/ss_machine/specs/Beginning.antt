@@ -8,7 +8,7 @@ use Rattle.ss_base.specs.Layout.{first_value}
 use Rattle.ss_world.specs.State.{first_state}
 use Rattle.ss_world.specs.PendingList.{none_pending}
 use Rattle.ss_meaning.specs.Histories.{no_histories, starting}
-use Rattle.ss_code.specs.Running.{Compiled as Generated}
+use Rattle.ss_code.specs.Running.{Generated}
 use Rattle.ss_machine_time.specs.Records.{columns_of}
 use Rattle.ss_machine_world.specs.Seen.{Seen}
 use Rattle.ss_machine_frames.specs.Rows.{TwoRows, Grown, with_last, cleared}
@@ -29,7 +29,7 @@ abbrev pub none_laid : TwoRows
 none_laid = record { numbers = []; texts = [] }
 
 -- The global variables and the constants lie there, and above them is room for the frame of MAIN, whose variables hold their first values.
-pub record Laid (code : Generated) (rows : TwoRows) : Type 0 where
+pub record IsLaidOut (code : Generated) (rows : TwoRows) : Type 0 where
   pub grown : TwoRows
   pub grows : Grown (values_laid (firsts_laid none_laid code.globals) code.run.constants) grown
   pub even : length grown.texts ≡ length grown.numbers
@@ -52,7 +52,7 @@ pub record IsFirstScene (code : Generated) (e : Seen) : Type 0 where
 -- ## All of it
 
 pub record IsFirstState (code : Generated) (s : State) : Type 0 where
-  pub rows : Laid code s.rows
+  pub rows : IsLaidOut code s.rows
   pub frames : s.frames ≡ []
   pub scene : IsFirstScene code s.scene
   pub ticks : s.ticks ≡ 0

@@ -1,7 +1,7 @@
 -- How many steps a run of the machine makes, by what it works on.
 use Rattle.std.specs.Prelude.{ℕ, ◌+◌, ◌-◌, ◌*◌, ◌≤◌, Bool, true, false, List, [], ◌∷◌, length, Option, Some, None, slice_get}
 use Rattle.ss_base.specs.declared.line.Line.{Line}
-use Rattle.ss_code.specs.Running.{Compiled as Generated}
+use Rattle.ss_code.specs.Running.{Generated}
 use Rattle.ss_code_instructions.specs.declared.instruction.Instruction.{Instruction as Running}
 use Rattle.ss_code_instructions.specs.declared.instruction.Instruction.TheVariants as r
 use Rattle.ss_code_instructions.specs.Measure.{left_from}
@@ -60,7 +60,7 @@ left_in_all code at = at.state.ticks * (2 * length code.run.instructions + 1) + 
 -- ## Steps
 
 -- after so many ticks there are at least as many steps, and at most so many
-pub record AreSteps (code : Generated) (used made : ℕ) : Type 0 where
+pub record AreMachineSteps (code : Generated) (used made : ℕ) : Type 0 where
   pub least : used ≤ made
   pub most : made ≤ (3 * used + 4) * length code.run.instructions
 
@@ -87,7 +87,7 @@ is_step resting.NoMemory = false
 is_step resting.NoOutput = false
 is_step resting.NoInput = false
 
--- why a run located still, where this is the line of the instruction
+-- why a run stopped, where this is the line of the instruction
 abbrev pub stop_for : State → Line → Ending → Stop
 stop_for s l resting.Ended = Ended
 stop_for s l resting.Paused = Paused

@@ -16,7 +16,7 @@ use Rattle.ss_code_instructions.specs.declared.item.ItemKind.TheVariants as show
 use Rattle.ss_code_instructions.specs.Machine.{values_shown}
 use Rattle.ss_code_instructions.specs.Carried.{RunningLines, item_modes, kind_of_item}
 use Rattle.ss_machine_world.specs.Seen.{Seen, with_seen}
-use Rattle.ss_machine_world.specs.Numbers.{HasSubject, RefersToSubject}
+use Rattle.ss_machine_world.specs.Numbers.{HasValidSubject, RefersToSubject}
 use Rattle.ss_machine_frames.specs.Rows.{TwoRows}
 use Rattle.ss_machine_frames.specs.Holding.{AllAt}
 
@@ -27,10 +27,10 @@ IsPrintable (Mean sum number) = IsMean sum number
 
 -- the system has the subject of a statistic; or entities have it, each of which its number refers to
 abbrev pub IsOfSystem : Seen → (statistic : ℕ) → Type 0
-IsOfSystem e j = HasSubject e j × RefersToSubject e j None (pos 0)
+IsOfSystem e j = HasValidSubject e j × RefersToSubject e j None (pos 0)
 
 abbrev pub IsOfNumbers : Seen → (statistic : ℕ) → Type 0
-IsOfNumbers e j = HasSubject e j × ((n : ℤ) → RefersToSubject e j (Some (Whole n)) n)
+IsOfNumbers e j = HasValidSubject e j × ((n : ℤ) → RefersToSubject e j (Some (Whole n)) n)
 
 -- how many cells an item takes
 abbrev pub cells_of : ItemKind → ℕ

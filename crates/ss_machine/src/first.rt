@@ -1,13 +1,13 @@
 //! The first state of a machine.
 
 ghost use Rattle.std.specs.Prelude.{◌≡◌, ◌+◌, ◌<◌, ◌^◌, length, IfOk, OnOk};
-ghost use Rattle.ss_machine.specs.Beginning.{Laid, values_laid, firsts_laid, IsFirstScene, IsFirstState, first_here};
+ghost use Rattle.ss_machine.specs.Beginning.{IsLaidOut, values_laid, firsts_laid, IsFirstScene, IsFirstState, first_here};
 ghost use Rattle.ss_machine.specs.Start.{IsAtStart};
 ghost use Rattle.ss_machine.specs.Situations.{situated};
 
-use ss_base::{FaultKind, Mode, Value, copied_disciplines};
+use ss_base::{Discipline, FaultKind, Layout, Mode, Value};
 use ss_code::code::Code;
-use ss_code_instructions::copied_notices;
+use ss_code_instructions::NoticeClass;
 use ss_machine_frames::frames::Frames;
 use ss_machine_frames::rows::Rows;
 use ss_machine_instructions::flow::Ending;
@@ -37,7 +37,7 @@ fn put_constants(rows: &mut Rows, constants: &[Value]) -> Result<(), AllocError>
 
 // The rows before the first instruction: the global variables, the constants, and the frame of MAIN.
 fn first_rows(alloc: Global, code: &Code) -> Result<Rows, AllocError>
-    ensures { IfOk result (λ rows. Laid code.now rows) }
+    ensures { IfOk result (λ rows. IsLaidOut code.now rows) }
 {
     let _made = code.len();
     let mut rows = Rows::new(alloc);
@@ -50,13 +50,34 @@ fn first_rows(alloc: Global, code: &Code) -> Result<Rows, AllocError>
     Ok(rows)
 }
 
+// The layout of the code, in memory of its own.
+fn layout_of(code: &Code) -> Result<Layout, AllocError>
+    ensures { IfOk result (λ layout. layout ≡ code.now.said.layout) }
+{
+    code.layout().clone()
+}
+
+// Its disciplines.
+fn disciplines_of(alloc: Global, code: &Code) -> Result<Vec<Discipline>, AllocError>
+    ensures { IfOk result (λ copies. copies.items ≡ code.now.said.setting.disciplines) }
+{
+    code.disciplines().to_vec(alloc)
+}
+
+// What it says of the classes of notices.
+fn notices_of(alloc: Global, code: &Code) -> Result<Vec<NoticeClass>, AllocError>
+    ensures { IfOk result (λ copies. copies.items ≡ code.now.said.setting.notices) }
+{
+    code.notices().to_vec(alloc)
+}
+
 // The world before the first instruction.
 fn first_scene(alloc: Global, code: &Code) -> Result<Scene, AllocError>
     ensures { IfOk result (λ scene. IsFirstScene code.now scene) }
 {
-    let layout = code.layout().copied(alloc)?;
-    let disciplines = copied_disciplines(alloc, code.disciplines())?;
-    let notices = copied_notices(alloc, code.notices())?;
+    let layout = layout_of(code)?;
+    let disciplines = disciplines_of(alloc, code)?;
+    let notices = notices_of(alloc, code)?;
     Scene::new(
         alloc,
         layout,

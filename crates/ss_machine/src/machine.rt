@@ -25,7 +25,7 @@ use std::marker::Model;
 /// A machine that runs the code of a program.
 ///
 /// A contract sees a machine as its code, what it works on, the ticks used and the steps made since its start, and why its
-/// last run located still.
+/// last run stopped, unless a further run goes on.
 #[derive(Drop)]
 pub struct Machine {
     code: Code,
@@ -47,7 +47,7 @@ impl Model for Machine {
     ghost invariant = { λ m. IsReady (record { code = m.code; at = record { here = record { place = m.place; frame = m.frame }; state = m.state }; used = m.used; steps = m.state.steps; stopped = m.stopped }) };
 }
 
-// The answer of a run after one that stood still.
+// The answer of a run after one that stopped so.
 fn again(stop: Stop) -> Stop
     ensures { result ≡ answer_again stop }
 {
@@ -57,7 +57,7 @@ fn again(stop: Stop) -> Stop
     }
 }
 
-// Why a machine located still after a run that answered so; None where the next run goes on.
+// Why a machine is stopped after a run that answered so; None where the next run goes on.
 fn kept(stop: Stop) -> Option<Stop>
     ensures { result ≡ kept_after stop }
 {

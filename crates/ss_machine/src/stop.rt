@@ -1,6 +1,6 @@
 use ss_base::{FaultKind, Line};
 
-/// Why a run located still.
+/// Why a run stopped.
 #[derive(Clone, Copy, Debug, PartialEq, Eq)]
 pub enum Stop {
     /// The program came to its end.
@@ -15,6 +15,6 @@ pub enum Stop {
     Output,
     /// The reader failed.
     Input,
-    /// An earlier run ran out of memory, or because its reader or writer failed.
+    /// An earlier run ran out of memory, or its reader or writer failed.
     Failed,
 }

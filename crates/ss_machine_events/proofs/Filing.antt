@@ -14,7 +14,7 @@ use Rattle.ss_meaning.specs.Store.{Notices, Store}
 use Rattle.ss_meaning.specs.Events.{Ranked, ranked, ranked_from, ties_of, filed_notice}
 use Rattle.ss_machine_world.specs.Classes.{has_keys}
 use Rattle.ss_machine_world.specs.Seen.{Seen, with_seen, ChangesWithMemory}
-use Rattle.ss_machine_events.specs.Scheduled.{IsNoticeClass, IsUntied, Does, scheduled_known, IsUnfiled}
+use Rattle.ss_machine_events.specs.Scheduled.{IsNoticeClass, IsUntied, DoesIf, scheduled_known, IsUnfiled}
 use Rattle.ss_machine_events.proofs.Frozen.{is_there, not_there, ties_there}
 
 pub one : {A : Type 0} {x y : A} → Some x ≡ Some y → x ≡ y
@@ -66,12 +66,12 @@ module _ (e : Seen) (class : ℕ) (n t : ℤ) (c : IsNoticeClass e class) where
         ∙ ap (λ (r : OkOr (List Tie) Trouble). if_ok {B = Store} r (λ ties. scheduled_known (key ties) n (with_seen s e))) frozen
 
     -- it is filed under its key, or is not
-    pub files : (ties : List Tie) (new : Seen) (b : Bool) → ((s : Store) → ties_of class (Whole n) (with_seen s e) c.ranked.said.ties ≡ Ok ties) → Does (scheduled_known (key ties) n) b e new → Does (filed_notice class (Whole n) t) b e new
+    pub files : (ties : List Tie) (new : Seen) (b : Bool) → ((s : Store) → ties_of class (Whole n) (with_seen s e) c.ranked.said.ties ≡ Ok ties) → DoesIf (scheduled_known (key ties) n) b e new → DoesIf (filed_notice class (Whole n) t) b e new
     files ties new true frozen did = λ s. filed_by s ties (frozen s) ∙ did s
     files ties new false frozen did = did
 
     -- and where it has no ties
-    pub files_untied : IsUntied e.notices class → (new : Seen) (b : Bool) → Does (scheduled_known (key []) n) b e new → Does (filed_notice class (Whole n) t) b e new
+    pub files_untied : IsUntied e.notices class → (new : Seen) (b : Bool) → DoesIf (scheduled_known (key []) n) b e new → DoesIf (filed_notice class (Whole n) t) b e new
     files_untied untied new b did = files [] new b (λ s. ap (ties_of class (Whole n) (with_seen s e)) (untied c.ranked c.is)) did
 
     -- why it is not filed

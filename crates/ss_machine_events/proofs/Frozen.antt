@@ -16,7 +16,7 @@ use Rattle.ss_meaning.specs.Store.{Store}
 use Rattle.ss_meaning.specs.Entities.{field_at, entity, attribute}
 use Rattle.ss_meaning.specs.Events.{ties_of}
 use Rattle.ss_machine_world.specs.Seen.{Seen, with_seen}
-use Rattle.ss_machine_events.specs.Scheduled.{HasField, IsTied, AddsTie}
+use Rattle.ss_machine_events.specs.Scheduled.{HasKeyField, IsTied, AddsTie}
 
 -- ## An attribute of an entity that is there
 
@@ -49,12 +49,12 @@ module _ (e : Seen) (class : ℕ) (n : ℤ) (s : Store) (within : class < length
         ∙ ap (λ b. where_fit b (due (value_in e.heap class field n))) (there (modes_of e.heap.layout class) field inside)
 
     -- all ties are found
-    pub ties_there : (keys : List RankKey) → All (HasField e.heap.layout class) keys → (ts : List Tie) × (ties_of class (Whole n) (with_seen s e) keys ≡ Ok ts)
+    pub ties_there : (keys : List RankKey) → All (HasKeyField e.heap.layout class) keys → (ts : List Tie) × (ties_of class (Whole n) (with_seen s e) keys ≡ Ok ts)
     ties_there [] all = ([], refl)
     ties_there (key ∷ keys) all =
         let v = known_value e.heap class key.field n known in
-        let rest = ties_there keys (All-tail (HasField e.heap.layout class) key keys all) in
-        let first : attribute class key.field (Whole n) (with_seen s e) ≡ Ok v.0 = attribute_is key.field (All-head (HasField e.heap.layout class) key keys all) ∙ ap due v.1 in (
+        let rest = ties_there keys (All-tail (HasKeyField e.heap.layout class) key keys all) in
+        let first : attribute class key.field (Whole n) (with_seen s e) ≡ Ok v.0 = attribute_is key.field (All-head (HasKeyField e.heap.layout class) key keys all) ∙ ap due v.1 in (
           record { value = v.0; high = key.high } ∷ rest.0,
           ap (λ (r : OkOr Value Trouble). if_ok {B = List Tie} r (λ v. turned (λ ts. record { value = v; high = key.high } ∷ ts) (ties_of class (Whole n) (with_seen s e) keys))) first
               ∙ ap (λ (r : OkOr (List Tie) Trouble). turned (λ ts. record { value = v.0; high = key.high } ∷ ts) r) rest.1,

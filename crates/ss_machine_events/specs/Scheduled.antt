@@ -26,15 +26,15 @@ time_after units s = if_ok (due (plus_of s.scene.time units)) (λ t. not_past t 
 -- ## Classes of notices
 
 -- a class has the attribute that a key names
-abbrev pub HasField : PlainLayout → (class : ℕ) → RankKey → Type 0
-HasField l class key = key.field < length (modes_of l class)
+abbrev pub HasKeyField : PlainLayout → (class : ℕ) → RankKey → Type 0
+HasKeyField l class key = key.field < length (modes_of l class)
 
 -- a class is one of notices, with its rank among them and what the program says of it, and has the attributes that break its ties
 pub record IsNoticeClass (e : Seen) (class : ℕ) : Type 0 where
   pub within : class < length e.heap.layout.classes
   pub ranked : Ranked
   pub is : ranked_from 0 e.notices class ≡ Some ranked
-  pub fields : All (HasField e.heap.layout class) ranked.said.ties
+  pub fields : All (HasKeyField e.heap.layout class) ranked.said.ties
 
 -- no attribute breaks ties of the notices of a class
 abbrev pub IsUntied : List Notices → (class : ℕ) → Type 0
@@ -55,9 +55,9 @@ AddsTie f high e old new (Err refused) = Unit {0}
 -- ## Filing
 
 -- an operation says whether it did what it does; if not, nothing has changed
-abbrev pub Does : (Store → Result Store Trouble) → (is_done : Bool) → (old new : Seen) → Type 0
-Does f true old new = (s : Store) → f (with_seen s old) ≡ Ok (with_seen s new)
-Does f false old new = new ≡ old
+abbrev pub DoesIf : (Store → Result Store Trouble) → (is_done : Bool) → (old new : Seen) → Type 0
+DoesIf f true old new = (s : Store) → f (with_seen s old) ≡ Ok (with_seen s new)
+DoesIf f false old new = new ≡ old
 
 -- what filing a notice does once its key is known
 abbrev pub scheduled_known : SortKey → (notice : ℤ) → Store → Result Store Trouble

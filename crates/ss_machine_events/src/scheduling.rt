@@ -8,7 +8,7 @@ ghost use Rattle.ss_meaning.specs.Entities.{attribute};
 ghost use Rattle.ss_meaning.specs.Events.{not_past, ties_of, filed_notice};
 ghost use Rattle.ss_meaning.specs.Store.{Notices, Store as StoreSeen};
 ghost use Rattle.ss_machine_world.specs.Seen.{Looks, ChangesWithMemory, with_seen};
-ghost use Rattle.ss_machine_events.specs.Scheduled.{time_after, HasField, IsNoticeClass, IsUntied, IsTied, AddsTie, Does, scheduled_known, IsUnfiled};
+ghost use Rattle.ss_machine_events.specs.Scheduled.{time_after, HasKeyField, IsNoticeClass, IsUntied, IsTied, AddsTie, DoesIf, scheduled_known, IsUnfiled};
 
 use ss_base::{FaultKind, RankKey, Refused, Value, plus};
 use ss_events::Key;
@@ -60,7 +60,7 @@ fn freeze_one(
 ) -> Result<(), Refused>
     requires class { class < length scene.now.heap.layout.classes }
     requires known { known_in scene.now.heap class notice ≡ Ok tt }
-    requires field { HasField scene.now.heap.layout class key }
+    requires field { HasKeyField scene.now.heap.layout class key }
     ensures { AddsTie (attribute class key.field (Whole notice)) key.high scene.now ties.old.items ties.new.items result }
 {
     match scene.population.value(class, key.field, notice) {
@@ -79,7 +79,7 @@ fn frozen(
 ) -> Result<Vec<Tie>, Refused>
     requires class { class < length scene.now.heap.layout.classes }
     requires known { known_in scene.now.heap class notice ≡ Ok tt }
-    requires fields { All (HasField scene.now.heap.layout class) keys.now }
+    requires fields { All (HasKeyField scene.now.heap.layout class) keys.now }
     ensures { IfOk result (λ ties. (s : StoreSeen) → ties_of class (Whole notice) (with_seen s scene.now) keys.now ≡ Ok ties.items) }
 {
     let mut ties = Vec::new(alloc);
@@ -95,7 +95,7 @@ fn frozen(
 // A notice is pending under a key; and says whether it is.
 #[inline(always)]
 fn file_under(scene: &mut Scene, key: Key, notice: i64) -> bool
-    ensures { Does (scheduled_known key notice) result scene.old scene.new }
+    ensures { DoesIf (scheduled_known key notice) result scene.old scene.new }
 {
     match scene.timeline.schedule(key, notice) {
         Ok(()) => true,
@@ -119,7 +119,7 @@ fn keys_of(scene: &Scene, rank: usize) -> &[RankKey]
 fn schedule_tied(scene: &mut Scene, alloc: Global, class: usize, notice: i64, time: i64) -> bool
     requires notices { IsNoticeClass scene.old class }
     requires known { known_in scene.old.heap class notice ≡ Ok tt }
-    ensures { Does (filed_notice class (Whole notice) time) result scene.old scene.new }
+    ensures { DoesIf (filed_notice class (Whole notice) time) result scene.old scene.new }
 {
     let rank = scene.rank(class);
     let keys = keys_of(scene, rank);
@@ -135,7 +135,7 @@ fn schedule_untied(scene: &mut Scene, alloc: Global, class: usize, notice: i64, 
     requires notices { IsNoticeClass scene.old class }
     requires known { known_in scene.old.heap class notice ≡ Ok tt }
     requires untied { IsUntied scene.old.notices class }
-    ensures { Does (filed_notice class (Whole notice) time) result scene.old scene.new }
+    ensures { DoesIf (filed_notice class (Whole notice) time) result scene.old scene.new }
 {
     let rank = scene.rank(class);
     file_under(scene, Key::with_ties(time, rank, Vec::new(alloc)), notice)
@@ -146,7 +146,7 @@ fn schedule_untied(scene: &mut Scene, alloc: Global, class: usize, notice: i64, 
 fn file(scene: &mut Scene, alloc: Global, class: usize, notice: i64, time: i64) -> bool
     requires notices { IsNoticeClass scene.old class }
     requires known { known_in scene.old.heap class notice ≡ Ok tt }
-    ensures { Does (filed_notice class (Whole notice) time) result scene.old scene.new }
+    ensures { DoesIf (filed_notice class (Whole notice) time) result scene.old scene.new }
 {
     if scene.has_ties(class) {
         schedule_tied(scene, alloc, class, notice, time)

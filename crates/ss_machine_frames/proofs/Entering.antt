@@ -11,7 +11,7 @@ use Rattle.ss_meaning.specs.Fitting.{Hold}
 use Rattle.ss_code_instructions.specs.States.{Called, Core, TakenOff, take_off}
 use Rattle.ss_machine_frames.specs.declared.frames.Frame.{Frame as Call}
 use Rattle.ss_machine_frames.specs.Rows.{TwoRows, with_value, cleared, Agree, Grown}
-use Rattle.ss_machine_frames.specs.Holding.{AllAt, CellsAt, CallsAt, Held}
+use Rattle.ss_machine_frames.specs.Holding.{AllAt, CellsAt, CallsAt, HoldsCore}
 use Rattle.ss_machine_frames.proofs.Lists.{set_length}
 use Rattle.ss_machine_frames.proofs.Places.{agree_out, agree_within, agree_on, elsewhere_value, value_same, value_agrees, all_agree, cells_agree, low_under, calls_agree}
 
@@ -93,7 +93,7 @@ opened_is given others vs h = ap (λ o. appended o (first_values others)) (taken
 -- ## The new frame
 
 -- What is held once a section is entered with these variables: the rows are as they were below the new frame, which begins where the cells end that stay.
-pub entered : (constants : List Value) (depth frame frame' : ℕ) (r s : TwoRows) (calls : List Call) (g : Call) (c : Core) (st : Store) (below variables : List Value) (place back first count : ℕ) (called : Called) → Held constants depth frame r calls c → CellsAt r (frame + length c.store.locals) below → frame' ≡ frame + length c.store.locals + length below → Agree r s 0 frame' → AllAt s frame' variables → frame' + length variables + depth ≤ length s.numbers → length s.numbers < 2 ^ 63 → st.globals ≡ c.store.globals → g.back ≡ back → g.caller ≡ frame → g.given ≡ first → g.yielding ≡ count → Held constants depth frame' s (g ∷ calls) (record { place = place; cells = []; frames = record { back = back; cells = below; locals = c.store.locals; first = first; count = count; called = called } ∷ c.frames; store = record st { locals = variables } })
+pub entered : (constants : List Value) (depth frame frame' : ℕ) (r s : TwoRows) (calls : List Call) (g : Call) (c : Core) (st : Store) (below variables : List Value) (place back first count : ℕ) (called : Called) → HoldsCore constants depth frame r calls c → CellsAt r (frame + length c.store.locals) below → frame' ≡ frame + length c.store.locals + length below → Agree r s 0 frame' → AllAt s frame' variables → frame' + length variables + depth ≤ length s.numbers → length s.numbers < 2 ^ 63 → st.globals ≡ c.store.globals → g.back ≡ back → g.caller ≡ frame → g.given ≡ first → g.yielding ≡ count → HoldsCore constants depth frame' s (g ∷ calls) (record { place = place; cells = []; frames = record { back = back; cells = below; locals = c.store.locals; first = first; count = count; called = called } ∷ c.frames; store = record st { locals = variables } })
 entered constants depth frame frame' r s calls g c st below variables place back first count called h here begin a all room small globals g_back g_caller g_given g_yielding =
     let under = low_under r (length c.store.globals + length constants) frame calls c.frames h.open_calls in
     let n = c.store.globals in

@@ -7,7 +7,7 @@ use Rattle.ss_meaning.specs.Store.{prepended, front, yielded}
 use Rattle.ss_code_instructions.specs.States.{Frame, Core, core_at}
 use Rattle.ss_machine_frames.specs.declared.frames.Frame.{Frame as Call}
 use Rattle.ss_machine_frames.specs.Rows.{TwoRows, ValueAt, Agree, Yielded}
-use Rattle.ss_machine_frames.specs.Holding.{CellsAt, CallsAt, Held}
+use Rattle.ss_machine_frames.specs.Holding.{CellsAt, CallsAt, HoldsCore}
 use Rattle.ss_machine_frames.proofs.Places.{agree_within, all_agree, cells_agree, all_get, low_under, calls_agree}
 
 -- ## What is yielded
@@ -69,7 +69,7 @@ yields_from r s low from to count done below (v ∷ vs) y here e n each =
 
 -- What is held once a section is left whose caller has these variables and cells. The rows are as they were below the frame that is left, and on the caller's
 -- cells lies what is yielded.
-left_by : (constants : List Value) (depth frame : ℕ) (r s : TwoRows) (g : Call) (gs : List Call) (c : Core) (f : Frame) (fs : List Frame) (vs : List Value) → Held constants depth frame r (g ∷ gs) c → c.frames ≡ f ∷ fs → Agree r s 0 frame → length s.numbers ≡ length r.numbers → (CellsAt s (g.caller + length f.locals) f.cells → CellsAt s (g.caller + length f.locals) (vs ++ f.cells)) → Held constants depth g.caller s gs (core_at f.back (vs ++ f.cells) fs (record c.store { locals = f.locals }))
+left_by : (constants : List Value) (depth frame : ℕ) (r s : TwoRows) (g : Call) (gs : List Call) (c : Core) (f : Frame) (fs : List Frame) (vs : List Value) → HoldsCore constants depth frame r (g ∷ gs) c → c.frames ≡ f ∷ fs → Agree r s 0 frame → length s.numbers ≡ length r.numbers → (CellsAt s (g.caller + length f.locals) f.cells → CellsAt s (g.caller + length f.locals) (vs ++ f.cells)) → HoldsCore constants depth g.caller s gs (core_at f.back (vs ++ f.cells) fs (record c.store { locals = f.locals }))
 left_by constants depth frame r s g gs c f fs vs h e a long put =
     let calls = subst (λ fs. CallsAt r (length c.store.globals + length constants) frame (g ∷ gs) fs) e h.open_calls in
     let under = low_under r (length c.store.globals + length constants) g.caller gs fs calls.6 in
@@ -85,7 +85,7 @@ left_by constants depth frame r s g gs c f fs vs h e a long put =
     }
 
 -- where something is yielded
-pub left_with : (constants : List Value) (depth frame : ℕ) (r s : TwoRows) (g : Call) (gs : List Call) (c : Core) (f : Frame) (fs : List Frame) (vs : List Value) → Held constants depth frame r (g ∷ gs) c → c.frames ≡ f ∷ fs → yielded f.first f.count c.store.locals ≡ Some vs → Yielded r s (frame + g.given) frame g.yielding → Held constants depth g.caller s gs (core_at f.back (vs ++ f.cells) fs (record c.store { locals = f.locals }))
+pub left_with : (constants : List Value) (depth frame : ℕ) (r s : TwoRows) (g : Call) (gs : List Call) (c : Core) (f : Frame) (fs : List Frame) (vs : List Value) → HoldsCore constants depth frame r (g ∷ gs) c → c.frames ≡ f ∷ fs → yielded f.first f.count c.store.locals ≡ Some vs → Yielded r s (frame + g.given) frame g.yielding → HoldsCore constants depth g.caller s gs (core_at f.back (vs ++ f.cells) fs (record c.store { locals = f.locals }))
 left_with constants depth frame r s g gs c f fs vs h e q y =
     let calls = subst (λ fs. CallsAt r (length c.store.globals + length constants) frame (g ∷ gs) fs) e h.open_calls in
     let p = picked f.first f.count c.store.locals vs q in
@@ -95,7 +95,7 @@ left_with constants depth frame r s g gs c f fs vs h e q y =
     subst (λ j. ValueAt r j v) at (all_get r frame (f.first + k) c.store.locals v h.locals (p.each k v k_is))))
 
 -- where nothing is yielded
-pub left_without : (constants : List Value) (depth frame : ℕ) (r : TwoRows) (g : Call) (gs : List Call) (c : Core) (f : Frame) (fs : List Frame) (vs : List Value) → Held constants depth frame r (g ∷ gs) c → c.frames ≡ f ∷ fs → yielded f.first f.count c.store.locals ≡ Some vs → g.yielding ≡ 0 → Held constants depth g.caller r gs (core_at f.back (vs ++ f.cells) fs (record c.store { locals = f.locals }))
+pub left_without : (constants : List Value) (depth frame : ℕ) (r : TwoRows) (g : Call) (gs : List Call) (c : Core) (f : Frame) (fs : List Frame) (vs : List Value) → HoldsCore constants depth frame r (g ∷ gs) c → c.frames ≡ f ∷ fs → yielded f.first f.count c.store.locals ≡ Some vs → g.yielding ≡ 0 → HoldsCore constants depth g.caller r gs (core_at f.back (vs ++ f.cells) fs (record c.store { locals = f.locals }))
 left_without constants depth frame r g gs c f fs vs h e q none =
     let calls = subst (λ fs. CallsAt r (length c.store.globals + length constants) frame (g ∷ gs) fs) e h.open_calls in
     let p = picked f.first f.count c.store.locals vs q in

@@ -1,5 +1,5 @@
 -- Items of lists that are cut, joined, turned and written to.
-use Rattle.std.proofs.Common.{◌≡◌, ◌≢◌, ◌⊎◌, inl, inr, ℕ, zero, suc, ◌+◌, ◌-◌, ◌<◌, ◌≤◌, List, [], ◌∷◌, ◌++◌, length, take, drop, get_or, Some, refl, sym, ap, ◌∙◌, subst, arith, length-append, Vec}
+use Rattle.std.proofs.Common.{◌≡◌, ◌≢◌, ℕ, zero, suc, ◌+◌, ◌-◌, ◌<◌, ◌≤◌, List, [], ◌∷◌, ◌++◌, length, take, drop, get_or, Some, refl, sym, ap, ◌∙◌, subst, arith, length-append, Vec}
 use Rattle.std.specs.Prelude.{slice_get, slice_set, reverse, ℤ}
 use Rattle.std.specs.Vec.{with_items}
 use Rattle.std.proofs.lemmas.Option.{slice_get-get_or}
@@ -22,16 +22,6 @@ pub set_length : {A : Type 0} (xs : List A) (i : ℕ) (v : A) → length (slice_
 set_length [] i v = refl
 set_length (x ∷ xs) zero v = refl
 set_length (x ∷ xs) (suc i) v = ap suc (set_length xs i v)
-
-below_or : (i n : ℕ) → i < n + 1 → (i < n) ⊎ (i ≡ n)
-below_or zero zero h = inr refl
-below_or zero (suc n) h = inl (omega arith)
-below_or (suc i) zero h = absurd (omega (arith, h))
-below_or (suc i) (suc n) h = more (below_or i n (omega (arith, h)))
-  where
-    more : (i < n) ⊎ (i ≡ n) → (suc i < suc n) ⊎ (suc i ≡ suc n)
-    more (inl l) = inl (omega (arith, l))
-    more (inr e) = inr (ap suc e)
 
 -- ## Parts of lists
 
@@ -102,36 +92,6 @@ pub record GoingDown {A : Type 0} (old new : List A) (from to done : ℕ) : Type
   pub below : (j : ℕ) → j < to → slice_get new j ≡ slice_get old j
   pub ahead : (j : ℕ) → to + done ≤ j → slice_get new j ≡ slice_get old j
 
-pub going_none : {A : Type 0} (xs : List A) (from to : ℕ) → GoingDown xs xs from to 0
-going_none xs from to = record {
-  long = refl;
-  moved = λ i lt. absurd (omega (arith, lt));
-  below = λ j lt. refl;
-  ahead = λ j le. refl;
-}
-
-pub going_more : {A : Type 0} (old xs new : List A) (from to done : ℕ) (x : A) → to ≤ from → from + done < length old → GoingDown old xs from to done → slice_get xs (from + done) ≡ Some x → new ≡ slice_set xs (to + done) x → GoingDown old new from to (done + 1)
-going_more old xs new from to done x down lt g read e = record {
-  long = ap length e ∙ set_length xs (to + done) x ∙ g.long;
-  moved = λ i s. by i s (i_or i s);
-  below = λ j s. ap (λ l. slice_get l j) e ∙ set_other xs (to + done) j x (λ q. omega (arith, q, s)) ∙ g.below j s;
-  ahead = λ j s. ap (λ l. slice_get l j) e ∙ set_other xs (to + done) j x (λ q. omega (arith, q, s)) ∙ g.ahead j (omega (arith, s));
-}
-  where
-    i_or : (i : ℕ) → i < done + 1 → (i < done) ⊎ (i ≡ done)
-    i_or i s = below_or i done s
-
-    by : (i : ℕ) → i < done + 1 → (i < done) ⊎ (i ≡ done) → slice_get new (to + i) ≡ slice_get old (from + i)
-    by i s (inl h) = ap (λ l. slice_get l (to + i)) e ∙ set_other xs (to + done) (to + i) x (λ q. omega (arith, q, h)) ∙ g.moved i h
-    by i s (inr q) =
-        ap (λ j. slice_get new (to + j)) q
-        ∙ ap (λ l. slice_get l (to + done)) e
-        ∙ set_same xs (to + done) x (omega (arith, down, lt, g.long))
-        ∙ sym read ∙ g.ahead (from + done) (omega (arith, down)) ∙ sym (ap (λ j. slice_get old (from + j)) q)
-
-pub gone_down : {A : Type 0} (old new : List A) (from to count : ℕ) → GoingDown old new from to count → MovedDown old new from to count
-gone_down old new from to count g = record { long = g.long; moved = g.moved; below = g.below }
-
 -- turned, and then moved
 pub turned_down : {A : Type 0} (old mid new : List A) (from to count : ℕ) → to ≤ from → Turned old mid from count → MovedDown mid new from to count → TurnedDown old new from to count
 turned_down old mid new from to count down t m = record {
@@ -165,12 +125,6 @@ longer_texts r z t = length-append r.texts (t ∷ [])
 pub record GrownEven (old new : TwoRows) : Type 0 where
   pub grown : Grown old new
   pub even : length new.texts ≡ length new.numbers
-
-pub grown_none : (r : TwoRows) → length r.texts ≡ length r.numbers → GrownEven r r
-grown_none r e = record {
-  grown = record { longer = omega arith; same = record { numbers = λ j a b. refl; texts = λ j a b. refl } };
-  even = e;
-}
 
 pub grown_more : (old r new : TwoRows) (z : ℤ) (t : List ℕ) → new ≡ one_longer r z t → GrownEven old r → GrownEven old new
 grown_more old r new z t e g = subst (λ s. GrownEven old s) (sym e) (record {

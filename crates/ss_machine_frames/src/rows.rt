@@ -1,8 +1,7 @@
 //! The rows in which values lie.
 
-ghost use Rattle.std.specs.Prelude.{◌≡◌, [], ◌∷◌, ◌++◌, ◌+◌, ◌<◌, ◌≤◌, ◌^◌, length, Some, slice_get, IfOk, OnOk, OnErr};
-ghost use Rattle.ss_base.specs.Layout.{mode_of};
-ghost use Rattle.ss_machine_frames.specs.Rows.{TwoRows, place_at, with_number, with_text, with_value, with_last, cleared, ValueAt, Grown, Turned, MovedDown, Yielded};
+ghost use Rattle.std.specs.Prelude.{◌≡◌, [], ◌∷◌, ◌++◌, ◌+◌, ◌<◌, ◌≤◌, ◌^◌, length, Some, slice_get, OnOk, OnErr};
+ghost use Rattle.ss_machine_frames.specs.Rows.{TwoRows, place_at, with_number, with_text, with_last, cleared, Grown, Turned, MovedDown, Yielded};
 
 use ss_base::{Alpha, Mode, Value};
 use ss_code_instructions::address::Address;
@@ -236,29 +235,6 @@ impl Rows {
         ensures { self.new ≡ with_text self.old (place_at frame address.now) text }
     {
         self.texts[place_of(frame, address)] = text;
-    }
-
-    /// The value of a mode at a place.
-    pub fn value_at(&self, place: usize, mode: Mode) -> Value
-        requires { place < length self.now.numbers }
-        ensures mode { mode_of result ≡ mode }
-        ensures value { ValueAt self.now place result }
-    {
-        match mode {
-            Mode::Integer => Value::Whole(self.numbers[place]),
-            Mode::Alpha => Value::Text(self.texts[place]),
-        }
-    }
-
-    /// A value goes to a place.
-    pub fn set_value_at(&mut self, place: usize, value: Value)
-        requires { place < length self.old.numbers }
-        ensures { self.new ≡ with_value self.old place value }
-    {
-        match value {
-            Value::Whole(number) => self.numbers[place] = number,
-            Value::Text(text) => self.texts[place] = text,
-        }
     }
 
     /// Variables of these modes, from a place on, hold 0 or the empty text.

@@ -17,14 +17,15 @@ use Rattle.ss_code_instructions.specs.Instructions.{Instruction}
 use Rattle.ss_code_instructions.specs.States.{Core, deliver}
 use Rattle.ss_code_instructions.specs.Machine.{act}
 use Rattle.ss_code_instructions.specs.Shape.{Suits}
-use Rattle.ss_code_instructions.specs.Carried.{Moves, Calculates, From, To, Is}
+use Rattle.ss_code_instructions.specs.Carried.{MovesValue, Calculates, From, To, Is}
 use Rattle.ss_machine_frames.specs.Rows.{place_at}
 use Rattle.ss_machine_frames.proofs.Reading.{Only, only_number, reads, read_within, reads_both, BothWithin, both_within}
 use Rattle.ss_machine_instructions.specs.declared.flow.Here.{Here}
 use Rattle.ss_machine_instructions.specs.declared.state.State.{State}
-use Rattle.ss_machine_instructions.specs.Doing.{Compiled, Ready, Delivers, as_value}
+use Rattle.ss_machine_instructions.specs.Doing.{Compiled, Ready, Delivers}
 use Rattle.ss_machine_instructions.proofs.Placing.{site, located, suits, deep_at, deep_here, gives_mode}
 use Rattle.ss_machine_instructions.proofs.Delivering.{delivers, deliver_is, number_right}
+use Rattle.ss_machine_world.specs.Seen.{as_value}
 
 module _ (w : Compiled) (c : Core) (here : Here) (s : State) (run : Running) (r : Ready w c here s run) where
   abbrev SuitsHere : Instruction → Type 0
@@ -76,12 +77,12 @@ module _ (w : Compiled) (c : Core) (here : Here) (s : State) (run : Running) (r 
 
   -- ## A value that is moved
 
-  pub moves_in : (mode : Mode) (from to : Address) → Moves w.code w.run.constants r.placed mode from to → place_at here.frame from < length s.rows.numbers
+  pub moves_in : (mode : Mode) (from to : Address) → MovesValue w.code w.run.constants r.placed mode from to → place_at here.frame from < length s.rows.numbers
   moves_in mode from to z =
       let y = subst SuitsHere z.2.1.2 (suits w c here s run r) in
       read_within (site w c here s run r) (located w c here s run r) z.0 y.0 r.placed.cells y.1.0 from y.1.1 z.1 (deep_here w c here s run r)
 
-  pub moves : (mode : Mode) (from to : Address) (v : Value) → Moves w.code w.run.constants r.placed mode from to → mode_of v ≡ mode → Only s.rows (place_at here.frame from) mode v → Delivers w c r.placed.line (act w.code r.placed.line r.placed.instruction c) here s to (Ok v)
+  pub moves : (mode : Mode) (from to : Address) (v : Value) → MovesValue w.code w.run.constants r.placed mode from to → mode_of v ≡ mode → Only s.rows (place_at here.frame from) mode v → Delivers w c r.placed.line (act w.code r.placed.line r.placed.instruction c) here s to (Ok v)
   moves mode from to v z right only =
       let t = site w c here s run r in
       let st = located w c here s run r in

@@ -34,8 +34,8 @@ use Rattle.ss_machine_frames.specs.Rows.{place_at}
 use Rattle.ss_machine_frames.proofs.Reading.{only_number, reads, read_within}
 use Rattle.ss_machine_instructions.specs.declared.flow.Here.{Here}
 use Rattle.ss_machine_instructions.specs.declared.state.State.{State}
-use Rattle.ss_machine_instructions.specs.Doing.{Compiled, Ready, Comes, Delivers, IsDelivered}
-use Rattle.ss_machine_instructions.specs.Ways.{on_at, on_after, unless_fault, faulted_by, refused_by}
+use Rattle.ss_machine_instructions.specs.Doing.{Compiled, Ready, Performs, Delivers, IsDelivered}
+use Rattle.ss_machine_instructions.specs.Ways.{on_at, on_after, done_unless_fault, faulted_by, refused_by}
 use Rattle.ss_machine_instructions.proofs.Placing.{site, located, suits, small, deep_at, deep_here, calm}
 use Rattle.ss_machine_instructions.proofs.Seeing.{makes_not, changes_not, seen_is, layout_is, goes_seeing, changes, refuses}
 use Rattle.ss_machine_instructions.proofs.Figuring.{global_within, global_is}
@@ -109,12 +109,12 @@ module _ (w : Compiled) (c : Core) (here : Here) (s : State) (run : Running) (r 
         };
       }
 
-  pub created : (class : ℕ) (to : Address) (n : ℤ) (e : Seen) (new : State) (result : Option (Unit {0})) → Creates class to → Makes (made_one class) s.scene e (Ok n) → IsDelivered here (record s { scene = e }) new result to (Ok (Whole n)) → Comes (is_due r.placed.instruction) w r.placed.line does s new (on_after here result)
+  pub created : (class : ℕ) (to : Address) (n : ℤ) (e : Seen) (new : State) (result : Option (Unit {0})) → Creates class to → Makes (made_one class) s.scene e (Ok n) → IsDelivered here (record s { scene = e }) new result to (Ok (Whole n)) → Performs (is_due r.placed.instruction) w r.placed.line does s new (on_after here result)
   created class to n e new result z made delivered =
       let h = delivered w c r.placed.line does (creates class to n e z made) in
       calm w c here s run r new (on_after here result) (ap is_due z.2) (record { leads = h.leads; ticks = h.ticks; steps = h.steps })
 
-  pub creates_not : (class : ℕ) (to : Address) (e : Seen) (refused : Refused) (new : State) (result : Option Here) → Creates class to → Makes (made_one class) s.scene e (Err refused) → new ≡ refused_by refused (record s { scene = e }) → result ≡ None → Comes (is_due r.placed.instruction) w r.placed.line does s new result
+  pub creates_not : (class : ℕ) (to : Address) (e : Seen) (refused : Refused) (new : State) (result : Option Here) → Creates class to → Makes (made_one class) s.scene e (Err refused) → new ≡ refused_by refused (record s { scene = e }) → result ≡ None → Performs (is_due r.placed.instruction) w r.placed.line does s new result
   creates_not class to e refused new result z made same none =
       calm w c here s run r new result (ap is_due z.2)
       (refuses w c here s run r (made_one class) e refused new result
@@ -153,14 +153,14 @@ module _ (w : Compiled) (c : Core) (here : Here) (s : State) (run : Running) (r 
       ap (λ x. act w.code r.placed.line x c) is
       ∙ ap (λ o. did r.placed.line (if_ok (sure o) (λ v. if_ok (number_of v) (λ n. created_all_known class n c.store))) (λ t. onward c.cells c t)) (global_is w c here s run r variable n (good_count class variable is).1 e)
 
-  pub creates_all : (class variable : ℕ) (n : ℤ) (e : Seen) (new : State) (result : Option Here) → CreatesAll class variable → slice_get s.rows.numbers variable ≡ Some n → ChangesWithMemory (created_all_known class n) s.scene e (Ok tt) → new ≡ record s { scene = e } → result ≡ on_at here → Comes (is_due r.placed.instruction) w r.placed.line does s new result
+  pub creates_all : (class variable : ℕ) (n : ℤ) (e : Seen) (new : State) (result : Option Here) → CreatesAll class variable → slice_get s.rows.numbers variable ≡ Some n → ChangesWithMemory (created_all_known class n) s.scene e (Ok tt) → new ≡ record s { scene = e } → result ≡ on_at here → Performs (is_due r.placed.instruction) w r.placed.line does s new result
   creates_all class variable n e new result is at made same q =
       calm w c here s run r new result (ap is_due is)
       (goes_seeing w c here s run r c.cells e new result
       (all_is class variable n is at ∙ ap (λ q. did r.placed.line q (λ t. onward c.cells c t)) (ap (created_all_known class n) (seen_is w c here s run r) ∙ made c.store))
       r.holds.held.cells same q)
 
-  pub creates_all_not : (class variable : ℕ) (n : ℤ) (e : Seen) (refused : Refused) (new : State) (result : Option Here) → CreatesAll class variable → slice_get s.rows.numbers variable ≡ Some n → ChangesWithMemory (created_all_known class n) s.scene e (Err refused) → new ≡ refused_by refused (record s { scene = e }) → result ≡ None → Comes (is_due r.placed.instruction) w r.placed.line does s new result
+  pub creates_all_not : (class variable : ℕ) (n : ℤ) (e : Seen) (refused : Refused) (new : State) (result : Option Here) → CreatesAll class variable → slice_get s.rows.numbers variable ≡ Some n → ChangesWithMemory (created_all_known class n) s.scene e (Err refused) → new ≡ refused_by refused (record s { scene = e }) → result ≡ None → Performs (is_due r.placed.instruction) w r.placed.line does s new result
   creates_all_not class variable n e refused new result is at made same none =
       calm w c here s run r new result (ap is_due is)
       (refuses w c here s run r (created_all_known class n) e refused new result
@@ -183,7 +183,7 @@ module _ (w : Compiled) (c : Core) (here : Here) (s : State) (run : Running) (r 
   pub destroys_single : (class : ℕ) (entity : Address) → Destroys class entity → is_single (slice_get s.scene.heap.layout.classes class) ≡ true
   destroys_single class entity z = let y = subst SuitsHere z.2 (suits w c here s run r) in single_here class y.0
 
-  pub destroys : (class : ℕ) (entity : Address) (n : ℤ) (e : Seen) (answer : OkOr (Unit {0}) FaultKind) (new : State) (result : Option Here) → Destroys class entity → slice_get s.rows.numbers (place_at here.frame entity) ≡ Some n → Changes (without class (Whole n)) s.scene e answer → new ≡ faulted_by answer (record s { scene = e }) → result ≡ on_after here (unless_fault answer) → Comes (is_due r.placed.instruction) w r.placed.line does s new result
+  pub destroys : (class : ℕ) (entity : Address) (n : ℤ) (e : Seen) (answer : OkOr (Unit {0}) FaultKind) (new : State) (result : Option Here) → Destroys class entity → slice_get s.rows.numbers (place_at here.frame entity) ≡ Some n → Changes (without class (Whole n)) s.scene e answer → new ≡ faulted_by answer (record s { scene = e }) → result ≡ on_after here (done_unless_fault answer) → Performs (is_due r.placed.instruction) w r.placed.line does s new result
   destroys class entity n e answer new result z at changed same q =
       let is = z.2 in
       let y = subst SuitsHere is (suits w c here s run r) in

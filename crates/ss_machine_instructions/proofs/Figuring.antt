@@ -38,24 +38,24 @@ use Rattle.ss_code_instructions.specs.States.{Core, Moved, did, core_at, onward,
 use Rattle.ss_code_instructions.specs.Machine.{act, is_due}
 use Rattle.ss_code_instructions.specs.Shape.{Suits, SubjectFits}
 use Rattle.ss_code_instructions.specs.Carried.{From, Of, To, Is}
-use Rattle.ss_machine_time.specs.Figures.{subject_in, variable_in, variable_of, held_in}
+use Rattle.ss_machine_time.specs.Figures.{subject_in, variable_in, statistic_variable, held_in}
 use Rattle.ss_machine_time.specs.Places.{is_about}
-use Rattle.ss_machine_world.specs.Seen.{Seen, IsRight, Looks, Changes, ChangesWhere, without_value, with_seen}
+use Rattle.ss_machine_world.specs.Seen.{Seen, IsRight, Looks, Changes, ChangesWhere, without_value, with_seen, as_value}
 use Rattle.ss_machine_world.specs.Seen as seen
-use Rattle.ss_machine_world.specs.Numbers.{RefersTo, RefersToSubject, IsSubject, HasSubject, Holds as VariableHolds, attribute_noted}
+use Rattle.ss_machine_world.specs.Numbers.{RefersTo, RefersToSubject, IsSubject, HasValidSubject, HoldsSubject as VariableHolds, attribute_noted}
 use Rattle.ss_machine_world.proofs.Composing.{unwatched}
 use Rattle.ss_machine_world.proofs.Reading.{value_once}
 use Rattle.ss_machine_frames.specs.Rows.{with_number, place_at, ValueAt}
-use Rattle.ss_machine_frames.specs.Holding.{Held}
+use Rattle.ss_machine_frames.specs.Holding.{HoldsCore}
 use Rattle.ss_machine_frames.proofs.Places.{Elsewhere, elsewhere_value, value_same, number_is, place_fixed}
 use Rattle.ss_machine_frames.proofs.Reading.{Refers, only_number, reads, read_within, reads_bearer, bearer_within, lies_at, variable_within}
 use Rattle.ss_machine_frames.proofs.Lists.{set_length}
 use Rattle.ss_machine_frames.proofs.Writing.{with_variable, put_is, variable_held}
 use Rattle.ss_machine_instructions.specs.declared.flow.Here.{Here}
 use Rattle.ss_machine_instructions.specs.declared.state.State.{State}
-use Rattle.ss_machine_instructions.specs.Doing.{Compiled, Holds, Ready, NoTick, Comes, Delivers, as_value}
+use Rattle.ss_machine_instructions.specs.Doing.{Compiled, Holds, Ready, NoTick, Performs, Delivers}
 use Rattle.ss_machine_instructions.specs.Noted.{NotedIf, NotedAfter}
-use Rattle.ss_machine_instructions.specs.Ways.{at_place, on_after, unless_fault, faulted_by}
+use Rattle.ss_machine_instructions.specs.Ways.{at_place, on_after, done_unless_fault, faulted_by}
 use Rattle.ss_machine_instructions.proofs.Placing.{site, located, suits, deep_at, deep_here, calm}
 use Rattle.ss_machine_instructions.proofs.Delivering.{faults, number_right}
 use Rattle.ss_machine_instructions.proofs.Seeing.{did_quiet, field_is, class_within, seen_is, layout_is, statistics_are, code_statistics_are, right_where, asked, looked, answers, changes_where}
@@ -135,7 +135,7 @@ module _ (w : Compiled) (c : Core) (here : Here) (s : State) (run : Running) (r 
       subst (GoodSubject w.program) u.2 (every_get (λ (x : Statistic). GoodSubject w.program x.subject) w.program.statistics j u.0 r.compiled.typed.statistics u.1)
 
   -- its subject is one of the layout
-  pub has_subject : (j : ℕ) → HasSubject s.scene j
+  pub has_subject : (j : ℕ) → HasValidSubject s.scene j
   has_subject j = λ t e. subst (λ (l : Layout). IsSubject l t) (sym (layout_is w c here s run r)) (subject_good w.program t (good_there j t e))
 
   -- the number that is read at the address of a bearer is that of the entity
@@ -189,7 +189,7 @@ module _ (w : Compiled) (c : Core) (here : Here) (s : State) (run : Running) (r 
       let y = subst SuitsHere z.2 (suits w c here s run r) in
       bearer_within (site w c here s run r) (located w c here s run r) z.0 r.placed.cells y.1.0 entity y.1.1 z.1 (deep_here w c here s run r)
 
-  pub looks_at_mean : (j : ℕ) (entity : Address) (n : ℤ) (answer : OkOr (Unit {0}) FaultKind) (new : State) (result : Option Here) → Of w.code w.run.constants r.placed entity (λ o. Is w.code w.run.constants r.placed (i.LookMean j o)) → slice_get s.rows.numbers (place_at here.frame entity) ≡ Some n → ((o : Option Value) → RefersToSubject s.scene j o n → Looks (without_value (mean j o)) s.scene answer) → new ≡ faulted_by answer s → result ≡ on_after here (unless_fault answer) → Comes (is_due r.placed.instruction) w r.placed.line does s new result
+  pub looks_at_mean : (j : ℕ) (entity : Address) (n : ℤ) (answer : OkOr (Unit {0}) FaultKind) (new : State) (result : Option Here) → Of w.code w.run.constants r.placed entity (λ o. Is w.code w.run.constants r.placed (i.LookMean j o)) → slice_get s.rows.numbers (place_at here.frame entity) ≡ Some n → ((o : Option Value) → RefersToSubject s.scene j o n → Looks (without_value (mean j o)) s.scene answer) → new ≡ faulted_by answer s → result ≡ on_after here (done_unless_fault answer) → Performs (is_due r.placed.instruction) w r.placed.line does s new result
   looks_at_mean j entity n answer new result z e looks same q =
       let is = z.2 in
       let y = subst SuitsHere is (suits w c here s run r) in
@@ -218,17 +218,17 @@ module _ (w : Compiled) (c : Core) (here : Here) (s : State) (run : Running) (r 
       let at : slice_get s.rows.numbers i ≡ Some z = ap (slice_get s.rows.numbers) (place_fixed here.frame k (global_at k) (refl, refl)) ∙ e in
       v.there ∙ ap Some (number_is s.rows i v.value z v.mode v.at at)
 
-  subject_global : (j k : ℕ) → variable_of s.scene.statistics j ≡ Some k → slice_get w.program.globals k ≡ Some Integer
+  subject_global : (j k : ℕ) → statistic_variable s.scene.statistics j ≡ Some k → slice_get w.program.globals k ≡ Some Integer
   subject_global j k e = (good_there j (OfVariable k) (variable_is (subject_in s.scene.statistics j) k e)).0
 
-  pub held_within : (j k : ℕ) → variable_of s.scene.statistics j ≡ Some k → k < length s.rows.numbers
+  pub held_within : (j k : ℕ) → statistic_variable s.scene.statistics j ≡ Some k → k < length s.rows.numbers
   held_within j k e = global_within k (subject_global j k e)
 
   -- the variable of a statistic, if it is about one, holds what was read
-  pub variable_holds : (j : ℕ) (held : ℤ) → ((k : ℕ) → variable_of s.scene.statistics j ≡ Some k → slice_get s.rows.numbers k ≡ Some held) → VariableHolds j held (with_seen c.store s.scene)
-  variable_holds j held at = λ v e. by (variable_of s.scene.statistics j) refl v e
+  pub variable_holds : (j : ℕ) (held : ℤ) → ((k : ℕ) → statistic_variable s.scene.statistics j ≡ Some k → slice_get s.rows.numbers k ≡ Some held) → VariableHolds j held (with_seen c.store s.scene)
+  variable_holds j held at = λ v e. by (statistic_variable s.scene.statistics j) refl v e
     where
-      by : (o : Option ℕ) → variable_of s.scene.statistics j ≡ o → (v : Value) → held_in o (with_seen c.store s.scene) ≡ Some v → v ≡ Whole held
+      by : (o : Option ℕ) → statistic_variable s.scene.statistics j ≡ o → (v : Value) → held_in o (with_seen c.store s.scene) ≡ Some v → v ≡ Whole held
       by None q v e = absurd cc
       by (Some k) q v e =
           let is : Some v ≡ Some (Whole held) = sym e ∙ global_is k held (subject_global j k q) (at k q) in
@@ -241,7 +241,7 @@ module _ (w : Compiled) (c : Core) (here : Here) (s : State) (run : Running) (r 
       let y = subst SuitsHere z.2 (suits w c here s run r) in
       bearer_within (site w c here s run r) (located w c here s run r) z.0 r.placed.cells y.1.0 entity y.1.1 z.1 (deep_here w c here s run r)
 
-  pub resets : (j : ℕ) (entity : Address) (n held : ℤ) (e : Seen) (answer : OkOr (Unit {0}) FaultKind) (new : State) (result : Option Here) → Of w.code w.run.constants r.placed entity (λ o. Is w.code w.run.constants r.placed (i.Reset j o)) → slice_get s.rows.numbers (place_at here.frame entity) ≡ Some n → ((k : ℕ) → variable_of s.scene.statistics j ≡ Some k → slice_get s.rows.numbers k ≡ Some held) → ((o : Option Value) → RefersToSubject s.scene j o n → ChangesWhere (λ t. IsRight (reset j o t) × VariableHolds j held t) (reset j o) s.scene e answer) → new ≡ faulted_by answer (record s { scene = e }) → result ≡ on_after here (unless_fault answer) → Comes (is_due r.placed.instruction) w r.placed.line does s new result
+  pub resets : (j : ℕ) (entity : Address) (n held : ℤ) (e : Seen) (answer : OkOr (Unit {0}) FaultKind) (new : State) (result : Option Here) → Of w.code w.run.constants r.placed entity (λ o. Is w.code w.run.constants r.placed (i.Reset j o)) → slice_get s.rows.numbers (place_at here.frame entity) ≡ Some n → ((k : ℕ) → statistic_variable s.scene.statistics j ≡ Some k → slice_get s.rows.numbers k ≡ Some held) → ((o : Option Value) → RefersToSubject s.scene j o n → ChangesWhere (λ t. IsRight (reset j o t) × VariableHolds j held t) (reset j o) s.scene e answer) → new ≡ faulted_by answer (record s { scene = e }) → result ≡ on_after here (done_unless_fault answer) → Performs (is_due r.placed.instruction) w r.placed.line does s new result
   resets j entity n held e answer new result z at_entity at_held changed same q =
       let is = z.2 in
       let y = subst SuitsHere is (suits w c here s run r) in
@@ -269,13 +269,13 @@ module _ (w : Compiled) (c : Core) (here : Here) (s : State) (run : Running) (r 
   kept_in k n = with_variable (Global k) (Whole n) c.store
 
   -- it goes on, or there is a fault, once the histories note what the variable holds
-  kept : (k : ℕ) (n : ℤ) (e : Seen) (answer : OkOr (Unit {0}) FaultKind) (below : List Value) (new : State) (result : Option Here) → does ≡ did r.placed.line (noted (OfVariable k) (pos 0) (Whole n) (with_seen (kept_in k n) s.scene)) (λ t. onward below c t) → Held w.run.constants w.run.depth here.frame (with_number s.rows k n) s.frames (core_at (c.place + 1) below c.frames (kept_in k n)) → Changes (noted (OfVariable k) (pos 0) (Whole n)) s.scene e answer → new ≡ faulted_by answer (record s { rows = with_number s.rows k n; scene = e }) → result ≡ on_after here (unless_fault answer) → NoTick w r.placed.line does s new result
+  kept : (k : ℕ) (n : ℤ) (e : Seen) (answer : OkOr (Unit {0}) FaultKind) (below : List Value) (new : State) (result : Option Here) → does ≡ did r.placed.line (noted (OfVariable k) (pos 0) (Whole n) (with_seen (kept_in k n) s.scene)) (λ t. onward below c t) → HoldsCore w.run.constants w.run.depth here.frame (with_number s.rows k n) s.frames (core_at (c.place + 1) below c.frames (kept_in k n)) → Changes (noted (OfVariable k) (pos 0) (Whole n)) s.scene e answer → new ≡ faulted_by answer (record s { rows = with_number s.rows k n; scene = e }) → result ≡ on_after here (done_unless_fault answer) → NoTick w r.placed.line does s new result
   kept k n e answer below new result acts held changed same q = by answer changed same q
     where
       right : IsRight (noted (OfVariable k) (pos 0) (Whole n) (with_seen (kept_in k n) s.scene))
       right = λ wrong. r.goes (acts ∙ ap (λ q. did r.placed.line q (λ t. onward below c t)) wrong)
 
-      by : (answer : OkOr (Unit {0}) FaultKind) → Changes (noted (OfVariable k) (pos 0) (Whole n)) s.scene e answer → new ≡ faulted_by answer (record s { rows = with_number s.rows k n; scene = e }) → result ≡ on_after here (unless_fault answer) → NoTick w r.placed.line does s new result
+      by : (answer : OkOr (Unit {0}) FaultKind) → Changes (noted (OfVariable k) (pos 0) (Whole n)) s.scene e answer → new ≡ faulted_by answer (record s { rows = with_number s.rows k n; scene = e }) → result ≡ on_after here (done_unless_fault answer) → NoTick w r.placed.line does s new result
       by (Ok u) changed same q =
           let store = with_seen (kept_in k n) e in
           let there : Here = record { place = c.place + 1; frame = here.frame } in
@@ -297,7 +297,7 @@ module _ (w : Compiled) (c : Core) (here : Here) (s : State) (run : Running) (r 
           record { leads = h.leads; ticks = h.ticks; steps = h.steps }
 
   -- the value goes to its variable, and the histories note it
-  pub keeps : (k : ℕ) (from : Address) (n : ℤ) (e : Seen) (answer : OkOr (Unit {0}) FaultKind) (new : State) (result : Option Here) → From w.code w.run.constants r.placed from (λ y. Is w.code w.run.constants r.placed (i.Keep y (Global k))) → slice_get s.rows.numbers (place_at here.frame from) ≡ Some n → Changes (noted (OfVariable k) (pos 0) (Whole n)) s.scene e answer → new ≡ faulted_by answer (record s { rows = with_number s.rows k n; scene = e }) → result ≡ on_after here (unless_fault answer) → Comes (is_due r.placed.instruction) w r.placed.line does s new result
+  pub keeps : (k : ℕ) (from : Address) (n : ℤ) (e : Seen) (answer : OkOr (Unit {0}) FaultKind) (new : State) (result : Option Here) → From w.code w.run.constants r.placed from (λ y. Is w.code w.run.constants r.placed (i.Keep y (Global k))) → slice_get s.rows.numbers (place_at here.frame from) ≡ Some n → Changes (noted (OfVariable k) (pos 0) (Whole n)) s.scene e answer → new ≡ faulted_by answer (record s { rows = with_number s.rows k n; scene = e }) → result ≡ on_after here (done_unless_fault answer) → Performs (is_due r.placed.instruction) w r.placed.line does s new result
   keeps k from n e answer new result z at changed same q =
       let t = site w c here s run r in
       let st = located w c here s run r in

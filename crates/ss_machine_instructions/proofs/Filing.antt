@@ -27,7 +27,7 @@ use Rattle.ss_machine_entities.proofs.Refiled.{first_refiled, last_refiled, befo
 use Rattle.ss_machine_world.specs.Numbers.{count_noted}
 use Rattle.ss_machine_world.specs.Seen.{Seen, IsRight, Rearranges, number_if, with_seen}
 use Rattle.ss_machine_world.proofs.Composing.{filed_first_is, filed_last_is, filed_ruled_is, filed_before_is, filed_after_is, removed_is, end_removed_is}
-use Rattle.ss_machine_instructions.specs.Worldly.{Settled, Given, IsTold, IsOwner, ChangesIf, Counted, CountedOut, Files, Removes, Takes}
+use Rattle.ss_machine_instructions.specs.Worldly.{Settled, SettledGiving, IsTold, IsOwner, ChangesIf, Counted, CountedOut, Files, Removes, Takes}
 
 -- ## The owner is there afterwards
 
@@ -220,15 +220,15 @@ module _ (e : Seen) (set : ℕ) (m : ℤ) (mid new : Seen) (notes : Bool) (there
       ∙ ap (λ r. if_ok {B = Value × Store} (due r) (λ r. turned (λ t. (Whole r.0, t)) (recounted set m (with_seen s e) r.1))) done
       ∙ ap (λ (t : Seen). turned (λ t. (Whole x, t)) (count_noted set m (with_seen s t))) (sym same)
 
-  given_as : (f : Store → OkOr (Value × Store) Trouble) (x : ℤ) (q : OkOr (Unit {0}) FaultKind) → ((s : Store) → f (with_seen s e) ≡ turned (λ t. (Whole x, t)) (count_noted set m (with_seen s mid))) → Settled (count_noted set m) mid new q → Given f e new (number_if x q)
+  given_as : (f : Store → OkOr (Value × Store) Trouble) (x : ℤ) (q : OkOr (Unit {0}) FaultKind) → ((s : Store) → f (with_seen s e) ≡ turned (λ t. (Whole x, t)) (count_noted set m (with_seen s mid))) → Settled (count_noted set m) mid new q → SettledGiving f e new (number_if x q)
   given_as f x (Ok u) alike d = λ s right. alike s ∙ ap (turned (λ t. (Whole x, t))) (d s (λ wrong. right (alike s ∙ ap (turned (λ t. (Whole x, t))) wrong)))
   given_as f x (Err k) alike d = λ s right. alike s ∙ ap (turned (λ t. (Whole x, t))) (d s (λ wrong. right (alike s ∙ ap (turned (λ t. (Whole x, t))) wrong)))
 
   pub end_taken : (end : End) (taken q : OkOr ℤ FaultKind) → mid ≡ record e { heap = mid.heap } → MatchResult taken (λ x. end_removed end e.heap set m ≡ Ok (x, mid.heap)) (λ k. (end_removed end e.heap set m ≡ Err k) × (mid.heap ≡ e.heap)) → CountedOut set m taken notes mid new q → Takes end set notes e new q m
   end_taken end (Ok x) q same done did = λ o refers reported.
-      subst (λ (q : OkOr ℤ FaultKind). Given (removed_at end set o) e new q) (sym did.2)
+      subst (λ (q : OkOr ℤ FaultKind). SettledGiving (removed_at end set o) e new q) (sym did.2)
       (given_as (removed_at end set o) x did.0 (end_noted end o x refers done same)
       (noted_as e set m mid new notes did.0 (λ none. ap (λ (t : Seen). watch t.statistics (OfCount set)) same ∙ reported none) (end_counts e.heap mid.heap set m end x done) did.1))
   end_taken end (Err k) q same done did = λ o refers reported.
-      subst (λ (q : OkOr ℤ FaultKind). Given (removed_at end set o) e new q) (sym did)
+      subst (λ (q : OkOr ℤ FaultKind). SettledGiving (removed_at end set o) e new q) (sym did)
       (λ s right. end_removed_is e set o m there refers end s ∙ ap (λ r. if_ok {B = Value × Store} (due r) (λ r. turned (λ t. (Whole r.0, t)) (recounted set m (with_seen s e) r.1))) done.0)

@@ -6,7 +6,7 @@ use Rattle.std.specs.Int.{int_min}
 use mir.ValLaws as laws
 use Rattle.ss_meaning.specs.Loops.{greatest}
 use Rattle.ss_code_instructions.specs.Machine.{unsigned, has_item}
-use Rattle.ss_machine_instructions.specs.Ways.{next_in}
+use Rattle.ss_machine_instructions.specs.Ways.{item_after}
 
 -- how far a number is below another, and their sum, as the machine reckons them
 abbrev pub far : (high low : ℤ) → ℕ
@@ -105,7 +105,7 @@ up_to a b le = by (int_le a b) refl
     by false q = absurd (omega (arith, ints, le))
 
 -- an item below the limit has a next one where the step goes no further than the limit
-pub within : (item step limit : ℤ) → SFits w64 item → SFits w64 step → SFits w64 limit → item <ℤ limit → of_z w64 step ≤ far limit item → Some (sum item step) ≡ next_in item step limit
+pub within : (item step limit : ℤ) → SFits w64 item → SFits w64 step → SFits w64 limit → item <ℤ limit → of_z w64 step ≤ far limit item → Some (sum item step) ≡ item_after item step limit
 within item step limit f g h below le =
     let u = of_z w64 step in
     let left = far_is limit item h f below in

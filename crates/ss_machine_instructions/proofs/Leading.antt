@@ -3,7 +3,7 @@ use Rattle.std.proofs.Common.{◌≡◌, ℕ, ◌+◌, true, Option, Some, None,
 use Rattle.std.specs.Prelude.{is_some, if◌then◌else◌}
 use Rattle.ss_machine_instructions.specs.declared.flow.Here.{Here}
 use Rattle.ss_machine_instructions.specs.declared.flow.Next.{Next}
-use Rattle.ss_machine_instructions.specs.Ways.{led, led_to, begun_at}
+use Rattle.ss_machine_instructions.specs.Ways.{led, led_to, begun_event_at}
 
 -- the run stopped
 pub led_stopped : (n m : Next) (o : Option (Unit {0})) → m ≡ record n { goes = is_some o } → o ≡ None → led m ≡ None
@@ -16,6 +16,6 @@ led_there place frame m e =
     ap led e ∙ ap (λ (p : ℕ). let h : Here = record { place = p; frame = frame } in Some h) same
 
 -- to the place where an event begins, in the frame that begins at a cell
-pub begun_is : (here : Here) (cell : ℕ) (place : Option ℕ) → led_to place (here.frame + cell) ≡ begun_at here cell place
+pub begun_is : (here : Here) (cell : ℕ) (place : Option ℕ) → led_to place (here.frame + cell) ≡ begun_event_at here cell place
 begun_is here cell (Some place) = refl
 begun_is here cell None = refl

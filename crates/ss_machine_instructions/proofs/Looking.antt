@@ -30,8 +30,8 @@ use Rattle.ss_machine_frames.specs.Rows.{place_at}
 use Rattle.ss_machine_frames.proofs.Reading.{only_number, reads, read_within, reads_bearer, bearer_within}
 use Rattle.ss_machine_instructions.specs.declared.flow.Here.{Here}
 use Rattle.ss_machine_instructions.specs.declared.state.State.{State}
-use Rattle.ss_machine_instructions.specs.Doing.{Compiled, Ready, Comes}
-use Rattle.ss_machine_instructions.specs.Ways.{on_after, unless_fault, faulted_by}
+use Rattle.ss_machine_instructions.specs.Doing.{Compiled, Ready, Performs}
+use Rattle.ss_machine_instructions.specs.Ways.{on_after, done_unless_fault, faulted_by}
 use Rattle.ss_machine_instructions.proofs.Placing.{site, located, suits, deep_here}
 use Rattle.ss_machine_instructions.proofs.Asking.{owner_is, set_within}
 use Rattle.ss_machine_instructions.proofs.Seeing.{heap_is, layout_is, asked, looked}
@@ -82,7 +82,7 @@ module _ (w : Compiled) (c : Core) (here : Here) (s : State) (run : Running) (r 
   pub class_in : (class : ℕ) (entity : Address) → AtEntity class entity → class < length s.scene.heap.layout.classes
   class_in class entity z = let k = class_there class entity z in slice_get_within s.scene.heap.layout.classes class k.0 k.1
 
-  pub looks_at_entity : (class : ℕ) (at : Address) (n : ℤ) (answer : OkOr (Unit {0}) FaultKind) (new : State) (result : Option Here) → AtEntity class at → slice_get s.rows.numbers (place_at here.frame at) ≡ Some n → answer ≡ known_in s.scene.heap class n → new ≡ faulted_by answer s → result ≡ on_after here (unless_fault answer) → Comes (is_due r.placed.instruction) w r.placed.line does s new result
+  pub looks_at_entity : (class : ℕ) (at : Address) (n : ℤ) (answer : OkOr (Unit {0}) FaultKind) (new : State) (result : Option Here) → AtEntity class at → slice_get s.rows.numbers (place_at here.frame at) ≡ Some n → answer ≡ known_in s.scene.heap class n → new ≡ faulted_by answer s → result ≡ on_after here (done_unless_fault answer) → Performs (is_due r.placed.instruction) w r.placed.line does s new result
   looks_at_entity class at n answer new result z e known same q =
       let is = z.2 in
       let y = subst SuitsHere is (suits w c here s run r) in
@@ -115,7 +115,7 @@ module _ (w : Compiled) (c : Core) (here : Here) (s : State) (run : Running) (r 
   pub member_set_in : (set : ℕ) (member : Address) → AtMember set member → set < length s.scene.heap.layout.sets
   member_set_in set member z = let y = subst SuitsHere z.2 (suits w c here s run r) in set_in set y.0
 
-  pub looks_at_member : (set : ℕ) (at : Address) (n : ℤ) (answer : OkOr (Unit {0}) FaultKind) (new : State) (result : Option Here) → AtMember set at → slice_get s.rows.numbers (place_at here.frame at) ≡ Some n → answer ≡ no_value (joiner s.scene.heap set n) → new ≡ faulted_by answer s → result ≡ on_after here (unless_fault answer) → Comes (is_due r.placed.instruction) w r.placed.line does s new result
+  pub looks_at_member : (set : ℕ) (at : Address) (n : ℤ) (answer : OkOr (Unit {0}) FaultKind) (new : State) (result : Option Here) → AtMember set at → slice_get s.rows.numbers (place_at here.frame at) ≡ Some n → answer ≡ no_value (joiner s.scene.heap set n) → new ≡ faulted_by answer s → result ≡ on_after here (done_unless_fault answer) → Performs (is_due r.placed.instruction) w r.placed.line does s new result
   looks_at_member set at n answer new result z e known same q =
       let is = z.2 in
       let y = subst SuitsHere is (suits w c here s run r) in
@@ -144,7 +144,7 @@ module _ (w : Compiled) (c : Core) (here : Here) (s : State) (run : Running) (r 
   pub owner_set_in : (set : ℕ) (owner : Address) → AtOwner set owner → set < length s.scene.heap.layout.sets
   owner_set_in set owner z = let y = subst SuitsHere z.2 (suits w c here s run r) in set_within w c here s run r set z.0 y.0
 
-  pub looks_at_owner : (set : ℕ) (at : Address) (n : ℤ) (answer : OkOr (Unit {0}) FaultKind) (new : State) (result : Option Here) → AtOwner set at → slice_get s.rows.numbers (place_at here.frame at) ≡ Some n → answer ≡ no_value (owner s.scene.heap set n) → new ≡ faulted_by answer s → result ≡ on_after here (unless_fault answer) → Comes (is_due r.placed.instruction) w r.placed.line does s new result
+  pub looks_at_owner : (set : ℕ) (at : Address) (n : ℤ) (answer : OkOr (Unit {0}) FaultKind) (new : State) (result : Option Here) → AtOwner set at → slice_get s.rows.numbers (place_at here.frame at) ≡ Some n → answer ≡ no_value (owner s.scene.heap set n) → new ≡ faulted_by answer s → result ≡ on_after here (done_unless_fault answer) → Performs (is_due r.placed.instruction) w r.placed.line does s new result
   looks_at_owner set at n answer new result z e known same q =
       let is = z.2 in
       let y = subst SuitsHere is (suits w c here s run r) in
@@ -162,7 +162,7 @@ module _ (w : Compiled) (c : Core) (here : Here) (s : State) (run : Running) (r 
 
   -- ## LookCount
 
-  pub looks_at_count : (class : ℕ) (answer : OkOr (Unit {0}) FaultKind) (new : State) (result : Option Here) → Is w.code w.run.constants r.placed (i.LookCount class) → Looks (assignable_count class) s.scene answer → new ≡ faulted_by answer s → result ≡ on_after here (unless_fault answer) → Comes (is_due r.placed.instruction) w r.placed.line does s new result
+  pub looks_at_count : (class : ℕ) (answer : OkOr (Unit {0}) FaultKind) (new : State) (result : Option Here) → Is w.code w.run.constants r.placed (i.LookCount class) → Looks (assignable_count class) s.scene answer → new ≡ faulted_by answer s → result ≡ on_after here (done_unless_fault answer) → Performs (is_due r.placed.instruction) w r.placed.line does s new result
   looks_at_count class answer new result is looks same q =
       let m = onward c.cells c c.store in
       let acts : does ≡ did r.placed.line (assignable_count class c.store) (λ _. m) = ap (λ x. act w.code r.placed.line x c) is in

@@ -25,7 +25,7 @@ use Rattle.ss_meaning.proofs.Entities.{HasField, field_said, class_said}
 use Rattle.ss_meaning.proofs.Events.{RankedAs, ranked_there}
 use Rattle.ss_meaning.proofs.Fine.{There}
 use Rattle.ss_meaning.proofs.Lists.{every_get}
-use Rattle.ss_machine_events.specs.Scheduled.{IsNoticeClass, HasField as HasKey}
+use Rattle.ss_machine_events.specs.Scheduled.{IsNoticeClass, HasKeyField as HasKey}
 use Rattle.ss_machine_world.specs.Seen.{Seen}
 use Rattle.ss_machine_instructions.specs.Worldly.{IsRuled}
 

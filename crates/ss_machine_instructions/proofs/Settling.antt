@@ -12,13 +12,13 @@ use Rattle.ss_code_instructions.specs.declared.instruction.Instruction.{Instruct
 use Rattle.ss_code_instructions.specs.Facts.{watch}
 use Rattle.ss_code_instructions.specs.States.{Core, To, Rest, Breaks, core_at, did, onward}
 use Rattle.ss_code_instructions.specs.Machine.{Code, act, is_due}
-use Rattle.ss_machine_frames.specs.Holding.{CellsAt, Held}
+use Rattle.ss_machine_frames.specs.Holding.{CellsAt, HoldsCore}
 use Rattle.ss_machine_frames.proofs.Writing.{cells_held}
 use Rattle.ss_machine_world.specs.Seen.{Seen, IsRight, Changes, with_seen}
 use Rattle.ss_machine_instructions.specs.declared.flow.Here.{Here}
 use Rattle.ss_machine_instructions.specs.declared.state.State.{State}
-use Rattle.ss_machine_instructions.specs.Doing.{Compiled, Holds, Ready, NoTick, Comes}
-use Rattle.ss_machine_instructions.specs.Ways.{on_at, on_after, unless_fault, faulted, faulted_by}
+use Rattle.ss_machine_instructions.specs.Doing.{Compiled, Holds, Ready, NoTick, Performs}
+use Rattle.ss_machine_instructions.specs.Ways.{on_at, on_after, done_unless_fault, faulted, faulted_by}
 use Rattle.ss_machine_instructions.specs.Worldly.{Settled, Settles, IsTold}
 use Rattle.ss_machine_instructions.proofs.Placing.{site, located, calm}
 use Rattle.ss_machine_instructions.proofs.Delivering.{faults}
@@ -63,7 +63,7 @@ module _ (w : Compiled) (c : Core) (here : Here) (s : State) (run : Running) (r 
 
   -- ## What is held once more is seen
 
-  pub scene_held : (e : Seen) (place : ℕ) (cells : List Value) → CellsAt s.rows (here.frame + length c.store.locals) cells → Held w.run.constants w.run.depth here.frame s.rows s.frames (core_at place cells c.frames (with_seen c.store e))
+  pub scene_held : (e : Seen) (place : ℕ) (cells : List Value) → CellsAt s.rows (here.frame + length c.store.locals) cells → HoldsCore w.run.constants w.run.depth here.frame s.rows s.frames (core_at place cells c.frames (with_seen c.store e))
   scene_held e place cells at =
       let h = cells_held (site w c here s run r) (located w c here s run r) place cells at in
       record {
@@ -97,7 +97,7 @@ module _ (w : Compiled) (c : Core) (here : Here) (s : State) (run : Running) (r 
 
   -- ## It goes on
 
-  pub went_on : (f : Store → OkOr Store Trouble) (e : Seen) (new : State) (result : Option Here) → is_due r.placed.instruction ≡ false → Settles c r.placed.line (act w.code r.placed.line r.placed.instruction c) here s f → f (with_seen c.store s.scene) ≡ Ok (with_seen c.store e) → new ≡ record s { scene = e } → result ≡ on_at here → Comes (is_due r.placed.instruction) w r.placed.line (act w.code r.placed.line r.placed.instruction c) s new result
+  pub went_on : (f : Store → OkOr Store Trouble) (e : Seen) (new : State) (result : Option Here) → is_due r.placed.instruction ≡ false → Settles c r.placed.line (act w.code r.placed.line r.placed.instruction c) here s f → f (with_seen c.store s.scene) ≡ Ok (with_seen c.store e) → new ≡ record s { scene = e } → result ≡ on_at here → Performs (is_due r.placed.instruction) w r.placed.line (act w.code r.placed.line r.placed.instruction c) s new result
   went_on f e new result calmly z d same on =
       let m = act w.code r.placed.line r.placed.instruction c in
       let l = r.placed.line in
@@ -117,7 +117,7 @@ module _ (w : Compiled) (c : Core) (here : Here) (s : State) (run : Running) (r 
       (subst (λ o. NoTick w l m s new o) (sym on) (subst (λ n. NoTick w l m s n (on_at here)) (sym same) plain))
 
   -- a fault of the definition, whatever the machine has done to what is seen
-  pub fails_on : (kind : FaultKind) (e : Seen) (new : State) (result : Option Here) → is_due r.placed.instruction ≡ false → act w.code r.placed.line r.placed.instruction c ≡ Rest (Breaks kind r.placed.line) → new ≡ faulted kind (record s { scene = e }) → result ≡ None → Comes (is_due r.placed.instruction) w r.placed.line (act w.code r.placed.line r.placed.instruction c) s new result
+  pub fails_on : (kind : FaultKind) (e : Seen) (new : State) (result : Option Here) → is_due r.placed.instruction ≡ false → act w.code r.placed.line r.placed.instruction c ≡ Rest (Breaks kind r.placed.line) → new ≡ faulted kind (record s { scene = e }) → result ≡ None → Performs (is_due r.placed.instruction) w r.placed.line (act w.code r.placed.line r.placed.instruction c) s new result
   fails_on kind e new result calmly acts same none =
       let m = act w.code r.placed.line r.placed.instruction c in
       let l = r.placed.line in
@@ -130,6 +130,6 @@ module _ (w : Compiled) (c : Core) (here : Here) (s : State) (run : Running) (r 
       z.acts ∙ ap (λ q. did r.placed.line q (λ t. onward z.below c t)) (ap f store_is ∙ d c.store (λ wrong. z.right (ap f store_is ∙ wrong)))
 
   -- by the answer
-  pub settles : (f : Store → OkOr Store Trouble) (e : Seen) (answer : OkOr (Unit {0}) FaultKind) (new : State) (result : Option Here) → is_due r.placed.instruction ≡ false → Settles c r.placed.line (act w.code r.placed.line r.placed.instruction c) here s f → Settled f s.scene e answer → new ≡ faulted_by answer (record s { scene = e }) → result ≡ on_after here (unless_fault answer) → Comes (is_due r.placed.instruction) w r.placed.line (act w.code r.placed.line r.placed.instruction c) s new result
+  pub settles : (f : Store → OkOr Store Trouble) (e : Seen) (answer : OkOr (Unit {0}) FaultKind) (new : State) (result : Option Here) → is_due r.placed.instruction ≡ false → Settles c r.placed.line (act w.code r.placed.line r.placed.instruction c) here s f → Settled f s.scene e answer → new ≡ faulted_by answer (record s { scene = e }) → result ≡ on_after here (done_unless_fault answer) → Performs (is_due r.placed.instruction) w r.placed.line (act w.code r.placed.line r.placed.instruction c) s new result
   settles f e (Ok u) new result calmly z d same way = went_on f e new result calmly z (d c.store (λ wrong. z.right (ap f store_is ∙ wrong))) same way
   settles f e (Err kind) new result calmly z d same way = fails_on kind e new result calmly (fails_by f e kind z d) same way

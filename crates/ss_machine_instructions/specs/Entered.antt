@@ -1,17 +1,17 @@
 -- What the machine holds once a section is entered: the rows have grown, where that was needed; the other variables of the section have their first values; and
 -- the call is open.
 use Rattle.std.specs.Prelude.{◌≡◌, ℕ, ◌+◌, ◌<◌, ◌≤◌, ◌^◌, ◌∷◌, length}
-use Rattle.ss_code_instructions.specs.declared.entry.Entry.{Entry}
+use Rattle.ss_code_instructions.specs.declared.entry.SectionEntry.{SectionEntry}
 use Rattle.ss_machine_frames.specs.declared.frames.Frame.{Frame as Call}
 use Rattle.ss_machine_frames.specs.Rows.{TwoRows, Grown, cleared}
 use Rattle.ss_machine_instructions.specs.declared.flow.Here.{Here}
 use Rattle.ss_machine_instructions.specs.declared.state.State.{State}
 
 -- the call that is open then
-abbrev pub call_of : Here → Entry → Call
+abbrev pub call_of : Here → SectionEntry → Call
 call_of here entry = record { back = here.place + 1; caller = here.frame; given = length entry.given.items; yielding = entry.yielding }
 
-pub record Enters (here : Here) (old new : State) (entry : Entry) (cell frame : ℕ) : Type 0 where
+pub record Enters (here : Here) (old new : State) (entry : SectionEntry) (cell frame : ℕ) : Type 0 where
   pub begin : frame ≡ here.frame + cell
   pub grown : TwoRows
   pub grows : Grown old.rows grown
@@ -21,7 +21,7 @@ pub record Enters (here : Here) (old new : State) (entry : Entry) (cell frame : 
   pub is : new ≡ record old { rows = cleared grown (frame + length entry.given.items) entry.others.items; frames = call_of here entry ∷ old.frames }
 
 -- memory was refused: no tick is taken, the world is as it was, and the rows are no shorter
-pub record IsRefused (old new : State) : Type 0 where
+pub record IsOutOfMemory (old new : State) : Type 0 where
   pub ticks : new.ticks ≡ old.ticks
   pub steps : new.steps ≡ old.steps
   pub scene : new.scene ≡ old.scene

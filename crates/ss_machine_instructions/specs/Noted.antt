@@ -5,7 +5,7 @@ use Rattle.ss_meaning.specs.Values.{Trouble}
 use Rattle.ss_meaning.specs.Store.{Store}
 use Rattle.ss_machine_world.specs.Seen.{Seen, Changes}
 use Rattle.ss_machine_instructions.specs.declared.state.State.{State}
-use Rattle.ss_machine_instructions.specs.Ways.{unless_fault, faulted_by}
+use Rattle.ss_machine_instructions.specs.Ways.{done_unless_fault, faulted_by}
 
 -- a note where it is asked for; else nothing changes
 abbrev pub NotedIf : (noted : Bool) → (Store → Result Store Trouble) → (old new : Seen) → (said : Result (Unit {0}) FaultKind) → Type 0
@@ -23,4 +23,4 @@ pub record Notes (noted : Bool) (note : Store → Result Store Trouble) (change 
   pub said : Result (Unit {0}) FaultKind
   pub after : NotedAfter change noted note old.scene scene said
   pub state : new ≡ faulted_by said (record old { scene = scene })
-  pub way : result ≡ unless_fault said
+  pub way : result ≡ done_unless_fault said

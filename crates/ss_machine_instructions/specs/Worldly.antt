@@ -28,15 +28,15 @@ use Rattle.ss_machine_instructions.specs.Ways.{on_at, refused_by}
 
 -- ## What an operation does
 
--- it changes what is seen, or has a fault. After a fault nothing is said of what is seen
+-- it changes what is seen, or has a fault. After a fault what is seen is left open
 abbrev pub Settled : (Store → Result Store Trouble) → (old new : Seen) → Result (Unit {0}) FaultKind → Type 0
 Settled f old new (Ok u) = (s : Store) → IsRight (f (with_seen s old)) → f (with_seen s old) ≡ Ok (with_seen s new)
 Settled f old new (Err kind) = (s : Store) → IsRight (f (with_seen s old)) → f (with_seen s old) ≡ Err (Fails kind)
 
 -- it gives a number as well
-abbrev pub Given : (Store → Result (Value × Store) Trouble) → (old new : Seen) → Result ℤ FaultKind → Type 0
-Given f old new (Ok n) = (s : Store) → IsRight (f (with_seen s old)) → f (with_seen s old) ≡ Ok (Whole n, with_seen s new)
-Given f old new (Err kind) = (s : Store) → IsRight (f (with_seen s old)) → f (with_seen s old) ≡ Err (Fails kind)
+abbrev pub SettledGiving : (Store → Result (Value × Store) Trouble) → (old new : Seen) → Result ℤ FaultKind → Type 0
+SettledGiving f old new (Ok n) = (s : Store) → IsRight (f (with_seen s old)) → f (with_seen s old) ≡ Ok (Whole n, with_seen s new)
+SettledGiving f old new (Err kind) = (s : Store) → IsRight (f (with_seen s old)) → f (with_seen s old) ≡ Err (Fails kind)
 
 -- ## Notes
 
@@ -67,7 +67,7 @@ abbrev pub Counted : (set : ℕ) → (owner : ℤ) → (changed : Result (Unit {
 Counted set o (Ok u) noted old new r = ChangesIf noted (count_noted set o) old new r
 Counted set o (Err kind) noted old new r = r ≡ Err kind
 
--- the same where a member was taken out, which is the answer
+-- a set has changed or there was a fault, as in `Counted`, where a member was taken out, which is the answer
 abbrev pub CountedOut : (set : ℕ) → (owner : ℤ) → (taken : Result ℤ FaultKind) → (noted : Bool) → (old new : Seen) → Result ℤ FaultKind → Type 0
 CountedOut set o (Ok x) noted old new r = (q : Result (Unit {0}) FaultKind) × Counted set o (Ok tt) noted old new q × (r ≡ number_if x q)
 CountedOut set o (Err kind) noted old new r = r ≡ Err kind
@@ -85,7 +85,7 @@ Removes set noted old new r m x =
 -- the first or the last is removed from it, and is the answer
 abbrev pub Takes : End → (set : ℕ) → (noted : Bool) → (old new : Seen) → Result ℤ FaultKind → (owner : ℤ) → Type 0
 Takes end set noted old new r m =
-    (o : Option Value) → IsOwner old set o m → IsTold noted (OfCount set) old → Given (removed_at end set o) old new r
+    (o : Option Value) → IsOwner old set o m → IsTold noted (OfCount set) old → SettledGiving (removed_at end set o) old new r
 
 -- 1 where there is an owner, and 0 where there is none, or a fault
 abbrev pub one_of : Result (Option ℤ) FaultKind → Result ℤ FaultKind

@@ -4,13 +4,13 @@ ghost use Rattle.std.specs.Prelude.{◌≡◌, ◌+◌, ◌<◌, ◌≤◌, ◌^
 ghost use Rattle.ss_code_instructions.specs.Carried.{IsSized};
 ghost use Rattle.ss_machine_frames.specs.Rows.{Yielded};
 ghost use Rattle.ss_machine_instructions.specs.Doing.{Can, Does, CanWhere, DoesWhere};
-ghost use Rattle.ss_machine_instructions.specs.Entered.{Enters, IsRefused};
+ghost use Rattle.ss_machine_instructions.specs.Entered.{Enters, IsOutOfMemory};
 ghost use Rattle.ss_machine_instructions.specs.declared.flow.Here.{Here as HereSeen};
 ghost use Rattle.ss_machine_instructions.specs.Ways.{entered_at, led, on_after};
 
 use crate::flow::{Ending, Here, Next};
 use crate::state::State;
-use ss_code_instructions::entry::Entry;
+use ss_code_instructions::entry::SectionEntry;
 use ss_code_instructions::instruction::Instruction;
 use ss_machine_frames::frames::Frame;
 use std::alloc::AllocError;
@@ -19,12 +19,17 @@ impl State {
     /// A section begins, whose frame begins at a cell: what it is given lies there already, its other variables hold their
     /// first values, and there is room for its cells. It answers where the frame begins.
     #[inline(always)]
-    pub fn enter(&mut self, here: Here, entry: &Entry, cell: u32) -> Result<usize, AllocError>
+    pub fn enter(
+        &mut self,
+        here: Here,
+        entry: &SectionEntry,
+        cell: u32,
+    ) -> Result<usize, AllocError>
         requires sized { IsSized entry.now }
         requires small { here.frame < 2 ^ 63 }
         requires place { here.place + 1 < 2 ^ 64 }
         ensures ok { IfOk result (λ frame. Enters here self.old self.new entry.now cell frame) }
-        ensures err { OnErr result (IsRefused self.old self.new) }
+        ensures err { OnErr result (IsOutOfMemory self.old self.new) }
     {
         let frame = self.cell(here, cell);
         self.rows.reach(frame + entry.room)?;
@@ -40,7 +45,7 @@ impl State {
 
     /// Call.
     #[inline]
-    pub fn call(&mut self, here: Here, entry: &Entry, cell: u32) -> Option<usize>
+    pub fn call(&mut self, here: Here, entry: &SectionEntry, cell: u32) -> Option<usize>
         requires { (routine : ℕ) × CanWhere (λ w. slice_get w.run.routines routine ≡ Some entry.now) here self.old (Instruction.Call routine cell) }
         ensures { (routine : ℕ) → DoesWhere (λ w. slice_get w.run.routines routine ≡ Some entry.now) here self.old self.new (entered_at entry.now result) (Instruction.Call routine cell) }
     {

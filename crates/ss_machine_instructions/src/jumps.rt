@@ -2,7 +2,7 @@
 
 ghost use Rattle.std.specs.Prelude.{◌≡◌, ◌<◌, ℕ, length, Some, is_some};
 ghost use Rattle.ss_base.specs.declared.value.Value.TheVariants.{Whole, Text};
-ghost use Rattle.ss_world.specs.PendingList.{next};
+ghost use Rattle.ss_world.specs.PendingList.{least_event};
 ghost use Rattle.ss_world.specs.Sets.{count_in};
 ghost use Rattle.ss_world.specs.Disciplines.{member_test};
 ghost use Rattle.ss_meaning.specs.Values.{allows, related};
@@ -75,7 +75,7 @@ fn number_in(scene: &mut Scene, set: usize, owner: i64) -> Result<i64, FaultKind
 // Whether a notice is pending.
 #[inline(always)]
 fn is_awaited(scene: &mut Scene) -> bool
-    ensures value { result ≡ is_some (next scene.old.pending) }
+    ensures value { result ≡ is_some (least_event scene.old.pending) }
     ensures same { scene.new ≡ scene.old }
 {
     scene.timeline.is_awaited()

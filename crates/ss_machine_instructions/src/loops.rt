@@ -3,7 +3,7 @@
 ghost use Rattle.std.specs.Prelude.{◌≡◌, ℕ, not, pos, int_lt};
 ghost use Rattle.ss_code_instructions.specs.Machine.{has_item};
 ghost use Rattle.ss_machine_instructions.specs.Doing.{Can, Does};
-ghost use Rattle.ss_machine_instructions.specs.Ways.{next_in, back_if_at, on_after, on_if_at, tested_at};
+ghost use Rattle.ss_machine_instructions.specs.Ways.{item_after, back_if_at, on_after, on_if_at, tested_at};
 
 use crate::flow::{Ending, Here};
 use crate::state::State;
@@ -20,7 +20,7 @@ const STEP: usize = 2;
 // a sign, and so the step is read without one.
 #[inline(always)]
 fn next_item(item: i64, step: i64, limit: i64) -> Option<i64>
-    ensures { result ≡ next_in item step limit }
+    ensures { result ≡ item_after item step limit }
 {
     if item >= limit {
         return None;

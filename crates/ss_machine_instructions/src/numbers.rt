@@ -3,7 +3,8 @@
 ghost use Rattle.std.specs.Prelude.{◌≡◌};
 ghost use Rattle.ss_meaning.specs.Values.{computed, computed_alone, distance};
 ghost use Rattle.ss_code_instructions.specs.Forms.{calculating};
-ghost use Rattle.ss_machine_instructions.specs.Doing.{Can, Does, CanDeliver, IsDelivered, as_value, as_text};
+ghost use Rattle.ss_machine_instructions.specs.Doing.{Can, Does, CanDeliver, IsDelivered, as_text};
+ghost use Rattle.ss_machine_world.specs.Seen.{as_value};
 ghost use Rattle.ss_machine_instructions.specs.Ways.{on_after};
 
 use crate::flow::Here;

@@ -2,7 +2,7 @@
 
 ghost use Rattle.std.specs.Prelude.{◌≡◌, ◌+◌, ◌<◌, ◌^◌, ℕ, suc, true, false, length, slice_get, Some, None};
 ghost use Rattle.ss_machine_frames.specs.Rows.{place_at, with_number, with_text};
-ghost use Rattle.ss_machine_instructions.specs.Ways.{stopped, faulted, faulted_by, faulted_test, refused_by, test_of, unless_fault};
+ghost use Rattle.ss_machine_instructions.specs.Ways.{stopped, faulted, faulted_by, faulted_test, refused_by, test_of, done_unless_fault};
 
 use crate::flow::{Ending, Here};
 use ss_base::{Alpha, FaultKind, Line, Refused};
@@ -98,7 +98,7 @@ impl State {
     /// On to the next instruction, unless there was a fault.
     #[inline(always)]
     pub fn done(&mut self, answer: Result<(), FaultKind>) -> Option<()>
-        ensures way { result ≡ unless_fault answer }
+        ensures way { result ≡ done_unless_fault answer }
         ensures state { self.new ≡ faulted_by answer self.old }
     {
         match answer {

@@ -3,7 +3,7 @@
 ghost use Rattle.std.specs.Prelude.{◌≡◌, ◌+◌, ◌<◌, ◌^◌, ℕ, length, slice_get, Some};
 ghost use Rattle.ss_base.specs.declared.layout.Mode.TheVariants.{Integer};
 ghost use Rattle.ss_world.specs.State.{modes_of};
-ghost use Rattle.ss_machine_time.specs.Figures.{variable_of};
+ghost use Rattle.ss_machine_time.specs.Figures.{statistic_variable};
 ghost use Rattle.ss_machine_world.specs.Numbers.{attribute_noted};
 ghost use Rattle.ss_machine_instructions.specs.Doing.{Can, Does};
 ghost use Rattle.ss_machine_instructions.specs.Noted.{Notes};
@@ -77,8 +77,8 @@ impl State {
 
     // The value of the global variable that a statistic is about, 0 where it is about none.
     fn held(&self, statistic: usize) -> i64
-        requires within { (k : ℕ) → variable_of self.now.scene.statistics statistic ≡ Some k → k < length self.now.rows.numbers }
-        ensures { (k : ℕ) → variable_of self.now.scene.statistics statistic ≡ Some k → slice_get self.now.rows.numbers k ≡ Some result }
+        requires within { (k : ℕ) → statistic_variable self.now.scene.statistics statistic ≡ Some k → k < length self.now.rows.numbers }
+        ensures { (k : ℕ) → statistic_variable self.now.scene.statistics statistic ≡ Some k → slice_get self.now.rows.numbers k ≡ Some result }
     {
         match self.scene.variable_of(statistic) {
             None => 0,

@@ -4,7 +4,7 @@ use Rattle.std.proofs.lemmas.Bool.{eqb-true}
 use Rattle.std.specs.Prelude.{◌==◌, if◌then◌else◌, pos, negsuc, IfSome, is_some, slice_get, Result as OkOr}
 use Rattle.ss_base.specs.declared.fault.FaultKind.{FaultKind}
 use Rattle.ss_base.specs.declared.fault.FaultKind.TheVariants.{WrongClass}
-use Rattle.ss_world.specs.PendingList.{next}
+use Rattle.ss_world.specs.PendingList.{least_event}
 use Rattle.ss_world.specs.State.{Record, State as Heap, and_then, issued_record, is_notice, kind_of, of_notice, notice}
 use Rattle.ss_meaning.specs.Events.{Ranked, ranked_from, ranked, Coming, at_event, ranked_as, coming_as, coming_with, is_awaited, next_event}
 use Rattle.ss_meaning.specs.Fitting.{class_of_record, living}
@@ -68,16 +68,16 @@ pub record NextIs (s : Store) (coming : Coming) : Type 0 where
   pub time : ℤ
   pub number : ℤ
   pub entry : Record
-  pub first : next s.scene.pending ≡ Some (time, number)
+  pub first : least_event s.scene.pending ≡ Some (time, number)
   pub there : notice s.scene.heap number ≡ Ok entry
   pub place : ranked entry.class s ≡ Some coming.ranked
   pub names : coming.notice ≡ Whole number
   pub store : coming.store ≡ at_event time s
 
 pub next_is : (s : Store) (coming : Coming) → next_event s ≡ Some coming → NextIs s coming
-next_is s coming e = by (next s.scene.pending) refl e
+next_is s coming e = by (least_event s.scene.pending) refl e
   where
-    with_rank : (t x : ℤ) (r : Record) → next s.scene.pending ≡ Some (t, x) → notice s.scene.heap x ≡ Ok r → (o : Option Ranked) → ranked r.class s ≡ o → coming_as o t x s ≡ Some coming → NextIs s coming
+    with_rank : (t x : ℤ) (r : Record) → least_event s.scene.pending ≡ Some (t, x) → notice s.scene.heap x ≡ Ok r → (o : Option Ranked) → ranked r.class s ≡ o → coming_as o t x s ≡ Some coming → NextIs s coming
     with_rank t x r first there None q e = absurd cc
     with_rank t x r first there (Some k) q e =
         let c : Coming = record { ranked = k; notice = Whole x; store = at_event t s } in
@@ -93,11 +93,11 @@ next_is s coming e = by (next s.scene.pending) refl e
           store = sym (ap (λ (c : Coming). c.store) same);
         }
 
-    with_notice : (t x : ℤ) → next s.scene.pending ≡ Some (t, x) → (o : OkOr Record FaultKind) → notice s.scene.heap x ≡ o → coming_as (ranked_as o s) t x s ≡ Some coming → NextIs s coming
+    with_notice : (t x : ℤ) → least_event s.scene.pending ≡ Some (t, x) → (o : OkOr Record FaultKind) → notice s.scene.heap x ≡ o → coming_as (ranked_as o s) t x s ≡ Some coming → NextIs s coming
     with_notice t x first (Ok r) q e = with_rank t x r first q (ranked r.class s) refl e
     with_notice t x first (Err k) q e = absurd cc
 
-    by : (o : Option (ℤ × ℤ)) → next s.scene.pending ≡ o → coming_with o s ≡ Some coming → NextIs s coming
+    by : (o : Option (ℤ × ℤ)) → least_event s.scene.pending ≡ o → coming_with o s ≡ Some coming → NextIs s coming
     by None q e = absurd cc
     by (Some n) q e = with_notice n.0 n.1 q (notice s.scene.heap n.1) refl e
 
@@ -138,17 +138,17 @@ module _ (w : Compiled) (c : Core) (here : Here) (s : State) (cell : ℕ) (r : R
       by None q h = absurd h
 
   pub awaits : (e : Seen) (x : ℤ) → IsNextNotice s.scene e (Some x) → is_awaited c.store ≡ true
-  awaits e x d = ap (λ (y : Scene). is_some (next y.pending)) r.holds.scene ∙ ap is_some d.0
+  awaits e x d = ap (λ (y : Scene). is_some (least_event y.pending)) r.holds.scene ∙ ap is_some d.0
 
   -- where none is pending it goes on
-  pub goes_past : (t : ℕ) (new : State) (result : Option Here) → next s.scene.pending ≡ None → new ≡ record s { ticks = t } → result ≡ on_at here → OneTick t w r.placed.line (act w.code r.placed.line r.placed.instruction c) s new result
+  pub goes_past : (t : ℕ) (new : State) (result : Option Here) → least_event s.scene.pending ≡ None → new ≡ record s { ticks = t } → result ≡ on_at here → OneTick t w r.placed.line (act w.code r.placed.line r.placed.instruction c) s new result
   goes_past t new result none same way =
       let m = act w.code r.placed.line r.placed.instruction c in
       let l = r.placed.line in
       let s' : State = record s { ticks = t } in
       let there : Here = record { place = c.place + 1; frame = here.frame } in
       let c' = core_at (c.place + 1) c.cells c.frames c.store in
-      let nothing : next_event c.store ≡ None = ap (λ o. coming_with o c.store) (ap (λ (x : Scene). next x.pending) r.holds.scene ∙ none) in
+      let nothing : next_event c.store ≡ None = ap (λ o. coming_with o c.store) (ap (λ (x : Scene). least_event x.pending) r.holds.scene ∙ none) in
       let acts : m ≡ To c' = ap (λ x. act w.code l x c) r.runs.carries.2 ∙ ap (λ o. take_next w.code r.runs.carries.0 o c) nothing in
       let h = goes_with w c here s (TakeEvent cell) r (c.place + 1) c.cells (cells_held (site w c here s (TakeEvent cell) r) (located w c here s (TakeEvent cell) r) (c.place + 1) c.cells r.holds.held.cells) in
       let holds : Holds w c' there s' = record { place = h.place; held = h.held; scene = h.scene; even = h.even; line = h.line } in
@@ -161,7 +161,7 @@ module _ (w : Compiled) (c : Core) (here : Here) (s : State) (cell : ℕ) (r : R
   lives_as e x d none =
       let a = comes_next (awaits e x d) in
       let n = next_is c.store a.0 a.1 in
-      let first : Some (n.time, n.number) ≡ Some (e.time, x) = sym n.first ∙ ap (λ (y : Scene). next y.pending) r.holds.scene ∙ d.0 in
+      let first : Some (n.time, n.number) ≡ Some (e.time, x) = sym n.first ∙ ap (λ (y : Scene). least_event y.pending) r.holds.scene ∙ d.0 in
       let number : n.number ≡ x = ap (λ (p : ℤ × ℤ). p.1) (got first) in
       let there = record_living c.store.scene.heap n.number n.entry n.there in
       let heap : c.store.scene.heap ≡ e.heap = ap (λ (y : Scene). y.heap) r.holds.scene ∙ sym (ap (λ (t : Seen). t.heap) d.1) in
@@ -172,7 +172,7 @@ module _ (w : Compiled) (c : Core) (here : Here) (s : State) (cell : ℕ) (r : R
   next_taken t e x class some few d lives =
       let a = comes_next (awaits e x d) in
       let n = next_is c.store a.0 a.1 in
-      let first : Some (n.time, n.number) ≡ Some (e.time, x) = sym n.first ∙ ap (λ (y : Scene). next y.pending) r.holds.scene ∙ d.0 in
+      let first : Some (n.time, n.number) ≡ Some (e.time, x) = sym n.first ∙ ap (λ (y : Scene). least_event y.pending) r.holds.scene ∙ d.0 in
       let pair : (n.time, n.number) ≡ (e.time, x) = got first in
       let number : n.number ≡ x = ap (λ (p : ℤ × ℤ). p.1) pair in
       let time : n.time ≡ e.time = ap (λ (p : ℤ × ℤ). p.0) pair in

@@ -7,7 +7,7 @@ use Rattle.ss_base.specs.declared.layout.Mode.{Mode}
 use Rattle.ss_base.specs.declared.layout.Mode.TheVariants.{Integer}
 use Rattle.ss_base.specs.declared.value.Value.{Value}
 use Rattle.ss_base.specs.Layout.{mode_of}
-use Rattle.ss_world.specs.PendingList.{next}
+use Rattle.ss_world.specs.PendingList.{least_event}
 use Rattle.ss_world.specs.State.{kind_in, kind_of, modes_of}
 use Rattle.ss_program.specs.Program.{Event, Program}
 use Rattle.ss_program.specs.WellTyped.{kind_of_class, field_mode, GoodEvent, IsPlain}
@@ -51,7 +51,7 @@ module _ (w : Compiled) (c : Core) (here : Here) (s : State) (cell : â„•) (x : â
   pub known : ComingAs w.program n.ready.compiled.typed n.ready.placed.locals n.coming
   known =
       subst (There (ComingAs w.program n.ready.compiled.typed n.ready.placed.locals)) n.next
-      (next_event_there w.program n.ready.compiled.typed n.ready.placed.locals c.store (awaited (next c.store.scene.pending) c.store n.coming n.next) n.ready.fits.store)
+      (next_event_there w.program n.ready.compiled.typed n.ready.placed.locals c.store (awaited (least_event c.store.scene.pending) c.store n.coming n.next) n.ready.fits.store)
 
   abbrev pub event : Event
   event = known.ranked.event

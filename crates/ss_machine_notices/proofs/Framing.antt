@@ -5,14 +5,14 @@ use Rattle.ss_base.specs.declared.layout.Mode.{Mode}
 use Rattle.ss_base.specs.declared.value.Value.{Value}
 use Rattle.ss_base.specs.declared.value.Value.TheVariants.{Whole}
 use Rattle.ss_meaning.specs.Store.{Store, first_values}
-use Rattle.ss_code_instructions.specs.declared.entry.Entry.{Entry}
+use Rattle.ss_code_instructions.specs.declared.entry.SectionEntry.{SectionEntry}
 use Rattle.ss_code_instructions.specs.declared.instruction.Instruction.TheVariants.{TakeEvent}
 use Rattle.ss_code_instructions.specs.States.{AnEvent, Core}
 use Rattle.ss_code_instructions.specs.Carried.{IsEntry}
 use Rattle.ss_code_instructions.specs.Instructions.{EntryPoint}
 use Rattle.ss_machine_frames.specs.declared.frames.Frame.{Frame as Call}
 use Rattle.ss_machine_frames.specs.Rows.{TwoRows, with_number, cleared, Agree}
-use Rattle.ss_machine_frames.specs.Holding.{AllAt, CallsAt, Held}
+use Rattle.ss_machine_frames.specs.Holding.{AllAt, CallsAt, HoldsCore}
 use Rattle.ss_machine_frames.proofs.Entering.{all_append, cleared_all, cleared_below, cleared_long, entered}
 use Rattle.ss_machine_frames.proofs.Lists.{set_length, set_same}
 use Rattle.ss_machine_frames.proofs.Places.{agree_on, agree_out, agree_within, all_agree, all_set, calls_agree, elsewhere_value, low_under}
@@ -27,7 +27,7 @@ use Rattle.ss_machine_instructions.proofs.Placing.{site, located}
 use Rattle.ss_machine_frames.proofs.Reading.{hold_length, own_is}
 
 -- a global variable is another number, in a frame without cells
-pub global_held : (constants : List Value) (depth frame : ℕ) (r : TwoRows) (calls : List Call) (c : Core) (k : ℕ) (z : ℤ) → c.cells ≡ [] → Held constants depth frame r calls c → k < length c.store.globals → k < length r.numbers → Held constants depth frame (with_number r k z) calls (record c { cells = []; store = record c.store { globals = slice_set c.store.globals k (Whole z) } })
+pub global_held : (constants : List Value) (depth frame : ℕ) (r : TwoRows) (calls : List Call) (c : Core) (k : ℕ) (z : ℤ) → c.cells ≡ [] → HoldsCore constants depth frame r calls c → k < length c.store.globals → k < length r.numbers → HoldsCore constants depth frame (with_number r k z) calls (record c { cells = []; store = record c.store { globals = slice_set c.store.globals k (Whole z) } })
 global_held constants depth frame r calls c k z bare h lt within =
     let t = with_number r k z in
     let g = c.store.globals in
@@ -49,7 +49,7 @@ firsts_long : (ms : List Mode) → length (first_values ms) ≡ length ms
 firsts_long [] = refl
 firsts_long (m ∷ ms) = ap suc (firsts_long ms)
 
-module _ (w : Compiled) (c : Core) (here : Here) (s : State) (cell : ℕ) (x : ℤ) (class : ℕ) (n : ComesNext w c here s cell x class) (e : EntryPoint) (run : Entry) (is_entry : IsEntry w.run.depth e run) (s1 : State) (frame : ℕ) (enters : Enters here s s1 run cell frame) (high : length c.cells ≡ n.ready.runs.carries.0) (rank : ℕ) where
+module _ (w : Compiled) (c : Core) (here : Here) (s : State) (cell : ℕ) (x : ℤ) (class : ℕ) (n : ComesNext w c here s cell x class) (e : EntryPoint) (run : SectionEntry) (is_entry : IsEntry w.run.depth e run) (s1 : State) (frame : ℕ) (enters : Enters here s s1 run cell frame) (high : length c.cells ≡ n.ready.runs.carries.0) (rank : ℕ) where
   -- the state of the definition in which the event begins
   abbrev pub begun_core : (vs : List Value) → Store → Core
   begun_core vs t = record {
@@ -59,8 +59,8 @@ module _ (w : Compiled) (c : Core) (here : Here) (s : State) (cell : ℕ) (x : �
     store = record t { locals = vs ++ first_values e.others };
   }
 
-  held_now : Held w.run.constants w.run.depth here.frame s.rows s.frames c
-  held_now = subst (λ (t : State). Held w.run.constants w.run.depth here.frame t.rows t.frames c) (sym n.is) n.ready.holds.held
+  held_now : HoldsCore w.run.constants w.run.depth here.frame s.rows s.frames c
+  held_now = subst (λ (t : State). HoldsCore w.run.constants w.run.depth here.frame t.rows t.frames c) (sym n.is) n.ready.holds.held
 
   -- the attributes lie where the frame begins, and the other variables above them
   module _ (rows : TwoRows) (h : Received s1.scene.heap class x run.given.items frame s1.rows rows) (seen : Seen) where
@@ -105,15 +105,15 @@ module _ (w : Compiled) (c : Core) (here : Here) (s : State) (cell : ℕ) (x : �
     frames_is = ap (λ (t : State). t.frames) enters.is
 
     -- the notice goes
-    pub held_gone : Held w.run.constants w.run.depth frame rows s1.frames (begun_core h.values (with_seen c.store seen))
+    pub held_gone : HoldsCore w.run.constants w.run.depth frame rows s1.frames (begun_core h.values (with_seen c.store seen))
     held_gone =
-        subst (λ calls. Held w.run.constants w.run.depth frame rows calls (begun_core h.values (with_seen c.store seen))) (sym frames_is)
+        subst (λ calls. HoldsCore w.run.constants w.run.depth frame rows calls (begun_core h.values (with_seen c.store seen))) (sym frames_is)
         (entered w.run.constants w.run.depth here.frame frame s.rows rows s.frames (call_of here run) c (with_seen c.store seen) c.cells (h.values ++ first_values e.others) e.place (c.place + 1) (length e.given) e.yielding (AnEvent rank)
         held_now held_now.cells begin below_same variables_lie
         (omega (arith, long_now, enters.room, is_entry.room, values_long, length-append h.values (first_values e.others), firsts_long e.others))
         (omega (arith, long_now, enters.small)) refl (ap (λ p. p + 1) n.ready.holds.place) refl given_long is_entry.yielding)
 
     -- or it is saved
-    pub held_saved : (k : ℕ) → k < length c.store.globals → k < frame → Held w.run.constants w.run.depth frame (with_number rows k x) s1.frames (begun_core h.values (left_store w c here s cell x class n (Some k) seen))
+    pub held_saved : (k : ℕ) → k < length c.store.globals → k < frame → HoldsCore w.run.constants w.run.depth frame (with_number rows k x) s1.frames (begun_core h.values (left_store w c here s cell x class n (Some k) seen))
     held_saved k lt low =
         global_held w.run.constants w.run.depth frame rows s1.frames (begun_core h.values (with_seen c.store seen)) k x refl held_gone lt (omega (arith, low, long_now, enters.room))

@@ -44,7 +44,7 @@ use Rattle.ss_machine_world.specs.Seen.{Seen, IsRight, Changes, Rearranges, Make
 use Rattle.ss_machine_world.proofs.Composing.{assigned_noted}
 use Rattle.ss_machine_world.proofs.Reading.{set_once}
 use Rattle.ss_machine_instructions.specs.Worldly.{ChangesIf}
-use Rattle.ss_machine_notices.specs.Giving.{SettledIn, SettledInWithMemory, MadeIn, number_or, unpended, refiled, IsSet, IsRead, Suiting, GivesOne, Gives}
+use Rattle.ss_machine_notices.specs.Giving.{SettledIn, SettledInWithMemory, MadeIn, number_or, unpended, refiled, SetsField, IsReadBack, Suiting, GivesOne, HasGivenValues}
 use Rattle.ss_machine_instructions.proofs.Programs.{noticed_in}
 use Rattle.ss_machine_instructions.proofs.Settling.{fine_right, fine_is}
 use Rattle.ss_machine_instructions.proofs.Filing.{within_there}
@@ -81,7 +81,7 @@ module _ (p : Program) (class field : ℕ) (text : field_mode p class field ≡ 
 
 -- ## One attribute
 
--- the same of another value of the mode
+-- what suits one value suits another one of its mode
 abbrev pub suiting_as : (class field : ℕ) (notes : Bool) (v u : Value) (e : Seen) (g : Suiting class field notes v e) → mode_of u ≡ g.mode → Suiting class field notes u e
 suiting_as class field notes v u e g right = record {
   program = g.program;
@@ -96,15 +96,15 @@ suiting_as class field notes v u e g right = record {
 }
 
 -- what the machine's call says
-pub number_set : (e : Seen) (class field : ℕ) (n z : ℤ) (h : State) (r : OkOr (Unit {0}) FaultKind) → MatchResult r (λ _. IsAssigned e.heap class field n z h) (λ k. (assigned e.heap class field n (Whole z) ≡ Err k) × (h ≡ e.heap)) → h.layout ≡ e.heap.layout → IsSet class field n (Whole z) e (record e { heap = h }) r
+pub number_set : (e : Seen) (class field : ℕ) (n z : ℤ) (h : State) (r : OkOr (Unit {0}) FaultKind) → MatchResult r (λ _. IsAssigned e.heap class field n z h) (λ k. (assigned e.heap class field n (Whole z) ≡ Err k) × (h ≡ e.heap)) → h.layout ≡ e.heap.layout → SetsField class field n (Whole z) e (record e { heap = h }) r
 number_set e class field n z h (Ok u) done layout = (done.gives, layout, refl)
 number_set e class field n z h (Err k) done layout = (done.0, ap (λ (h : State). record e { heap = h }) done.1)
 
-pub number_read : (e : Seen) (class field : ℕ) (n z : ℤ) (h : State) (r : OkOr (Unit {0}) FaultKind) → MatchResult r (λ _. IsAssigned e.heap class field n z h) (λ k. (assigned e.heap class field n (Whole z) ≡ Err k) × (h ≡ e.heap)) → IsRead class field n (Whole z) (record e { heap = h }) r
+pub number_read : (e : Seen) (class field : ℕ) (n z : ℤ) (h : State) (r : OkOr (Unit {0}) FaultKind) → MatchResult r (λ _. IsAssigned e.heap class field n z h) (λ k. (assigned e.heap class field n (Whole z) ≡ Err k) × (h ≡ e.heap)) → IsReadBack class field n (Whole z) (record e { heap = h }) r
 number_read e class field n z h (Ok u) done = done.reads
 number_read e class field n z h (Err k) done = tt
 
-pub value_set : (e : Seen) (class field : ℕ) (n : ℤ) (v : Value) (h : State) (r : OkOr (Unit {0}) FaultKind) → MatchResult r (λ _. assigned e.heap class field n v ≡ Ok h) (λ k. (assigned e.heap class field n v ≡ Err k) × (h ≡ e.heap)) → h.layout ≡ e.heap.layout → IsSet class field n v e (record e { heap = h }) r
+pub value_set : (e : Seen) (class field : ℕ) (n : ℤ) (v : Value) (h : State) (r : OkOr (Unit {0}) FaultKind) → MatchResult r (λ _. assigned e.heap class field n v ≡ Ok h) (λ k. (assigned e.heap class field n v ≡ Err k) × (h ≡ e.heap)) → h.layout ≡ e.heap.layout → SetsField class field n v e (record e { heap = h }) r
 value_set e class field n v h (Ok u) done layout = (done, layout, refl)
 value_set e class field n v h (Err k) done layout = (done.0, ap (λ (h : State). record e { heap = h }) done.1)
 
@@ -137,13 +137,13 @@ module _ (class field : ℕ) (n : ℤ) (v : Value) (notes : Bool) (e : Seen) (g 
   op_right = fine_right (Fits g.program g.modes) (op (with_seen g.store e)) op_fine
 
   -- there is a fault
-  pub set_not : (mid : Seen) (kind : FaultKind) → IsSet class field n v e mid (Err kind) → op (with_seen g.store e) ≡ Err (Fails kind)
+  pub set_not : (mid : Seen) (kind : FaultKind) → SetsField class field n v e mid (Err kind) → op (with_seen g.store e) ≡ Err (Fails kind)
   set_not mid kind is =
       set_once e class field n v g.store is_fitting
       ∙ ap (λ r. if_ok (due r) (λ h. noted (OfAttribute class field) n v (with_heap (with_seen g.store e) h))) is.0
 
   -- it is assigned, and the note would change nothing
-  set_quiet : (mid : Seen) → IsSet class field n v e mid (Ok tt) → watch e.statistics (OfAttribute class field) ≡ false → op (with_seen g.store e) ≡ Ok (with_seen g.store mid)
+  set_quiet : (mid : Seen) → SetsField class field n v e mid (Ok tt) → watch e.statistics (OfAttribute class field) ≡ false → op (with_seen g.store e) ≡ Ok (with_seen g.store mid)
   set_quiet mid is none = by (noted_quiet (OfAttribute class field) n v (with_seen g.store mid) (ap (λ (t : Seen). watch t.statistics (OfAttribute class field)) is.2 ∙ none))
     where
       noted_then : op (with_seen g.store e) ≡ noted (OfAttribute class field) n v (with_seen g.store mid)
@@ -157,7 +157,7 @@ module _ (class field : ℕ) (n : ℤ) (v : Value) (notes : Bool) (e : Seen) (g 
       by (inr wrong) = absurd (op_right (noted_then ∙ wrong))
 
   -- it is noted, where that is so
-  pub set_noted : (mid new : Seen) (q : OkOr (Unit {0}) FaultKind) → IsSet class field n v e mid (Ok tt) → IsRead class field n v mid (Ok tt) → ChangesIf notes (attribute_noted class field n) mid new q → SettledIn g.store op e new q
+  pub set_noted : (mid new : Seen) (q : OkOr (Unit {0}) FaultKind) → SetsField class field n v e mid (Ok tt) → IsReadBack class field n v mid (Ok tt) → ChangesIf notes (attribute_noted class field n) mid new q → SettledIn g.store op e new q
   set_noted mid new q is reads did = by notes refl did
     where
       noted_then : op (with_seen g.store e) ≡ attribute_noted class field n (with_seen g.store mid)
@@ -176,7 +176,7 @@ module _ (class field : ℕ) (n : ℤ) (v : Value) (notes : Bool) (e : Seen) (g 
           (set_quiet mid is (g.reported same) ∙ ap (λ (t : Seen). Ok (with_seen g.store t)) (sym d.1))
 
   -- a text, which nothing notes
-  pub text_set : (new : Seen) (q : OkOr (Unit {0}) FaultKind) → g.mode ≡ Alpha → IsSet class field n v e new q → SettledIn g.store op e new q
+  pub text_set : (new : Seen) (q : OkOr (Unit {0}) FaultKind) → g.mode ≡ Alpha → SetsField class field n v e new q → SettledIn g.store op e new q
   text_set new (Err kind) text is = set_not new kind is
   text_set new (Ok u) text is =
       let none = text_unwatched g.program class field (g.field_is ∙ ap Some text) g.program.statistics g.typed.statistics in
@@ -201,14 +201,14 @@ drop_got (y ∷ xs) (suc i) x e = drop_got xs i x e
 
 module _ (class : ℕ) (n : ℤ) (notes : Bool) (from given : ℕ) (rows : TwoRows) (old : Seen) where
   -- so many attributes are assigned, and the others are still to be
-  pub record Endowed (i : ℕ) (now : Seen) (g : Gives class notes from given rows old) : Type 0 where
+  pub record Endowed (i : ℕ) (now : Seen) (g : HasGivenValues class notes from given rows old) : Type 0 where
     pub same : endowed class 0 (Whole n) g.values (with_seen g.store old) ≡ endowed class i (Whole n) (drop i g.values) (with_seen g.store now)
     pub fits : Fits g.program g.modes (with_seen g.store now)
 
-  pub none_endowed : (g : Gives class notes from given rows old) → Endowed 0 old g
+  pub none_endowed : (g : HasGivenValues class notes from given rows old) → Endowed 0 old g
   none_endowed g = record { same = refl; fits = g.fits }
 
-  module _ (i : ℕ) (now : Seen) (g : Gives class notes from given rows old) (d : Endowed i now g) (lt : i < given) where
+  module _ (i : ℕ) (now : Seen) (g : HasGivenValues class notes from given rows old) (d : Endowed i now g) (lt : i < given) where
     pub next_value : (v : Value) × (slice_get g.values i ≡ Some v)
     next_value = got_at g.values i (omega (arith, lt, g.many))
 
@@ -253,12 +253,12 @@ module _ (class : ℕ) (n : ℤ) (notes : Bool) (from given : ℕ) (rows : TwoRo
     pub one_not : (new : Seen) (kind : FaultKind) → SettledIn g.store (assigned_attribute class i (Whole n) next_value.0) now new (Err kind) → endowed class 0 (Whole n) g.values (with_seen g.store old) ≡ Err (Fails kind)
     one_not new kind did = step_is ∙ ap (λ q. if_ok q (endowed class (i + 1) (Whole n) (drop (suc i) g.values))) did
 
-  pub all_endowed : (i : ℕ) (now : Seen) (g : Gives class notes from given rows old) → Endowed i now g → drop i g.values ≡ [] → endowed class 0 (Whole n) g.values (with_seen g.store old) ≡ Ok (with_seen g.store now)
+  pub all_endowed : (i : ℕ) (now : Seen) (g : HasGivenValues class notes from given rows old) → Endowed i now g → drop i g.values ≡ [] → endowed class 0 (Whole n) g.values (with_seen g.store old) ≡ Ok (with_seen g.store now)
   all_endowed i now g d none = d.same ∙ ap (λ vs. endowed class i (Whole n) vs (with_seen g.store now)) none
 
   -- ## And the time
 
-  module _ (g : Gives class notes from given rows old) (t : ℤ) where
+  module _ (g : HasGivenValues class notes from given rows old) (t : ℤ) where
     pub time_set : (mid new : Seen) (q : OkOr (Unit {0}) FaultKind) → endowed class 0 (Whole n) g.values (with_seen g.store old) ≡ Ok (with_seen g.store mid) → Rearranges (λ h. timed h n t) mid new q → SettledIn g.store (prepared class (Whole n) g.values t) old new q
     time_set mid new (Ok u) e re =
         ap (λ r. if_ok r (with_notice_time (Whole n) t)) e
@@ -346,7 +346,7 @@ module _ (class : ℕ) (n : ℤ) (notes : Bool) (from given : ℕ) (rows : TwoRo
 
 -- ## A new notice
 
-module _ (class : ℕ) (notes : Bool) (from given : ℕ) (rows : TwoRows) (old : Seen) (g : Gives class notes from given rows old) (t : ℤ) where
+module _ (class : ℕ) (notes : Bool) (from given : ℕ) (rows : TwoRows) (old : Seen) (g : HasGivenValues class notes from given rows old) (t : ℤ) where
   pub create_class : class < length old.heap.layout.classes
   create_class =
       let c = class_said g.program class Notice g.notice in
@@ -366,7 +366,7 @@ module _ (class : ℕ) (notes : Bool) (from given : ℕ) (rows : TwoRows) (old :
       (fine_is IsFitting (made_one class (with_seen g.store old)) (Whole n, with_seen g.store mid) (made_one_fine g.program g.typed g.modes class (with_seen g.store old) (ap is_created_singly g.notice) g.fits) e).1
 
   -- the same values are given to the new one
-  abbrev pub gives_after : (n : ℤ) (mid : Seen) → made_one class (with_seen g.store old) ≡ Ok (Whole n, with_seen g.store mid) → Gives class notes from given rows mid
+  abbrev pub gives_after : (n : ℤ) (mid : Seen) → made_one class (with_seen g.store old) ≡ Ok (Whole n, with_seen g.store mid) → HasGivenValues class notes from given rows mid
   gives_after n mid e = record {
     program = g.program;
     typed = g.typed;

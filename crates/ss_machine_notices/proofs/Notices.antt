@@ -24,23 +24,23 @@ use Rattle.ss_code_instructions.specs.declared.instruction.Instruction.{Instruct
 use Rattle.ss_code_instructions.specs.Facts.{watch}
 use Rattle.ss_code_instructions.specs.Instructions as i
 use Rattle.ss_code_instructions.specs.Instructions.{Instruction}
-use Rattle.ss_code_instructions.specs.States.{Core, Moved, Stuck, did, fit, onward, at_height, TakenOff, take_off, with_number, with_block, with_value, deliver_with}
+use Rattle.ss_code_instructions.specs.States.{Core, Moved, Stuck, did, fit, onward, at_height, TakenOff, take_off, with_top_number, with_block, with_operand_value, deliver_with}
 use Rattle.ss_code_instructions.specs.Machine.{act, is_due}
-use Rattle.ss_code_instructions.specs.Shape.{Suits, Block, GivenFit}
-use Rattle.ss_code_instructions.specs.Carried.{At, From, To, Is}
+use Rattle.ss_code_instructions.specs.Shape.{Suits, HasOnTop, GivenFit}
+use Rattle.ss_code_instructions.specs.Carried.{WithCell, From, To, Is}
 use Rattle.ss_machine_frames.specs.Rows.{TwoRows, with_number as with_number_at, place_at}
 use Rattle.ss_machine_frames.specs.Holding.{AllAt, CellsAt}
 use Rattle.ss_machine_frames.proofs.Entering.{cut}
 use Rattle.ss_machine_frames.proofs.Places.{Elsewhere, agree_out, elsewhere_value, value_same, all_agree, cells_agree, calls_agree}
 use Rattle.ss_machine_frames.proofs.Reading.{hold_length, own_is, above_constants, place_within, only_number, reads, read_within}
-use Rattle.ss_machine_world.specs.Seen.{Seen, with_seen}
+use Rattle.ss_machine_world.specs.Seen.{Seen, with_seen, as_value}
 use Rattle.ss_machine_instructions.specs.declared.flow.Ending.TheVariants.{NoMemory}
 use Rattle.ss_machine_instructions.specs.declared.flow.Here.{Here}
 use Rattle.ss_machine_instructions.specs.declared.state.State.{State}
-use Rattle.ss_machine_instructions.specs.Doing.{Compiled, Ready, NoTick, Comes, Delivers, as_value}
+use Rattle.ss_machine_instructions.specs.Doing.{Compiled, Ready, NoTick, Performs, Delivers}
 use Rattle.ss_machine_instructions.specs.Ways.{on_after, stopped, refused_by}
 use Rattle.ss_machine_instructions.specs.Worldly.{Settles, unless_refused, refused_where}
-use Rattle.ss_machine_notices.specs.Giving.{SettledInWithMemory, MadeIn, Gives}
+use Rattle.ss_machine_notices.specs.Giving.{SettledInWithMemory, MadeIn, HasGivenValues}
 use Rattle.ss_machine_instructions.proofs.Placing.{site, located, suits, small, deep_at, deep_here, calm}
 use Rattle.ss_machine_instructions.proofs.Calling.{blocked}
 use Rattle.ss_machine_instructions.proofs.Settling.{fine_right, fine_is, store_is, statistics_seen, fails_on}
@@ -109,7 +109,7 @@ module _ (w : Compiled) (c : Core) (here : Here) (s : State) (run : Running) (r 
     pub room : here.frame + cell + given < length s.rows.numbers
     pub time_at : slice_get s.rows.numbers (here.frame + cell + given) ≡ Some time
 
-  spread : (h cell given : ℕ) (above modes rest : List Mode) → cell ≡ length r.placed.locals + h → r.placed.cells ≡ Integer ∷ above → length modes ≡ given → Block h modes above rest → Spread h cell given modes rest
+  spread : (h cell given : ℕ) (above modes rest : List Mode) → cell ≡ length r.placed.locals + h → r.placed.cells ≡ Integer ∷ above → length modes ≡ given → HasOnTop h modes above rest → Spread h cell given modes rest
   spread h cell given above modes rest at e n block =
       let t = topped c.cells above (r.fits.cells ∙ e) in
       let b = blocked modes rest t.over (t.modes ∙ block.is) in
@@ -141,7 +141,7 @@ module _ (w : Compiled) (c : Core) (here : Here) (s : State) (run : Running) (r 
       }
 
   -- what the notice is given
-  abbrev gives_of : (h cell given class : ℕ) (notes : Bool) (modes rest : List Mode) → Spread h cell given modes rest → GivenFit w.program class modes → IsQuietGiven notes class given → Gives class notes (here.frame + cell) given s.rows s.scene
+  abbrev gives_of : (h cell given class : ℕ) (notes : Bool) (modes rest : List Mode) → Spread h cell given modes rest → GivenFit w.program class modes → IsQuietGiven notes class given → HasGivenValues class notes (here.frame + cell) given s.rows s.scene
   gives_of h cell given class notes modes rest z fit reported = record {
     program = w.program;
     typed = r.compiled.typed;
@@ -161,9 +161,9 @@ module _ (w : Compiled) (c : Core) (here : Here) (s : State) (run : Running) (r 
   }
 
   -- how the definition reads the cells
-  reads_spread : (h cell given : ℕ) (modes rest : List Mode) (z : Spread h cell given modes rest) (go : ℤ → List Value → List Value → Moved) → with_number c.cells (λ t above. with_block given h above (λ vs below. go t vs below)) ≡ go z.time z.taken.values z.taken.below
+  reads_spread : (h cell given : ℕ) (modes rest : List Mode) (z : Spread h cell given modes rest) (go : ℤ → List Value → List Value → Moved) → with_top_number c.cells (λ t above. with_block given h above (λ vs below. go t vs below)) ≡ go z.time z.taken.values z.taken.below
   reads_spread h cell given modes rest z go =
-      ap (λ l. with_number l (λ t above. with_block given h above (λ vs below. go t vs below))) z.cells
+      ap (λ l. with_top_number l (λ t above. with_block given h above (λ vs below. go t vs below))) z.cells
       ∙ ap (λ o. fit o (λ b. at_height h b.below (go z.time b.values b.below))) z.off
       ∙ ap (λ b. if b then go z.time z.taken.values z.taken.below else Stuck) (eq-eqb (length z.taken.below) h z.high)
 
@@ -177,7 +177,7 @@ module _ (w : Compiled) (c : Core) (here : Here) (s : State) (run : Running) (r 
   -- ## MakeNotice
 
   abbrev pub MakesNotice : (class cell given : ℕ) → Address → Type 0
-  MakesNotice class cell given to = At w.code w.run.constants r.placed cell (λ h. To w.code w.run.constants r.placed to (λ t. Is w.code w.run.constants r.placed (i.MakeNotice class h given t)))
+  MakesNotice class cell given to = WithCell w.code w.run.constants r.placed cell (λ h. To w.code w.run.constants r.placed to (λ t. Is w.code w.run.constants r.placed (i.MakeNotice class h given t)))
 
   -- the cells of the instruction
   pub make_spread : (class cell given : ℕ) (to : Address) (z : MakesNotice class cell given to) → let y = subst SuitsHere z.2.2 (suits w c here s run r) in Spread z.0 cell given y.1 y.5.0
@@ -188,7 +188,7 @@ module _ (w : Compiled) (c : Core) (here : Here) (s : State) (run : Running) (r 
   pub makes_in : (class cell given : ℕ) (to : Address) → MakesNotice class cell given to → here.frame + cell + given < length s.rows.numbers
   makes_in class cell given to z = (make_spread class cell given to z).room
 
-  abbrev pub make_gives : (class cell given : ℕ) (to : Address) (notes : Bool) → MakesNotice class cell given to → IsQuietGiven notes class given → Gives class notes (here.frame + cell) given s.rows s.scene
+  abbrev pub make_gives : (class cell given : ℕ) (to : Address) (notes : Bool) → MakesNotice class cell given to → IsQuietGiven notes class given → HasGivenValues class notes (here.frame + cell) given s.rows s.scene
   make_gives class cell given to notes z reported =
       let y = subst SuitsHere z.2.2 (suits w c here s run r) in
       gives_of z.0 cell given class notes y.1 y.5.0 (make_spread class cell given to z) y.4 reported
@@ -271,11 +271,11 @@ module _ (w : Compiled) (c : Core) (here : Here) (s : State) (run : Running) (r 
       }
 
   -- what came of the delivery
-  pub makes : (class cell given : ℕ) (to : Address) (z : MakesNotice class cell given to) (e : Seen) (rows : TwoRows) (new : State) (result : Option Here) → NoTick w r.placed.line (act w.code r.placed.line r.placed.instruction c) (record s { scene = e; rows = rows }) new result → Comes (is_due r.placed.instruction) w r.placed.line (act w.code r.placed.line r.placed.instruction c) s new result
+  pub makes : (class cell given : ℕ) (to : Address) (z : MakesNotice class cell given to) (e : Seen) (rows : TwoRows) (new : State) (result : Option Here) → NoTick w r.placed.line (act w.code r.placed.line r.placed.instruction c) (record s { scene = e; rows = rows }) new result → Performs (is_due r.placed.instruction) w r.placed.line (act w.code r.placed.line r.placed.instruction c) s new result
   makes class cell given to z e rows new result h = calm w c here s run r new result (ap is_due z.2.2) (record { leads = h.leads; ticks = h.ticks; steps = h.steps })
 
   -- or none was made
-  pub makes_not : (class cell given : ℕ) (to : Address) (notes : Bool) (reported : IsQuietGiven notes class given) (z : MakesNotice class cell given to) (t : ℤ) (e : Seen) (refused : Refused) (new : State) (result : Option Here) → slice_get s.rows.numbers (here.frame + cell + given) ≡ Some t → MadeIn c.store class (make_gives class cell given to notes z reported).values t s.scene e (Err refused) → new ≡ refused_by refused (record s { scene = e }) → result ≡ None → Comes (is_due r.placed.instruction) w r.placed.line (act w.code r.placed.line r.placed.instruction c) s new result
+  pub makes_not : (class cell given : ℕ) (to : Address) (notes : Bool) (reported : IsQuietGiven notes class given) (z : MakesNotice class cell given to) (t : ℤ) (e : Seen) (refused : Refused) (new : State) (result : Option Here) → slice_get s.rows.numbers (here.frame + cell + given) ≡ Some t → MadeIn c.store class (make_gives class cell given to notes z reported).values t s.scene e (Err refused) → new ≡ refused_by refused (record s { scene = e }) → result ≡ None → Performs (is_due r.placed.instruction) w r.placed.line (act w.code r.placed.line r.placed.instruction c) s new result
   makes_not class cell given to notes reported z t e (Fault kind) new result at_time made same none =
       let v = make_spread class cell given to z in
       fails_on w c here s run r kind e new result (ap is_due z.2.2)
@@ -292,7 +292,7 @@ module _ (w : Compiled) (c : Core) (here : Here) (s : State) (run : Running) (r 
   -- ## Reschedule
 
   abbrev pub Reschedules : (class : ℕ) → (notice : Address) → (cell given : ℕ) → Type 0
-  Reschedules class notice cell given = From w.code w.run.constants r.placed notice (λ y. At w.code w.run.constants r.placed cell (λ h. Is w.code w.run.constants r.placed (i.Reschedule class y h given)))
+  Reschedules class notice cell given = From w.code w.run.constants r.placed notice (λ y. WithCell w.code w.run.constants r.placed cell (λ h. Is w.code w.run.constants r.placed (i.Reschedule class y h given)))
 
   pub again_spread : (class : ℕ) (notice : Address) (cell given : ℕ) (z : Reschedules class notice cell given) → let y = subst SuitsHere z.2.2 (suits w c here s run r) in Spread z.2.0 cell given y.1 y.5.0
   again_spread class notice cell given z =
@@ -308,12 +308,12 @@ module _ (w : Compiled) (c : Core) (here : Here) (s : State) (run : Running) (r 
         v.room,
       )
 
-  abbrev pub again_gives : (class : ℕ) (notice : Address) (cell given : ℕ) (notes : Bool) → Reschedules class notice cell given → IsQuietGiven notes class given → Gives class notes (here.frame + cell) given s.rows s.scene
+  abbrev pub again_gives : (class : ℕ) (notice : Address) (cell given : ℕ) (notes : Bool) → Reschedules class notice cell given → IsQuietGiven notes class given → HasGivenValues class notes (here.frame + cell) given s.rows s.scene
   again_gives class notice cell given notes z reported =
       let y = subst SuitsHere z.2.2 (suits w c here s run r) in
       gives_of z.2.0 cell given class notes y.1 y.5.0 (again_spread class notice cell given z) y.4 reported
 
-  pub reschedules : (class : ℕ) (notice : Address) (cell given : ℕ) (notes : Bool) (reported : IsQuietGiven notes class given) (z : Reschedules class notice cell given) (n t : ℤ) (e : Seen) (answer : OkOr (Unit {0}) Refused) (new : State) (result : Option Here) → slice_get s.rows.numbers (place_at here.frame notice) ≡ Some n → slice_get s.rows.numbers (here.frame + cell + given) ≡ Some t → SettledInWithMemory c.store (rescheduled class (Whole n) (again_gives class notice cell given notes z reported).values t) s.scene e answer → new ≡ refused_where answer (record s { scene = e }) → result ≡ on_after here (unless_refused answer) → Comes (is_due r.placed.instruction) w r.placed.line (act w.code r.placed.line r.placed.instruction c) s new result
+  pub reschedules : (class : ℕ) (notice : Address) (cell given : ℕ) (notes : Bool) (reported : IsQuietGiven notes class given) (z : Reschedules class notice cell given) (n t : ℤ) (e : Seen) (answer : OkOr (Unit {0}) Refused) (new : State) (result : Option Here) → slice_get s.rows.numbers (place_at here.frame notice) ≡ Some n → slice_get s.rows.numbers (here.frame + cell + given) ≡ Some t → SettledInWithMemory c.store (rescheduled class (Whole n) (again_gives class notice cell given notes z reported).values t) s.scene e answer → new ≡ refused_where answer (record s { scene = e }) → result ≡ on_after here (unless_refused answer) → Performs (is_due r.placed.instruction) w r.placed.line (act w.code r.placed.line r.placed.instruction c) s new result
   reschedules class notice cell given notes reported z n t e answer new result at_notice at_time d same way =
       let l = r.placed.line in
       let is = z.2.2 in
@@ -326,7 +326,7 @@ module _ (w : Compiled) (c : Core) (here : Here) (s : State) (run : Running) (r 
         below = one.below;
         acts =
             ap (λ x. act w.code l x c) is
-            ∙ reads_spread z.2.0 cell given y.1 y.5.0 v (λ t vs above. with_value z.0 c.store above (λ x below. did l (rescheduled class x vs t c.store) (λ s. onward below c s)))
+            ∙ reads_spread z.2.0 cell given y.1 y.5.0 v (λ t vs above. with_operand_value z.0 c.store above (λ x below. did l (rescheduled class x vs t c.store) (λ s. onward below c s)))
             ∙ one.is (λ x below. did l (rescheduled class x vs v.time c.store) (λ s. onward below c s))
             ∙ ap (λ t. did l (rescheduled class (Whole n) vs t c.store) (λ s. onward one.below c s)) (time_is z.2.0 cell given y.1 y.5.0 v t at_time);
         right = fine_right (Fits w.program r.placed.locals) (op c.store) (rescheduled_fine w.program r.compiled.typed r.placed.locals class (Whole n) vs y.1 t c.store y.4.0 v.kinds (fields_from class y.1 y.4) refl r.fits.store);

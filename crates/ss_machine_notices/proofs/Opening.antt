@@ -10,7 +10,7 @@ use Rattle.ss_base.specs.declared.layout.Mode.TheVariants.{Integer}
 use Rattle.ss_base.specs.declared.value.Value.{Value}
 use Rattle.ss_base.specs.declared.value.Value.TheVariants.{Whole}
 use Rattle.ss_base.specs.Layout.{mode_of}
-use Rattle.ss_world.specs.State.{State as Heap, Record, kind_of, modes_of, and_then, numbered, of_class, issued_record, entity_of_kind, entity_in, value_in}
+use Rattle.ss_world.specs.State.{State as Heap, Record, kind_of, modes_of, and_then, numbered_record, of_class, issued_record, entity_of_kind, entity_in, value_in}
 use Rattle.ss_program.specs.declared.sections.Subject.TheVariants.{OfVariable}
 use Rattle.ss_meaning.specs.Values.{Trouble, Fails, Misfit, same_mode, if_ok, turned, due}
 use Rattle.ss_meaning.specs.Store.{Notices, Store, put_at}
@@ -44,7 +44,7 @@ entity_lives h class x lives kind = by (kind_of h.layout class) kind
     from_record (Some None) e = absurd cc
     from_record (Some (Some r)) e = let q : r.class ≡ class = cc in (r, same_class r q (r.class == class) refl)
 
-    numbered_lives : (x : ℤ) → living h x ≡ Some class → (r : Record) × (and_then (numbered h x) (of_class class) ≡ Ok r)
+    numbered_lives : (x : ℤ) → living h x ≡ Some class → (r : Record) × (and_then (numbered_record h x) (of_class class) ≡ Ok r)
     numbered_lives (pos zero) e = absurd cc
     numbered_lives (pos (suc i)) e = from_record (slice_get h.records i) e
     numbered_lives (negsuc k) e = absurd cc

@@ -10,7 +10,7 @@ use Rattle.ss_base.specs.Layout.{mode_of, first_value}
 use Rattle.ss_world.specs.State.{modes_of, value_in}
 use Rattle.ss_meaning.specs.Values.{turned}
 use Rattle.ss_meaning.specs.Events.{Beginning, attributes_given}
-use Rattle.ss_code_instructions.specs.declared.entry.Entry.{Entry}
+use Rattle.ss_code_instructions.specs.declared.entry.SectionEntry.{SectionEntry}
 use Rattle.ss_code_instructions.specs.declared.instruction.Instruction.TheVariants.{TakeEvent}
 use Rattle.ss_code_instructions.specs.Carried.{IsEntry}
 use Rattle.ss_code_instructions.specs.Shape.{Suits}
@@ -26,7 +26,7 @@ use Rattle.ss_machine_instructions.specs.declared.flow.Here.{Here}
 use Rattle.ss_machine_instructions.specs.declared.state.State.{State}
 use Rattle.ss_machine_instructions.specs.Doing.{Compiled, OneTick}
 use Rattle.ss_machine_instructions.specs.Ways.{faulted}
-use Rattle.ss_machine_instructions.specs.Entered.{Enters, IsRefused}
+use Rattle.ss_machine_instructions.specs.Entered.{Enters, IsOutOfMemory}
 use Rattle.ss_machine_notices.specs.Beginning.{AreRead, LetsGo, ThenLetsGo, Receives, ReceivedIf, Unbegun, IsUnbegun, ComesNext, Received}
 use Rattle.ss_machine_notices.proofs.Begun.{event, entry_point, code_entry, begun_entry, begun_modes, begun_kind, begun_saved, begun_saving}
 use Rattle.ss_machine_instructions.proofs.Filing.{one}
@@ -41,7 +41,7 @@ cleared_even : (r : TwoRows) (i : ℕ) (ms : List Mode) → length r.texts ≡ l
 cleared_even r i [] e = e
 cleared_even r i (m ∷ ms) e = cleared_even (with_value r i (first_value m)) (i + 1) ms (value_texts r i (first_value m) ∙ e ∙ sym (value_long r i (first_value m)))
 
-module _ (w : Compiled) (c : Core) (here : Here) (s : State) (cell : ℕ) (x : ℤ) (class : ℕ) (n : ComesNext w c here s cell x class) (run : Entry) (at_run : slice_get w.run.events n.coming.ranked.rank ≡ Some run) where
+module _ (w : Compiled) (c : Core) (here : Here) (s : State) (cell : ℕ) (x : ℤ) (class : ℕ) (n : ComesNext w c here s cell x class) (run : SectionEntry) (at_run : slice_get w.run.events n.coming.ranked.rank ≡ Some run) where
   -- the entry that is run is that of the event
   pub entry_is : IsEntry w.run.depth (entry_point w c here s cell x class n) run
   entry_is = subst (λ r. IsEntry w.run.depth (entry_point w c here s cell x class n) r) (one (sym (begun_entry w c here s cell x class n).there ∙ at_run)) (begun_entry w c here s cell x class n).is
@@ -176,7 +176,7 @@ module _ (w : Compiled) (c : Core) (here : Here) (s : State) (cell : ℕ) (x : �
       (all.0, given_is all.0 all.1 all.2)
 
   -- there is no memory for the frame: a fault where one is due
-  pub unbegun_as : (s1 new : State) (result : Option Here) → IsRefused s s1 → IsUnbegun n.coming.ranked.said class x s1 new → result ≡ None → OneTick s.ticks w n.ready.placed.line (act w.code n.ready.placed.line n.ready.placed.instruction c) n.before new result
+  pub unbegun_as : (s1 new : State) (result : Option Here) → IsOutOfMemory s s1 → IsUnbegun n.coming.ranked.said class x s1 new → result ≡ None → OneTick s.ticks w n.ready.placed.line (act w.code n.ready.placed.line n.ready.placed.instruction c) n.before new result
   unbegun_as s1 new result refused u none = by u.answer u.lets_go u.is
     where
       steps_now : s.steps ≡ n.before.steps

@@ -20,19 +20,19 @@ use Rattle.ss_code_instructions.specs.declared.address.Address.{Address}
 use Rattle.ss_code_instructions.specs.declared.instruction.Instruction.{Instruction as Running}
 use Rattle.ss_code_instructions.specs.Instructions as i
 use Rattle.ss_code_instructions.specs.Instructions.{Instruction, Operand, Target}
-use Rattle.ss_code_instructions.specs.States.{Core, did, onward, with_value, deliver}
+use Rattle.ss_code_instructions.specs.States.{Core, did, onward, with_operand_value, deliver}
 use Rattle.ss_code_instructions.specs.Machine.{act, is_due}
-use Rattle.ss_code_instructions.specs.Shape.{Suits, Gives, Accepts, scope_of}
+use Rattle.ss_code_instructions.specs.Shape.{Suits, GivesMode, Accepts, typed_scope}
 use Rattle.ss_code_instructions.specs.Carried.{From, To, Is, OperandAt, TargetAt}
 use Rattle.ss_machine_frames.specs.Rows.{place_at}
 use Rattle.ss_machine_frames.proofs.Reading.{only_number, reads, read_within, reads_both, BothWithin, both_within}
 use Rattle.ss_machine_events.specs.Scheduled.{time_after, IsNoticeClass}
-use Rattle.ss_machine_world.specs.Seen.{Seen, IsRight, Looks, Changes, ChangesWithMemory, with_seen}
+use Rattle.ss_machine_world.specs.Seen.{Seen, IsRight, Looks, Changes, ChangesWithMemory, with_seen, as_value}
 use Rattle.ss_machine_instructions.specs.declared.flow.Ending.TheVariants.{NoMemory}
 use Rattle.ss_machine_instructions.specs.declared.flow.Here.{Here}
 use Rattle.ss_machine_instructions.specs.declared.state.State.{State}
-use Rattle.ss_machine_instructions.specs.Doing.{Compiled, Ready, NoTick, Comes, Delivers, as_value}
-use Rattle.ss_machine_instructions.specs.Ways.{stopped, faulted_by, on_after, unless_fault}
+use Rattle.ss_machine_instructions.specs.Doing.{Compiled, Ready, NoTick, Performs, Delivers}
+use Rattle.ss_machine_instructions.specs.Ways.{stopped, faulted_by, on_after, done_unless_fault}
 use Rattle.ss_machine_instructions.specs.Worldly.{Settles, unless_refused, refused_where}
 use Rattle.ss_machine_notices.specs.Giving.{SettledInWithMemory}
 use Rattle.ss_machine_instructions.proofs.Placing.{site, located, suits, deep_at, deep_here, calm}
@@ -47,7 +47,7 @@ module _ (w : Compiled) (c : Core) (here : Here) (s : State) (run : Running) (r 
   -- ## Times
 
   -- the time of a moment whose number was read
-  when_delivers : (moment : Value → Moment) (y : Operand) (target : Target) (time to : Address) (rest after : List Mode) (n : ℤ) (answer : OkOr ℤ FaultKind) → act w.code r.placed.line r.placed.instruction c ≡ with_value y c.store c.cells (λ v below. deliver r.placed.line target (turned Whole (time_at (moment v) c.store)) below c) → Gives (scope_of w.program w.code r.placed.locals) y Integer r.placed.cells rest → OperandAt w.code w.run.constants r.placed y time → Accepts (scope_of w.program w.code r.placed.locals) target Integer rest after → TargetAt w.code w.run.constants r.placed target to → length after ≤ w.run.depth → slice_get s.rows.numbers (place_at here.frame time) ≡ Some n → time_at (moment (Whole n)) c.store ≡ due answer → Delivers w c r.placed.line (act w.code r.placed.line r.placed.instruction c) here s to (as_value answer)
+  when_delivers : (moment : Value → Moment) (y : Operand) (target : Target) (time to : Address) (rest after : List Mode) (n : ℤ) (answer : OkOr ℤ FaultKind) → act w.code r.placed.line r.placed.instruction c ≡ with_operand_value y c.store c.cells (λ v below. deliver r.placed.line target (turned Whole (time_at (moment v) c.store)) below c) → GivesMode (typed_scope w.program w.code r.placed.locals) y Integer r.placed.cells rest → OperandAt w.code w.run.constants r.placed y time → Accepts (typed_scope w.program w.code r.placed.locals) target Integer rest after → TargetAt w.code w.run.constants r.placed target to → length after ≤ w.run.depth → slice_get s.rows.numbers (place_at here.frame time) ≡ Some n → time_at (moment (Whole n)) c.store ≡ due answer → Delivers w c r.placed.line (act w.code r.placed.line r.placed.instruction c) here s to (as_value answer)
   when_delivers moment y target time to rest after n answer acts gives at_y accepts at_to deep at_time e =
       let l = r.placed.line in
       let one = reads (site w c here s run r) (located w c here s run r) y Integer r.placed.cells rest time c.cells (Whole n) gives at_y r.holds.held.cells r.fits.cells (only_number s.rows (place_at here.frame time) n at_time) in
@@ -97,7 +97,7 @@ module _ (w : Compiled) (c : Core) (here : Here) (s : State) (run : Running) (r 
   -- ## Where memory may be refused
 
   -- by the answer
-  pub refuses : (f : Store → OkOr Store Trouble) (e : Seen) (answer : OkOr (Unit {0}) Refused) (new : State) (result : Option Here) → is_due r.placed.instruction ≡ false → Settles c r.placed.line (act w.code r.placed.line r.placed.instruction c) here s f → SettledInWithMemory c.store f s.scene e answer → new ≡ refused_where answer (record s { scene = e }) → result ≡ on_after here (unless_refused answer) → Comes (is_due r.placed.instruction) w r.placed.line (act w.code r.placed.line r.placed.instruction c) s new result
+  pub refuses : (f : Store → OkOr Store Trouble) (e : Seen) (answer : OkOr (Unit {0}) Refused) (new : State) (result : Option Here) → is_due r.placed.instruction ≡ false → Settles c r.placed.line (act w.code r.placed.line r.placed.instruction c) here s f → SettledInWithMemory c.store f s.scene e answer → new ≡ refused_where answer (record s { scene = e }) → result ≡ on_after here (unless_refused answer) → Performs (is_due r.placed.instruction) w r.placed.line (act w.code r.placed.line r.placed.instruction c) s new result
   refuses f e (Ok u) new result calmly z d same way = went_on w c here s run r f e new result calmly z d same way
   refuses f e (Err (Fault kind)) new result calmly z d same way =
       fails_on w c here s run r kind e new result calmly
@@ -132,7 +132,7 @@ module _ (w : Compiled) (c : Core) (here : Here) (s : State) (run : Running) (r 
         noticed class y.0,
       )
 
-  pub file_notices : (class : ℕ) (notice time : Address) (n t : ℤ) (e : Seen) (answer : OkOr (Unit {0}) Refused) (new : State) (result : Option Here) → FilesNotice class notice time → slice_get s.rows.numbers (place_at here.frame notice) ≡ Some n → slice_get s.rows.numbers (place_at here.frame time) ≡ Some t → ChangesWithMemory (filed_notice class (Whole n) t) s.scene e answer → new ≡ refused_where answer (record s { scene = e }) → result ≡ on_after here (unless_refused answer) → Comes (is_due r.placed.instruction) w r.placed.line (act w.code r.placed.line r.placed.instruction c) s new result
+  pub file_notices : (class : ℕ) (notice time : Address) (n t : ℤ) (e : Seen) (answer : OkOr (Unit {0}) Refused) (new : State) (result : Option Here) → FilesNotice class notice time → slice_get s.rows.numbers (place_at here.frame notice) ≡ Some n → slice_get s.rows.numbers (place_at here.frame time) ≡ Some t → ChangesWithMemory (filed_notice class (Whole n) t) s.scene e answer → new ≡ refused_where answer (record s { scene = e }) → result ≡ on_after here (unless_refused answer) → Performs (is_due r.placed.instruction) w r.placed.line (act w.code r.placed.line r.placed.instruction c) s new result
   file_notices class notice time n t e answer new result z at_notice at_time d same way =
       let l = r.placed.line in
       let is = z.2.2 in
@@ -158,7 +158,7 @@ module _ (w : Compiled) (c : Core) (here : Here) (s : State) (run : Running) (r 
         class_within class y.0,
       )
 
-  pub cancels : (class : ℕ) (notice : Address) (n : ℤ) (e : Seen) (answer : OkOr (Unit {0}) FaultKind) (new : State) (result : Option Here) → From w.code w.run.constants r.placed notice (λ y. Is w.code w.run.constants r.placed (i.Cancel class y)) → slice_get s.rows.numbers (place_at here.frame notice) ≡ Some n → Changes (unscheduled class (Whole n)) s.scene e answer → new ≡ faulted_by answer (record s { scene = e }) → result ≡ on_after here (unless_fault answer) → Comes (is_due r.placed.instruction) w r.placed.line (act w.code r.placed.line r.placed.instruction c) s new result
+  pub cancels : (class : ℕ) (notice : Address) (n : ℤ) (e : Seen) (answer : OkOr (Unit {0}) FaultKind) (new : State) (result : Option Here) → From w.code w.run.constants r.placed notice (λ y. Is w.code w.run.constants r.placed (i.Cancel class y)) → slice_get s.rows.numbers (place_at here.frame notice) ≡ Some n → Changes (unscheduled class (Whole n)) s.scene e answer → new ≡ faulted_by answer (record s { scene = e }) → result ≡ on_after here (done_unless_fault answer) → Performs (is_due r.placed.instruction) w r.placed.line (act w.code r.placed.line r.placed.instruction c) s new result
   cancels class notice n e answer new result z at d same way =
       let l = r.placed.line in
       let is = z.2 in

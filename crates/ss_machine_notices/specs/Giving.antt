@@ -58,14 +58,14 @@ refiled class x given t s = if_ok (prepared class x given t s) (filed_notice cla
 -- ## One attribute
 
 -- an attribute is assigned a value, or there is a fault and nothing changes
-abbrev pub IsSet : (class field : ℕ) → (notice : ℤ) → Value → (old new : Seen) → Result (Unit {0}) FaultKind → Type 0
-IsSet class field n v old new (Ok u) = (assigned old.heap class field n v ≡ Ok new.heap) × (new.heap.layout ≡ old.heap.layout) × (new ≡ record old { heap = new.heap })
-IsSet class field n v old new (Err kind) = (assigned old.heap class field n v ≡ Err kind) × (new ≡ old)
+abbrev pub SetsField : (class field : ℕ) → (notice : ℤ) → Value → (old new : Seen) → Result (Unit {0}) FaultKind → Type 0
+SetsField class field n v old new (Ok u) = (assigned old.heap class field n v ≡ Ok new.heap) × (new.heap.layout ≡ old.heap.layout) × (new ≡ record old { heap = new.heap })
+SetsField class field n v old new (Err kind) = (assigned old.heap class field n v ≡ Err kind) × (new ≡ old)
 
 -- and what is read of it afterwards
-abbrev pub IsRead : (class field : ℕ) → (notice : ℤ) → Value → Seen → Result (Unit {0}) FaultKind → Type 0
-IsRead class field n v new (Ok u) = value_in new.heap class field n ≡ Ok v
-IsRead class field n v new (Err kind) = Unit {0}
+abbrev pub IsReadBack : (class field : ℕ) → (notice : ℤ) → Value → Seen → Result (Unit {0}) FaultKind → Type 0
+IsReadBack class field n v new (Ok u) = value_in new.heap class field n ≡ Ok v
+IsReadBack class field n v new (Err kind) = Unit {0}
 
 -- a store of a well-typed program has an attribute of this mode, and the value is of it
 pub record Suiting (class field : ℕ) (noted : Bool) (v : Value) (e : Seen) : Type 0 where
@@ -90,7 +90,7 @@ pub record GivesOne (class field : ℕ) (noted : Bool) (place : ℕ) (rows : Two
 -- ## All of them
 
 -- the values of the first attributes lie from a place on
-pub record Gives (class : ℕ) (noted : Bool) (from given : ℕ) (rows : TwoRows) (e : Seen) : Type 0 where
+pub record HasGivenValues (class : ℕ) (noted : Bool) (from given : ℕ) (rows : TwoRows) (e : Seen) : Type 0 where
   pub program : Program
   pub typed : WellTyped program
   pub modes : List Mode

@@ -11,12 +11,12 @@ ghost use Rattle.ss_meaning.specs.Store.{Notices};
 ghost use Rattle.ss_code_instructions.specs.States.{Core};
 ghost use Rattle.ss_code_instructions.specs.Machine.{act};
 ghost use Rattle.ss_machine_instructions.specs.Doing.{Compiled, OneTick, CanWhere, DoesWhere};
-ghost use Rattle.ss_machine_instructions.specs.Ways.{faulted, begun_at, led};
+ghost use Rattle.ss_machine_instructions.specs.Ways.{faulted, begun_event_at, led};
 ghost use Rattle.ss_machine_notices.specs.Beginning.{IsReadTo, ReceivedIf, LetsGo, IsUnbegun, Receives, ComesNext};
 
 use crate::scheduling::Giving;
 use ss_base::{Alpha, FaultKind, Line, Mode};
-use ss_code_instructions::entry::Entry;
+use ss_code_instructions::entry::SectionEntry;
 use ss_code_instructions::instruction::Instruction;
 use ss_machine_events::coming::next_event;
 use ss_machine_frames::rows::Rows;
@@ -231,11 +231,11 @@ fn begin_event(
     here: Here,
     notice: i64,
     class: usize,
-    events: &[Entry],
+    events: &[SectionEntry],
     cell: u32,
 ) -> Option<usize>
     requires { (w : Compiled) × (c : Core) × (events.now ≡ w.run.events) × ComesNext w c here state.old cell notice class }
-    ensures { (w : Compiled) (c : Core) → events.now ≡ w.run.events → (n : ComesNext w c here state.old cell notice class) → OneTick state.old.ticks w n.ready.placed.line (act w.code n.ready.placed.line n.ready.placed.instruction c) n.before state.new (begun_at here cell result) }
+    ensures { (w : Compiled) (c : Core) → events.now ≡ w.run.events → (n : ComesNext w c here state.old cell notice class) → OneTick state.old.ticks w n.ready.placed.line (act w.code n.ready.placed.line n.ready.placed.instruction c) n.before state.new (begun_event_at here cell result) }
 {
     let rank = state.scene.rank(class);
     let entry = &events[rank];
@@ -256,7 +256,7 @@ fn begin_event(
 
 /// TakeEvent.
 #[inline(always)]
-pub fn take_event(state: &mut State, here: Here, events: &[Entry], cell: u32) -> Next
+pub fn take_event(state: &mut State, here: Here, events: &[SectionEntry], cell: u32) -> Next
     requires { CanWhere (λ w. events.now ≡ w.run.events) here state.old (Instruction.TakeEvent cell) }
     ensures { DoesWhere (λ w. events.now ≡ w.run.events) here state.old state.new (led result) (Instruction.TakeEvent cell) }
 {

@@ -11,7 +11,7 @@ ghost use Rattle.ss_machine_world.specs.Seen.{Rearranges};
 ghost use Rattle.ss_machine_instructions.specs.Doing.{Can, Does};
 ghost use Rattle.ss_machine_instructions.specs.Ways.{on_after};
 ghost use Rattle.ss_machine_instructions.specs.Worldly.{ChangesIf, unless_refused, refused_where};
-ghost use Rattle.ss_machine_notices.specs.Giving.{SettledIn, SettledInWithMemory, MadeIn, IsSet, IsRead, Suiting, GivesOne, Gives, number_or, unpended, refiled};
+ghost use Rattle.ss_machine_notices.specs.Giving.{SettledIn, SettledInWithMemory, MadeIn, SetsField, IsReadBack, Suiting, GivesOne, HasGivenValues, number_or, unpended, refiled};
 
 use ss_base::{Alpha, FaultKind, Mode, Refused};
 use ss_code_instructions::address::Address;
@@ -63,8 +63,8 @@ fn set_number(
 ) -> Result<(), FaultKind>
     requires class { class < length scene.old.heap.layout.classes }
     requires mode { slice_get (modes_of scene.old.heap.layout class) field ≡ Some Integer }
-    ensures set { IsSet class field notice (Whole number) scene.old scene.new result }
-    ensures read { IsRead class field notice (Whole number) scene.new result }
+    ensures set { SetsField class field notice (Whole number) scene.old scene.new result }
+    ensures read { IsReadBack class field notice (Whole number) scene.new result }
 {
     scene.population.set_whole(class, field, notice, number)
 }
@@ -80,7 +80,7 @@ fn set_text(
 ) -> Result<(), FaultKind>
     requires class { class < length scene.old.heap.layout.classes }
     requires mode { slice_get (modes_of scene.old.heap.layout class) field ≡ Some AlphaMode }
-    ensures { IsSet class field notice (Text text) scene.old scene.new result }
+    ensures { SetsField class field notice (Text text) scene.old scene.new result }
 {
     scene.population.set_text(class, field, notice, text)
 }
@@ -142,8 +142,8 @@ fn give_one(scene: &mut Scene, rows: &Rows, what: Giving, field: usize) -> Resul
 // So many first attributes of a notice are assigned what lies at their places.
 #[inline(always)]
 fn give(scene: &mut Scene, rows: &Rows, what: Giving, given: usize) -> Result<(), FaultKind>
-    requires { Gives what.class what.noted what.from given rows.now scene.old }
-    ensures { (g : Gives what.class what.noted what.from given rows.now scene.old) → SettledIn g.store (endowed what.class 0 (Whole what.notice) g.values) scene.old scene.new result }
+    requires { HasGivenValues what.class what.noted what.from given rows.now scene.old }
+    ensures { (g : HasGivenValues what.class what.noted what.from given rows.now scene.old) → SettledIn g.store (endowed what.class 0 (Whole what.notice) g.values) scene.old scene.new result }
 {
     for field in 0..given {
         match give_one(scene, rows, what, field) {
@@ -171,8 +171,8 @@ fn prepare(
     given: usize,
     time: i64,
 ) -> Result<(), FaultKind>
-    requires { Gives what.class what.noted what.from given rows.now scene.old }
-    ensures { (g : Gives what.class what.noted what.from given rows.now scene.old) → SettledIn g.store (prepared what.class (Whole what.notice) g.values time) scene.old scene.new result }
+    requires { HasGivenValues what.class what.noted what.from given rows.now scene.old }
+    ensures { (g : HasGivenValues what.class what.noted what.from given rows.now scene.old) → SettledIn g.store (prepared what.class (Whole what.notice) g.values time) scene.old scene.new result }
 {
     match give(scene, rows, what, given) {
         Err(kind) => Err(kind),
@@ -201,8 +201,8 @@ fn new_notice(
     given: usize,
     time: i64,
 ) -> Result<i64, Refused>
-    requires { Gives what.class what.noted what.from given rows.now scene.old }
-    ensures { (g : Gives what.class what.noted what.from given rows.now scene.old) → MadeIn g.store what.class g.values time scene.old scene.new result }
+    requires { HasGivenValues what.class what.noted what.from given rows.now scene.old }
+    ensures { (g : HasGivenValues what.class what.noted what.from given rows.now scene.old) → MadeIn g.store what.class g.values time scene.old scene.new result }
 {
     match scene.create(what.class) {
         Err(refused) => Err(refused),
@@ -246,8 +246,8 @@ fn prepare_and_file(
     given: usize,
     time: i64,
 ) -> Result<(), Refused>
-    requires { Gives what.class what.noted what.from given rows.now scene.old }
-    ensures { (g : Gives what.class what.noted what.from given rows.now scene.old) → SettledInWithMemory g.store (refiled what.class (Whole what.notice) g.values time) scene.old scene.new result }
+    requires { HasGivenValues what.class what.noted what.from given rows.now scene.old }
+    ensures { (g : HasGivenValues what.class what.noted what.from given rows.now scene.old) → SettledInWithMemory g.store (refiled what.class (Whole what.notice) g.values time) scene.old scene.new result }
 {
     match prepare(scene, rows, what, given, time) {
         Err(kind) => Err(Refused::Fault(kind)),
@@ -265,8 +265,8 @@ fn schedule_again(
     given: usize,
     time: i64,
 ) -> Result<(), Refused>
-    requires { Gives what.class what.noted what.from given rows.now scene.old }
-    ensures { (g : Gives what.class what.noted what.from given rows.now scene.old) → SettledInWithMemory g.store (rescheduled what.class (Whole what.notice) g.values time) scene.old scene.new result }
+    requires { HasGivenValues what.class what.noted what.from given rows.now scene.old }
+    ensures { (g : HasGivenValues what.class what.noted what.from given rows.now scene.old) → SettledInWithMemory g.store (rescheduled what.class (Whole what.notice) g.values time) scene.old scene.new result }
 {
     match look_unpended(scene, what.class, what.notice) {
         Err(kind) => Err(Refused::Fault(kind)),

@@ -15,8 +15,8 @@ use Rattle.ss_base.specs.declared.fault.FaultKind.{FaultKind}
 use Rattle.ss_base.specs.declared.fault.FaultKind.TheVariants.{NotScheduled}
 use Rattle.ss_world.specs.PendingNotice.{PendingNotice}
 use Rattle.ss_world.specs.Order.{comes_before, tie_order}
-use Rattle.ss_world.specs.PendingList.{PendingList, is_pending, earlier, least, next, after_next, without_notice, cancelled}
-use Rattle.ss_machine_time.specs.Times.{IsAhead, IsTimely}
+use Rattle.ss_world.specs.PendingList.{PendingList, is_pending, earlier_notice, least, least_event, after_next, without_notice, cancelled}
+use Rattle.ss_machine_time.specs.Times.{IsNotBefore, IsTimely}
 
 -- ## The entry that comes out first has the least time
 
@@ -46,32 +46,32 @@ after_time : (a b : PendingNotice) → comes_before a b ≡ false → b.key.time
 unfolding comes_before
 after_time a b e = after_by a.key.time b.key.time (rest_order a b) (nat_cmp a.number b.number) (int_cmp a.key.time b.key.time) (int_ranks a.key.time b.key.time) e
 
-earlier_first : (a b : PendingNotice) → IsAhead (earlier a b).key.time a × IsAhead (earlier a b).key.time b
+earlier_first : (a b : PendingNotice) → IsNotBefore (earlier_notice a b).key.time a × IsNotBefore (earlier_notice a b).key.time b
 earlier_first a b = by (comes_before b a) refl
   where
-    by : (c : Bool) → comes_before b a ≡ c → (let x : PendingNotice = if c then b else a in IsAhead x.key.time a × IsAhead x.key.time b)
+    by : (c : Bool) → comes_before b a ≡ c → (let x : PendingNotice = if c then b else a in IsNotBefore x.key.time a × IsNotBefore x.key.time b)
     by true e = (before_time b a e, ≤ℤ_refl b.key.time)
     by false e = (≤ℤ_refl a.key.time, after_time b a e)
 
-earlier_ahead : (t : ℤ) (a b : PendingNotice) → IsAhead t a → IsAhead t b → IsAhead t (earlier a b)
+earlier_ahead : (t : ℤ) (a b : PendingNotice) → IsNotBefore t a → IsNotBefore t b → IsNotBefore t (earlier_notice a b)
 earlier_ahead t a b h k = by (comes_before b a)
   where
-    by : (c : Bool) → IsAhead t (if c then b else a)
+    by : (c : Bool) → IsNotBefore t (if c then b else a)
     by true = k
     by false = h
 
-fold_first : (e : PendingNotice) (es : List PendingNotice) → All (IsAhead (fold earlier e es).key.time) (e ∷ es)
-fold_first e [] = All-cons (IsAhead e.key.time) e [] (≤ℤ_refl e.key.time) (All-nil (IsAhead e.key.time))
+fold_first : (e : PendingNotice) (es : List PendingNotice) → All (IsNotBefore (fold earlier_notice e es).key.time) (e ∷ es)
+fold_first e [] = All-cons (IsNotBefore e.key.time) e [] (≤ℤ_refl e.key.time) (All-nil (IsNotBefore e.key.time))
 fold_first e (f ∷ fs) =
-    let t = (fold earlier (earlier e f) fs).key.time in
-    let r = fold_first (earlier e f) fs in
-    let first : IsAhead t (earlier e f) = All-head (IsAhead t) (earlier e f) fs r in
+    let t = (fold earlier_notice (earlier_notice e f) fs).key.time in
+    let r = fold_first (earlier_notice e f) fs in
+    let first : IsNotBefore t (earlier_notice e f) = All-head (IsNotBefore t) (earlier_notice e f) fs r in
     let s = earlier_first e f in
-    All-cons (IsAhead t) e (f ∷ fs) (later t (earlier e f).key.time e.key.time first s.0) (All-cons (IsAhead t) f fs (later t (earlier e f).key.time f.key.time first s.1) (All-tail (IsAhead t) (earlier e f) fs r))
+    All-cons (IsNotBefore t) e (f ∷ fs) (later t (earlier_notice e f).key.time e.key.time first s.0) (All-cons (IsNotBefore t) f fs (later t (earlier_notice e f).key.time f.key.time first s.1) (All-tail (IsNotBefore t) (earlier_notice e f) fs r))
 
-fold_ahead : (t : ℤ) (e : PendingNotice) (es : List PendingNotice) → IsAhead t e → All (IsAhead t) es → IsAhead t (fold earlier e es)
+fold_ahead : (t : ℤ) (e : PendingNotice) (es : List PendingNotice) → IsNotBefore t e → All (IsNotBefore t) es → IsNotBefore t (fold earlier_notice e es)
 fold_ahead t e [] h all = h
-fold_ahead t e (f ∷ fs) h all = fold_ahead t (earlier e f) fs (earlier_ahead t e f h (All-head (IsAhead t) f fs all)) (All-tail (IsAhead t) f fs all)
+fold_ahead t e (f ∷ fs) h all = fold_ahead t (earlier_notice e f) fs (earlier_ahead t e f h (All-head (IsNotBefore t) f fs all)) (All-tail (IsNotBefore t) f fs all)
 
 -- ## Moves
 
@@ -83,25 +83,25 @@ module _ (t latest : ℤ) where
       by : (b : Bool) → (if b then Ok (record p { entries = without_notice n p.entries }) else Err NotScheduled) ≡ Ok q → IsTimely t latest q.entries
       by true e =
           let less : record p { entries = without_notice n p.entries } ≡ q = cc in
-          subst (λ (q : PendingList). IsTimely t latest q.entries) less (h.0, h.1, All-filter (λ (e : PendingNotice). not (int_eq n e.notice)) (IsAhead t) p.entries h.2)
+          subst (λ (q : PendingList). IsTimely t latest q.entries) less (h.0, h.1, All-filter (λ (e : PendingNotice). not (int_eq n e.notice)) (IsNotBefore t) p.entries h.2)
       by false e = absurd cc
   timely_cancelled n p q (Err k) e same h = subst (λ (q : PendingList). IsTimely t latest q.entries) (sym same) h
 
   -- the entry that comes next was taken out, and the time is its time
-  pub timely_passed : (p : PendingList) (n : ℤ × ℤ) → next p ≡ Some n → IsTimely t latest p.entries → IsTimely n.0 latest (after_next p).entries
+  pub timely_passed : (p : PendingList) (n : ℤ × ℤ) → least_event p ≡ Some n → IsTimely t latest p.entries → IsTimely n.0 latest (after_next p).entries
   timely_passed p n e h = by p.entries e h
     where
       by : (es : List PendingNotice) → option_map (λ (x : PendingNotice). (x.key.time, x.notice)) (least es) ≡ Some n → IsTimely t latest es → IsTimely n.0 latest (option_map_or (λ (x : PendingNotice). without_notice x.notice es) (least es) [])
       by [] e h = absurd cc
       by (x ∷ xs) e h =
-          let first : PendingNotice = fold earlier x xs in
+          let first : PendingNotice = fold earlier_notice x xs in
           let time : first.key.time ≡ n.0 = cc in
-          let old : t ≤ℤ first.key.time = fold_ahead t x xs (All-head (IsAhead t) x xs h.2) (All-tail (IsAhead t) x xs h.2) in
+          let old : t ≤ℤ first.key.time = fold_ahead t x xs (All-head (IsNotBefore t) x xs h.2) (All-tail (IsNotBefore t) x xs h.2) in
           subst (λ (u : ℤ). IsTimely u latest (without_notice first.notice (x ∷ xs))) time
-          (later (pos 0) t first.key.time h.0 old, later latest t first.key.time h.1 old, All-filter (λ (e : PendingNotice). not (int_eq first.notice e.notice)) (IsAhead first.key.time) (x ∷ xs) (fold_first x xs))
+          (later (pos 0) t first.key.time h.0 old, later latest t first.key.time h.1 old, All-filter (λ (e : PendingNotice). not (int_eq first.notice e.notice)) (IsNotBefore first.key.time) (x ∷ xs) (fold_first x xs))
 
 -- where nothing comes next, nothing is taken out
-pub none_next : (p : PendingList) → next p ≡ None → after_next p ≡ p
+pub none_next : (p : PendingList) → least_event p ≡ None → after_next p ≡ p
 none_next p e = by p.entries e
   where
     by : (es : List PendingNotice) → option_map {U = ℤ × ℤ} (λ (x : PendingNotice). (x.key.time, x.notice)) (least es) ≡ None → record p { entries = option_map_or (λ (x : PendingNotice). without_notice x.notice es) (least es) [] } ≡ record p { entries = es }

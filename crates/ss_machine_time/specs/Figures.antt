@@ -22,8 +22,8 @@ variable_in (Some (OfVariable k)) = Some k
 variable_in (Some (OfAttribute class field)) = None
 variable_in (Some (OfCount set)) = None
 
-abbrev pub variable_of : List Statistic → (statistic : ℕ) → Option ℕ
-variable_of ss j = variable_in (subject_in ss j)
+abbrev pub statistic_variable : List Statistic → (statistic : ℕ) → Option ℕ
+statistic_variable ss j = variable_in (subject_in ss j)
 
 -- what a global variable holds, if there is one
 abbrev pub held_in : Option ℕ → Store → Option Value
@@ -32,7 +32,7 @@ held_in (Some k) s = fetched (Global k) s
 
 -- what the variable holds that a statistic is about
 abbrev pub held_by : (statistic : ℕ) → Store → Option Value
-held_by j s = held_in (variable_of s.scene.setting.statistics j) s
+held_by j s = held_in (statistic_variable s.scene.setting.statistics j) s
 
 -- the value that a subject has, where a variable holds this
 abbrev pub present_with : (held : Option Value) → Subject → Option Value → Store → Result Value Meant

@@ -9,7 +9,7 @@ use Rattle.ss_base.specs.declared.value.Value.{Value}
 use Rattle.ss_program.specs.declared.sections.Subject.{Subject}
 use Rattle.ss_world.specs.SortKey.{SortKey}
 use Rattle.ss_world.specs.PendingNotice.{PendingNotice}
-use Rattle.ss_world.specs.PendingList.{PendingList, scheduled, next, after_next}
+use Rattle.ss_world.specs.PendingList.{PendingList, scheduled, least_event, after_next}
 use Rattle.ss_stats_histories.specs.Records.{Records, columns_of, why}
 use Rattle.ss_stats_histories.specs.Store.{Column}
 use Rattle.ss_stats_histories.specs.Histories.{all_noting}
@@ -22,12 +22,12 @@ pub record Times : Type 0 where
   pub histories : Records
 
 -- an entry has a time from this one on
-abbrev pub IsAhead : (time : ℤ) → PendingNotice → Type 0
-IsAhead t e = t ≤ℤ e.key.time
+abbrev pub IsNotBefore : (time : ℤ) → PendingNotice → Type 0
+IsNotBefore t e = t ≤ℤ e.key.time
 
 -- no notice is pending for a time that is past, and no history goes beyond the time
 abbrev pub IsTimely : (time latest : ℤ) → List PendingNotice → Type 0
-IsTimely t latest es = (pos 0 ≤ℤ t) × (latest ≤ℤ t) × All (IsAhead t) es
+IsTimely t latest es = (pos 0 ≤ℤ t) × (latest ≤ℤ t) × All (IsNotBefore t) es
 
 -- the histories as the meaning has them
 abbrev pub columns : Times → List Column
@@ -39,8 +39,8 @@ IsAt old new = (new.time ≡ old.time) × (new.pending ≡ old.pending) × (new.
 
 -- nothing is pending, and nothing changes; or this notice comes next, and once it was taken out the time is its time
 abbrev pub TakesNext : (old new : Times) → Option ℤ → Type 0
-TakesNext old new None = (next old.pending ≡ None) × (new ≡ old)
-TakesNext old new (Some x) = (next old.pending ≡ Some (new.time, x)) × (new ≡ record old { time = new.time; pending = after_next old.pending })
+TakesNext old new None = (least_event old.pending ≡ None) × (new ≡ old)
+TakesNext old new (Some x) = (least_event old.pending ≡ Some (new.time, x)) × (new ≡ record old { time = new.time; pending = after_next old.pending })
 
 -- the list after a notice is scheduled under a key, whose time is not past, or the fault
 abbrev pub placed : SortKey → (notice : ℤ) → Times → Result PendingList FaultKind

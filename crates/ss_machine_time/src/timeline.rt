@@ -3,7 +3,7 @@
 ghost use Rattle.std.specs.Prelude.{◌≡◌, ◌≤ℤ◌, [], map, pos, false, Ok, Err, is_some, MatchResult, IfOk, IfSome, OnOk};
 ghost use Rattle.std.specs.Ordering.{int_eq};
 ghost use Rattle.ss_base.specs.declared.layout.Owner.TheVariants.{System, Class};
-ghost use Rattle.ss_world.specs.PendingList.{none_pending, is_pending, cancelled, next};
+ghost use Rattle.ss_world.specs.PendingList.{none_pending, is_pending, cancelled, least_event};
 ghost use Rattle.ss_stats_histories.specs.Records.{HasRooms, is_up_to, renewed_where, figured, mean_in, columns_of};
 ghost use Rattle.ss_stats_histories.specs.Histories.{no_histories, starting, ending, history_of_subject, folded, renewed};
 ghost use Rattle.ss_stats_histories.specs.Values.{if_ok, sure};
@@ -74,7 +74,7 @@ impl Timeline {
     /// Whether any notice is pending.
     #[inline(always)]
     pub fn is_awaited(&mut self) -> bool
-        ensures value { result ≡ is_some (next self.old.pending) }
+        ensures value { result ≡ is_some (least_event self.old.pending) }
         ensures same { self.new ≡ self.old }
     {
         self.pending.least().is_some()

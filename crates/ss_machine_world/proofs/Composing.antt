@@ -28,7 +28,7 @@ use Rattle.ss_meaning.specs.Places.{is_of_mode, assigned_attribute}
 use Rattle.ss_meaning.specs.Sets.{Filing, ByRule, Foremost, Hindmost, JustBefore, JustAfter, owner_by_layout, owner_number, member, is_fit, filed_by, filed_in, removed_from, end_removed, removed_at, recounted}
 use Rattle.ss_meaning.specs.Store.{Column, Store, with_heap, with_histories}
 use Rattle.ss_meaning.specs.Values.{Trouble, Fails, if_ok, turned, due, sure, where_fit, computed, calculated}
-use Rattle.ss_machine_world.specs.Numbers.{RefersTo, attribute_noted, count_noted}
+use Rattle.ss_machine_world.specs.Numbers.{RefersTo, attribute_noted}
 use Rattle.ss_machine_world.specs.Seen.{Seen, IsRight, with_seen}
 use Rattle.ss_machine_world.proofs.Reading.{value_once, set_once}
 
@@ -181,10 +181,6 @@ module _ (e : Seen) (set : ℕ) (o : Option Value) (m : ℤ) (there : is_some (s
   pub end_removed_is : (end : End) (s : Store) → removed_at end set o (with_seen s e) ≡ if_ok (due (end_removed end e.heap set m)) (λ r. turned {B = Value × Store} (λ t. (Whole r.0, t)) (recounted set m (with_seen s e) r.1))
   end_removed_is end s =
       ap (λ r. if_ok {B = Value × Store} r (λ m. if_ok (due (end_removed end e.heap set m)) (λ r. turned (λ t. (Whole r.0, t)) (recounted set m (with_seen s e) r.1)))) (owner_found s)
-
--- N. of the set is noted once the entities have changed
-pub recounted_after : (set : ℕ) (m : ℤ) (e : Seen) (h : State) (s : Store) → recounted set m (with_seen s e) h ≡ count_noted set m (with_seen s (record e { heap = h }))
-recounted_after set m e h s = refl
 
 -- ## Where no statistic watches a subject, a note changes nothing
 

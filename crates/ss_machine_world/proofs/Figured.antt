@@ -22,10 +22,10 @@ use Rattle.ss_machine_time.specs.Times.{Times, IsAt, columns}
 use Rattle.ss_meaning.specs.Entities.{entity, attribute}
 use Rattle.ss_meaning.specs.Histories.{home, history_in, figure_kept, mean_kept, renewed}
 use Rattle.ss_meaning.specs.Sets.{owner_by_layout}
-use Rattle.ss_meaning.specs.Statistics.{subject_of, bearer, present, figure, mean, reset}
+use Rattle.ss_meaning.specs.Statistics.{subject_of_statistic, bearer_number, present, figure, mean, reset}
 use Rattle.ss_meaning.specs.Store.{Column, Notices, Store, fetched, with_histories}
 use Rattle.ss_meaning.specs.Values.{Trouble, if_ok, turned, due, sure, where_fit, number_of}
-use Rattle.ss_machine_world.specs.Numbers.{RefersTo, RefersToSubject, HasSubject, Holds, looked_in, present_in}
+use Rattle.ss_machine_world.specs.Numbers.{RefersTo, RefersToSubject, HasValidSubject, HoldsSubject, looked_in, present_in}
 use Rattle.ss_machine_world.specs.Seen.{Seen, IsRight, Looks, Changes, ChangesWhere, as_value, number_if, with_seen, without_value}
 use Rattle.ss_machine_world.proofs.Reading.{whole_is, value_once}
 use Rattle.ss_machine_world.proofs.Starting.{seen_of, seen_moved}
@@ -41,7 +41,7 @@ owner_looked : (x : ℤ) (q : OkOr ℕ FaultKind) → turned (λ _. x) (due q) �
 owner_looked x (Ok m) = refl
 owner_looked x (Err k) = refl
 
-borne : (t : Subject) (o : Option Value) (x : ℤ) (e : Seen) (s : Store) → RefersTo (home e.heap.layout t) o x → IsRight (bearer t o (with_seen s e)) → bearer t o (with_seen s e) ≡ due (number_if x (looked_in e.heap t x))
+borne : (t : Subject) (o : Option Value) (x : ℤ) (e : Seen) (s : Store) → RefersTo (home e.heap.layout t) o x → IsRight (bearer_number t o (with_seen s e)) → bearer_number t o (with_seen s e) ≡ due (number_if x (looked_in e.heap t x))
 borne (OfVariable k) None x e s refers right = refers
 borne (OfVariable k) (Some v) x e s refers right = absurd cc
 borne (OfAttribute class field) None x e s refers right = absurd cc
@@ -62,12 +62,12 @@ borne (OfCount set) o x e s refers right = by (slice_get e.heap.layout.sets set)
 -- what is asked of a statistic, once its entity was looked at
 module _ {B : Type 0} (kept : Subject → ℤ → Store → OkOr B Trouble) (j : ℕ) (o : Option Value) (x : ℤ) (e : Seen) (refers : RefersToSubject e j o x) where
   abbrev asked : Store → OkOr B Trouble
-  asked s = if_ok (subject_of j s) (λ t. if_ok (bearer t o s) (λ n. kept t n s))
+  asked s = if_ok (subject_of_statistic j s) (λ t. if_ok (bearer_number t o s) (λ n. kept t n s))
 
   asked_is : (look : OkOr (Unit {0}) FaultKind) → ((t : Subject) → subject_in e.statistics j ≡ Some t → look ≡ looked_in e.heap t x) → (s : Store) → IsRight (asked (with_seen s e)) → (t : Subject) × (subject_in e.statistics j ≡ Some t) × (asked (with_seen s e) ≡ if_ok (due (number_if x look)) (λ n. kept t n (with_seen s e)))
   asked_is look looks s right = by (slice_get e.statistics j) refl right
     where
-      by : (u : Option Statistic) → slice_get e.statistics j ≡ u → IsRight (if_ok (turned (λ (t : Statistic). t.subject) (sure u)) (λ t. if_ok (bearer t o (with_seen s e)) (λ n. kept t n (with_seen s e)))) → (t : Subject) × (subject_in e.statistics j ≡ Some t) × (if_ok (turned (λ (t : Statistic). t.subject) (sure u)) (λ t. if_ok (bearer t o (with_seen s e)) (λ n. kept t n (with_seen s e))) ≡ if_ok (due (number_if x look)) (λ n. kept t n (with_seen s e)))
+      by : (u : Option Statistic) → slice_get e.statistics j ≡ u → IsRight (if_ok (turned (λ (t : Statistic). t.subject) (sure u)) (λ t. if_ok (bearer_number t o (with_seen s e)) (λ n. kept t n (with_seen s e)))) → (t : Subject) × (subject_in e.statistics j ≡ Some t) × (if_ok (turned (λ (t : Statistic). t.subject) (sure u)) (λ t. if_ok (bearer_number t o (with_seen s e)) (λ n. kept t n (with_seen s e))) ≡ if_ok (due (number_if x look)) (λ n. kept t n (with_seen s e)))
       by None at right = absurd (right refl)
       by (Some u) at right =
           let is : subject_in e.statistics j ≡ Some u.subject = ap (option_map (λ (t : Statistic). t.subject)) at in
@@ -150,9 +150,9 @@ counted_value : (q : OkOr ℤ FaultKind) → turned Whole (due q) ≡ due (and_t
 counted_value (Ok n) = refl
 counted_value (Err k) = refl
 
-module _ (j : ℕ) (o : Option Value) (x held : ℤ) (e : Seen) (refers : RefersToSubject e j o x) (has : HasSubject e j) where
+module _ (j : ℕ) (o : Option Value) (x held : ℤ) (e : Seen) (refers : RefersToSubject e j o x) (has : HasValidSubject e j) where
   -- the present value
-  present_is : (t : Subject) → subject_in e.statistics j ≡ Some t → (s : Store) → Holds j held (with_seen s e) → IsRight (present t o (with_seen s e)) → present t o (with_seen s e) ≡ due (present_in e.heap t x held)
+  present_is : (t : Subject) → subject_in e.statistics j ≡ Some t → (s : Store) → HoldsSubject j held (with_seen s e) → IsRight (present t o (with_seen s e)) → present t o (with_seen s e) ≡ due (present_in e.heap t x held)
   present_is (OfVariable k) is s holds right = by (fetched (Global k) (with_seen s e)) refl right
     where
       by : (v : Option Value) → fetched (Global k) (with_seen s e) ≡ v → IsRight (sure v) → sure v ≡ Ok (Whole held)
@@ -179,13 +179,13 @@ module _ (j : ℕ) (o : Option Value) (x held : ℤ) (e : Seen) (refers : Refers
   afresh t n s = if_ok (present t o s) (λ v. if_ok (number_of v) (λ z. turned (with_histories s) (renewed j n s.scene.time z s.scene.histories)))
 
   -- there is a fault
-  pub reset_not : (kind : FaultKind) → ((t : Subject) → subject_in e.statistics j ≡ Some t → Err kind ≡ present_in e.heap t x held) → ChangesWhere (λ s. IsRight (reset j o s) × Holds j held s) (reset j o) e e (Err kind)
+  pub reset_not : (kind : FaultKind) → ((t : Subject) → subject_in e.statistics j ≡ Some t → Err kind ≡ present_in e.heap t x held) → ChangesWhere (λ s. IsRight (reset j o s) × HoldsSubject j held s) (reset j o) e e (Err kind)
   reset_not kind presents =
       (λ s p. (asked_is afresh j o x e refers (Err kind) (λ t is. ap no_value (presents t is) ∙ present_looked e.heap t x held) s p.0).2, refl)
 
   -- a number, and a history that starts afresh with it
   module _ (p : ℤ) (presents : (t : Subject) → subject_in e.statistics j ≡ Some t → Ok (Whole p) ≡ present_in e.heap t x held) where
-    reset_by : (s : Store) → IsRight (reset j o (with_seen s e)) → Holds j held (with_seen s e) → reset j o (with_seen s e) ≡ renewed_known j x p (with_seen s e)
+    reset_by : (s : Store) → IsRight (reset j o (with_seen s e)) → HoldsSubject j held (with_seen s e) → reset j o (with_seen s e) ≡ renewed_known j x p (with_seen s e)
     reset_by s right holds =
         let a = asked_is afresh j o x e refers (Ok tt) (λ t is. ap no_value (presents t is) ∙ present_looked e.heap t x held) s right in
         a.2 ∙ ap after (present_is a.0 a.1 s holds (λ wrong. right (a.2 ∙ ap after wrong)) ∙ ap due (sym (presents a.0 a.1)))
@@ -193,7 +193,7 @@ module _ (j : ℕ) (o : Option Value) (x held : ℤ) (e : Seen) (refers : Refers
         after : OkOr Value Trouble → OkOr Store Trouble
         after r = if_ok r (λ v. if_ok (number_of v) (λ z. renewed_known j x z (with_seen s e)))
 
-    pub reset_then : (new : Seen) (r : OkOr (Unit {0}) FaultKind) → Changes (renewed_known j x p) e new r → ChangesWhere (λ s. IsRight (reset j o s) × Holds j held s) (reset j o) e new r
+    pub reset_then : (new : Seen) (r : OkOr (Unit {0}) FaultKind) → Changes (renewed_known j x p) e new r → ChangesWhere (λ s. IsRight (reset j o s) × HoldsSubject j held s) (reset j o) e new r
     reset_then new (Ok u) d = λ s q. reset_by s q.0 q.1 ∙ d s (λ wrong. q.0 (reset_by s q.0 q.1 ∙ wrong))
     reset_then new (Err k) d = (λ s q. reset_by s q.0 q.1 ∙ d.0 s (λ wrong. q.0 (reset_by s q.0 q.1 ∙ wrong)), d.1)
 

@@ -17,7 +17,7 @@ use Rattle.ss_meaning.specs.Store.{Store, Notices, with_pending}
 use Rattle.ss_meaning.specs.Histories.{ending}
 use Rattle.ss_meaning.specs.Entities.{entity, is_single, gone, without, with_none}
 use Rattle.ss_meaning.specs.Events.{unscheduled}
-use Rattle.ss_machine_world.specs.Seen.{Seen, Changes, with_seen, without_value}
+use Rattle.ss_machine_world.specs.Seen.{Seen, Changes, with_seen}
 use Rattle.ss_machine_world.proofs.Changing.{changes_alike}
 use Rattle.ss_machine_world.proofs.Starting.{joined, seen_of}
 
@@ -101,17 +101,6 @@ module _ (e : Seen) (class : ℕ) (n : ℤ) (single : is_single (slice_get e.hea
       ap (λ b. where_fit b (turned (with_none class n (with_seen s e)) (due (destroyed e.heap class n)))) single
       ∙ ap (λ r. turned (with_none class n (with_seen s e)) (due r)) is
 
-  -- whether one may go
-  pub may_go : (r : OkOr (Unit {0}) FaultKind) → r ≡ no_value (destroyed e.heap class n) → (s : Store) → without_value (gone class (Whole n)) (with_seen s e) ≡ due r
-  may_go r is s =
-      ap (λ b. turned {B = Unit {0}} (λ _. tt) (where_fit b (turned (with_none class n (with_seen s e)) (due (destroyed e.heap class n))))) single
-      ∙ by (destroyed e.heap class n)
-      ∙ ap (λ (q : OkOr (Unit {0}) FaultKind). due q) (sym is)
-    where
-      by : (q : OkOr State FaultKind) → turned {B = Unit {0}} (λ _. tt) (turned (with_none class n (with_seen s e)) (due q)) ≡ due (no_value q)
-      by (Ok h) = refl
-      by (Err k) = refl
-
   -- one may not
   pub gone_not : (h : State) (kind : FaultKind) → destroyed e.heap class n ≡ Err kind → h ≡ e.heap → Changes (gone class (Whole n)) e (record e { heap = h }) (Err kind)
   gone_not h kind is same = (λ s right. gone_by (Err kind) is s, ap (λ (h : State). record e { heap = h }) same)
@@ -119,12 +108,6 @@ module _ (e : Seen) (class : ℕ) (n : ℤ) (single : is_single (slice_get e.hea
   -- one goes, and its histories end
   pub gone_ended : (new : Seen) (h : State) → new ≡ record e { heap = h; histories = new.histories } → destroyed e.heap class n ≡ Ok h → columns_of new.histories ≡ ending h.layout class n e.statistics (columns_of e.histories) → Changes (gone class (Whole n)) e new (Ok tt)
   gone_ended new h same is ended = λ s right. gone_by (Ok h) is s ∙ ap Ok (joined e new h same _ s ended)
-
-  -- it had none
-  pub gone_alone : (h : State) → ending e.heap.layout class n e.statistics (columns_of e.histories) ≡ columns_of e.histories → destroyed e.heap class n ≡ Ok h → Changes (gone class (Whole n)) e (record e { heap = h }) (Ok tt)
-  gone_alone h none is =
-      gone_ended (record e { heap = h }) h refl is
-      (sym (ap (λ (l : Layout). ending l class n e.statistics (columns_of e.histories)) (ap (layout_after e.heap) (sym is) ∙ layout_stays e.heap class n) ∙ none))
 
   -- one that may go and is not pending: DESTROY finds nothing else
   gone_once : (s : Store) → is_pending n e.pending.entries ≡ false → without class (Whole n) (with_seen s e) ≡ gone class (Whole n) (with_seen s e)

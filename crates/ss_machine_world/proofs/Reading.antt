@@ -53,7 +53,7 @@ module _ (e : Seen) (class field : ℕ) (n : ℤ) where
   set_once v s fits =
       one_look n (λ k. where_fit (is_of_mode v mode) (go k)) there (S.entity_in e.heap class n)
       (field_there (slice_get e.heap.layout.classes class) field (mode_there v mode fits))
-      (λ k no. at n ∙ ap (λ (q : OkOr S.Record FaultKind). if_ok (due (S.and_then q (λ r. Ok (S.with_entity e.heap class (S.number_in n) (S.with_value r field v))))) (λ h. noted (OfAttribute class field) n v (with_heap (with_seen s e) h))) no)
+      (λ k no. at n ∙ ap (λ (q : OkOr S.Record FaultKind). if_ok (due (S.and_then q (λ r. Ok (S.with_entity e.heap class (S.number_in n) (S.record_with_value r field v))))) (λ h. noted (OfAttribute class field) n v (with_heap (with_seen s e) h))) no)
       ∙ at n
     where
       go : ℤ → OkOr Store Trouble

@@ -1,4 +1,4 @@
--- What is said of classes: how it is gathered, and what follows where no statistic has a history of the entities of a class.
+-- The entries of classes: how they are gathered, and what follows where no statistic has a history of the entities of a class.
 use Rattle.std.proofs.Common.{arith, ◌≡◌, ℕ, zero, suc, ◌+◌, ◌==◌, Bool, true, false, List, [], ◌∷◌, ◌++◌, length, drop, Option, Some, None, refl, ap, sym, ◌∙◌, subst, eqb→eq, T}
 use Rattle.std.proofs.lemmas.Bool.{eqb-false}
 use Rattle.std.specs.Prelude.{ℤ, ◌||◌, slice_get, slice_set, IfSome, if◌then◌else◌}

@@ -74,8 +74,8 @@ IsSubject l (OfAttribute class field) = (class < length l.classes) × (slice_get
 IsSubject l (OfCount set) = set < length l.sets
 
 -- so is that of a statistic, if there is one
-abbrev pub HasSubject : Seen → (statistic : ℕ) → Type 0
-HasSubject e j = (t : Subject) → subject_in e.statistics j ≡ Some t → IsSubject e.heap.layout t
+abbrev pub HasValidSubject : Seen → (statistic : ℕ) → Type 0
+HasValidSubject e j = (t : Subject) → subject_in e.statistics j ≡ Some t → IsSubject e.heap.layout t
 
 -- a look at the entity that has a subject
 abbrev pub looked_in : State → Subject → (entity : ℤ) → Result (Unit {0}) FaultKind
@@ -90,5 +90,5 @@ present_in h (OfAttribute class field) x held = value_in h class field x
 present_in h (OfCount set) x held = and_then (count_in h set x) (λ n. Ok (Whole n))
 
 -- the global variable that a statistic is about holds this number, if it is about one
-abbrev pub Holds : (statistic : ℕ) → (held : ℤ) → Store → Type 0
-Holds j held s = (v : Value) → held_by j s ≡ Some v → v ≡ Whole held
+abbrev pub HoldsSubject : (statistic : ℕ) → (held : ℤ) → Store → Type 0
+HoldsSubject j held s = (v : Value) → held_by j s ≡ Some v → v ≡ Whole held

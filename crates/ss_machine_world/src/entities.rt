@@ -11,7 +11,7 @@ ghost use Rattle.ss_world.specs.PendingList.{is_pending};
 ghost use Rattle.ss_machine_time.specs.Times.{IsAt, columns};
 ghost use Rattle.ss_machine_world.specs.Classes.{AreSaid};
 ghost use Rattle.ss_machine_world.specs.Numbers.{created_all_known, count_open};
-ghost use Rattle.ss_machine_world.specs.Seen.{Looks, Changes, GoesWell, Makes, ChangesWithMemory, without_value, with_seen};
+ghost use Rattle.ss_machine_world.specs.Seen.{Looks, Changes, GoesWell, Makes, ChangesWithMemory, with_seen};
 
 use crate::class::{ClassEntry, is_watched};
 use crate::scene::Scene;
@@ -135,16 +135,6 @@ impl Scene {
             Ok(()) => FaultKind::Scheduled,
             Err(kind) => kind,
         }
-    }
-
-    /// Whether `remove_entity` lets an entity go. Faults: those of `remove_entity`.
-    pub fn may_remove(&mut self, class: usize, number: i64) -> Result<(), FaultKind>
-        requires class { class < length self.old.heap.layout.classes }
-        requires single { is_single (slice_get self.old.heap.layout.classes class) ≡ true }
-        ensures value { Looks (without_value (gone class (Whole number))) self.old result }
-        ensures same { self.new ≡ self.old }
-    {
-        self.population.may_destroy(class, number)
     }
 
     /// An entity goes, and its histories end, whether or not it is pending. Faults: 1 to 4, then 9 and 10.

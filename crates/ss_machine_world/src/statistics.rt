@@ -4,14 +4,14 @@ ghost use Rattle.std.specs.Prelude.{◌≡◌, ◌<◌, length, pos, Some, Optio
 ghost use Rattle.ss_base.specs.declared.layout.Mode.TheVariants.{Integer};
 ghost use Rattle.ss_base.specs.declared.value.Value.{Value as ValueSeen};
 ghost use Rattle.ss_base.specs.declared.value.Value.TheVariants.{Whole};
-ghost use Rattle.ss_machine_time.specs.Figures.{subject_in, variable_in, variable_of, renewed_known};
+ghost use Rattle.ss_machine_time.specs.Figures.{subject_in, variable_in, statistic_variable, renewed_known};
 ghost use Rattle.ss_meaning.specs.Histories.{noted};
 ghost use Rattle.ss_meaning.specs.Statistics.{figure, mean, reset};
 ghost use Rattle.ss_picture.specs.Suited.{IsMean};
 ghost use Rattle.ss_program.specs.declared.sections.Subject.{Subject as SubjectSeen};
 ghost use Rattle.ss_program.specs.declared.sections.Subject.TheVariants.{OfVariable};
 ghost use Rattle.ss_world.specs.State.{modes_of};
-ghost use Rattle.ss_machine_world.specs.Numbers.{RefersToSubject, IsSubject, HasSubject, Holds, attribute_noted, count_noted, looked_in, present_in, or_full};
+ghost use Rattle.ss_machine_world.specs.Numbers.{RefersToSubject, IsSubject, HasValidSubject, HoldsSubject, attribute_noted, count_noted, looked_in, present_in, or_full};
 ghost use Rattle.ss_machine_world.specs.Seen.{IsRight, Looks, Changes, ChangesWhere, as_value, without_value};
 
 use crate::scene::Scene;
@@ -77,7 +77,7 @@ impl Scene {
 
     // Whether an entity has the subject of a statistic. Faults: 1 to 5.
     fn look_statistic(&self, statistic: usize, entity: i64) -> Result<(), FaultKind>
-        requires subject { HasSubject self.now statistic }
+        requires subject { HasValidSubject self.now statistic }
         ensures { (t : SubjectSeen) → subject_in self.now.statistics statistic ≡ Some t → result ≡ looked_in self.now.heap t entity }
     {
         match self.timeline.subject(statistic) {
@@ -89,7 +89,7 @@ impl Scene {
     /// What a statistic says of an entity: NUMBER, SUM, MAXIMUM or MINIMUM. Faults: 1 to 5, then 14 for a sum of more than 64 bits.
     #[inline(never)]
     pub fn figure(&self, fold: Fold, statistic: usize, entity: i64) -> Result<i64, FaultKind>
-        requires subject { HasSubject self.now statistic }
+        requires subject { HasValidSubject self.now statistic }
         ensures { (o : Option ValueSeen) → RefersToSubject self.now statistic o entity → Looks (figure fold statistic o) self.now (as_value result) }
     {
         match self.look_statistic(statistic, entity) {
@@ -104,7 +104,7 @@ impl Scene {
     /// Whether a statistic has a mean of an entity. Faults: 1 to 5.
     #[inline(never)]
     pub fn look_mean(&self, statistic: usize, entity: i64) -> Result<(), FaultKind>
-        requires subject { HasSubject self.now statistic }
+        requires subject { HasValidSubject self.now statistic }
         ensures { (o : Option ValueSeen) → RefersToSubject self.now statistic o entity → Looks (without_value (mean statistic o)) self.now result }
     {
         self.look_statistic(statistic, entity)
@@ -114,7 +114,7 @@ impl Scene {
     /// where it isn't 0, lies from -2^63 to 2^63, so that they can be printed. Faults: 1 to 5.
     #[inline(never)]
     pub fn mean(&self, statistic: usize, entity: i64) -> Result<(i128, i64), FaultKind>
-        requires subject { HasSubject self.now statistic }
+        requires subject { HasValidSubject self.now statistic }
         ensures value { (o : Option ValueSeen) → RefersToSubject self.now statistic o entity → Looks (mean statistic o) self.now result }
         ensures is_mean { IfOk result (λ mean. IsMean mean.0 mean.1) }
     {
@@ -129,7 +129,7 @@ impl Scene {
 
     /// The global variable that a statistic is about, if it is about one.
     pub fn variable_of(&self, statistic: usize) -> Option<usize>
-        ensures { result ≡ variable_of self.now.statistics statistic }
+        ensures { result ≡ statistic_variable self.now.statistics statistic }
     {
         variable_in(self.timeline.subject(statistic))
     }
@@ -149,7 +149,7 @@ impl Scene {
 
     // The value that the subject of a statistic has, of an entity. Faults: 1 to 5.
     fn present_value(&mut self, statistic: usize, entity: i64, held: i64) -> Result<i64, FaultKind>
-        requires subject { HasSubject self.old statistic }
+        requires subject { HasValidSubject self.old statistic }
         ensures value { (t : SubjectSeen) → subject_in self.old.statistics statistic ≡ Some t → as_value result ≡ present_in self.old.heap t entity held }
         ensures same { self.new ≡ self.old }
     {
@@ -174,8 +174,8 @@ impl Scene {
     /// (`variable_of`) holds this value. Faults: 1 to 5. Nothing changes after a fault.
     #[inline(never)]
     pub fn reset(&mut self, statistic: usize, entity: i64, held: i64) -> Result<(), FaultKind>
-        requires subject { HasSubject self.old statistic }
-        ensures { (o : Option ValueSeen) → RefersToSubject self.old statistic o entity → ChangesWhere (λ s. IsRight (reset statistic o s) × Holds statistic held s) (reset statistic o) self.old self.new result }
+        requires subject { HasValidSubject self.old statistic }
+        ensures { (o : Option ValueSeen) → RefersToSubject self.old statistic o entity → ChangesWhere (λ s. IsRight (reset statistic o s) × HoldsSubject statistic held s) (reset statistic o) self.old self.new result }
     {
         match self.present_value(statistic, entity, held) {
             Err(kind) => Err(kind),

@@ -22,7 +22,7 @@ use Rattle.ss_world.specs.State.{Record, State, kind_of, kind_in, and_then, issu
 use Rattle.ss_world.specs.PendingNotice.{PendingNotice}
 use Rattle.ss_world.specs.SortKey.{SortKey}
 use Rattle.ss_world.specs.Order.{comes_before}
-use Rattle.ss_world.specs.PendingList.{PendingList, scheduling_limit, is_pending, without_notice, earlier, least, with_entry, scheduled, cancelled}
+use Rattle.ss_world.specs.PendingList.{PendingList, scheduling_limit, is_pending, without_notice, earlier_notice, least, with_entry, scheduled, cancelled}
 use Rattle.ss_program.specs.declared.expression.Variable.TheVariants.{Global}
 use Rattle.ss_program.specs.Program.{Event, Program}
 use Rattle.ss_program.specs.WellTyped.{WellTyped, field_mode, fields_of, kind_of_class as kind_said, is_created_singly, GoodKeys, GoodEvent, IsPlain}
@@ -48,20 +48,20 @@ taken_get (suc n) [] i a q = absurd cc
 taken_get (suc n) (x ∷ xs) zero a q = q
 taken_get (suc n) (x ∷ xs) (suc i) a q = taken_get n xs i a q
 
-earlier_is : (P : PendingNotice → Type 0) (a b : PendingNotice) → P a → P b → P (earlier a b)
+earlier_is : (P : PendingNotice → Type 0) (a b : PendingNotice) → P a → P b → P (earlier_notice a b)
 earlier_is P a b p q = by (comes_before b a)
   where
     by : (c : Bool) → P (if c then b else a)
     by true = q
     by false = p
 
-fold_is : (P : PendingNotice → Type 0) (e : PendingNotice) (es : List PendingNotice) → P e → Every P es → P (fold earlier e es)
+fold_is : (P : PendingNotice → Type 0) (e : PendingNotice) (es : List PendingNotice) → P e → Every P es → P (fold earlier_notice e es)
 fold_is P e [] p h = p
-fold_is P e (x ∷ es) p h = fold_is P (earlier e x) es (earlier_is P e x p h.0) h.1
+fold_is P e (x ∷ es) p h = fold_is P (earlier_notice e x) es (earlier_is P e x p h.0) h.1
 
 least_is : (P : PendingNotice → Type 0) (es : List PendingNotice) (e : PendingNotice) → Every P es → least es ≡ Some e → P e
 least_is P [] e h q = absurd cc
-least_is P (x ∷ es) e h q = let same : fold earlier x es ≡ e = cc in subst P same (fold_is P x es h.0 h.1)
+least_is P (x ∷ es) e h q = let same : fold earlier_notice x es ≡ e = cc in subst P same (fold_is P x es h.0 h.1)
 
 -- ## A living notice
 

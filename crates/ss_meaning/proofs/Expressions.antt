@@ -19,7 +19,7 @@ use Rattle.ss_base.specs.declared.words.Operator.{Operator}
 use Rattle.ss_base.specs.declared.words.UnaryOperator.{UnaryOperator}
 use Rattle.ss_base.specs.declared.words.Relation.{Relation}
 use Rattle.ss_program.specs.Program.{Expression, Constant, Fetch, Attribute, OfSystemSet, OfSet, OfMember, Clock, TimeOf, Figure, FigureOf, Signed, Unary, Calculate, SetOwner, TheSystem, Entity, Test, Compare, DataEnded, Empty, Member, Condition, Guard, Place, ToVariable, ToAttribute, ToCount, Position, ByDiscipline, AsFirst, AsLast, BeforeMember, AfterMember, When, At, In, Now, PrintItem, AValue, AMean, AMeanOf, Program}
-use Rattle.ss_program.specs.WellTyped.{Scope, WellTyped, HasMode, HaveModes, IsSet, OwnerFits, GoodTest, GoodCondition, TakesMode, GoodPosition, GoodWhen, HasSubject, IsAlone, IsOfEntities, TakesItem}
+use Rattle.ss_program.specs.WellTyped.{TypedScope, WellTyped, HasMode, HaveModes, IsSet, OwnerFits, GoodTest, GoodCondition, TakesMode, GoodPosition, GoodWhen, HasSubject, IsAlone, IsOfEntities, TakesItem}
 use Rattle.ss_meaning.specs.Values.{Trouble, if_ok, turned, due, sure, computed, calculated, operator_of, signed, computed_alone, applied, related, takes, take_all}
 use Rattle.ss_meaning.specs.Store.{Store, fetched}
 use Rattle.ss_meaning.specs.Entities.{entity, attribute, time_of}
@@ -27,7 +27,7 @@ use Rattle.ss_meaning.specs.Places.{InAttribute}
 use Rattle.ss_meaning.specs.Sets.{member, known_owner, of_set, of_member, is_empty, is_in, JustBefore, JustAfter}
 use Rattle.ss_meaning.specs.Events.{AtTime, Later, AtOnce, time_at}
 use Rattle.ss_meaning.specs.Statistics.{figure, mean}
-use Rattle.ss_meaning.specs.Expressions.{value, values, mean_shown, item, shown_items, value_if_any, looked_at, entity_value, member_value, owner_value, owner_looked_at, spot, filing, time_value, unless, passed, both, either, all_hold, holds, passes, all_pass}
+use Rattle.ss_meaning.specs.Expressions.{value, values, mean_shown, shown_item, shown_items, value_if_any, looked_at, entity_value, member_value, owner_value, owner_looked_at, spot, filing, time_value, not_if, passed, both, either, all_hold, holds, passes, all_pass}
 use Rattle.ss_meaning.specs.Fitting.{Hold, Fits}
 use Rattle.ss_meaning.proofs.Fine.{Fine, There, Any, fine_then, fine_turned, any_due, sure_fine}
 use Rattle.ss_meaning.proofs.Entities.{HasField as FieldThere, field_said, entity_fine, attribute_fine, time_of_fine, fetched_there, SpotTakes}
@@ -71,7 +71,7 @@ both_true true false p q = absurd cc
 both_true false b p q = absurd cc
 
 module _ (p : Program) (typed : WellTyped p) (ms : List Mode) (b : Bool) where
-  abbrev here : Scope
+  abbrev here : TypedScope
   here = record { program = p; locals = ms; is_main = b }
 
   pub asked_alone : (k : ℕ) → HasSubject p IsAlone k → AskedStatistic p typed ms k None
@@ -125,7 +125,7 @@ module _ (p : Program) (typed : WellTyped p) (ms : List Mode) (b : Bool) where
   mean_shown_fine field k o h s a f =
       fine_turned (TakenBy field) (λ m. Mean m.0 m.1) (mean k o s) (mean_fine p typed ms k o s a f) (λ m u. le-leb field.decimals 9 h)
 
-  item_fine : (field : Field) (x : PrintItem) → TakesItem here field x → (s : Store) → Fits p ms s → Fine (TakenBy field) (item x s)
+  item_fine : (field : Field) (x : PrintItem) → TakesItem here field x → (s : Store) → Fits p ms s → Fine (TakenBy field) (shown_item x s)
   item_fine field (AValue e) h s f = fine_turned (TakenBy field) Is (value e s) (value_fine e h.0.0 h.0.1 s f) (λ v g. eq-eqb field.decimals 0 h.1)
   item_fine field (AMean k) h s f = mean_shown_fine field k None h.1 s (asked_alone k h.0) f
   item_fine field (AMeanOf k e) h s f =
@@ -136,7 +136,7 @@ module _ (p : Program) (typed : WellTyped p) (ms : List Mode) (b : Bool) where
   items_fine [] (x ∷ xs) h s f = absurd h
   items_fine (field ∷ fields) [] h s f = absurd h
   items_fine (field ∷ fields) (x ∷ xs) h s f =
-      fine_then (AllTaken (field ∷ fields)) (item x s) (λ y. turned (λ ys. y ∷ ys) (shown_items xs s)) (item_fine field x h.0 s f) (λ y g.
+      fine_then (AllTaken (field ∷ fields)) (shown_item x s) (λ y. turned (λ ys. y ∷ ys) (shown_items xs s)) (item_fine field x h.0 s f) (λ y g.
       fine_turned (AllTaken (field ∷ fields)) (λ ys. y ∷ ys) (shown_items xs s) (items_fine fields xs h.1 s f) (λ ys k. both_true (takes field y) (take_all fields ys) g k))
 
   -- an expression that may be left out
@@ -201,14 +201,14 @@ module _ (p : Program) (typed : WellTyped p) (ms : List Mode) (b : Bool) where
   passed_fine (Compare r a c) h s f =
       fine_then Any (value a s) (λ x. if_ok (value c s) (λ y. sure (related r x y))) (value_fine a h.0 h.1 s f) (λ x g.
       fine_then Any (value c s) (λ y. sure (related r x y)) (value_fine c h.0 h.2 s f) (λ y k. sure_fine Any (related r x y) (related_there r h.0 x y g k)))
-  passed_fine (DataEnded negated) h s f = fine_turned Any (unless negated) (due (is_ended s.scene.input)) (any_due (is_ended s.scene.input)) (λ u v. tt)
+  passed_fine (DataEnded negated) h s f = fine_turned Any (not_if negated) (due (is_ended s.scene.input)) (any_due (is_ended s.scene.input)) (λ u v. tt)
   passed_fine (Empty negated set owner) h s f =
-      fine_then Any (owner_value owner s) (λ o. turned (unless negated) (is_empty set o s)) (owner_value_fine set owner h s f) (λ o g.
-      fine_turned Any (unless negated) (is_empty set o s) (is_empty_fine p typed ms set o s g f) (λ u v. tt))
+      fine_then Any (owner_value owner s) (λ o. turned (not_if negated) (is_empty set o s)) (owner_value_fine set owner h s f) (λ o g.
+      fine_turned Any (not_if negated) (is_empty set o s) (is_empty_fine p typed ms set o s g f) (λ u v. tt))
   passed_fine (Member negated set e owner) h s f =
-      fine_then Any (member_value set e s) (λ x. if_ok (owner_value owner s) (λ o. turned (unless negated) (is_in set x o s))) (member_value_fine set e (set_of_owner set owner h.1) h.0 s f) (λ x g.
-      fine_then Any (owner_value owner s) (λ o. turned (unless negated) (is_in set x o s)) (owner_value_fine set owner h.1 s f) (λ o k.
-      fine_turned Any (unless negated) (is_in set x o s) (is_in_fine p typed ms set x o s g k f) (λ u v. tt)))
+      fine_then Any (member_value set e s) (λ x. if_ok (owner_value owner s) (λ o. turned (not_if negated) (is_in set x o s))) (member_value_fine set e (set_of_owner set owner h.1) h.0 s f) (λ x g.
+      fine_then Any (owner_value owner s) (λ o. turned (not_if negated) (is_in set x o s)) (owner_value_fine set owner h.1 s f) (λ o k.
+      fine_turned Any (not_if negated) (is_in set x o s) (is_in_fine p typed ms set x o s g k f) (λ u v. tt)))
 
   both_fine : (c : Bool) (r : Result Bool Trouble) → Fine Any r → Fine Any (both c r)
   both_fine true r h = h

@@ -11,7 +11,7 @@ use Rattle.ss_base.specs.declared.layout.Mode.TheVariants.{Integer, Alpha}
 use Rattle.ss_base.specs.declared.layout.Layout.{Layout}
 use Rattle.ss_base.specs.declared.value.Value.{Value}
 use Rattle.ss_base.specs.Layout.{mode_of, first_value}
-use Rattle.ss_world.specs.State.{Record, State, kind_of, modes_of, and_then, issued_record, numbered, indexed_record, indexed, records_in, of_class, of_notice, is_notice, entity_in, entity_of_kind, notice, number_in, with_value, with_time, with_entity, with_entity_of_kind, with_indexed, value_in, assigned, timed, created, with_created, first_record, created_all, is_made, with_made, made_many, destroyed, let_go, in_a_set, owns_members, LAST_NUMBER, MOST_ENTITIES}
+use Rattle.ss_world.specs.State.{Record, State, kind_of, modes_of, and_then, issued_record, numbered_record, indexed_record, indexed, records_in, of_class, of_notice, is_notice, entity_in, entity_of_kind, notice, number_in, record_with_value, with_time, with_entity, with_entity_of_kind, with_indexed, value_in, assigned, timed, created, with_created, first_record, created_all, is_made, with_made, made_many, destroyed, let_go, in_a_set, owns_members, LAST_NUMBER, MOST_ENTITIES}
 use Rattle.ss_meaning.specs.Fitting.{Hold, RecordFits, HeapFits, class_of_record, living, made, IsIndex, LivesAs, Lives}
 use Rattle.ss_meaning.proofs.Fine.{Sane, sane_then}
 use Rattle.ss_meaning.proofs.Lists.{every_get, every_set, every_both, every_replicate}
@@ -42,7 +42,7 @@ issued_known None = tt
 issued_known (Some None) = tt
 issued_known (Some (Some r)) = refl
 
-pub numbered_known : (h : State) (x : ℤ) → Sane (HasRecord h x) (numbered h x)
+pub numbered_known : (h : State) (x : ℤ) → Sane (HasRecord h x) (numbered_record h x)
 numbered_known h (pos zero) = tt
 numbered_known h (pos (suc i)) = issued_known (slice_get h.records i)
 numbered_known h (negsuc k) = tt
@@ -68,9 +68,9 @@ IsEntityAs Permanent h c x r = HasIndexed h c x r
 IsEntityAs Temporary h c x r = HasRecord h x r × (r.class ≡ c)
 IsEntityAs Notice h c x r = HasRecord h x r × (r.class ≡ c)
 
-single_known : (h : State) (c : ℕ) (x : ℤ) → Sane (λ (r : Record). HasRecord h x r × (r.class ≡ c)) (and_then (numbered h x) (of_class c))
+single_known : (h : State) (c : ℕ) (x : ℤ) → Sane (λ (r : Record). HasRecord h x r × (r.class ≡ c)) (and_then (numbered_record h x) (of_class c))
 single_known h c x =
-    sane_then (λ (r : Record). HasRecord h x r × (r.class ≡ c)) (numbered h x) (of_class c) (numbered_known h x) (λ r q.
+    sane_then (λ (r : Record). HasRecord h x r × (r.class ≡ c)) (numbered_record h x) (of_class c) (numbered_known h x) (λ r q.
     weaken r (of_class c r) (class_known c r) q)
   where
     weaken : (r : Record) (o : Result Record FaultKind) → Sane (λ (q : Record). (q ≡ r) × (r.class ≡ c)) o → HasRecord h x r → Sane (λ (q : Record). HasRecord h x q × (q.class ≡ c)) o
@@ -239,8 +239,8 @@ assigned_by Notice h c x r q f e g m = set_single h (number_in x - 1) r q f (num
 -- an attribute is assigned a value of its mode
 pub assigned_sane : (h : State) (c f : ℕ) (x : ℤ) (v : Value) (m : Mode) → HeapFits h → slice_get (modes_of h.layout c) f ≡ Some m → mode_of v ≡ m → Sane (Changed h) (assigned h c f x v)
 assigned_sane h c f x v m fits q g =
-    sane_then (Changed h) (entity_in h c x) (λ r. Ok (with_entity h c (number_in x) (with_value r f v))) (entity_known h c x) (λ r e.
-    assigned_by (kind_of h.layout c) h c x r (with_value r f v) fits e refl (set_modes r.values (modes_of h.layout c) f m v (modes_by (kind_of h.layout c) h c x r fits e) q g))
+    sane_then (Changed h) (entity_in h c x) (λ r. Ok (with_entity h c (number_in x) (record_with_value r f v))) (entity_known h c x) (λ r e.
+    assigned_by (kind_of h.layout c) h c x r (record_with_value r f v) fits e refl (set_modes r.values (modes_of h.layout c) f m v (modes_by (kind_of h.layout c) h c x r fits e) q g))
 
 -- ## Notices
 
@@ -255,7 +255,7 @@ notice_class l Notice r q = (refl, q)
 
 pub notice_known : (h : State) (x : ℤ) → Sane (NoticeIs h x) (notice h x)
 notice_known h x =
-    sane_then (NoticeIs h x) (numbered h x) (of_notice h.layout) (numbered_known h x) (λ r q. weaken r (of_notice h.layout r) (notice_class h.layout (kind_of h.layout r.class) r refl) q)
+    sane_then (NoticeIs h x) (numbered_record h x) (of_notice h.layout) (numbered_known h x) (λ r q. weaken r (of_notice h.layout r) (notice_class h.layout (kind_of h.layout r.class) r refl) q)
   where
     weaken : (r : Record) (o : Result Record FaultKind) → Sane (λ (q : Record). (q ≡ r) × (kind_of h.layout r.class ≡ Notice)) o → HasRecord h x r → Sane (NoticeIs h x) o
     weaken r (Ok q) g p = (subst (λ y. HasRecord h x y) (sym g.0) p, subst (λ (y : Record). kind_of h.layout y.class ≡ Notice) (sym g.0) g.1)

@@ -23,7 +23,7 @@ use Rattle.ss_meaning.specs.Values.{sure, turned, unless_fault, number_of}
 use Rattle.ss_meaning.specs.Store.{Column}
 use Rattle.ss_base.specs.Layout.{same_owner}
 use Rattle.ss_meaning.specs.Histories.{same_subject, home, at_start, begun_in, starting, ended_in, ending, with_history, noting_in, noting, all_noting, history_in, history_of_subject, renewed}
-use Rattle.ss_meaning.specs.Fitting.{made, IsIndex, living, LivesAs, Lives, BearsBy, Bears, Has, HasHistories, HistoriesFit}
+use Rattle.ss_meaning.specs.Fitting.{made, IsIndex, living, LivesAs, Lives, BearsBy, BearsSubject, Has, HasHistories, HistoriesFit}
 use Rattle.ss_meaning.proofs.Fine.{Fine, Any, fine_then, fine_turned, unless_fine}
 use Rattle.ss_meaning.proofs.Heaps.{Same, Gone}
 
@@ -227,15 +227,15 @@ borne_by : (o : Owner) (h t : State) (x : ℤ) → ((c : ℕ) → Lives t c x �
 borne_by System h t x f g = g
 borne_by (Class c) h t x f g = f c g
 
-pub borne : (h t : State) (subject : Subject) (x : ℤ) → t.layout ≡ h.layout → ((c : ℕ) → Lives t c x → Lives h c x) → Bears t subject x → Bears h subject x
+pub borne : (h t : State) (subject : Subject) (x : ℤ) → t.layout ≡ h.layout → ((c : ℕ) → Lives t c x → Lives h c x) → BearsSubject t subject x → BearsSubject h subject x
 borne h t subject x l f g = borne_by (home h.layout subject) h t x f (subst (λ m. BearsBy (home m subject) t x) l g)
 
 -- histories that fit go on to fit
 pub fit_on : (ss : List Statistic) (h t : State) (cs ds : List Column) → t.layout ≡ h.layout → ((c : ℕ) (x : ℤ) → Lives t c x → Lives h c x) → KeepsAll cs ds → HistoriesFit ss h cs → HistoriesFit ss t ds
 fit_on ss h t cs ds l f keep fit j s q = (k.0, k.1, λ x g. k.2 x (borne h t s.subject x l (λ c. f c x) g))
   where
-    k : HasHistories j ds (Bears h s.subject)
-    k = kept_on j cs ds (Bears h s.subject) keep (fit j s q)
+    k : HasHistories j ds (BearsSubject h s.subject)
+    k = kept_on j cs ds (BearsSubject h s.subject) keep (fit j s q)
 
 pub fit_same : (ss : List Statistic) (h t : State) (cs ds : List Column) → Same h t → KeepsAll cs ds → HistoriesFit ss h cs → HistoriesFit ss t ds
 fit_same ss h t cs ds same keep fit = fit_on ss h t cs ds same.layout (λ c x. lived h t c x same.layout (λ g. sym (same.living x) ∙ g) (same.made c)) keep fit
@@ -249,12 +249,12 @@ pub fit_gone : (ss : List Statistic) (h t : State) (class : ℕ) (x : ℤ) (cs :
 fit_gone ss h t class x cs gone single fit j s q =
     (e.0, e.1, λ y g. e.2 y (apart y g) (k.2 y (borne h t s.subject y gone.layout (λ c. lived h t c y gone.layout (gone.before y c) (gone.made c)) g)))
   where
-    k : HasHistories j cs (Bears h s.subject)
+    k : HasHistories j cs (BearsSubject h s.subject)
     k = fit j s q
 
     e : (d : Column) × (slice_get (ending t.layout class x ss cs) j ≡ Some d) × ((y : ℤ) → (home t.layout s.subject ≡ Class class → x ≡ y → ⊥) → Has k.0 y → Has d y)
     e = ending_kept t.layout class x ss cs j s k.0 q k.1
 
-    apart : (y : ℤ) → Bears t s.subject y → home t.layout s.subject ≡ Class class → x ≡ y → ⊥
+    apart : (y : ℤ) → BearsSubject t s.subject y → home t.layout s.subject ≡ Class class → x ≡ y → ⊥
     apart y g own same =
         gone.absent class (ap (living t) same ∙ single_lives (kind_of t.layout class) t class y single (subst (λ o. BearsBy o t y) own g))

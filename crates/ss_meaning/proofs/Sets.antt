@@ -39,8 +39,8 @@ use Rattle.ss_meaning.specs.Store.{Store, with_heap, with_histories, fetched}
 use Rattle.ss_meaning.specs.Histories.{noted, history_of_subject, folded, figure_kept, mean_kept, renewed}
 use Rattle.ss_meaning.specs.Entities.{entity}
 use Rattle.ss_meaning.specs.Sets.{set_at, member, owner_as, owner_by_layout, owner_number, known_owner, set_answer, of_set, is_one, of_member, is_none, is_empty, is_in, recounted, is_field, is_fit, Filing, ByRule, Foremost, Hindmost, JustBefore, JustAfter, filed_by, filed_in, removed_from, end_removed, removed_at, outset, beside, begun, coming, from_or_after, begun_at, or_gone, goes_on}
-use Rattle.ss_meaning.specs.Statistics.{subject_of, bearer, present, figure, mean, reset}
-use Rattle.ss_meaning.specs.Fitting.{HeapFits, Lives, BearsBy, Bears, Fits}
+use Rattle.ss_meaning.specs.Statistics.{subject_of_statistic, bearer_number, present, figure, mean, reset}
+use Rattle.ss_meaning.specs.Fitting.{HeapFits, Lives, BearsBy, BearsSubject, Fits}
 use Rattle.ss_meaning.proofs.Fine.{Fine, Sane, There, Any, fine_then, fine_turned, fine_weaker, due_fine, any_due, sure_fine, fit_fine, unless_fine, sane_then}
 use Rattle.ss_meaning.proofs.Lists.{every_get}
 use Rattle.ss_meaning.proofs.Heaps.{Changed, entity_known, entity_lives, get_within}
@@ -108,10 +108,10 @@ module _ (p : Program) (typed : WellTyped p) (ms : List Mode) where
   owner_bears h System n z = z refl
   owner_bears h (Class c) n z = owner_lives h c n
 
-  pub known_owner_fine : (set : ℕ) (o : Option Value) (s : Store) → OwnerOk set o → Fits p ms s → Fine (Bears s.scene.heap (OfCount set)) (known_owner set o s)
+  pub known_owner_fine : (set : ℕ) (o : Option Value) (s : Store) → OwnerOk set o → Fits p ms s → Fine (BearsSubject s.scene.heap (OfCount set)) (known_owner set o s)
   known_owner_fine set o s q f =
-      fine_then (Bears s.scene.heap (OfCount set)) (owner_number set o s) (λ n. turned (λ u. n) (due (owner s.scene.heap set n))) (owner_number_fine set o s q f) (λ n z.
-      fine_turned (Bears s.scene.heap (OfCount set)) (λ u. n) (due (owner s.scene.heap set n)) (due_fine (λ m. Bears s.scene.heap (OfCount set) n) (owner s.scene.heap set n) (owner_bears s.scene.heap (owner_kind s.scene.heap.layout set) n z)) (λ u b. b))
+      fine_then (BearsSubject s.scene.heap (OfCount set)) (owner_number set o s) (λ n. turned (λ u. n) (due (owner s.scene.heap set n))) (owner_number_fine set o s q f) (λ n z.
+      fine_turned (BearsSubject s.scene.heap (OfCount set)) (λ u. n) (due (owner s.scene.heap set n)) (due_fine (λ m. BearsSubject s.scene.heap (OfCount set) n) (owner s.scene.heap set n) (owner_bears s.scene.heap (owner_kind s.scene.heap.layout set) n z)) (λ u b. b))
 
   -- ## Looking
 
@@ -144,14 +144,14 @@ module _ (p : Program) (typed : WellTyped p) (ms : List Mode) where
   -- ## Filing and removing
 
   -- who has members that can be counted is an owner
-  count_bears : (h : State) (set : ℕ) (o : ℤ) → IsOwnerNumber h set o → Sane (λ n. Bears h (OfCount set) o) (count_in h set o)
+  count_bears : (h : State) (set : ℕ) (o : ℤ) → IsOwnerNumber h set o → Sane (λ n. BearsSubject h (OfCount set) o) (count_in h set o)
   count_bears h set o z =
-      sane_then (λ n. Bears h (OfCount set) o) (owner h set o) (λ n. Ok (pos (length (members_of h.lists set n)))) (owner_bears h (owner_kind h.layout set) o z) (λ m b. b)
+      sane_then (λ n. BearsSubject h (OfCount set) o) (owner h set o) (λ n. Ok (pos (length (members_of h.lists set n)))) (owner_bears h (owner_kind h.layout set) o z) (λ m b. b)
 
   pub recounted_fine : (set : ℕ) (o : ℤ) (s : Store) (h : State) → IsOwnerNumber s.scene.heap set o → Fits p ms s → Changed s.scene.heap h → Fine (Fits p ms) (recounted set o s h)
   recounted_fine set o s h z f g =
       fine_then (Fits p ms) (due (count_in h set o)) (λ n. noted (OfCount set) o (Whole n) (with_heap s h))
-      (due_fine (λ n. Bears h (OfCount set) o) (count_in h set o) (count_bears h set o (λ e. z (ap (λ l. owner_kind l set) (sym g.1.layout) ∙ e)))) (λ n b.
+      (due_fine (λ n. BearsSubject h (OfCount set) o) (count_in h set o) (count_bears h set o (λ e. z (ap (λ l. owner_kind l set) (sym g.1.layout) ∙ e)))) (λ n b.
       noted_fine p ms (OfCount set) o (Whole n) (with_heap s h) (λ j t q e. refl) b (heap_fits p ms s h f g))
 
   discipline_at : (sets : List SetLayout) (ds : List Discipline) (k : ℕ) (t : SetLayout) → AllZip (GoodDiscipline p) sets ds → slice_get sets k ≡ Some t → There (GoodDiscipline p t) (slice_get ds k)
@@ -260,13 +260,13 @@ module _ (p : Program) (typed : WellTyped p) (ms : List Mode) where
   count_owner set None q = q
   count_owner set (Some x) q = q
 
-  pub bearer_fine : (t : Subject) (o : Option Value) (s : Store) → GoodSubject p t → AskedOk t o → Fits p ms s → Fine (Bears s.scene.heap t) (bearer t o s)
+  pub bearer_fine : (t : Subject) (o : Option Value) (s : Store) → GoodSubject p t → AskedOk t o → Fits p ms s → Fine (BearsSubject s.scene.heap t) (bearer_number t o s)
   bearer_fine (OfVariable k) None s g q f = refl
   bearer_fine (OfVariable k) (Some x) s g q f = absurd q.0
   bearer_fine (OfAttribute c k) None s g q f = absurd q
   bearer_fine (OfAttribute c k) (Some x) s g q f =
       let there : HasField p c k Integer = field_said p c k Integer g in
-      fine_weaker (Bears s.scene.heap (OfAttribute c k)) (entity c x s) (entity_fine p typed ms c there.class x s there.there q.1 f) (λ n r. r.1)
+      fine_weaker (BearsSubject s.scene.heap (OfAttribute c k)) (entity c x s) (entity_fine p typed ms c there.class x s there.there q.1 f) (λ n r. r.1)
   bearer_fine (OfCount set) o s g q f = known_owner_fine set o s (count_owner set o q) f
 
   pub present_fine : (t : Subject) (o : Option Value) (s : Store) → GoodSubject p t → AskedOk t o → Fits p ms s → Fine (λ v. mode_of v ≡ Integer) (present t o s)
@@ -284,7 +284,7 @@ module _ (p : Program) (typed : WellTyped p) (ms : List Mode) where
   good_subject : (j : ℕ) (t : Statistic) → slice_get p.statistics j ≡ Some t → GoodSubject p t.subject
   good_subject j t q = every_get (λ (s : Statistic). GoodSubject p s.subject) p.statistics j t typed.statistics q
 
-  subject_fine : (j : ℕ) (t : Statistic) (s : Store) → slice_get p.statistics j ≡ Some t → Fits p ms s → Fine (λ u. u ≡ t.subject) (subject_of j s)
+  subject_fine : (j : ℕ) (t : Statistic) (s : Store) → slice_get p.statistics j ≡ Some t → Fits p ms s → Fine (λ u. u ≡ t.subject) (subject_of_statistic j s)
   subject_fine j t s q f =
       fine_turned (λ u. u ≡ t.subject) (λ (u : Statistic). u.subject) (sure (slice_get s.scene.setting.statistics j)) (sure_fine (λ u. u ≡ t) (slice_get s.scene.setting.statistics j) (subst (λ o. There (λ u. u ≡ t) o) (sym (ap (λ ss. slice_get ss j) (statistics_are p ms s f) ∙ q)) refl)) (λ u e. ap (λ (v : Statistic). v.subject) e)
 
@@ -296,23 +296,23 @@ module _ (p : Program) (typed : WellTyped p) (ms : List Mode) where
 
   pub figure_fine : (fold : Fold) (j : ℕ) (o : Option Value) (s : Store) → AskedStatistic j o → Fits p ms s → Fine (λ v. mode_of v ≡ Integer) (figure fold j o s)
   figure_fine fold j o s a f =
-      fine_then (λ v. mode_of v ≡ Integer) (subject_of j s) (λ t. if_ok (bearer t o s) (λ n. figure_kept fold j n s)) (subject_fine j a.statistic s a.there f) (λ t e.
-      subst (λ u. Fine (λ v. mode_of v ≡ Integer) (if_ok (bearer u o s) (λ n. figure_kept fold j n s))) (sym e)
-      (fine_then (λ v. mode_of v ≡ Integer) (bearer a.statistic.subject o s) (λ n. figure_kept fold j n s) (bearer_fine a.statistic.subject o s (good_subject j a.statistic a.there) a.fits f) (λ n b.
-      fine_then (λ v. mode_of v ≡ Integer) (history_of_subject j n s.scene.histories) (folded fold s.scene.time) (history_fine j n s.scene.histories (Bears s.scene.heap a.statistic.subject) (f.sound.scene.histories j a.statistic a.there) b) (λ h u. folded_fine fold s.scene.time h))))
+      fine_then (λ v. mode_of v ≡ Integer) (subject_of_statistic j s) (λ t. if_ok (bearer_number t o s) (λ n. figure_kept fold j n s)) (subject_fine j a.statistic s a.there f) (λ t e.
+      subst (λ u. Fine (λ v. mode_of v ≡ Integer) (if_ok (bearer_number u o s) (λ n. figure_kept fold j n s))) (sym e)
+      (fine_then (λ v. mode_of v ≡ Integer) (bearer_number a.statistic.subject o s) (λ n. figure_kept fold j n s) (bearer_fine a.statistic.subject o s (good_subject j a.statistic a.there) a.fits f) (λ n b.
+      fine_then (λ v. mode_of v ≡ Integer) (history_of_subject j n s.scene.histories) (folded fold s.scene.time) (history_fine j n s.scene.histories (BearsSubject s.scene.heap a.statistic.subject) (f.sound.scene.histories j a.statistic a.there) b) (λ h u. folded_fine fold s.scene.time h))))
 
   pub mean_fine : (j : ℕ) (o : Option Value) (s : Store) → AskedStatistic j o → Fits p ms s → Fine Any (mean j o s)
   mean_fine j o s a f =
-      fine_then Any (subject_of j s) (λ t. if_ok (bearer t o s) (λ n. mean_kept j n s)) (subject_fine j a.statistic s a.there f) (λ t e.
-      subst (λ u. Fine Any (if_ok (bearer u o s) (λ n. mean_kept j n s))) (sym e)
-      (fine_then Any (bearer a.statistic.subject o s) (λ n. mean_kept j n s) (bearer_fine a.statistic.subject o s (good_subject j a.statistic a.there) a.fits f) (λ n b.
-      fine_turned Any (λ (h : History). mean_of h s.scene.time) (history_of_subject j n s.scene.histories) (history_fine j n s.scene.histories (Bears s.scene.heap a.statistic.subject) (f.sound.scene.histories j a.statistic a.there) b) (λ h u. tt))))
+      fine_then Any (subject_of_statistic j s) (λ t. if_ok (bearer_number t o s) (λ n. mean_kept j n s)) (subject_fine j a.statistic s a.there f) (λ t e.
+      subst (λ u. Fine Any (if_ok (bearer_number u o s) (λ n. mean_kept j n s))) (sym e)
+      (fine_then Any (bearer_number a.statistic.subject o s) (λ n. mean_kept j n s) (bearer_fine a.statistic.subject o s (good_subject j a.statistic a.there) a.fits f) (λ n b.
+      fine_turned Any (λ (h : History). mean_of h s.scene.time) (history_of_subject j n s.scene.histories) (history_fine j n s.scene.histories (BearsSubject s.scene.heap a.statistic.subject) (f.sound.scene.histories j a.statistic a.there) b) (λ h u. tt))))
 
   pub reset_fine : (j : ℕ) (o : Option Value) (s : Store) → AskedStatistic j o → Fits p ms s → Fine (Fits p ms) (reset j o s)
   reset_fine j o s a f =
-      fine_then (Fits p ms) (subject_of j s) (λ t. if_ok (bearer t o s) (λ n. if_ok (present t o s) (λ v. if_ok (number_of v) (λ z. turned (with_histories s) (renewed j n s.scene.time z s.scene.histories))))) (subject_fine j a.statistic s a.there f) (λ t e.
-      subst (λ u. Fine (Fits p ms) (if_ok (bearer u o s) (λ n. if_ok (present u o s) (λ v. if_ok (number_of v) (λ z. turned (with_histories s) (renewed j n s.scene.time z s.scene.histories)))))) (sym e)
-      (fine_then (Fits p ms) (bearer a.statistic.subject o s) (λ n. if_ok (present a.statistic.subject o s) (λ v. if_ok (number_of v) (λ z. turned (with_histories s) (renewed j n s.scene.time z s.scene.histories)))) (bearer_fine a.statistic.subject o s (good_subject j a.statistic a.there) a.fits f) (λ n b.
+      fine_then (Fits p ms) (subject_of_statistic j s) (λ t. if_ok (bearer_number t o s) (λ n. if_ok (present t o s) (λ v. if_ok (number_of v) (λ z. turned (with_histories s) (renewed j n s.scene.time z s.scene.histories))))) (subject_fine j a.statistic s a.there f) (λ t e.
+      subst (λ u. Fine (Fits p ms) (if_ok (bearer_number u o s) (λ n. if_ok (present u o s) (λ v. if_ok (number_of v) (λ z. turned (with_histories s) (renewed j n s.scene.time z s.scene.histories)))))) (sym e)
+      (fine_then (Fits p ms) (bearer_number a.statistic.subject o s) (λ n. if_ok (present a.statistic.subject o s) (λ v. if_ok (number_of v) (λ z. turned (with_histories s) (renewed j n s.scene.time z s.scene.histories)))) (bearer_fine a.statistic.subject o s (good_subject j a.statistic a.there) a.fits f) (λ n b.
       fine_then (Fits p ms) (present a.statistic.subject o s) (λ v. if_ok (number_of v) (λ z. turned (with_histories s) (renewed j n s.scene.time z s.scene.histories))) (present_fine a.statistic.subject o s (good_subject j a.statistic a.there) a.fits f) (λ v g.
       fine_then (Fits p ms) (number_of v) (λ z. turned (with_histories s) (renewed j n s.scene.time z s.scene.histories)) (number_fine v g) (λ z u.
-      fine_turned (Fits p ms) (with_histories s) (renewed j n s.scene.time z s.scene.histories) (renewed_fine j n s.scene.time z s.scene.histories (Bears s.scene.heap a.statistic.subject) (f.sound.scene.histories j a.statistic a.there) b) (λ ks k. kept_fit p ms s ks f k))))))
+      fine_turned (Fits p ms) (with_histories s) (renewed j n s.scene.time z s.scene.histories) (renewed_fine j n s.scene.time z s.scene.histories (BearsSubject s.scene.heap a.statistic.subject) (f.sound.scene.histories j a.statistic a.there) b) (λ ks k. kept_fit p ms s ks f k))))))

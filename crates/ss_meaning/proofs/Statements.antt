@@ -13,7 +13,7 @@ use Rattle.ss_base.specs.declared.value.Value.TheVariants.{Whole, Text}
 use Rattle.ss_base.specs.Layout.{mode_of}
 use Rattle.ss_picture.specs.declared.items.Item.{Item}
 use Rattle.ss_picture.specs.Pictures.{picture_fields}
-use Rattle.ss_input.specs.Words.{Given, value_given, next_word, read_word, word_value, if_read, as_whole, as_text, number_read}
+use Rattle.ss_input.specs.Words.{Given, value_given, next_word, read_word, word_value, if_read, as_whole, optional_text, number_read}
 use Rattle.ss_base.specs.Values.{text_of}
 use Rattle.ss_base.specs.declared.words.Sign.{Sign}
 use Rattle.ss_program.specs.declared.expression.Variable.{Variable}
@@ -21,8 +21,8 @@ use Rattle.ss_base.specs.declared.words.PhraseKind.{PhraseKind}
 use Rattle.ss_base.specs.declared.words.PhraseKind.TheVariants as kinds
 use Rattle.ss_base.specs.declared.words.End.{End}
 use Rattle.ss_program.specs.declared.statement.CountedClass.{CountedClass}
-use Rattle.ss_program.specs.Program.{Expression, SetOwner, Head, Numbers, Members, Each, Start, AtEnd, From, After, Phrase, Guard, Place, ToVariable, Target, Position, When, Restart, PrintItem, Statement, Let, Change, Call, Return, Stop, Read, Simulate, If, Loop, For, Find, Create, CreateEvery, Destroy, File, RemoveEnd, Remove, ScheduleNew, Schedule, Cancel, Reset, Print, Skip, Block, Done, Then, Routine, Program}
-use Rattle.ss_program.specs.WellTyped.{Scope, WellTyped, HasMode, OwnerFits, GoodCondition, TakesMode, GoodStart, GoodHead, GoodPhrase, GoodPosition, GoodWhen, GoodGiven, GoodRestart, GoodPrint, Good, GoodBlock, kind_of_class as kind_said}
+use Rattle.ss_program.specs.Program.{Expression, SetOwner, Head, Numbers, Members, Each, Start, AtEnd, From, After, Phrase, Guard, Place, ToVariable, InputTarget, Position, When, Restart, PrintItem, Statement, Let, Change, Call, Return, Stop, Read, Simulate, If, Loop, For, Find, Create, CreateEvery, Destroy, File, RemoveEnd, Remove, ScheduleNew, Schedule, Cancel, Reset, Print, Skip, Block, Done, Then, Routine, Program}
+use Rattle.ss_program.specs.WellTyped.{TypedScope, WellTyped, HasMode, OwnerFits, GoodCondition, TakesMode, GoodStart, GoodHead, GoodPhrase, GoodPosition, GoodWhen, GoodGiven, GoodRestart, GoodPrint, Good, GoodBlock, kind_of_class as kind_said}
 use Rattle.ss_meaning.specs.Values.{if_ok, turned, due, sure, unless_fault, number_of, calculated, operator_of, take_all, lines_with, printed, empty_lines}
 use Rattle.ss_meaning.specs.Store.{Store}
 use Rattle.ss_meaning.specs.Entities.{class_at, is_permanent, made_count, made_one, made_all, without}
@@ -77,7 +77,7 @@ word_fine mode s = by (next_word s.scene.input)
     whole_read None rest = tt
     whole_read (Some z) rest = refl
 
-    text_read : (o : Option (List ℕ)) (rest : List ℕ) → Fine (λ (g : Given Value). mode_of g.value ≡ Alpha) (due (if_read (as_text o) rest))
+    text_read : (o : Option (List ℕ)) (rest : List ℕ) → Fine (λ (g : Given Value). mode_of g.value ≡ Alpha) (due (if_read (optional_text o) rest))
     text_read None rest = tt
     text_read (Some t) rest = refl
 
@@ -96,7 +96,7 @@ held_length (v ∷ vs) [] q = absurd cc
 held_length (v ∷ vs) (n ∷ ns) q = let rest : Hold vs ns = cc in ap suc (held_length vs ns rest)
 
 module _ (p : Program) (typed : WellTyped p) (ms : List Mode) (b : Bool) where
-  abbrev here : Scope
+  abbrev here : TypedScope
   here = record { program = p; locals = ms; is_main = b }
 
   -- ## Loops
@@ -216,7 +216,7 @@ module _ (p : Program) (typed : WellTyped p) (ms : List Mode) (b : Bool) where
     locals = f.locals;
   }
 
-  reads_safe : (l : Line) (ts : List Target) → Every (λ (t : Target). TakesMode here t.place t.mode) ts → Safe p ms Any (read_each l ts)
+  reads_safe : (l : Line) (ts : List InputTarget) → Every (λ (t : InputTarget). TakesMode here t.place t.mode) ts → Safe p ms Any (read_each l ts)
   reads_safe l [] g = record { by = λ w fits. (tt, fits) }
   reads_safe l (t ∷ ts) g =
       safe_then {P = Any} (give_safe l t.place t.mode (get l (read_value t.mode)) g.0 (safe_get l (read_value t.mode) t.mode (λ s f.

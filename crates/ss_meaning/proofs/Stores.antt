@@ -20,7 +20,7 @@ use Rattle.ss_program.specs.Program.{Program}
 use Rattle.ss_meaning.specs.Values.{Misfit, same_mode}
 use Rattle.ss_meaning.specs.Store.{Column, Store, with_heap, with_histories, put_at}
 use Rattle.ss_meaning.specs.Histories.{home, starting, started, all_started, all_noting, noted}
-use Rattle.ss_meaning.specs.Fitting.{Hold, HeapFits, made, IsIndex, Lives, LivesAs, IsNotice, BearsBy, Bears, Has, HasHistories, HistoriesFit, Fits}
+use Rattle.ss_meaning.specs.Fitting.{Hold, HeapFits, made, IsIndex, Lives, LivesAs, IsNotice, BearsBy, BearsSubject, Has, HasHistories, HistoriesFit, Fits}
 use Rattle.ss_meaning.proofs.Fine.{Fine, There, fine_turned}
 use Rattle.ss_meaning.proofs.Lists.{every_weaker}
 use Rattle.ss_meaning.proofs.Heaps.{Same, Created, Filled}
@@ -81,7 +81,7 @@ histories_fit p ms s ks f g = record {
 }
 
 pub kept_fit : (p : Program) (ms : List Mode) (s : Store) (ks : List Column) → Fits p ms s → KeepsAll s.scene.histories ks → Fits p ms (with_histories s ks)
-kept_fit p ms s ks f g = histories_fit p ms s ks f (λ j t q. kept_on j s.scene.histories ks (Bears s.scene.heap t.subject) g (f.sound.scene.histories j t q))
+kept_fit p ms s ks f g = histories_fit p ms s ks f (λ j t q. kept_on j s.scene.histories ks (BearsSubject s.scene.heap t.subject) g (f.sound.scene.histories j t q))
 
 pub statistics_are : (p : Program) (ms : List Mode) (s : Store) → Fits p ms s → s.scene.setting.statistics ≡ p.statistics
 statistics_are p ms s f = ap (λ t. t.statistics) f.sound.scene.setting
@@ -90,13 +90,13 @@ statistics_are p ms s f = ap (λ t. t.statistics) f.sound.scene.setting
 pub lives_on : (h t : State) (c : ℕ) (x : ℤ) → Same h t → Lives h c x → Lives t c x
 lives_on h t c x same g = lived t h c x (sym same.layout) (λ e. same.living x ∙ e) (sym (same.made c)) g
 
-all_there : (ss : List Statistic) (h : State) (cs : List Column) (subject : Subject) (x : ℤ) → HistoriesFit ss h cs → Bears h subject x → AreThere ss subject x cs
-all_there ss h cs subject x fit b j t q = (k.0, k.1, λ e. k.2 x (subst (λ u. Bears h u x) (sym e) b))
+all_there : (ss : List Statistic) (h : State) (cs : List Column) (subject : Subject) (x : ℤ) → HistoriesFit ss h cs → BearsSubject h subject x → AreThere ss subject x cs
+all_there ss h cs subject x fit b j t q = (k.0, k.1, λ e. k.2 x (subst (λ u. BearsSubject h u x) (sym e) b))
   where
-    k : HasHistories j cs (Bears h t.subject)
+    k : HasHistories j cs (BearsSubject h t.subject)
     k = fit j t q
 
-pub noted_fine : (p : Program) (ms : List Mode) (subject : Subject) (x : ℤ) (v : Value) (s : Store) → Noteworthy p.statistics subject v → Bears s.scene.heap subject x → Fits p ms s → Fine (Fits p ms) (noted subject x v s)
+pub noted_fine : (p : Program) (ms : List Mode) (subject : Subject) (x : ℤ) (v : Value) (s : Store) → Noteworthy p.statistics subject v → BearsSubject s.scene.heap subject x → Fits p ms s → Fine (Fits p ms) (noted subject x v s)
 noted_fine p ms subject x v s h b f =
     fine_turned (Fits p ms) (with_histories s) (all_noting subject x s.scene.time v s.scene.setting.statistics s.scene.histories)
     (all_noting_fine subject x s.scene.time v s.scene.setting.statistics s.scene.histories (subst (λ ss. Noteworthy ss subject v) (sym (statistics_are p ms s f)) h)
@@ -121,7 +121,7 @@ bears_new (Class c) h class b x new g = by (lives_new (kind_of h.layout c) h cla
 fit_created : (ss : List Statistic) (h : State) (class : ℕ) (b : ℤ × State) (now : ℤ) (cs : List Column) → Created h class b → HistoriesFit ss h cs → HistoriesFit ss b.1 (starting b.1.layout (Class class) (int_eq b.0) now ss cs)
 fit_created ss h class b now cs new fit j t q = (d.0, d.1, λ x g. by x (bears_new (home b.1.layout t.subject) h class b x new g))
   where
-    k : HasHistories j cs (Bears h t.subject)
+    k : HasHistories j cs (BearsSubject h t.subject)
     k = fit j t q
 
     d : (d : Column) × (slice_get (starting b.1.layout (Class class) (int_eq b.0) now ss cs) j ≡ Some d) × KeepsColumn k.0 d × ((x : ℤ) → home b.1.layout t.subject ≡ Class class → int_eq b.0 x ≡ true → Has d x)
@@ -187,7 +187,7 @@ filled_fits p ms s class t f new = all
     fit : HistoriesFit p.statistics t ks
     fit j u q = (d.0, d.1, λ x g. by x (bears_filled (home t.layout u.subject) s.scene.heap t class x new g))
       where
-        k : HasHistories j s.scene.histories (Bears s.scene.heap u.subject)
+        k : HasHistories j s.scene.histories (BearsSubject s.scene.heap u.subject)
         k = f.sound.scene.histories j u q
 
         d : (d : Column) × (slice_get ks j ≡ Some d) × KeepsColumn k.0 d × ((x : ℤ) → home t.layout u.subject ≡ Class class → is_within (made t class) x ≡ true → Has d x)

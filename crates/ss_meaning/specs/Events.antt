@@ -8,7 +8,7 @@ use Rattle.ss_base.specs.declared.layout.RankKey.{RankKey}
 use Rattle.ss_base.specs.Arithmetic.{plus_of}
 use Rattle.ss_world.specs.State.{Record, notice, timed}
 use Rattle.ss_world.specs.declared.ties.Tie.{Tie}
-use Rattle.ss_world.specs.PendingList.{is_pending, scheduled, cancelled, next, after_next}
+use Rattle.ss_world.specs.PendingList.{is_pending, scheduled, cancelled, least_event, after_next}
 use Rattle.ss_program.specs.declared.expression.Variable.TheVariants.{Global}
 use Rattle.ss_meaning.specs.Values.{Trouble, if_ok, turned, due, sure, unless_fault, number_of}
 use Rattle.ss_meaning.specs.Store.{Notices, Store, with_heap, with_pending}
@@ -94,7 +94,7 @@ unscheduled class x s = if_ok (entity class x s) (λ n. turned (with_pending s) 
 
 -- whether a notice is pending
 abbrev pub is_awaited : Store → Bool
-is_awaited s = is_some (next s.scene.pending)
+is_awaited s = is_some (least_event s.scene.pending)
 
 -- an event as it begins: the rank of its class, the values that its routine takes, and the store
 pub record Beginning : Type 0 where
@@ -136,7 +136,7 @@ coming_with None s = None
 coming_with (Some n) s = coming_as (ranked_as (notice s.scene.heap n.1) s) n.0 n.1 s
 
 abbrev pub next_event : Store → Option Coming
-next_event s = coming_with (next s.scene.pending) s
+next_event s = coming_with (least_event s.scene.pending) s
 
 -- an event begins
 abbrev pub event_begun : Coming → Result Beginning Trouble

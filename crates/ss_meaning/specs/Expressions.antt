@@ -45,15 +45,15 @@ abbrev pub mean_shown : Result (ℤ × ℤ) Trouble → Result Item Trouble
 mean_shown r = turned (λ m. Mean m.0 m.1) r
 
 -- what an item shows
-abbrev pub item : PrintItem → Store → Result Item Trouble
-item (AValue e) s = turned Is (value e s)
-item (AMean j) s = mean_shown (mean j None s)
-item (AMeanOf j e) s = if_ok (value e s) (λ x. mean_shown (mean j (Some x) s))
+abbrev pub shown_item : PrintItem → Store → Result Item Trouble
+shown_item (AValue e) s = turned Is (value e s)
+shown_item (AMean j) s = mean_shown (mean j None s)
+shown_item (AMeanOf j e) s = if_ok (value e s) (λ x. mean_shown (mean j (Some x) s))
 
 -- several items, from left to right
 abbrev pub shown_items : List PrintItem → Store → Result (List Item) Trouble
 shown_items [] s = Ok []
-shown_items (i ∷ is) s = if_ok (item i s) (λ x. turned (λ xs. x ∷ xs) (shown_items is s))
+shown_items (i ∷ is) s = if_ok (shown_item i s) (λ x. turned (λ xs. x ∷ xs) (shown_items is s))
 
 abbrev pub value_if_any : Option Expression → Store → Result (Option Value) Trouble
 value_if_any None s = Ok None
@@ -102,17 +102,17 @@ time_value Now s = time_at AtOnce s
 
 -- ## Conditions
 
-abbrev pub unless : (negated : Bool) → Bool → Bool
-unless true b = not b
-unless false b = b
+abbrev pub not_if : (negated : Bool) → Bool → Bool
+not_if true b = not b
+not_if false b = b
 
 -- whether a test holds
 abbrev pub passed : Test → Store → Result Bool Trouble
 passed (Compare relation a b) s = if_ok (value a s) (λ x. if_ok (value b s) (λ y. sure (related relation x y)))
-passed (DataEnded negated) s = turned (unless negated) (due (is_ended s.scene.input))
-passed (Empty negated set owner) s = if_ok (owner_value owner s) (λ o. turned (unless negated) (is_empty set o s))
+passed (DataEnded negated) s = turned (not_if negated) (due (is_ended s.scene.input))
+passed (Empty negated set owner) s = if_ok (owner_value owner s) (λ o. turned (not_if negated) (is_empty set o s))
 passed (Member negated set e owner) s =
-    if_ok (member_value set e s) (λ x. if_ok (owner_value owner s) (λ o. turned (unless negated) (is_in set x o s)))
+    if_ok (member_value set e s) (λ x. if_ok (owner_value owner s) (λ o. turned (not_if negated) (is_in set x o s)))
 
 -- a second condition where the first holds, and where it does not
 abbrev pub both : Bool → Result Bool Trouble → Result Bool Trouble

@@ -74,8 +74,8 @@ abbrev pub BearsBy : Owner → State → ℤ → Type 0
 BearsBy System h x = x ≡ pos 0
 BearsBy (Class class) h x = Lives h class x
 
-abbrev pub Bears : State → Subject → ℤ → Type 0
-Bears h subject x = BearsBy (home h.layout subject) h x
+abbrev pub BearsSubject : State → Subject → ℤ → Type 0
+BearsSubject h subject x = BearsBy (home h.layout subject) h x
 
 -- a statistic has a history of an entity
 abbrev pub Has : Column → ℤ → Type 0
@@ -86,7 +86,7 @@ abbrev pub HasHistories : (statistic : ℕ) → List Column → (ℤ → Type 0)
 HasHistories j cs these = (c : Column) × (slice_get cs j ≡ Some c) × ((x : ℤ) → these x → Has c x)
 
 abbrev pub HistoriesFit : List Statistic → State → List Column → Type 0
-HistoriesFit ss h cs = (j : ℕ) (t : Statistic) → slice_get ss j ≡ Some t → HasHistories j cs (Bears h t.subject)
+HistoriesFit ss h cs = (j : ℕ) (t : Statistic) → slice_get ss j ≡ Some t → HasHistories j cs (BearsSubject h t.subject)
 
 -- ## Stores
 

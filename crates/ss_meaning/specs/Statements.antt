@@ -7,7 +7,7 @@ use Rattle.ss_input.specs.Words.{Given, value_given}
 use Rattle.ss_base.specs.declared.words.Sign.{Sign}
 use Rattle.ss_base.specs.declared.words.End.{End}
 use Rattle.ss_program.specs.declared.statement.CountedClass.{CountedClass}
-use Rattle.ss_program.specs.Program.{Expression, PrintItem, SetOwner, Place, Target, Position, When, Restart, Statement, Let, Change, Call, Return, Stop, Read, Simulate, If, Loop, For, Find, Create, CreateEvery, Destroy, File, RemoveEnd, Remove, ScheduleNew, Schedule, Cancel, Reset, Print, Skip, Block, Done, Then}
+use Rattle.ss_program.specs.Program.{Expression, PrintItem, SetOwner, Place, InputTarget, Position, When, Restart, Statement, Let, Change, Call, Return, Stop, Read, Simulate, If, Loop, For, Find, Create, CreateEvery, Destroy, File, RemoveEnd, Remove, ScheduleNew, Schedule, Cancel, Reset, Print, Skip, Block, Done, Then}
 use Rattle.ss_meaning.specs.Values.{Trouble, if_ok, turned, due, sure, calculated, operator_of, printed, empty_lines}
 use Rattle.ss_meaning.specs.Store.{Store}
 use Rattle.ss_meaning.specs.Entities.{made_one, made_all, without}
@@ -47,7 +47,7 @@ with_input s g = (g.value, record s { scene = record s.scene { input = g.rest } 
 abbrev pub read_value : Mode → Store → Result (Value × Store) Trouble
 read_value mode s = turned (with_input s) (due (value_given mode s.scene.input))
 
-abbrev pub read_each : Line → List Target → Part (Unit {0})
+abbrev pub read_each : Line → List InputTarget → Part (Unit {0})
 read_each l [] w = WentOn tt w
 read_each l (t ∷ ts) w = outcome_then (give_to l t.place (get l (read_value t.mode)) w) (λ _. read_each l ts)
 

@@ -13,16 +13,16 @@ use Rattle.ss_meaning.specs.Histories.{figure_kept, mean_kept, renewed}
 use Rattle.ss_meaning.specs.Entities.{entity, attribute}
 use Rattle.ss_meaning.specs.Sets.{known_owner, of_set}
 
-abbrev pub subject_of : (statistic : ℕ) → Store → Result Subject Trouble
-subject_of j s = turned (λ (t : Statistic). t.subject) (sure (slice_get s.scene.setting.statistics j))
+abbrev pub subject_of_statistic : (statistic : ℕ) → Store → Result Subject Trouble
+subject_of_statistic j s = turned (λ (t : Statistic). t.subject) (sure (slice_get s.scene.setting.statistics j))
 
 -- the number of the entity that has a subject
-abbrev pub bearer : Subject → Option Value → Store → Result ℤ Trouble
-bearer (OfVariable k) None s = Ok (pos 0)
-bearer (OfVariable k) (Some x) s = Err Misfit
-bearer (OfAttribute class field) None s = Err Misfit
-bearer (OfAttribute class field) (Some x) s = entity class x s
-bearer (OfCount set) o s = known_owner set o s
+abbrev pub bearer_number : Subject → Option Value → Store → Result ℤ Trouble
+bearer_number (OfVariable k) None s = Ok (pos 0)
+bearer_number (OfVariable k) (Some x) s = Err Misfit
+bearer_number (OfAttribute class field) None s = Err Misfit
+bearer_number (OfAttribute class field) (Some x) s = entity class x s
+bearer_number (OfCount set) o s = known_owner set o s
 
 -- the value that a subject has
 abbrev pub present : Subject → Option Value → Store → Result Value Trouble
@@ -33,14 +33,14 @@ present (OfCount set) o s = of_set MemberCount set o s
 
 -- what a statistic says
 abbrev pub figure : Fold → (statistic : ℕ) → Option Value → Store → Result Value Trouble
-figure fold j x s = if_ok (subject_of j s) (λ t. if_ok (bearer t x s) (λ n. figure_kept fold j n s))
+figure fold j x s = if_ok (subject_of_statistic j s) (λ t. if_ok (bearer_number t x s) (λ n. figure_kept fold j n s))
 
 -- the sum and the number of which a statistic is the mean
 abbrev pub mean : (statistic : ℕ) → Option Value → Store → Result (ℤ × ℤ) Trouble
-mean j x s = if_ok (subject_of j s) (λ t. if_ok (bearer t x s) (λ n. mean_kept j n s))
+mean j x s = if_ok (subject_of_statistic j s) (λ t. if_ok (bearer_number t x s) (λ n. mean_kept j n s))
 
 -- the store once the history of a statistic starts afresh, with the present value
 abbrev pub reset : (statistic : ℕ) → Option Value → Store → Result Store Trouble
 reset j x s =
-    if_ok (subject_of j s) (λ t. if_ok (bearer t x s) (λ n. if_ok (present t x s) (λ v. if_ok (number_of v) (λ z.
+    if_ok (subject_of_statistic j s) (λ t. if_ok (bearer_number t x s) (λ n. if_ok (present t x s) (λ v. if_ok (number_of v) (λ z.
     turned (with_histories s) (renewed j n s.scene.time z s.scene.histories)))))

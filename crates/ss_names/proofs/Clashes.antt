@@ -10,8 +10,8 @@ use Rattle.ss_names_declarations.specs.declared.declaration.Declaration.{Declara
 use Rattle.ss_names_declarations.proofs.Entries.{value_in_firsts}
 use Rattle.ss_names.specs.declared.meaning.Meaning.{Meaning}
 use Rattle.ss_names.specs.Entries.{given_by}
-use Rattle.ss_names.specs.Table.{Entered, Table, clashes, clashes_after, declares, entered_at, entered_by, is_another, meanings, numbered, same_of_set}
-use Rattle.ss_names.specs.Filling.{all_entered, clash_after, enter, entered, first_line, meanings_pass, sooner}
+use Rattle.ss_names.specs.Table.{Entered, Table, clashes, clashes_after, declares, entered_in_line, entered_by, is_another, meanings, numbered, same_of_set}
+use Rattle.ss_names.specs.Filling.{all_entered, clash_after, enter_name, entered, first_line, meanings_pass, sooner}
 
 abbrev pub pair_of : Entered → NameBytes × Meaning
 pair_of e = (e.name, e.meaning)
@@ -23,11 +23,11 @@ clash_of ms line (e ∷ es) = clash_of (with_first ms (pair_of e)) (clash_after 
 
 -- ---- the passes
 
-entered_one : (ms : List (NameBytes × Meaning)) (line : Option Line) (at : Line) (es : List (NameBytes × Meaning)) → fold (enter at) (entered ms line) es ≡ entered (fold with_first ms es) (clash_of ms line (map (entered_at at) es))
+entered_one : (ms : List (NameBytes × Meaning)) (line : Option Line) (at : Line) (es : List (NameBytes × Meaning)) → fold (enter_name at) (entered ms line) es ≡ entered (fold with_first ms es) (clash_of ms line (map (entered_in_line at) es))
 entered_one ms line at [] = refl
 entered_one ms line at (e ∷ es) = entered_one (with_first ms e) (clash_after line (value_for ms e.0) e.1 at) at es
 
-pairs_back : (at : Line) (es : List (NameBytes × Meaning)) → map pair_of (map (entered_at at) es) ≡ es
+pairs_back : (at : Line) (es : List (NameBytes × Meaning)) → map pair_of (map (entered_in_line at) es) ≡ es
 pairs_back at [] = refl
 pairs_back at (e ∷ es) = ap (λ l. e ∷ l) (pairs_back at es)
 
@@ -39,7 +39,7 @@ entered_all : (t : Table) (ms : List (NameBytes × Meaning)) (line : Option Line
 entered_all t ms line [] = refl
 entered_all t ms line (x ∷ ds) =
     let es = declares t x.what in
-    let here = map (entered_at x.line) es in
+    let here = map (entered_in_line x.line) es in
     ap (λ s. fold (meanings_pass t) s ds) (entered_one ms line x.line es)
     ∙ entered_all t (fold with_first ms es) (clash_of ms line here) ds
     ∙ (λ i. entered

@@ -10,9 +10,9 @@ use Rattle.ss_base.specs.declared.layout.Mode.{Mode}
 use Rattle.ss_tree.specs.Names.{NameBytes}
 use Rattle.ss_names_declarations.specs.Firsts.{with_first, with_name}
 use Rattle.ss_names_declarations.specs.declared.declaration.Declaration.{Declaration}
-use Rattle.ss_names.specs.Entries.{attribute_by, attributes_of_class, class_by, classes, event_by, events, given_by, histories, history_by, mode_by, mode_of_name, modes, notice_by, priority_by, rank_key_by, routine_by, routines, set_by, set_names, sets, tie_key_by, usual_by, usual_mode, variable_by, with_number}
+use Rattle.ss_names.specs.Entries.{attribute_by, attributes_of_class, class_by, classes, event_by, events, given_by, histories, history_by, mode_by, mode_of_name, modes, notice_by, priority_by, rank_key_by, routine_by, routines, set_by, set_names, sets, tie_key_by, usual_by, usual_mode, variable_by, number_added}
 use Rattle.ss_names.specs.Table.{Table, clashes, declared, numbered}
-use Rattle.ss_names.specs.Filling.{Entering, Fields, HasRows, all_entered, entities_filled, entities_pass, fields_of, filled, first_line, kept_mode, mode_named, names_pass, no_names, no_set, pushed, set_part, variables_pass, with_all_meanings, with_field, with_meanings, with_rows, with_set, with_subjects}
+use Rattle.ss_names.specs.Filling.{Entering, Fields, HasRows, all_entered, entities_filled, entities_pass, table_fields, filled_table, first_line, kept_mode, mode_named, names_pass, no_names, no_set, pushed, set_part, variables_pass, with_all_meanings, with_field, with_meanings, with_rows, with_set, with_subjects}
 use Rattle.ss_names.proofs.Fields.{attributes_below, attributes_filled, rows_kept}
 use Rattle.ss_names.proofs.Sets.{sets_filled, sets_kept}
 use Rattle.ss_names.proofs.Clashes.{meanings_filled}
@@ -81,29 +81,29 @@ names_filled ds =
 -- ---- the second pass
 
 abbrev fields_after : Table → List Declaration → Fields
-fields_after t ds = fold (with_field (mode_named t)) (fields_of t) (given_by (attribute_by t.classes) ds)
+fields_after t ds = fold (with_field (mode_named t)) (table_fields t) (given_by (attribute_by t.classes) ds)
 
 entities_passed : (t : Table) (ds : List Declaration) → fold entities_pass t ds ≡ record t {
   attributes = (fields_after t ds).entries;
   fields = (fields_after t ds).rows;
   sets = fold (with_set t.set_names) t.sets (given_by (set_part t.classes) ds);
-  ranks = fold with_number t.ranks (given_by (priority_by t.classes) ds);
+  ranks = fold number_added t.ranks (given_by (priority_by t.classes) ds);
 }
 entities_passed t [] = refl
 entities_passed t (x ∷ ds) =
     let more : fields_after (entities_pass t x) ds ≡ fields_after t (x ∷ ds) =
-    sym (fold-append (with_field (mode_named t)) (fields_of t) (attribute_by t.classes x.what) (given_by (attribute_by t.classes) ds)) in
+    sym (fold-append (with_field (mode_named t)) (table_fields t) (attribute_by t.classes x.what) (given_by (attribute_by t.classes) ds)) in
     entities_passed (entities_pass t x) ds
     ∙ (λ i. record t {
       attributes = (more i).entries;
       fields = (more i).rows;
       sets = sym (fold-append (with_set t.set_names) t.sets (set_part t.classes x.what) (given_by (set_part t.classes) ds)) i;
-      ranks = sym (fold-append with_number t.ranks (priority_by t.classes x.what) (given_by (priority_by t.classes) ds)) i;
+      ranks = sym (fold-append number_added t.ranks (priority_by t.classes x.what) (given_by (priority_by t.classes) ds)) i;
     })
 
 -- the table after the second pass
 abbrev with_entities : List Declaration → Table
-with_entities ds = record (numbered ds) { variables = []; ranks = fold with_number [] (given_by (priority_by (classes ds)) ds) }
+with_entities ds = record (numbered ds) { variables = []; ranks = fold number_added [] (given_by (priority_by (classes ds)) ds) }
 
 entities_named : (ds : List Declaration) → fold entities_pass (with_rows (named ds)) ds ≡ with_entities ds
 entities_named ds =
@@ -123,25 +123,25 @@ entities_are ds = ap (λ t. fold entities_pass (with_rows t) ds) (names_filled d
 
 variables_passed : (t : Table) (ds : List Declaration) → fold variables_pass t ds ≡ record t {
   variables = fold with_first t.variables (given_by (variable_by t.attributes) ds);
-  ranks = fold with_number t.ranks (given_by (notice_by t.classes) ds);
+  ranks = fold number_added t.ranks (given_by (notice_by t.classes) ds);
 }
 variables_passed t [] = refl
 variables_passed t (x ∷ ds) =
     variables_passed (variables_pass t x) ds
     ∙ (λ i. record t {
       variables = sym (fold-append with_first t.variables (variable_by t.attributes x.what) (given_by (variable_by t.attributes) ds)) i;
-      ranks = sym (fold-append with_number t.ranks (notice_by t.classes x.what) (given_by (notice_by t.classes) ds)) i;
+      ranks = sym (fold-append number_added t.ranks (notice_by t.classes x.what) (given_by (notice_by t.classes) ds)) i;
     })
 
 variables_are : (ds : List Declaration) → fold variables_pass (with_entities ds) ds ≡ numbered ds
 variables_are ds =
     let cs = classes ds in
     variables_passed (with_entities ds) ds
-    ∙ (λ i. record (numbered ds) { ranks = sym (fold-append with_number [] (given_by (priority_by cs) ds) (given_by (notice_by cs) ds)) i })
+    ∙ (λ i. record (numbered ds) { ranks = sym (fold-append number_added [] (given_by (priority_by cs) ds) (given_by (notice_by cs) ds)) i })
 
 -- ---- all passes
 
-pub filled_is_declared : (ds : List Declaration) → filled ds ≡ declared ds
+pub filled_is_declared : (ds : List Declaration) → filled_table ds ≡ declared ds
 filled_is_declared ds =
     ap (λ (t : Table). with_subjects (with_all_meanings ds (fold variables_pass t ds))) (entities_are ds)
     ∙ ap (λ (t : Table). with_subjects (with_all_meanings ds t)) (variables_are ds)
@@ -171,6 +171,6 @@ rows_made t = record {
 pub rows_stay : (t : Table) (ds : List Declaration) → HasRows t → HasRows (fold entities_pass t ds)
 rows_stay t [] h = h
 rows_stay t (x ∷ ds) h = rows_stay (entities_pass t x) ds (record {
-  fields = rows_kept (mode_named t) (fields_of t) (attribute_by t.classes x.what) ∙ h.fields;
+  fields = rows_kept (mode_named t) (table_fields t) (attribute_by t.classes x.what) ∙ h.fields;
   sets = sets_kept t.set_names t.sets (set_part t.classes x.what) ∙ h.sets;
 })

@@ -1,4 +1,4 @@
--- The sets: what is said of each, by one declaration after the other.
+-- The sets: the properties of each, by one declaration after the other.
 use Rattle.std.proofs.Common.{◌≡◌, ℕ, suc, Bool, true, false, cond, List, [], ◌∷◌, ◌++◌, length, map, Option, Some, None, option_map, refl, sym, ap, ◌∙◌}
 use Rattle.std.specs.Prelude.{slice_get}
 use Rattle.std.specs.List.{AllByRecursion as Every, IsDistinct, fold, position_or_len}
@@ -16,9 +16,9 @@ use Rattle.ss_names_declarations.specs.declared.declaration.Declared.{Declared}
 use Rattle.ss_names_declarations.specs.declared.declaration.Declared.TheVariants as declared
 use Rattle.ss_names_declarations.specs.declared.declaration.Declaration.{Declaration}
 use Rattle.ss_names_declarations.proofs.Entries.{number, value_append}
-use Rattle.ss_names.specs.declared.entry.Order.{Order}
+use Rattle.ss_names.specs.declared.entry.DefinedOrder.{DefinedOrder}
 use Rattle.ss_names.specs.declared.entry.Set.{Set}
-use Rattle.ss_names.specs.Entries.{given_by, member_by, order_by, owner_by, owner_named, set_names, set_by, set_of}
+use Rattle.ss_names.specs.Entries.{given_by, member_by, order_by, owner_entry, owner_named, set_names, set_by, set_of}
 use Rattle.ss_names.specs.Filling.{merged, merged_if, merged_with, no_set, set_part, with_set}
 
 -- ---- each set has one name
@@ -38,13 +38,13 @@ none_once = tt
 pub set_names_once : (ds : List Declaration) → IsDistinct same_name (set_names ds)
 set_names_once ds = folded_once [] (given_by set_by ds) none_once
 
--- ---- more is said of one set
+-- ---- a declaration adds to one set
 
 -- what is known of each name, and of one more
 abbrev said_more : (NameBytes → Set) → NameBytes × Set → NameBytes → Set
 said_more known e name = cond (same_name e.0 name) (merged (known name) e.1) (known name)
 
--- nothing more is said of the others
+-- nothing is added to the others
 others_same : (known : NameBytes → Set) (e : NameBytes × Set) (names : List NameBytes) → Every (λ other. same_name e.0 other ≡ false) names → map known names ≡ map (said_more known e) names
 others_same known e [] h = refl
 others_same known e (n ∷ ns) h =
@@ -78,7 +78,7 @@ sets_folded known names [] d = refl
 sets_folded known names (e ∷ es) d =
     ap (λ sets. fold (with_set names) sets es) (set_changed known names e d) ∙ sets_folded (said_more known e) names es d
 
--- ---- what is said of a set in the end
+-- ---- the properties of a set in the end
 
 or_none : {A : Type 0} (o : Option A) → option_or o None ≡ o
 or_none None = refl
@@ -102,7 +102,7 @@ merged_assoc a b c =
 -- what one declaration says of the set of this name
 abbrev said_of : List (NameBytes × ClassKind) → Declared → NameBytes → Set
 said_of cs w name =
-    record { owner = value_for (owner_by cs w) name; member = value_for (member_by cs w) name; order = value_for (order_by w) name }
+    record { owner = value_for (owner_entry cs w) name; member = value_for (member_by cs w) name; order = value_for (order_by w) name }
 
 value_if : {V : Type 0} (o : Option V) (set name : NameBytes) (b : Bool) → same_name name set ≡ b → value_for (entry_if set o) name ≡ cond b o None
 value_if None set name true is = refl
@@ -119,7 +119,7 @@ module _ (known : Set) where
   by_member o true = refl
   by_member o false = sym (merged_none known)
 
-  by_order : (o : Option Order) (b : Bool) → cond b (merged known (record { owner = None; member = None; order = o })) known ≡ merged known (record { owner = None; member = None; order = cond b o None })
+  by_order : (o : Option DefinedOrder) (b : Bool) → cond b (merged known (record { owner = None; member = None; order = o })) known ≡ merged known (record { owner = None; member = None; order = cond b o None })
   by_order o true = refl
   by_order o false = sym (merged_none known)
 
@@ -140,7 +140,7 @@ part_is cs known _ name = sym (merged_none (known name))
 said_append : (cs : List (NameBytes × ClassKind)) (x : Declaration) (ds : List Declaration) (name : NameBytes) → merged (said_of cs x.what name) (set_of cs ds name) ≡ set_of cs (x ∷ ds) name
 said_append cs x ds name =
     λ i. record {
-      owner = sym (value_append (owner_by cs x.what) (given_by (owner_by cs) ds) name) i;
+      owner = sym (value_append (owner_entry cs x.what) (given_by (owner_entry cs) ds) name) i;
       member = sym (value_append (member_by cs x.what) (given_by (member_by cs) ds) name) i;
       order = sym (value_append (order_by x.what) (given_by order_by ds) name) i;
     }

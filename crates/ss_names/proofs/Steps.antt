@@ -9,7 +9,7 @@ use Rattle.ss_names_declarations.specs.Firsts.{value_for}
 use Rattle.ss_names_declarations.specs.declared.declaration.Declared.{Declared}
 use Rattle.ss_names.specs.declared.entry.Attribute.{Attribute}
 use Rattle.ss_names.specs.Table.{Table}
-use Rattle.ss_names.specs.Filling.{field_pushed, fields_of, mode_named, row_pushed, with_fields}
+use Rattle.ss_names.specs.Filling.{field_pushed, table_fields, mode_named, row_pushed, with_fields}
 
 -- a step of a pass on the table that is seen, by what was matched
 pub stepped : {T : Type 0} (step : T → Declared → T) {old seen new : T} {what like : Declared} → seen ≡ old → what ≡ like → new ≡ step seen like → new ≡ step old what
@@ -29,7 +29,7 @@ attribute_made name class field mode = (name, record { class = class; field = fi
 -- a new attribute, in the table of attributes and in the row of its class
 pub attribute_pushed : (seen t : Table) (name : NameBytes) (class n : ℕ) (mode : Mode) (entries : List (NameBytes × Attribute)) (rows : List (List NameBytes)) → seen ≡ t → value_for seen.attributes name ≡ None → n ≡ length (get_or t.fields class []) → mode ≡ mode_named t name
     → entries ≡ cond (is_some (value_for seen.attributes name)) seen.attributes (seen.attributes ++ attribute_made name class n mode ∷ []) → rows ≡ row_pushed seen.fields class name
-    → record seen { attributes = entries; fields = rows } ≡ with_fields t (field_pushed (mode_named t) (fields_of t) (name, class))
+    → record seen { attributes = entries; fields = rows } ≡ with_fields t (field_pushed (mode_named t) (table_fields t) (name, class))
 attribute_pushed seen t name class n mode entries rows s none len is e r =
     let entered : entries ≡ t.attributes ++ attribute_made name class (length (get_or t.fields class [])) (mode_named t name) ∷ [] =
     e ∙ ap (λ (o : Option Attribute). cond (is_some o) seen.attributes (seen.attributes ++ attribute_made name class n mode ∷ [])) none

@@ -11,15 +11,15 @@ use Rattle.ss_base.specs.declared.layout.ClassKind.TheVariants as kinds
 use Rattle.ss_base.specs.declared.layout.Owner.{Owner}
 use Rattle.ss_base.specs.declared.layout.Owner.TheVariants as owners
 use Rattle.ss_tree.specs.Names.{NameBytes}
-use Rattle.ss_tree.specs.declared.preamble.Mode.{Mode as ModeWord}
-use Rattle.ss_tree.specs.declared.preamble.Mode.TheVariants as words
+use Rattle.ss_tree.specs.declared.preamble.ModeWord.{ModeWord}
+use Rattle.ss_tree.specs.declared.preamble.ModeWord.TheVariants as words
 use Rattle.ss_base.specs.declared.words.Weighting.{Weighting}
 use Rattle.ss_names_declarations.specs.Firsts.{each_once, entry_if, first_entries, place_in, value_for}
 use Rattle.ss_names_declarations.specs.declared.declaration.Declared.{Declared}
 use Rattle.ss_names_declarations.specs.declared.declaration.Declared.TheVariants as d
 use Rattle.ss_names_declarations.specs.declared.declaration.Declaration.{Declaration}
 use Rattle.ss_names.specs.declared.entry.Attribute.{Attribute}
-use Rattle.ss_names.specs.declared.entry.Order.{Order}
+use Rattle.ss_names.specs.declared.entry.DefinedOrder.{DefinedOrder}
 use Rattle.ss_names.specs.declared.entry.Set.{Set}
 use Rattle.ss_names.specs.declared.entry.RoutineSection.{RoutineSection}
 use Rattle.ss_names.specs.declared.entry.EventSection.{EventSection}
@@ -122,23 +122,23 @@ abbrev pub owner_named : List (NameBytes × ClassKind) → Option NameBytes → 
 owner_named cs None = Some owners.System
 owner_named cs (Some class) = option_map owners.Class (place_in cs class)
 
-abbrev pub owner_by : List (NameBytes × ClassKind) → Declared → List (NameBytes × Owner)
-owner_by cs (d.Owner set class) = entry_if set (owner_named cs class)
-owner_by cs _ = []
+abbrev pub owner_entry : List (NameBytes × ClassKind) → Declared → List (NameBytes × Owner)
+owner_entry cs (d.Owner set class) = entry_if set (owner_named cs class)
+owner_entry cs _ = []
 
 abbrev pub member_by : List (NameBytes × ClassKind) → Declared → List (NameBytes × ℕ)
 member_by cs (d.Member set class) = entry_if set (place_in cs class)
 member_by cs _ = []
 
-abbrev pub order_by : Declared → List (NameBytes × Order)
+abbrev pub order_by : Declared → List (NameBytes × DefinedOrder)
 order_by (d.Order set rule statement) = (set, record { rule = rule; statement = statement }) ∷ []
 order_by _ = []
 
--- a set: its owner, the class of its members and its order, each by the first that is said of it
+-- a set: its owner, the class of its members and its order, each as it was declared first
 abbrev pub set_of : List (NameBytes × ClassKind) → List Declaration → NameBytes → Set
 set_of cs ds name =
     record {
-      owner = value_for (given_by (owner_by cs) ds) name;
+      owner = value_for (given_by (owner_entry cs) ds) name;
       member = value_for (given_by (member_by cs) ds) name;
       order = value_for (given_by order_by ds) name;
     }
@@ -164,8 +164,8 @@ variable_by owned (d.Class class kind) = class_variables kind class
 variable_by owned _ = []
 
 -- the global variables with their modes
-abbrev pub variables : List Declaration → List (NameBytes × Mode)
-variables ds = named_by (variable_by (attributes ds)) ds
+abbrev pub global_variables : List Declaration → List (NameBytes × Mode)
+global_variables ds = named_by (variable_by (attributes ds)) ds
 
 -- ---- sections and subjects
 
@@ -195,13 +195,13 @@ histories ds = named_by history_by ds
 
 -- ---- the order of rank, and keys
 
-abbrev pub is_notice : Option ClassKind → Bool
-is_notice (Some kinds.Notice) = true
-is_notice _ = false
+abbrev pub is_notice_class : Option ClassKind → Bool
+is_notice_class (Some kinds.Notice) = true
+is_notice_class _ = false
 
 -- the number of a class of notices
 abbrev pub notice_number : List (NameBytes × ClassKind) → NameBytes → List ℕ
-notice_number cs name = if is_notice (value_for cs name) then option_to_list (place_in cs name) else []
+notice_number cs name = if is_notice_class (value_for cs name) then option_to_list (place_in cs name) else []
 
 abbrev pub priority_by : List (NameBytes × ClassKind) → Declared → List ℕ
 priority_by cs (d.Priority class) = notice_number cs class
@@ -212,12 +212,12 @@ notice_by cs (d.Class class kind) = notice_number cs class
 notice_by cs _ = []
 
 -- the numbers and one more, unless it is among them
-abbrev pub with_number : List ℕ → ℕ → List ℕ
-with_number numbers number = if list_any (nat_eq number) numbers then numbers else numbers ++ number ∷ []
+abbrev pub number_added : List ℕ → ℕ → List ℕ
+number_added numbers number = if list_any (nat_eq number) numbers then numbers else numbers ++ number ∷ []
 
 -- the classes of notices in the order of rank, each once: those of PRIORITY ORDER in that order, then the others as declared
 abbrev pub ranks : List Declaration → List ℕ
-ranks ds = fold with_number [] (given_by (priority_by (classes ds)) ds ++ given_by (notice_by (classes ds)) ds)
+ranks ds = fold number_added [] (given_by (priority_by (classes ds)) ds ++ given_by (notice_by (classes ds)) ds)
 
 abbrev pub rank_key_by : Declared → List RankedBy
 rank_key_by (d.RankKey attribute high statement) = record { statement = statement; attribute = attribute; high = high } ∷ []

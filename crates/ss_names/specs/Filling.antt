@@ -19,7 +19,7 @@ use Rattle.ss_names_declarations.specs.declared.declaration.Declaration.{Declara
 use Rattle.ss_names.specs.declared.entry.Attribute.{Attribute}
 use Rattle.ss_names.specs.declared.entry.Set.{Set}
 use Rattle.ss_names.specs.declared.meaning.Meaning.{Meaning}
-use Rattle.ss_names.specs.Entries.{attribute_by, class_by, event_by, fields_by_class, history_by, mode_by, notice_by, owner_named, priority_by, rank_key_by, routine_by, set_by, tie_key_by, usual_by, variable_by, with_number}
+use Rattle.ss_names.specs.Entries.{attribute_by, class_by, event_by, fields_by_class, history_by, mode_by, notice_by, owner_named, priority_by, rank_key_by, routine_by, set_by, tie_key_by, usual_by, variable_by, number_added}
 use Rattle.ss_names.specs.Table.{Table, declares, same_of_set, subjects_by}
 
 -- the table of no declarations
@@ -72,7 +72,7 @@ names_pass t x = add_names t x.what
 abbrev pub no_set : Set
 no_set = record { owner = None; member = None; order = None }
 
--- no attributes of each class, and nothing said of each set
+-- no attributes of any class, and no properties of any set
 abbrev pub with_rows : Table → Table
 with_rows t = record t { fields = fields_by_class [] (length t.classes); sets = map (λ (name : NameBytes). no_set) t.set_names }
 
@@ -86,8 +86,8 @@ pub record Fields : Type 0 where
   pub entries : List (NameBytes × Attribute)
   pub rows : List (List NameBytes)
 
-abbrev pub fields_of : Table → Fields
-fields_of t = record { entries = t.attributes; rows = t.fields }
+abbrev pub table_fields : Table → Fields
+table_fields t = record { entries = t.attributes; rows = t.fields }
 
 abbrev pub with_fields : Table → Fields → Table
 with_fields t fs = record t { attributes = fs.entries; fields = fs.rows }
@@ -111,9 +111,9 @@ abbrev pub with_field : (NameBytes → Mode) → Fields → NameBytes × ℕ →
 with_field mode fs e = if is_some (value_for fs.entries e.0) then fs else field_pushed mode fs e
 
 abbrev pub fields_added : Table → List (NameBytes × ℕ) → Fields
-fields_added t es = fold (with_field (mode_named t)) (fields_of t) es
+fields_added t es = fold (with_field (mode_named t)) (table_fields t) es
 
--- what is known of a set, and what is said of it later
+-- what is known of a set, with what a later declaration adds
 abbrev pub merged : Set → Set → Set
 merged known more =
     record {
@@ -156,7 +156,7 @@ add_entities t w = record t {
   attributes = (fields_added t (attribute_by t.classes w)).entries;
   fields = (fields_added t (attribute_by t.classes w)).rows;
   sets = fold (with_set t.set_names) t.sets (set_part t.classes w);
-  ranks = fold with_number t.ranks (priority_by t.classes w);
+  ranks = fold number_added t.ranks (priority_by t.classes w);
 }
 
 abbrev pub entities_pass : Table → Declaration → Table
@@ -170,7 +170,7 @@ with_variables t variables = record t { variables = variables }
 abbrev pub add_variables : Table → Declared → Table
 add_variables t w = record t {
   variables = fold with_first t.variables (variable_by t.attributes w);
-  ranks = fold with_number t.ranks (notice_by t.classes w);
+  ranks = fold number_added t.ranks (notice_by t.classes w);
 }
 
 abbrev pub variables_pass : Table → Declaration → Table
@@ -210,11 +210,11 @@ pub record Entering : Type 0 where
 abbrev pub entered : List (NameBytes × Meaning) → Option Line → Entering
 entered ms clash = record { meanings = ms; clash = clash }
 
-abbrev pub enter : Line → Entering → NameBytes × Meaning → Entering
-enter line s e = entered (with_first s.meanings e) (clash_after s.clash (value_for s.meanings e.0) e.1 line)
+abbrev pub enter_name : Line → Entering → NameBytes × Meaning → Entering
+enter_name line s e = entered (with_first s.meanings e) (clash_after s.clash (value_for s.meanings e.0) e.1 line)
 
 abbrev pub meanings_pass : Table → Entering → Declaration → Entering
-meanings_pass t s x = fold (enter x.line) s (declares t x.what)
+meanings_pass t s x = fold (enter_name x.line) s (declares t x.what)
 
 abbrev pub all_entered : Table → List Declaration → Entering
 all_entered t ds = fold (meanings_pass t) (entered [] None) ds
@@ -233,5 +233,5 @@ with_subjects t = record t { subjects = subjects_by t.meanings (keys_of t.histor
 abbrev pub entities_filled : List Declaration → Table
 entities_filled ds = fold entities_pass (with_rows (fold names_pass no_names ds)) ds
 
-abbrev pub filled : List Declaration → Table
-filled ds = with_subjects (with_all_meanings ds (fold variables_pass (entities_filled ds) ds))
+abbrev pub filled_table : List Declaration → Table
+filled_table ds = with_subjects (with_all_meanings ds (fold variables_pass (entities_filled ds) ds))

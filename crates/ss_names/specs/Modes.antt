@@ -1,8 +1,8 @@
 -- The modes of values.
 use Rattle.ss_base.specs.declared.layout.Mode.{Mode}
 use Rattle.ss_base.specs.declared.layout.Mode.TheVariants.{Integer, Alpha}
-use Rattle.ss_tree.specs.declared.preamble.Mode.{Mode as ModeWord}
-use Rattle.ss_tree.specs.declared.preamble.Mode.TheVariants as words
+use Rattle.ss_tree.specs.declared.preamble.ModeWord.{ModeWord}
+use Rattle.ss_tree.specs.declared.preamble.ModeWord.TheVariants as words
 
 -- the mode of a value: REAL, which is refused, counts as INTEGER
 abbrev pub value_mode : ModeWord → Mode

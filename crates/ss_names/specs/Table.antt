@@ -35,7 +35,7 @@ use Rattle.ss_names.specs.declared.entry.RankedBy.{RankedBy}
 use Rattle.ss_names.specs.declared.entry.TiedBy.{TiedBy}
 use Rattle.ss_names.specs.declared.meaning.Meaning.{Meaning}
 use Rattle.ss_names.specs.declared.meaning.Meaning.TheVariants as m
-use Rattle.ss_names.specs.Entries.{attributes, classes, count_name, events, fields, given_by, histories, modes, rank_key_by, ranks, routines, set_names, sets, tie_key_by, usual_mode, variables}
+use Rattle.ss_names.specs.Entries.{attributes, classes, count_name, events, fields, given_by, histories, modes, rank_key_by, ranks, routines, set_names, sets, tie_key_by, usual_mode, global_variables}
 use Rattle.ss_names.specs.Modes.{value_mode}
 
 pub record Table : Type 0 where
@@ -75,7 +75,7 @@ numbered ds = record {
   fields = fields ds;
   set_names = set_names ds;
   sets = sets ds;
-  variables = variables ds;
+  variables = global_variables ds;
   routines = routines ds;
   events = events ds;
   ranks = ranks ds;
@@ -162,11 +162,11 @@ pub record Entered : Type 0 where
   pub name : NameBytes
   pub meaning : Meaning
 
-abbrev pub entered_at : Line → NameBytes × Meaning → Entered
-entered_at line e = record { line = line; name = e.0; meaning = e.1 }
+abbrev pub entered_in_line : Line → NameBytes × Meaning → Entered
+entered_in_line line e = record { line = line; name = e.0; meaning = e.1 }
 
 abbrev pub entered_by : Table → Declaration → List Entered
-entered_by t x = map (entered_at x.line) (declares t x.what)
+entered_by t x = map (entered_in_line x.line) (declares t x.what)
 
 -- a set's owner and its members' class both declare the set and its derived names; a spelling is a derived name of one set
 abbrev pub same_of_set : Meaning → Meaning → Bool
@@ -217,30 +217,30 @@ table p = declared (declarations p)
 -- ---- what the table says of names
 
 -- the mode of an attribute by its name
-abbrev pub field_mode : Table → NameBytes → Option Mode
-field_mode t name = option_map (λ (a : Attribute). a.mode) (value_for t.attributes name)
+abbrev pub mode_of_attribute : Table → NameBytes → Option Mode
+mode_of_attribute t name = option_map (λ (a : Attribute). a.mode) (value_for t.attributes name)
 
 -- ---- who has what a name means
 
-abbrev pub owner_of_set : Option Set → Owner
-owner_of_set set = option_map_or (λ (s : Set). unwrap_or s.owner owners.System) set owners.System
+abbrev pub owner_kind_of_set : Option Set → Owner
+owner_kind_of_set set = option_map_or (λ (s : Set). unwrap_or s.owner owners.System) set owners.System
 
-abbrev pub owner_of_member : Option Set → Owner
-owner_of_member set = option_map_or (λ (s : Set). unwrap_or (option_map owners.Class s.member) owners.System) set owners.System
+abbrev pub owner_kind_of_member : Option Set → Owner
+owner_kind_of_member set = option_map_or (λ (s : Set). unwrap_or (option_map owners.Class s.member) owners.System) set owners.System
 
 abbrev pub owner_of_subject : Table → Option Subject → Owner
 owner_of_subject t (Some (subjects.OfAttribute class field)) = owners.Class class
-owner_of_subject t (Some (subjects.OfCount set)) = owner_of_set (slice_get t.sets set)
+owner_of_subject t (Some (subjects.OfCount set)) = owner_kind_of_set (slice_get t.sets set)
 owner_of_subject t _ = owners.System
 
 abbrev pub owner_of_statistic : Table → Option (Option Subject) → Owner
 owner_of_statistic t known = option_map_or (owner_of_subject t) known owners.System
 
 -- who has what a name means: each entity of a class, or else THE SYSTEM. A statistic is its subject's.
-abbrev pub owner_of : Table → Meaning → Owner
-owner_of t (m.Attribute class field mode) = owners.Class class
-owner_of t (m.Set set) = owner_of_set (slice_get t.sets set)
-owner_of t (m.OfSet query set) = owner_of_set (slice_get t.sets set)
-owner_of t (m.OfMember query set) = owner_of_member (slice_get t.sets set)
-owner_of t (m.Statistic fold statistic) = owner_of_statistic t (slice_get t.subjects statistic)
-owner_of t _ = owners.System
+abbrev pub owner_of_meaning : Table → Meaning → Owner
+owner_of_meaning t (m.Attribute class field mode) = owners.Class class
+owner_of_meaning t (m.Set set) = owner_kind_of_set (slice_get t.sets set)
+owner_of_meaning t (m.OfSet query set) = owner_kind_of_set (slice_get t.sets set)
+owner_of_meaning t (m.OfMember query set) = owner_kind_of_member (slice_get t.sets set)
+owner_of_meaning t (m.Statistic fold statistic) = owner_of_statistic t (slice_get t.subjects statistic)
+owner_of_meaning t _ = owners.System

@@ -6,7 +6,7 @@ ghost use Rattle.ss_names_declarations.specs.Firsts.{entry_if, place_among, plac
 ghost use Rattle.ss_names.specs.declared.meaning.Meaning.TheVariants as m;
 ghost use Rattle.ss_names.specs.Entries.{count_name};
 ghost use Rattle.ss_names.specs.Table.{attribute_meaning, class_meaning, class_entry, count_meaning, count_entry, declares, derived_name, fold_of, same_of_set, set_meanings, subject_of, subjects_by, variable_meaning};
-ghost use Rattle.ss_names.specs.Filling.{all_entered, clash_after, enter, entered, letter_of_member, letter_of_set, meanings_pass, sooner, with_meanings, with_subjects};
+ghost use Rattle.ss_names.specs.Filling.{all_entered, clash_after, enter_name, entered, letter_of_member, letter_of_set, meanings_pass, sooner, with_meanings, with_subjects};
 
 use crate::filling::{class_number, has_attribute, set_number};
 use crate::meaning::Meaning;
@@ -19,6 +19,7 @@ use ss_program::sections::Subject;
 use ss_program::statement::CountedClass;
 use ss_tree::preamble::StatisticKind;
 use std::alloc::{AllocError, Global};
+use std::mem;
 
 // Whether both are what the owner of a set and the class of its members declare.
 fn same_of_set(known: Meaning, new: Meaning) -> bool
@@ -77,7 +78,7 @@ fn enter(
     spelling: Spelling,
     meaning: Meaning,
 ) -> Result<(), AllocError>
-    ensures { OnOk result (entered meanings.new clash.new ≡ enter line (entered meanings.old clash.old) (spelling, meaning)) }
+    ensures { OnOk result (entered meanings.new clash.new ≡ enter_name line (entered meanings.old clash.old) (spelling, meaning)) }
 {
     let known = meanings.meaning(&spelling);
     let next = clash_after(*clash, known, meaning, line);
@@ -93,7 +94,7 @@ fn enter_if(
     spelling: Spelling,
     meaning: Option<Meaning>,
 ) -> Result<(), AllocError>
-    ensures { OnOk result (entered meanings.new clash.new ≡ fold (enter line) (entered meanings.old clash.old) (entry_if spelling meaning)) }
+    ensures { OnOk result (entered meanings.new clash.new ≡ fold (enter_name line) (entered meanings.old clash.old) (entry_if spelling meaning)) }
 {
     match meaning {
         Some(meaning) => enter(meanings, clash, line, spelling, meaning),
@@ -109,14 +110,14 @@ fn class_meaning(
 ) -> Option<Meaning>
     ensures { result ≡ class_meaning class kind variable }
 {
-    let class = class?;
-    let kind = kind?;
-    let variable = variable?;
-    Some(Meaning::Class {
-        class,
-        kind,
-        variable,
-    })
+    match (class, kind, variable) {
+        (Some(class), Some(kind), Some(variable)) => Some(Meaning::Class {
+            class,
+            kind,
+            variable,
+        }),
+        _ => None,
+    }
 }
 
 // What N. of a class means, by the number of the class, its kind and the variable of N.
@@ -127,15 +128,11 @@ fn count_meaning(
 ) -> Option<Meaning>
     ensures { result ≡ count_meaning class kind variable }
 {
-    let class = class?;
-    let kind = kind?;
-    let variable = variable?;
-    match kind {
-        ClassKind::Permanent => Some(Meaning::Count {
+    match (class, kind, variable) {
+        (Some(class), Some(ClassKind::Permanent), Some(variable)) => Some(Meaning::Count {
             count: CountedClass { class, variable },
         }),
-        ClassKind::Temporary => None,
-        ClassKind::Notice => None,
+        _ => None,
     }
 }
 
@@ -181,7 +178,7 @@ fn enter_class(
     line: Line,
     name: &Name,
 ) -> Result<(), AllocError>
-    ensures { OnOk result (entered meanings.new clash.new ≡ fold (enter line) (entered meanings.old clash.old) (entry_if name.now (class_entry names.now name.now) ++ entry_if (count_name name.now) (count_entry names.now name.now))) }
+    ensures { OnOk result (entered meanings.new clash.new ≡ fold (enter_name line) (entered meanings.old clash.old) (entry_if name.now (class_entry names.now name.now) ++ entry_if (count_name name.now) (count_entry names.now name.now))) }
 {
     let meaning = class_entry(names, name);
     let count = count_entry(names, name);
@@ -198,7 +195,7 @@ fn enter_of_set(
     query: SetQuery,
     set: usize,
 ) -> Result<(), AllocError>
-    ensures { OnOk result (entered meanings.new clash.new ≡ enter line (entered meanings.old clash.old) (derived_name (letter_of_set query) name.now, m.OfSet query set)) }
+    ensures { OnOk result (entered meanings.new clash.new ≡ enter_name line (entered meanings.old clash.old) (derived_name (letter_of_set query) name.now, m.OfSet query set)) }
 {
     let spelling = Spelling::derived(letter_of_set(query), name);
     enter(
@@ -230,7 +227,7 @@ fn enter_of_member(
     query: MemberQuery,
     set: usize,
 ) -> Result<(), AllocError>
-    ensures { OnOk result (entered meanings.new clash.new ≡ enter line (entered meanings.old clash.old) (derived_name (letter_of_member query) name.now, m.OfMember query set)) }
+    ensures { OnOk result (entered meanings.new clash.new ≡ enter_name line (entered meanings.old clash.old) (derived_name (letter_of_member query) name.now, m.OfMember query set)) }
 {
     let spelling = Spelling::derived(letter_of_member(query), name);
     enter(
@@ -261,7 +258,7 @@ fn enter_numbered(
     name: &Name,
     set: usize,
 ) -> Result<(), AllocError>
-    ensures { OnOk result (entered meanings.new clash.new ≡ fold (enter line) (entered meanings.old clash.old) (set_meanings name.now (Some set))) }
+    ensures { OnOk result (entered meanings.new clash.new ≡ fold (enter_name line) (entered meanings.old clash.old) (set_meanings name.now (Some set))) }
 {
     let spelling = Spelling::of_name(name);
     enter(meanings, clash, line, spelling, Meaning::Set { set })?;
@@ -281,7 +278,7 @@ fn enter_set(
     line: Line,
     name: &Name,
 ) -> Result<(), AllocError>
-    ensures { OnOk result (entered meanings.new clash.new ≡ fold (enter line) (entered meanings.old clash.old) (set_meanings name.now (place_among names.now.set_names name.now))) }
+    ensures { OnOk result (entered meanings.new clash.new ≡ fold (enter_name line) (entered meanings.old clash.old) (set_meanings name.now (place_among names.now.set_names name.now))) }
 {
     match set_number(names, name) {
         Some(set) => enter_numbered(meanings, clash, line, name, set),
@@ -361,7 +358,7 @@ fn add_meanings(
     line: Line,
     what: &Declared,
 ) -> Result<(), AllocError>
-    ensures { OnOk result (entered meanings.new clash.new ≡ fold (enter line) (entered meanings.old clash.old) (declares names.now what.now)) }
+    ensures { OnOk result (entered meanings.new clash.new ≡ fold (enter_name line) (entered meanings.old clash.old) (declares names.now what.now)) }
 {
     match what {
         Declared::Class { class, .. } => enter_class(names, meanings, clash, line, class),
@@ -421,8 +418,9 @@ pub fn fill_meanings(
 {
     let mut meanings = Meanings::new(alloc, seed);
     let mut clash: Option<Line> = None;
-    enter_all(names, &mut meanings, &mut clash, declarations)?;
-    names.meanings = meanings;
+    let entered = enter_all(names, &mut meanings, &mut clash, declarations);
+    drop(mem::replace(&mut names.meanings, meanings));
+    entered?;
     Ok(clash)
 }
 

@@ -13,7 +13,7 @@ pub struct Attribute {
 
 /// How a DEFINE orders a set, and the number of its statement.
 #[derive(Clone, Copy, Debug, PartialEq, Eq)]
-pub struct Order {
+pub struct DefinedOrder {
     pub rule: SetRule,
     pub statement: usize,
 }
@@ -23,7 +23,7 @@ pub struct Order {
 pub struct Set {
     pub owner: Option<Owner>,
     pub member: Option<usize>,
-    pub order: Option<Order>,
+    pub order: Option<DefinedOrder>,
 }
 
 /// A routine: its section, and how many values it is given and yields.

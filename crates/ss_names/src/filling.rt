@@ -5,19 +5,19 @@ ghost use Rattle.std.specs.List.{fold};
 ghost use Rattle.ss_base.specs.declared.layout.Owner.TheVariants as owners;
 ghost use Rattle.ss_tree.specs.Names.{NameBytes};
 ghost use Rattle.ss_names_declarations.specs.Firsts.{entry_if, place_among, place_in, value_for, with_first};
-ghost use Rattle.ss_names.specs.Entries.{class_variables, fields_by_class, notice_number, owner_named, row_of, usual_of, with_number};
+ghost use Rattle.ss_names.specs.Entries.{class_variables, fields_by_class, notice_number, owner_named, row_of, usual_of, number_added};
 ghost use Rattle.ss_names.specs.Table.{clashes, declared};
-ghost use Rattle.ss_names.specs.Filling.{HasRows, add_entities, add_names, add_variables, entities_pass, field_pushed, fields_added, fields_of, first_line, kept_mode, merged_at, merged_with, mode_named, names_pass, no_names, no_set, pushed, row_pushed, variables_pass, with_field, with_fields, with_ranks, with_rows, with_set, with_sets, with_variables};
+ghost use Rattle.ss_names.specs.Filling.{HasRows, add_entities, add_names, add_variables, entities_pass, field_pushed, fields_added, table_fields, first_line, kept_mode, merged_at, merged_with, mode_named, names_pass, no_names, no_set, pushed, row_pushed, variables_pass, with_field, with_fields, with_ranks, with_rows, with_set, with_sets, with_variables};
 
 use crate::entering::{fill_meanings, fill_subjects};
-use crate::entry::{Attribute, EventSection, Order, RankedBy, RoutineSection, Set, TiedBy};
+use crate::entry::{Attribute, DefinedOrder, EventSection, RankedBy, RoutineSection, Set, TiedBy};
 use crate::meanings::Meanings;
 use crate::names::{Names, value_mode};
 use ss_base::{ClassKind, Line, Mode, Name, Owner, Spelling};
 use ss_names_declarations::{
     Declaration, Declared, Keys, Seed, Table, has_entry, insert_first, insert_spelled,
 };
-use ss_tree::preamble::Mode as ModeWord;
+use ss_tree::preamble::ModeWord;
 use std::alloc::{AllocError, Global};
 
 /// The table of no declarations.
@@ -175,17 +175,13 @@ fn no_sets(alloc: Global, names: &[Name]) -> Result<Vec<Set>, AllocError>
     ensures { IfOk result (λ sets. sets.items ≡ map (λ (name : NameBytes). no_set) names.now) }
 {
     let owner: Option<Owner> = None;
-    let order: Option<Order> = None;
+    let order: Option<DefinedOrder> = None;
     let set = Set {
         owner,
         member: None,
         order,
     };
-    let mut sets = Vec::new(alloc);
-    for name in names {
-        sets.push(set)?;
-    }
-    Ok(sets)
+    Vec::from_elem(alloc, set, names.len())
 }
 
 // Makes room for the attributes of each class, and for each set.
@@ -222,7 +218,7 @@ fn push_field(rows: &mut Vec<Vec<Name>>, class: usize, name: Name) -> Result<(),
 fn push_attribute(names: &mut Names, attribute: Name, class: usize) -> Result<(), AllocError>
     requires class { class < length names.old.fields }
     requires new { value_for names.old.attributes attribute ≡ None }
-    ensures { OnOk result (names.new ≡ with_fields names.old (field_pushed (mode_named names.old) (fields_of names.old) (attribute, class))) }
+    ensures { OnOk result (names.new ≡ with_fields names.old (field_pushed (mode_named names.old) (table_fields names.old) (attribute, class))) }
 {
     let entry = Attribute {
         class,
@@ -257,7 +253,7 @@ pub(crate) fn set_number(names: &Names, set: &Name) -> Option<usize>
 // Enters an attribute of the class of this number, unless its name has an entry.
 fn add_field(names: &mut Names, attribute: Name, class: usize) -> Result<(), AllocError>
     requires { class < length names.old.fields }
-    ensures { OnOk result (names.new ≡ with_fields names.old (with_field (mode_named names.old) (fields_of names.old) (attribute, class))) }
+    ensures { OnOk result (names.new ≡ with_fields names.old (with_field (mode_named names.old) (table_fields names.old) (attribute, class))) }
 {
     if has_attribute(names, &attribute) {
         return Ok(());
@@ -296,7 +292,7 @@ fn owner_named(names: &Names, class: &Option<Name>) -> Option<Owner>
     }
 }
 
-// What is known of a set, and then what is said of it.
+// What is known of a set, with what a later declaration adds.
 fn merged_with(known: Option<Set>, more: Set) -> Set
     ensures { result ≡ merged_with known more }
 {
@@ -317,7 +313,7 @@ fn set_at(sets: &[Set], number: usize) -> Option<Set>
     sets.get(number).copied()
 }
 
-// Enters what is said of the set of this number.
+// Enters what a declaration adds to the set of this number.
 fn merge_at(sets: &mut Vec<Set>, number: usize, more: Set)
     requires { number < length sets.old.items }
     ensures { sets.new.items ≡ merged_at sets.old.items number more }
@@ -326,7 +322,7 @@ fn merge_at(sets: &mut Vec<Set>, number: usize, more: Set)
     sets[number] = merged;
 }
 
-// Enters what is said of a set.
+// Enters what a declaration adds to a set.
 fn merge_set(names: &mut Names, set: &Name, more: Set)
     requires { HasRows names.old }
     ensures { names.new ≡ with_sets names.old (with_set names.old.set_names names.old.sets (set.now, more)) }
@@ -350,7 +346,7 @@ fn notice_number(names: &Names, class: &Name) -> Option<usize>
 
 // Enters a class in the order of rank, if it is one of notices.
 fn add_notice(names: &mut Names, class: &Name) -> Result<(), AllocError>
-    ensures { OnOk result (names.new ≡ with_ranks names.old (fold with_number names.old.ranks (notice_number names.old.classes class.now))) }
+    ensures { OnOk result (names.new ≡ with_ranks names.old (fold number_added names.old.ranks (notice_number names.old.classes class.now))) }
 {
     match notice_number(names, class) {
         Some(number) => names.ranks.insert_new(number),
@@ -358,7 +354,7 @@ fn add_notice(names: &mut Names, class: &Name) -> Result<(), AllocError>
     }
 }
 
-// Enters an attribute, what is said of a set, or a class in the order of rank.
+// Enters an attribute, a property of a set, or a class in the order of rank.
 fn add_entities(names: &mut Names, what: &Declared) -> Result<(), AllocError>
     requires { HasRows names.old }
     ensures { OnOk result (names.new ≡ add_entities names.old what.now) }
@@ -390,7 +386,7 @@ fn add_entities(names: &mut Names, what: &Declared) -> Result<(), AllocError>
             rule,
             statement,
         } => {
-            let order = Order {
+            let order = DefinedOrder {
                 rule: *rule,
                 statement: *statement,
             };
@@ -452,7 +448,7 @@ fn add_class_variables(
 
 // Enters the variables of a class, and the class in the order of rank if PRIORITY ORDER doesn't name it.
 fn add_class(names: &mut Names, kind: ClassKind, class: &Name) -> Result<(), AllocError>
-    ensures { OnOk result (names.new ≡ with_ranks (with_variables names.old (fold with_first names.old.variables (class_variables kind class.now))) (fold with_number names.old.ranks (notice_number names.old.classes class.now))) }
+    ensures { OnOk result (names.new ≡ with_ranks (with_variables names.old (fold with_first names.old.variables (class_variables kind class.now))) (fold number_added names.old.ranks (notice_number names.old.classes class.now))) }
 {
     add_class_variables(&mut names.variables, kind, class)?;
     add_notice(names, class)

@@ -8,7 +8,7 @@ mod meaning;
 mod meanings;
 mod names;
 
-pub use entry::{Attribute, EventSection, Order, RankedBy, RoutineSection, Set, TiedBy};
+pub use entry::{Attribute, DefinedOrder, EventSection, RankedBy, RoutineSection, Set, TiedBy};
 pub use meaning::Meaning;
 pub use meanings::Meanings;
 pub use names::{NameId, Names, value_mode};

@@ -5,9 +5,9 @@ ghost use Rattle.std.specs.Map.{keys_of};
 ghost use Rattle.ss_base.specs.declared.layout.Owner.TheVariants as owners;
 ghost use Rattle.ss_names_declarations.specs.Firsts.{place_in, value_for};
 ghost use Rattle.ss_names.specs.Modes.{value_mode};
-ghost use Rattle.ss_names.specs.Entries.{is_notice, row_of};
+ghost use Rattle.ss_names.specs.Entries.{is_notice_class, row_of};
 ghost use Rattle.ss_names.specs.Filling.{first_line};
-ghost use Rattle.ss_names.specs.Table.{clashes, declared, owner_of, owner_of_member, owner_of_set, owner_of_statistic, owner_of_subject};
+ghost use Rattle.ss_names.specs.Table.{clashes, declared, owner_of_meaning, owner_kind_of_member, owner_kind_of_set, owner_of_statistic, owner_of_subject};
 
 use crate::entry::{Attribute, EventSection, RankedBy, RoutineSection, Set, TiedBy};
 use crate::filling::{empty, fill};
@@ -16,7 +16,7 @@ use crate::meanings::Meanings;
 use ss_base::{ClassKind, Line, Mode, Name, Owner, Spelling};
 use ss_names_declarations::{Declaration, Keys, Seed, Table};
 use ss_program::sections::Subject;
-use ss_tree::preamble::{Mode as ModeWord, Weighting};
+use ss_tree::preamble::{ModeWord, Weighting};
 use std::alloc::{AllocError, Global};
 use std::marker::Model;
 
@@ -100,7 +100,7 @@ fn row_at(rows: &[Vec<Name>], class: usize) -> &[Name]
 impl Names {
     /// Gives its memory back. Dropped in line it would do that too, but its caller would prove the drops of its parts again.
     pub fn release(self) {
-        let _released = self;
+        drop(self);
     }
 
     /// The table of these declarations, and the first line where one of them declares a name as another thing than before. The seed
@@ -117,8 +117,13 @@ impl Names {
         ensures clash { IfOk result (λ made. made.1 ≡ first_line (clashes declarations.now)) }
     {
         let mut names = empty(alloc, seed);
-        let clash = fill(alloc, seed, &mut names, declarations)?;
-        Ok((names, clash))
+        match fill(alloc, seed, &mut names, declarations) {
+            Ok(clash) => Ok((names, clash)),
+            Err(error) => {
+                names.release();
+                Err(error)
+            }
+        }
     }
 
     /// The global or derived name of this spelling, in capitals. None where there is none.
@@ -152,7 +157,7 @@ impl Names {
 
     /// Whether a name is that of a class of notices.
     pub fn is_notice(&self, class: &Name) -> bool
-        ensures { result ≡ is_notice (value_for self.now.classes class.now) }
+        ensures { result ≡ is_notice_class (value_for self.now.classes class.now) }
     {
         matches!(self.classes.get(class).copied(), Some(ClassKind::Notice))
     }
@@ -180,7 +185,7 @@ impl Names {
 
     // The owner of a set.
     fn owner_of_set(&self, set: usize) -> Owner
-        ensures { result ≡ owner_of_set (slice_get self.now.sets set) }
+        ensures { result ≡ owner_kind_of_set (slice_get self.now.sets set) }
     {
         match self.set_at(set) {
             None => Owner::System,
@@ -190,7 +195,7 @@ impl Names {
 
     // The class of the members of a set.
     fn owner_of_member(&self, set: usize) -> Owner
-        ensures { result ≡ owner_of_member (slice_get self.now.sets set) }
+        ensures { result ≡ owner_kind_of_member (slice_get self.now.sets set) }
     {
         match self.set_at(set) {
             None => Owner::System,
@@ -222,7 +227,7 @@ impl Names {
 
     /// Who has what a name means: each entity of a class, or else THE SYSTEM.
     pub fn owner_of(&self, meaning: Meaning) -> Owner
-        ensures { result ≡ owner_of self.now meaning }
+        ensures { result ≡ owner_of_meaning self.now meaning }
     {
         match meaning {
             Meaning::Attribute { class, .. } => Owner::Class(class),

@@ -5,7 +5,7 @@ use Rattle.std.specs.List.{AllByRecursion, filter, find, fold, list_all}
 use Rattle.std.proofs.lemmas.Bool.{and_from, and_parts, cases_Bool, cases_lt, cond-false, cond-true, eq-eqb, eqb-false, eqb-true, false_from_ne_true, leb-true, ne_eqb}
 use Rattle.std.proofs.lemmas.Bool.Decides.{Decides-and, Decides-eqb, Decides-ltb, Decides-or}
 use Rattle.std.proofs.lemmas.Option.{none-some, same_Some}
-use Rattle.ss_names_declarations.specs.Earliest.{EarliestIsFirst, EarliestIsLeast, EarliestOfParts, comes_before, earlier, earlier_of, earliest, is_in_order, is_of_rule}
+use Rattle.ss_names_declarations.specs.Earliest.{EarliestIsFirst, EarliestIsLeast, EarliestOfParts, precedes, earlier, earlier_of, earliest, is_in_order, is_of_rule}
 
 -- ---- places
 
@@ -13,18 +13,18 @@ use Rattle.ss_names_declarations.specs.Earliest.{EarliestIsFirst, EarliestIsLeas
 abbrev IsBefore : ℕ × ℕ → ℕ × ℕ → Type 0
 IsBefore p q = (p.0 < q.0) ⊎ ((p.0 ≡ q.0) × (p.1 < q.1))
 
-decides : (p q : ℕ × ℕ) → Decides (comes_before p q) (IsBefore p q)
+decides : (p q : ℕ × ℕ) → Decides (precedes p q) (IsBefore p q)
 decides p q =
     Decides-or (nat_lt p.0 q.0) ((p.0 == q.0) && nat_lt p.1 q.1) (Decides-ltb p.0 q.0)
     (Decides-and (p.0 == q.0) (nat_lt p.1 q.1) (Decides-eqb p.0 q.0) (Decides-ltb p.1 q.1))
 
-is_before : (p q : ℕ × ℕ) → comes_before p q ≡ true → IsBefore p q
+is_before : (p q : ℕ × ℕ) → precedes p q ≡ true → IsBefore p q
 is_before p q e = (decides p q).0 e
 
-is_true : (p q : ℕ × ℕ) → IsBefore p q → comes_before p q ≡ true
+is_true : (p q : ℕ × ℕ) → IsBefore p q → precedes p q ≡ true
 is_true p q h = (decides p q).1 h
 
-not_before : (p q : ℕ × ℕ) → comes_before p q ≡ false → IsBefore p q → ⊥
+not_before : (p q : ℕ × ℕ) → precedes p q ≡ false → IsBefore p q → ⊥
 not_before p q e h = true≢false (sym (is_true p q h) ∙ e)
 
 rule_first : (p q : ℕ × ℕ) → IsBefore p q → p.0 ≤ q.0
@@ -64,17 +64,17 @@ between p q r (inr both) h k =
     let d : r.1 ≤ q.1 = at_most q.1 r.1 (λ l. k (inr (second, l))) in
     omega arith
 
-onward : (p q r : ℕ × ℕ) → comes_before p q ≡ true → comes_before q r ≡ true → comes_before p r ≡ true
+onward : (p q r : ℕ × ℕ) → precedes p q ≡ true → precedes q r ≡ true → precedes p r ≡ true
 onward p q r e f = is_true p r (joined p q r (is_before p q e) (is_before q r f))
 
-one_way : (p q : ℕ × ℕ) → comes_before p q ≡ true → comes_before q p ≡ false
-one_way p q e = false_from_ne_true (comes_before q p) (λ f. crossed p q (is_before p q e) (is_before q p f))
+one_way : (p q : ℕ × ℕ) → precedes p q ≡ true → precedes q p ≡ false
+one_way p q e = false_from_ne_true (precedes q p) (λ f. crossed p q (is_before p q e) (is_before q p f))
 
-not_itself : (p : ℕ × ℕ) → comes_before p p ≡ false
-not_itself p = false_from_ne_true (comes_before p p) (λ e. crossed p p (is_before p p e) (is_before p p e))
+not_itself : (p : ℕ × ℕ) → precedes p p ≡ false
+not_itself p = false_from_ne_true (precedes p p) (λ e. crossed p p (is_before p p e) (is_before p p e))
 
-chain : (p q r : ℕ × ℕ) → comes_before p q ≡ false → comes_before q r ≡ false → comes_before p r ≡ false
-chain p q r e f = false_from_ne_true (comes_before p r) (λ g. between p q r (is_before p r g) (not_before p q e) (not_before q r f))
+chain : (p q r : ℕ × ℕ) → precedes p q ≡ false → precedes q r ≡ false → precedes p r ≡ false
+chain p q r e f = false_from_ne_true (precedes p r) (λ g. between p q r (is_before p r g) (not_before p q e) (not_before q r f))
 
 module _ {E : Type 0} (order : E → ℕ × ℕ) where
   -- ---- parts
@@ -87,31 +87,31 @@ module _ {E : Type 0} (order : E → ℕ × ℕ) where
   of_three : (a : Option E) (b c : E) → earlier_of order a (earlier order (Some b) c) ≡ earlier order (earlier order a b) c
   of_three None b c = of_none (earlier order (Some b) c)
   of_three (Some x) b c = ⊎_elim
-      (λ (cb : comes_before (order c) (order b) ≡ true). ⊎_elim
-      (λ (bx : comes_before (order b) (order x) ≡ true).
-      let cx : comes_before (order c) (order x) ≡ true = onward (order c) (order b) (order x) cb bx in
+      (λ (cb : precedes (order c) (order b) ≡ true). ⊎_elim
+      (λ (bx : precedes (order b) (order x) ≡ true).
+      let cx : precedes (order c) (order x) ≡ true = onward (order c) (order b) (order x) cb bx in
       ap (λ (t : Bool). earlier_of order (Some x) (cond t (Some c) (Some b))) cb ∙
       ap (λ (t : Bool). cond t (Some c) (Some x)) cx ∙
       sym (ap (λ (t : Bool). cond t (Some c) (Some b)) cb) ∙
       sym (ap (λ (t : Bool). earlier order (cond t (Some b) (Some x)) c) bx))
-      (λ (bx : comes_before (order b) (order x) ≡ false).
+      (λ (bx : precedes (order b) (order x) ≡ false).
       ap (λ (t : Bool). earlier_of order (Some x) (cond t (Some c) (Some b))) cb ∙
       sym (ap (λ (t : Bool). earlier order (cond t (Some b) (Some x)) c) bx))
-      (cases_Bool (comes_before (order b) (order x))))
-      (λ (cb : comes_before (order c) (order b) ≡ false). ⊎_elim
-      (λ (bx : comes_before (order b) (order x) ≡ true).
+      (cases_Bool (precedes (order b) (order x))))
+      (λ (cb : precedes (order c) (order b) ≡ false). ⊎_elim
+      (λ (bx : precedes (order b) (order x) ≡ true).
       ap (λ (t : Bool). earlier_of order (Some x) (cond t (Some c) (Some b))) cb ∙
       ap (λ (t : Bool). cond t (Some b) (Some x)) bx ∙
       sym (ap (λ (t : Bool). cond t (Some c) (Some b)) cb) ∙
       sym (ap (λ (t : Bool). earlier order (cond t (Some b) (Some x)) c) bx))
-      (λ (bx : comes_before (order b) (order x) ≡ false).
-      let cx : comes_before (order c) (order x) ≡ false = chain (order c) (order b) (order x) cb bx in
+      (λ (bx : precedes (order b) (order x) ≡ false).
+      let cx : precedes (order c) (order x) ≡ false = chain (order c) (order b) (order x) cb bx in
       ap (λ (t : Bool). earlier_of order (Some x) (cond t (Some c) (Some b))) cb ∙
       ap (λ (t : Bool). cond t (Some b) (Some x)) bx ∙
       sym (ap (λ (t : Bool). cond t (Some c) (Some x)) cx) ∙
       sym (ap (λ (t : Bool). earlier order (cond t (Some b) (Some x)) c) bx))
-      (cases_Bool (comes_before (order b) (order x))))
-      (cases_Bool (comes_before (order c) (order b)))
+      (cases_Bool (precedes (order b) (order x))))
+      (cases_Bool (precedes (order c) (order b)))
 
   of_three_maybe : (a : Option E) (b : E) (o : Option E) → earlier_of order (earlier order a b) o ≡ earlier_of order a (earlier_of order (Some b) o)
   of_three_maybe a b None = refl
@@ -134,22 +134,22 @@ module _ {E : Type 0} (order : E → ℕ × ℕ) where
   -- ---- the least
 
   -- one breach more, where it comes before what was found, or where it does not
-  taken : (found y : E) (ys : List E) → comes_before (order y) (order found) ≡ true → fold (earlier order) (Some y) ys ≡ fold (earlier order) (Some found) (y ∷ ys)
+  taken : (found y : E) (ys : List E) → precedes (order y) (order found) ≡ true → fold (earlier order) (Some y) ys ≡ fold (earlier order) (Some found) (y ∷ ys)
   taken found y ys t = sym (ap (λ (c : Bool). fold (earlier order) (cond c (Some y) (Some found)) ys) t)
 
-  kept : (found y : E) (ys : List E) → comes_before (order y) (order found) ≡ false → fold (earlier order) (Some found) ys ≡ fold (earlier order) (Some found) (y ∷ ys)
+  kept : (found y : E) (ys : List E) → precedes (order y) (order found) ≡ false → fold (earlier order) (Some found) ys ≡ fold (earlier order) (Some found) (y ∷ ys)
   kept found y ys t = sym (ap (λ (c : Bool). fold (earlier order) (cond c (Some y) (Some found)) ys) t)
 
-  least_from : (found : E) (xs : List E) (b : E) → fold (earlier order) (Some found) xs ≡ Some b → (comes_before (order found) (order b) ≡ false) × AllByRecursion (λ c. comes_before (order c) (order b) ≡ false) xs
-  least_from found [] b e = (subst (λ x. comes_before (order found) (order x) ≡ false) (same_Some found b e) (not_itself (order found)), tt)
+  least_from : (found : E) (xs : List E) (b : E) → fold (earlier order) (Some found) xs ≡ Some b → (precedes (order found) (order b) ≡ false) × AllByRecursion (λ c. precedes (order c) (order b) ≡ false) xs
+  least_from found [] b e = (subst (λ x. precedes (order found) (order x) ≡ false) (same_Some found b e) (not_itself (order found)), tt)
   least_from found (y ∷ ys) b e = ⊎_elim
-      (λ (t : comes_before (order y) (order found) ≡ true).
+      (λ (t : precedes (order y) (order found) ≡ true).
       let r = least_from y ys b (taken found y ys t ∙ e) in
       (chain (order found) (order y) (order b) (one_way (order y) (order found) t) r.0, (r.0, r.1)))
-      (λ (t : comes_before (order y) (order found) ≡ false).
+      (λ (t : precedes (order y) (order found) ≡ false).
       let r = least_from found ys b (kept found y ys t ∙ e) in
       (r.0, (chain (order y) (order found) (order b) t r.0, r.1)))
-      (cases_Bool (comes_before (order y) (order found)))
+      (cases_Bool (precedes (order y) (order found)))
 
   pub earliest_is_least : EarliestIsLeast order
   earliest_is_least [] b e = tt
@@ -163,12 +163,12 @@ module _ {E : Type 0} (order : E → ℕ × ℕ) where
       let same : (order found).0 ≡ (order b).0 = ap (λ (x : E). (order x).0) (same_Some found b e) in
       omega arith
   no_later found (y ∷ ys) b e = ⊎_elim
-      (λ (t : comes_before (order y) (order found) ≡ true).
+      (λ (t : precedes (order y) (order found) ≡ true).
       let low : (order b).0 ≤ (order y).0 = no_later y ys b (taken found y ys t ∙ e) in
       let high : (order y).0 ≤ (order found).0 = rule_first (order y) (order found) (is_before (order y) (order found) t) in
       omega arith)
-      (λ (t : comes_before (order y) (order found) ≡ false). no_later found ys b (kept found y ys t ∙ e))
-      (cases_Bool (comes_before (order y) (order found)))
+      (λ (t : precedes (order y) (order found) ≡ false). no_later found ys b (kept found y ys t ∙ e))
+      (cases_Bool (precedes (order y) (order found)))
 
   abbrev reaches : E → E → Bool
   reaches x c = nat_le (order x).1 (order c).1
@@ -197,7 +197,7 @@ module _ {E : Type 0} (order : E → ℕ × ℕ) where
   not_in_order x y same le (inr both) = omega arith
 
   -- where the next breach replaces what was found, that is of a later rule than the earliest
-  of_other_rule : (t u : Bool) (b x y : E) (l : List E) → is_of_rule order b x ≡ t → is_of_rule order b y ≡ u → (order b).0 ≤ (order y).0 → comes_before (order y) (order x) ≡ true →
+  of_other_rule : (t u : Bool) (b x y : E) (l : List E) → is_of_rule order b x ≡ t → is_of_rule order b y ≡ u → (order b).0 ≤ (order y).0 → precedes (order y) (order x) ≡ true →
       is_in_order order (cond t (x ∷ cond u (y ∷ l) l) (cond u (y ∷ l) l)) ≡ true → is_of_rule order b x ≡ false
   of_other_rule true true b x y l p q low before e =
       let one : (order x).0 ≡ (order b).0 = eqb-true (order x).0 (order b).0 p in
@@ -214,7 +214,7 @@ module _ {E : Type 0} (order : E → ℕ × ℕ) where
   passed : (b x y : E) (ys : List E) → is_of_rule order b x ≡ false → find (is_of_rule order b) (y ∷ ys) ≡ Some b → find (is_of_rule order b) (x ∷ y ∷ ys) ≡ Some b
   passed b x y ys other e = cond-false (is_of_rule order b x) (Some x) (find (is_of_rule order b) (y ∷ ys)) other ∙ e
 
-  passed_second : (b x y : E) (ys : List E) → (order b).0 ≤ (order x).0 → comes_before (order y) (order x) ≡ false → find (is_of_rule order b) (x ∷ ys) ≡ Some b → find (is_of_rule order b) (x ∷ y ∷ ys) ≡ Some b
+  passed_second : (b x y : E) (ys : List E) → (order b).0 ≤ (order x).0 → precedes (order y) (order x) ≡ false → find (is_of_rule order b) (x ∷ ys) ≡ Some b → find (is_of_rule order b) (x ∷ y ∷ ys) ≡ Some b
   passed_second b x y ys low after e = ⊎_elim
       (λ (p : is_of_rule order b x ≡ true). cond-true (is_of_rule order b x) (Some x) (find (is_of_rule order b) (y ∷ ys)) p ∙ sym (cond-true (is_of_rule order b x) (Some x) (find (is_of_rule order b) ys) p) ∙ e)
       (λ (p : is_of_rule order b x ≡ false).
@@ -231,18 +231,18 @@ module _ {E : Type 0} (order : E → ℕ × ℕ) where
       let same : (order found).0 ≡ (order b).0 = ap (λ (x : E). (order x).0) (same_Some found b e) in
       cond-true (is_of_rule order b found) (Some found) None (eq-eqb (order found).0 (order b).0 same) ∙ e
   first_from found (y ∷ ys) b sorted e = ⊎_elim
-      (λ (t : comes_before (order y) (order found) ≡ true).
+      (λ (t : precedes (order y) (order found) ≡ true).
       let there : fold (earlier order) (Some y) ys ≡ Some b = taken found y ys t ∙ e in
       let low : (order b).0 ≤ (order y).0 = no_later y ys b there in
       let rest : is_in_order order (filter (is_of_rule order b) (y ∷ ys)) ≡ true = in_order_on (is_of_rule order b found) found (filter (is_of_rule order b) (y ∷ ys)) sorted in
       let other : is_of_rule order b found ≡ false = of_other_rule (is_of_rule order b found) (is_of_rule order b y) b found y (filter (is_of_rule order b) ys) refl refl low t sorted in
       passed b found y ys other (first_from y ys b rest there))
-      (λ (t : comes_before (order y) (order found) ≡ false).
+      (λ (t : precedes (order y) (order found) ≡ false).
       let there : fold (earlier order) (Some found) ys ≡ Some b = kept found y ys t ∙ e in
       let low : (order b).0 ≤ (order found).0 = no_later found ys b there in
       let rest : is_in_order order (filter (is_of_rule order b) (found ∷ ys)) ≡ true = without_second (is_of_rule order b found) (is_of_rule order b y) found y (filter (is_of_rule order b) ys) sorted in
       passed_second b found y ys low t (first_from found ys b rest there))
-      (cases_Bool (comes_before (order y) (order found)))
+      (cases_Bool (precedes (order y) (order found)))
 
   pub earliest_is_first : EarliestIsFirst order
   earliest_is_first [] b sorted e = absurd (none-some b e)

@@ -8,13 +8,13 @@ abbrev pub unless : {E : Type 0} → Bool → E → Option E
 unless true breach = None
 unless false breach = Some breach
 
-abbrev pub comes_before : ℕ × ℕ → ℕ × ℕ → Bool
-comes_before a b = nat_lt a.0 b.0 || ((a.0 == b.0) && nat_lt a.1 b.1)
+abbrev pub precedes : ℕ × ℕ → ℕ × ℕ → Bool
+precedes a b = nat_lt a.0 b.0 || ((a.0 == b.0) && nat_lt a.1 b.1)
 
 -- what was found so far or, if it comes before that, one more
 abbrev pub earlier : {E : Type 0} → (E → ℕ × ℕ) → Option E → E → Option E
 earlier order None e = Some e
-earlier order (Some found) e = if comes_before (order e) (order found) then Some e else Some found
+earlier order (Some found) e = if precedes (order e) (order found) then Some e else Some found
 
 abbrev pub earlier_of : {E : Type 0} → (E → ℕ × ℕ) → Option E → Option E → Option E
 earlier_of order found None = found
@@ -30,7 +30,7 @@ earliest order breaches = fold (earlier order) None breaches
 abbrev pub EarliestIsLeast : {E : Type 0} → (E → ℕ × ℕ) → Type 0
 EarliestIsLeast {E} order =
     (breaches : List E) (b : E) → earliest order breaches ≡ Some b →
-    AllByRecursion (λ c. comes_before (order c) (order b) ≡ false) breaches
+    AllByRecursion (λ c. precedes (order c) (order b) ≡ false) breaches
 
 -- whether a breach is one of the same rule
 abbrev pub is_of_rule : {E : Type 0} → (E → ℕ × ℕ) → E → E → Bool

@@ -3,8 +3,8 @@ use Rattle.std.specs.Prelude.{◌≡◌, ℕ, Bool, true, false, [], ◌∷◌, 
 use Rattle.ss_base.specs.declared.line.Line.{Line}
 use Rattle.ss_base.specs.declared.layout.ClassKind.TheVariants as class_kinds
 use Rattle.ss_base.specs.declared.words.Weighting.TheVariants as weightings
-use Rattle.ss_tree.specs.declared.preamble.Key.{Key}
-use Rattle.ss_tree.specs.declared.preamble.Mode.TheVariants as modes
+use Rattle.ss_tree.specs.declared.preamble.NamedKey.{NamedKey}
+use Rattle.ss_tree.specs.declared.preamble.ModeWord.TheVariants as modes
 use Rattle.ss_tree.specs.declared.preamble.StatisticKind.TheVariants as folds
 use Rattle.ss_tree.specs.Names.{NameBytes}
 use Rattle.ss_tree.specs.Tree.{has, owns, belongs_to, lifo, ranked, permanent_entities, event_notices, every, normally, system_owns, define_variables, define_sets, priority_order, break_ties, statistics, main, routine, event}
@@ -18,7 +18,7 @@ use Rattle.ss_names_declarations.specs.Earliest.{earliest}
 abbrev line : ℕ → Line
 line n = record { 0 = n }
 
-abbrev key : Bool → NameBytes → Key
+abbrev key : Bool → NameBytes → NamedKey
 key high name = record { high = high; name = name }
 
 -- a declaration in this line

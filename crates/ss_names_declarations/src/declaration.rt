@@ -1,7 +1,7 @@
 //! Declarations: what a preamble and the heads of sections say.
 
 use ss_base::{Line, Name};
-use ss_tree::preamble::{ClassKind, Mode, StatisticKind, Weighting};
+use ss_tree::preamble::{ClassKind, ModeWord, StatisticKind, Weighting};
 
 /// How a DEFINE orders its sets. The keys of ranked sets have declarations of their own.
 #[derive(Clone, Copy, Debug, PartialEq, Eq)]
@@ -17,7 +17,7 @@ pub enum SetRule {
 pub enum Declared {
     /// NORMALLY.
     Normally {
-        mode: Mode,
+        mode: ModeWord,
     },
     Class {
         class: Name,
@@ -40,7 +40,7 @@ pub enum Declared {
     /// DEFINE as a variable.
     Variable {
         variable: Name,
-        mode: Mode,
+        mode: ModeWord,
     },
     /// DEFINE as a set, by the statement of this number.
     Order {
@@ -104,7 +104,7 @@ pub enum Declared {
     Local {
         variable: Name,
         section: usize,
-        mode: Mode,
+        mode: ModeWord,
     },
 }
 

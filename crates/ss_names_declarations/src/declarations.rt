@@ -2,17 +2,19 @@
 
 ghost use Rattle.std.specs.Prelude.{◌≡◌, [], ◌∷◌, ◌++◌, map, OnOk, IfOk};
 ghost use Rattle.std.specs.List.{flat_map};
-ghost use Rattle.ss_tree.specs.View.{view_clause, view_order, view_preamble, view_definition, view_kind, view_section, view_program};
+ghost use Rattle.ss_tree.specs.View.{view_clause, view_order, view_preamble, view_definition, view_kind, view_section, view_program_tree};
 ghost use Rattle.ss_base.specs.declared.layout.ClassKind.TheVariants as kinds;
 ghost use Rattle.ss_tree.specs.Names.{NameBytes};
-ghost use Rattle.ss_tree.specs.declared.preamble.Key.{Key as KeySeen};
-ghost use Rattle.ss_tree.specs.declared.preamble.Statistic.{Statistic as StatisticSeen};
+ghost use Rattle.ss_tree.specs.declared.preamble.NamedKey.{NamedKey as KeySeen};
+ghost use Rattle.ss_tree.specs.declared.preamble.NamedStatistic.{NamedStatistic as StatisticSeen};
 ghost use Rattle.ss_names_declarations.specs.declared.declaration.Declared.TheVariants as d;
-ghost use Rattle.ss_names_declarations.specs.Declarations.{at_line, parameter, local, in_clause, rule_of, in_order, in_statement, in_head, in_definition, in_section, flat_map_from, declarations};
+ghost use Rattle.ss_names_declarations.specs.Declarations.{at_line, parameter_declaration, local_declaration, in_clause, rule_of, in_set_order, in_preamble_statement, in_section_head, in_definition, in_section, flat_map_from, declarations};
 
 use crate::declaration::{Declaration, Declared, SetRule};
 use ss_base::{Line, Name};
-use ss_tree::preamble::{ClassKind, Clause, Key, Mode, PreambleStatement, SetOrder, Statistic};
+use ss_tree::preamble::{
+    ClassKind, Clause, ModeWord, NamedKey, NamedStatistic, PreambleStatement, SetOrder,
+};
 use ss_tree::program::{LocalDefinition, Program, Section, SectionKind};
 use std::alloc::{AllocError, Global};
 
@@ -128,7 +130,7 @@ fn add_notices(out: &mut Vec<Declaration>, line: Line, names: &[Name]) -> Result
 fn add_variables(
     out: &mut Vec<Declaration>,
     line: Line,
-    mode: Mode,
+    mode: ModeWord,
     names: &[Name],
 ) -> Result<(), AllocError>
     ensures { OnOk result (out.new.items ≡ out.old.items ++ map (λ (name : NameBytes). at_line line (d.Variable name mode)) names.now) }
@@ -180,7 +182,7 @@ fn add_rank_keys(
     out: &mut Vec<Declaration>,
     line: Line,
     statement: usize,
-    keys: &[Key],
+    keys: &[NamedKey],
 ) -> Result<(), AllocError>
     ensures { OnOk result (out.new.items ≡ out.old.items ++ map (λ (key : KeySeen). at_line line (d.RankKey key.name key.high statement)) keys.now) }
 {
@@ -202,7 +204,7 @@ fn add_order(
     statement: usize,
     order: &SetOrder,
 ) -> Result<(), AllocError>
-    ensures { OnOk result (out.new.items ≡ out.old.items ++ in_order line statement (view_order order.now)) }
+    ensures { OnOk result (out.new.items ≡ out.old.items ++ in_set_order line statement (view_order order.now)) }
 {
     match order {
         SetOrder::Fifo => Ok(()),
@@ -219,7 +221,7 @@ fn add_sets(
     names: &[Name],
     order: &SetOrder,
 ) -> Result<(), AllocError>
-    ensures { OnOk result (out.new.items ≡ out.old.items ++ (map (λ (set : NameBytes). at_line line (d.Order set (rule_of (view_order order.now)) statement)) names.now ++ in_order line statement (view_order order.now))) }
+    ensures { OnOk result (out.new.items ≡ out.old.items ++ (map (λ (set : NameBytes). at_line line (d.Order set (rule_of (view_order order.now)) statement)) names.now ++ in_set_order line statement (view_order order.now))) }
 {
     let rule = rule_of(order);
     add_ordered_sets(out, line, rule, statement, names)?;
@@ -241,7 +243,7 @@ fn add_tie_keys(
     out: &mut Vec<Declaration>,
     line: Line,
     class: Name,
-    keys: &[Key],
+    keys: &[NamedKey],
 ) -> Result<(), AllocError>
     ensures { OnOk result (out.new.items ≡ out.old.items ++ map (λ (key : KeySeen). at_line line (d.TieKey class key.name key.high)) keys.now) }
 {
@@ -261,7 +263,7 @@ fn add_statistics(
     out: &mut Vec<Declaration>,
     line: Line,
     subject: Name,
-    statistics: &[Statistic],
+    statistics: &[NamedStatistic],
 ) -> Result<(), AllocError>
     ensures { OnOk result (out.new.items ≡ out.old.items ++ map (λ (s : StatisticSeen). at_line line (d.Statistic s.name s.kind subject)) statistics.now) }
 {
@@ -282,7 +284,7 @@ fn add_statement(
     number: usize,
     statement: &PreambleStatement,
 ) -> Result<(), AllocError>
-    ensures { OnOk result (out.new.items ≡ out.old.items ++ in_statement number (view_preamble statement.now)) }
+    ensures { OnOk result (out.new.items ≡ out.old.items ++ in_preamble_statement number (view_preamble statement.now)) }
 {
     match statement {
         PreambleStatement::PermanentEntities { .. } => Ok(()),
@@ -340,7 +342,7 @@ fn add_preamble(
     out: &mut Vec<Declaration>,
     preamble: &[PreambleStatement],
 ) -> Result<(), AllocError>
-    ensures { OnOk result (out.new.items ≡ out.old.items ++ flat_map_from in_statement 0 (map view_preamble preamble.now)) }
+    ensures { OnOk result (out.new.items ≡ out.old.items ++ flat_map_from in_preamble_statement 0 (map view_preamble preamble.now)) }
 {
     for (number, statement) in preamble.iter().enumerate() {
         add_statement(out, number, statement)?;
@@ -355,7 +357,7 @@ fn add_parameters(
     section: usize,
     names: &[Name],
 ) -> Result<(), AllocError>
-    ensures { OnOk result (out.new.items ≡ out.old.items ++ map (parameter line section) names.now) }
+    ensures { OnOk result (out.new.items ≡ out.old.items ++ map (parameter_declaration line section) names.now) }
 {
     for name in names {
         let parameter = Declared::Parameter {
@@ -374,7 +376,7 @@ fn add_head(
     section: usize,
     kind: &SectionKind,
 ) -> Result<(), AllocError>
-    ensures { OnOk result (out.new.items ≡ out.old.items ++ in_head line section (view_kind kind.now)) }
+    ensures { OnOk result (out.new.items ≡ out.old.items ++ in_section_head line section (view_kind kind.now)) }
 {
     match kind {
         SectionKind::Main => add(out, line, Declared::Main),
@@ -415,10 +417,10 @@ fn add_locals(
     out: &mut Vec<Declaration>,
     line: Line,
     section: usize,
-    mode: Mode,
+    mode: ModeWord,
     names: &[Name],
 ) -> Result<(), AllocError>
-    ensures { OnOk result (out.new.items ≡ out.old.items ++ map (local line section mode) names.now) }
+    ensures { OnOk result (out.new.items ≡ out.old.items ++ map (local_declaration line section mode) names.now) }
 {
     for name in names {
         let local = Declared::Local {
@@ -479,7 +481,7 @@ fn add_sections(out: &mut Vec<Declaration>, sections: &[Section]) -> Result<(), 
 /// # Errors
 /// `AllocError` where memory is refused.
 pub fn declarations_of(alloc: Global, program: &Program) -> Result<Vec<Declaration>, AllocError>
-    ensures { IfOk result (λ out. out.items ≡ declarations (view_program program.now)) }
+    ensures { IfOk result (λ out. out.items ≡ declarations (view_program_tree program.now)) }
 {
     let mut out = Vec::new(alloc);
     add_preamble(&mut out, &program.preamble)?;

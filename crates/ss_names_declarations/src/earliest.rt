@@ -1,7 +1,7 @@
 //! The first breach of a rule.
 
 ghost use Rattle.std.specs.Prelude.{◌≡◌, ℕ};
-ghost use Rattle.ss_names_declarations.specs.Earliest.{EarliestIsFirst, EarliestIsLeast, EarliestOfParts, comes_before, earlier, earlier_of};
+ghost use Rattle.ss_names_declarations.specs.Earliest.{EarliestIsFirst, EarliestIsLeast, EarliestOfParts, precedes, earlier, earlier_of};
 
 /// A breach of a rule in a line.
 pub trait Breach: Copy {
@@ -14,7 +14,7 @@ pub trait Breach: Copy {
 
 // Whether a place comes before another: by the rule, and then by the line.
 fn comes_before(a: (u32, u32), b: (u32, u32)) -> bool
-    ensures { result ≡ comes_before a b }
+    ensures { result ≡ precedes a b }
 {
     a.0 < b.0 || (a.0 == b.0 && a.1 < b.1)
 }

@@ -4,23 +4,25 @@ ghost use Rattle.std.specs.Prelude.{◌≡◌, ◌++◌, ◌∷◌, [], if◌the
 ghost use Rattle.std.specs.List.{position, list_any};
 
 use crate::seed::Seed;
-use indexmap::IndexSet;
+use crate::table::Table;
 use std::alloc::{AllocError, Global};
 use std::hash::Hash;
 use std::marker::Model;
 
 /// Keys in the order in which they came, each once. The place of a key is found without a walk. A contract sees the list.
+// A set of indexmap would be loaded with all its methods by each crate above.
 #[derive(Drop)]
 pub struct Keys<K: Copy + Eq + Hash> {
-    set: IndexSet<K, Seed>,
+    table: Table<K, ()>,
 }
 
 impl<K: Copy + Eq + Hash> Model for Keys<K> {
     ghost use Rattle.std.specs.Prelude.{List};
+    ghost use Rattle.std.specs.Map.{keys_of};
 
     ghost Value = { List K };
 
-    ghost view = { λ s. s.set.keys };
+    ghost view = { λ s. keys_of s.table };
 }
 
 impl<K: Copy + Eq + Hash> Keys<K> {
@@ -29,7 +31,7 @@ impl<K: Copy + Eq + Hash> Keys<K> {
         ensures { result ≡ [] }
     {
         Keys {
-            set: IndexSet::with_hasher(alloc, seed),
+            table: Table::new(alloc, seed),
         }
     }
 
@@ -37,21 +39,21 @@ impl<K: Copy + Eq + Hash> Keys<K> {
     pub fn as_slice(&self) -> &[K]
         ensures { result.now ≡ self.now }
     {
-        self.set.as_slice()
+        self.table.keys()
     }
 
     /// The place of a key, if it is there.
     pub fn place(&self, key: &K) -> Option<usize>
         ensures { result ≡ position (K.eq key.now) self.now }
     {
-        self.set.get_index_of(key)
+        self.table.place(key)
     }
 
     /// Whether a key is there.
     pub fn contains(&self, key: &K) -> bool
         ensures { result ≡ list_any (K.eq key.now) self.now }
     {
-        self.set.contains(key)
+        self.table.get(key).is_some()
     }
 
     /// Puts a key after the others, unless it is there.
@@ -62,7 +64,7 @@ impl<K: Copy + Eq + Hash> Keys<K> {
         ensures ok { OnOk result (self.new ≡ (if list_any (K.eq key) self.old then self.old else self.old ++ key ∷ [])) }
         ensures err { OnErr result (self.new ≡ self.old) }
     {
-        self.set.insert(key)?;
+        self.table.insert_new(key, ())?;
         Ok(())
     }
 }

@@ -14,7 +14,7 @@ use Rattle.ss_names_uses.specs.declared.used.ClassNeed.TheVariants.{Single, Noti
 use Rattle.ss_names_uses.specs.declared.used.Used.{Used}
 use Rattle.ss_names_uses.specs.declared.used.Used.TheVariants.{Parameter, Local, Unfit}
 use Rattle.ss_names_uses.specs.declared.used.Use.{Use}
-use Rattle.ss_names_uses.specs.Uses.{as_mean, fields_of, in_body, in_call, in_condition, in_expression, in_field, in_given, in_guard, in_head, in_inner, in_item, in_item_at, in_items, in_itself, in_loop_head, in_named, in_new, in_numbers, in_old, in_option, in_phrase, in_places, in_position, in_row, in_start, in_statement, in_target, in_terms, in_test, in_value, in_when, loop_variable, expression_mode, of_fit, of_text, with_decimals}
+use Rattle.ss_names_uses.specs.Uses.{as_mean, fields_of_pictures, in_body, in_call, in_condition, in_expression, in_field, in_given, in_guard, in_head, in_inner, in_item, in_item_at, in_items, in_itself, in_loop_head, in_named, in_new, in_numbers, in_old, in_option, in_phrase, in_places, in_position, in_row, in_start, in_statement, in_target, in_terms, in_test, in_value, in_when, loop_variable, expression_tree_mode, of_fit, of_text, with_decimals}
 use Rattle.ss_names_laws.proofs.Each.{joined}
 
 -- whether what is used declares a local variable
@@ -167,16 +167,16 @@ module _ (line : Line) where
   item (parenthesised e) = item e
   item e = expression false e
 
-  item_at : (pictures : List (List ℕ)) (i : ℕ) (e : ExpressionTree) → Silent (in_item_at line (fields_of pictures) i e)
-  item_at pictures i e = both (option (in_field line e) (slice_get (fields_of pictures) i) (λ field. decimals_of e field.decimals)) (item e)
+  item_at : (pictures : List (List ℕ)) (i : ℕ) (e : ExpressionTree) → Silent (in_item_at line (fields_of_pictures pictures) i e)
+  item_at pictures i e = both (option (in_field line e) (slice_get (fields_of_pictures pictures) i) (λ field. decimals_of e field.decimals)) (item e)
 
   fit : (b : Bool) → Silent (of_fit line b)
   fit true = nothing
   fit false = record { each = (refl, tt) }
 
-  printed : (items : List ExpressionTree) (pictures : List (List ℕ)) → Silent (in_items line items (fields_of pictures))
+  printed : (items : List ExpressionTree) (pictures : List (List ℕ)) → Silent (in_items line items (fields_of_pictures pictures))
   printed items pictures =
-      both (fit (length items == length (fields_of pictures))) (places (in_item_at line (fields_of pictures)) 0 items (item_at pictures))
+      both (fit (length items == length (fields_of_pictures pictures))) (places (in_item_at line (fields_of_pictures pictures)) 0 items (item_at pictures))
 
 -- ---- statements
 
@@ -185,7 +185,7 @@ every_class line [] = nothing
 every_class line (class ∷ classes) = record { each = (refl, (every_class line classes).each) }
 
 itself : (s : StatementTree) → Silent (in_itself s)
-itself (let_statement line n e) = both (target line (expression_mode e) n) (expression line false e)
+itself (let_statement line n e) = both (target line (expression_tree_mode e) n) (expression line false e)
 itself (add_statement line e n) = both (expression line true e) (place_named line roles.Target true n)
 itself (subtract_statement line e n) = both (expression line true e) (place_named line roles.Target true n)
 itself (call_statement line name given yielding) = called_with line name given yielding

@@ -14,7 +14,7 @@ use Rattle.ss_names_declarations.specs.declared.declaration.Declared.TheVariants
 use Rattle.ss_names_declarations.specs.declared.declaration.Declaration.{Declaration}
 use Rattle.ss_names_declarations.proofs.Entries.{place_of_value}
 use Rattle.ss_names.specs.declared.meaning.Meaning.TheVariants as m
-use Rattle.ss_names.specs.Entries.{attributes, class_by, class_variables, classes, count_name, variable_by, variables}
+use Rattle.ss_names.specs.Entries.{attributes, class_by, class_variables, classes, count_name, variable_by, global_variables}
 use Rattle.ss_names.specs.Table.{class_meaning, class_entry, count_meaning, count_entry, declares, numbered, table}
 use Rattle.ss_tables_rules.specs.Broken.{refusal_of_declarations}
 use Rattle.ss_names_laws.proofs.Firsts.{declared_value, entry_here, value_declared}
@@ -44,13 +44,13 @@ module _ (ds : List Declaration) where
 
   -- the number, the kind and the variable of a class
   abbrev pub ClassThere : NameBytes → Type 0
-  ClassThere name = (class : ℕ) × (kind : ClassKind) × (variable : ℕ) × (place_in (classes ds) name ≡ Some class) × (value_for (classes ds) name ≡ Some kind) × (place_in (variables ds) name ≡ Some variable)
+  ClassThere name = (class : ℕ) × (kind : ClassKind) × (variable : ℕ) × (place_in (classes ds) name ≡ Some class) × (value_for (classes ds) name ≡ Some kind) × (place_in (global_variables ds) name ≡ Some variable)
 
   -- the variable of a class, or N. of it, has a number
-  variable_there : (line : Line) (n name : NameBytes) (kind : ClassKind) → Among ds (at_line line (d.Class n kind)) → Among (class_variables kind n) (name, Integer) → (k : ℕ) × (place_in (variables ds) name ≡ Some k)
+  variable_there : (line : Line) (n name : NameBytes) (kind : ClassKind) → Among ds (at_line line (d.Class n kind)) → Among (class_variables kind n) (name, Integer) → (k : ℕ) × (place_in (global_variables ds) name ≡ Some k)
   variable_there line n name kind a b =
       let v = declared_value (variable_by (attributes ds)) ds (at_line line (d.Class n kind)) name Integer a b in
-      let found = place_of_value (variables ds) name v.0 v.1 in
+      let found = place_of_value (global_variables ds) name v.0 v.1 in
       (found.0, found.1.0)
 
   pub class_there : (line : Line) (name : NameBytes) (kind : ClassKind) → Among ds (at_line line (d.Class name kind)) → ClassThere name

@@ -11,7 +11,7 @@ use Rattle.ss_base.specs.Lines.{line_if}
 use Rattle.ss_tree.specs.Names.{NameBytes}
 use Rattle.ss_tree.specs.Tree.{ProgramTree}
 use Rattle.ss_names_declarations.specs.Declarations.{declarations}
-use Rattle.ss_names_declarations.specs.Earliest.{comes_before, earlier_of, earliest}
+use Rattle.ss_names_declarations.specs.Earliest.{precedes, earlier_of, earliest}
 use Rattle.ss_names_declarations.specs.Firsts.{value_for}
 use Rattle.ss_names_declarations.specs.declared.declaration.Declaration.{Declaration}
 use Rattle.ss_names_declarations.proofs.EarliestBreach.{found_and_rest}
@@ -19,13 +19,13 @@ use Rattle.ss_names_declarations.proofs.Entries.{value_append, value_in_firsts}
 use Rattle.ss_names.specs.declared.meaning.Meaning.{Meaning}
 use Rattle.ss_names.specs.declared.meaning.Meaning.TheVariants as m
 use Rattle.ss_names.specs.Entries.{given_by}
-use Rattle.ss_names.specs.Table.{Entered, Table, clashes, clashes_after, declares, entered_at, entered_by, is_another, numbered, same_of_set, table}
+use Rattle.ss_names.specs.Table.{Entered, Table, clashes, clashes_after, declares, entered_in_line, entered_by, is_another, numbered, same_of_set, table}
 use Rattle.ss_tables_rules.specs.declared.error.TableError.TheVariants as errors
 use Rattle.ss_tables_rules.specs.declared.once.Once.{Once}
-use Rattle.ss_tables_rules.specs.Broken.{breaches, breaks, refusal_of_declarations, unmoded}
+use Rattle.ss_tables_rules.specs.Broken.{table_breaches, declaration_breaches, refusal_of_declarations, unmoded}
 use Rattle.ss_tables_rules.specs.Keys.{misranked}
 use Rattle.ss_tables_rules.specs.Once.{is_among, once_of, repeats, repeats_after, repeated_breach, same_once, again, once_added}
-use Rattle.ss_tables_rules.specs.Order.{order_of}
+use Rattle.ss_tables_rules.specs.Order.{table_error_order}
 use Rattle.ss_tables_rules.specs.Rules.{broken_by}
 use Rattle.ss_names_laws.proofs.Firsts.{has_value}
 use Rattle.std.specs.Prelude.{option_to_list}
@@ -39,7 +39,7 @@ one_of_two false found new h = none-some found (sym h)
 
 still_found : {E : Type 0} (order : E → ℕ × ℕ) (found : E) (rest : Option E) → earlier_of order (Some found) rest ≡ None → ⊥
 still_found order found None h = none-some found (sym h)
-still_found order found (Some new) h = one_of_two (comes_before (order new) (order found)) found new h
+still_found order found (Some new) h = one_of_two (precedes (order new) (order found)) found new h
 
 pub nothing_found : {E : Type 0} (order : E → ℕ × ℕ) (es : List E) → earliest order es ≡ None → es ≡ []
 nothing_found order [] h = refl
@@ -67,10 +67,10 @@ none_listed : {A : Type 0} (o : Option A) → option_to_list o ≡ [] → o ≡ 
 none_listed None h = refl
 none_listed (Some x) h = absurd cc
 
-unbroken : (t : Table) (ds : List Declaration) → flat_map (breaks t) ds ≡ [] → Every (λ (x : Declaration). broken_by t x ≡ None) ds
+unbroken : (t : Table) (ds : List Declaration) → flat_map (declaration_breaches t) ds ≡ [] → Every (λ (x : Declaration). broken_by t x ≡ None) ds
 unbroken t [] h = tt
 unbroken t (x ∷ ds) h =
-    let parts = both_empty (breaks t x) (flat_map (breaks t) ds) h in
+    let parts = both_empty (declaration_breaches t x) (flat_map (declaration_breaches t) ds) h in
     (none_listed (broken_by t x) parts.0, unbroken t ds parts.1)
 
 -- ---- a name that is declared again
@@ -138,7 +138,7 @@ after_these before (x ∷ xs) ys h =
     ap (λ (ms : List (NameBytes × Meaning)). clashes_after ms ys) (sym (append_assoc before (pair_of x ∷ []) (map pair_of xs)))
     ∙ after_these (before ++ pair_of x ∷ []) xs ys parts.1
 
-pairs_back : (line : Line) (es : List (NameBytes × Meaning)) → map pair_of (map (entered_at line) es) ≡ es
+pairs_back : (line : Line) (es : List (NameBytes × Meaning)) → map pair_of (map (entered_in_line line) es) ≡ es
 pairs_back line [] = refl
 pairs_back line (e ∷ es) = ap (λ l. e ∷ l) (pairs_back line es)
 
@@ -147,15 +147,15 @@ module _ (t : Table) where
   pairs_of_all [] = refl
   pairs_of_all (x ∷ ds) = map-append pair_of (entered_by t x) (flat_map (entered_by t) ds) ∙ (λ i. pairs_back x.line (declares t x.what) i ++ pairs_of_all ds i)
 
-  is_entered : (ds : List Declaration) (x : Declaration) (name : NameBytes) (meaning : Meaning) → Among ds x → Among (declares t x.what) (name, meaning) → Among (flat_map (entered_by t) ds) (entered_at x.line (name, meaning))
-  is_entered ds x name meaning a b = in_pieces (entered_by t) ds x (entered_at x.line (name, meaning)) a (in_image (entered_at x.line) (declares t x.what) (name, meaning) b)
+  is_entered : (ds : List Declaration) (x : Declaration) (name : NameBytes) (meaning : Meaning) → Among ds x → Among (declares t x.what) (name, meaning) → Among (flat_map (entered_by t) ds) (entered_in_line x.line (name, meaning))
+  is_entered ds x name meaning a b = in_pieces (entered_by t) ds x (entered_in_line x.line (name, meaning)) a (in_image (entered_in_line x.line) (declares t x.what) (name, meaning) b)
 
   -- a name that a declaration declares isn't declared by a later one as something that isn't of a set
   never_later : (before : List (NameBytes × Meaning)) (x y : Declaration) (ds : List Declaration) (name : NameBytes) (first second : Meaning) → clashes_after before (entered_by t x ++ flat_map (entered_by t) ds) ≡ [] →
       same_of_set second second ≡ false → Among (declares t x.what) (name, first) → Among ds y → Among (declares t y.what) (name, second) → ⊥
   never_later before x y ds name first second h alone a b c =
       let passed = before ++ map pair_of (entered_by t x) in
-      let found = first_fits passed (flat_map (entered_by t) ds) (entered_at y.line (name, second)) (after_these before (entered_by t x) (flat_map (entered_by t) ds) h) (is_entered ds y name second b c) in
+      let found = first_fits passed (flat_map (entered_by t) ds) (entered_in_line y.line (name, second)) (after_these before (entered_by t x) (flat_map (entered_by t) ds) h) (is_entered ds y name second b c) in
       let here = subst (λ (l : List (NameBytes × Meaning)). Among l (name, first)) (sym (pairs_back x.line (declares t x.what))) a in
       let known = has_value passed name first (in_right before (map pair_of (entered_by t x)) (name, first) here) in
       ⊎_elim
@@ -227,11 +227,11 @@ never_again t said (x ∷ ds) h = said_next t said x ds (once_of t x.what) (λ m
 -- ---- a program that breaks no rule
 
 module _ (p : ProgramTree) (kept : refusal_of_declarations p ≡ None) where
-  parts : (map errors.Twice (clashes (declarations p)) ≡ []) × (repeats (table p) (declarations p) ≡ []) × (flat_map (breaks (table p)) (declarations p) ≡ []) × (misranked (table p) p.preamble ≡ []) × (unmoded (table p) p.sections ≡ [])
+  parts : (map errors.Twice (clashes (declarations p)) ≡ []) × (repeats (table p) (declarations p) ≡ []) × (flat_map (declaration_breaches (table p)) (declarations p) ≡ []) × (misranked (table p) p.preamble ≡ []) × (unmoded (table p) p.sections ≡ [])
   parts =
-      five_empty (map errors.Twice (clashes (declarations p))) (repeats (table p) (declarations p)) (flat_map (breaks (table p)) (declarations p))
+      five_empty (map errors.Twice (clashes (declarations p))) (repeats (table p) (declarations p)) (flat_map (declaration_breaches (table p)) (declarations p))
       (misranked (table p) p.preamble) (unmoded (table p) p.sections)
-      (nothing_found order_of (breaches (table p) (declarations p) p) kept)
+      (nothing_found table_error_order (table_breaches (table p) (declarations p) p) kept)
 
   pub no_clash : clashes (declarations p) ≡ []
   no_clash = no_images errors.Twice (clashes (declarations p)) parts.0
@@ -258,7 +258,7 @@ module _ (p : ProgramTree) (kept : refusal_of_declarations p ≡ None) where
   first_meant x name meaning a b =
       let ds = declarations p in
       let t = numbered ds in
-      let found = first_fits [] (flat_map (entered_by t) ds) (entered_at x.line (name, meaning)) no_clash (is_entered t ds x name meaning a b) in (
+      let found = first_fits [] (flat_map (entered_by t) ds) (entered_in_line x.line (name, meaning)) no_clash (is_entered t ds x name meaning a b) in (
         found.0,
         value_in_firsts (given_by (declares t) ds) name ∙ ap (λ (ms : List (NameBytes × Meaning)). value_for ms name) (sym (pairs_of_all t ds)) ∙ found.1,
         ⊎_elim (λ (r : (value_for {V = Meaning} [] name ≡ None) × (found.0 ≡ meaning)). inl r.1) inr found.2,

@@ -12,7 +12,7 @@ use Rattle.ss_base.specs.declared.layout.Discipline.TheVariants as disciplines_o
 use Rattle.ss_base.specs.declared.layout.RankKey.{RankKey}
 use Rattle.ss_tree.specs.Names.{NameBytes}
 use Rattle.ss_tree.specs.Tree.{OrderTree, ranked, PreambleTree, define_sets, ProgramTree}
-use Rattle.ss_tree.specs.declared.preamble.Key.{Key}
+use Rattle.ss_tree.specs.declared.preamble.NamedKey.{NamedKey}
 use Rattle.ss_names_declarations.specs.Declarations.{declarations}
 use Rattle.ss_names_declarations.specs.Firsts.{place_in, same_name, value_for}
 use Rattle.ss_names_declarations.specs.declared.declaration.Declared.{Declared}
@@ -22,7 +22,7 @@ use Rattle.ss_names_declarations.specs.declared.declaration.SetRule.{SetRule}
 use Rattle.ss_names_declarations.specs.declared.declaration.SetRule.TheVariants as rules
 use Rattle.ss_names_declarations.proofs.Entries.{entry_of_key, firsts_once, place_from}
 use Rattle.ss_names.specs.declared.entry.Attribute.{Attribute}
-use Rattle.ss_names.specs.declared.entry.Order.{Order}
+use Rattle.ss_names.specs.declared.entry.DefinedOrder.{DefinedOrder}
 use Rattle.ss_names.specs.declared.entry.RankedBy.{RankedBy}
 use Rattle.ss_names.specs.declared.entry.Set.{Set}
 use Rattle.ss_names.specs.declared.entry.TiedBy.{TiedBy}
@@ -33,7 +33,7 @@ use Rattle.ss_tables_rules.specs.Broken.{refusal_of_declarations}
 use Rattle.ss_tables_rules.specs.Keys.{class_of, is_foreign, is_foreign_to_any, member_named, member_of, misranked_in, misranked_key}
 use Rattle.ss_tables_rules.specs.Rules.{broken_in, is_attribute_of, is_class_of}
 use Rattle.ss_names_meaning.specs.Answers.{where_holds}
-use Rattle.ss_names_meaning.specs.Layouts.{discipline, disciplines, key_of, ordered, rank_keys, ranked_by, ruled, tie_keys, tied_by}
+use Rattle.ss_names_meaning.specs.Layouts.{discipline, disciplines, rank_key, ordered, rank_keys, ranked_by, ruled, tie_keys, tied_by}
 use Rattle.ss_names_laws.proofs.Each.{at_place, each_empty, every_image, every_passed, every_piece}
 use Rattle.ss_names_laws.proofs.Firsts.{value_among}
 use Rattle.ss_names_laws.proofs.Items.{Among, at_item}
@@ -49,7 +49,7 @@ use Rattle.ss_names_laws.proofs.Unbroken.{every_given, fits, none_breaks}
 abbrev IsKeyOf : Table → ℕ → NameBytes → Type 0
 IsKeyOf t class name = (a : Attribute) × (value_for t.attributes name ≡ Some a) × (nat_eq a.class class ≡ true)
 
-key_there : (t : Table) (class : ℕ) (high : Bool) (name : NameBytes) → IsKeyOf t class name → (key : RankKey) × (key_of t class high name ≡ Some key) × Unit {0}
+key_there : (t : Table) (class : ℕ) (high : Bool) (name : NameBytes) → IsKeyOf t class name → (key : RankKey) × (rank_key t class high name ≡ Some key) × Unit {0}
 key_there t class high name h =
     let key : RankKey = record { field = h.0.field; high = high } in (
       key,
@@ -72,7 +72,7 @@ none_of_any test (x ∷ xs) h = let parts = or_parts (test x) (list_any test xs)
 -- ---- where orders and keys come from
 
 -- a DEFINE of the text orders a set
-abbrev IsOrdered : ProgramTree → NameBytes × Order → Type 0
+abbrev IsOrdered : ProgramTree → NameBytes × DefinedOrder → Type 0
 IsOrdered p e = IsMade p (d.Order e.0 e.1.rule e.1.statement)
 
 order_made : (p : ProgramTree) (w : Declared) → IsMade p w → Every (IsOrdered p) (order_by w)
@@ -88,16 +88,16 @@ rank_key_made p (d.RankKey attribute high statement) h = (h, tt)
 rank_key_made p _ h = tt
 
 -- a key of a DEFINE is foreign to none of its sets
-never_foreign : (t : Table) (line : Line) (sets : List NameBytes) (keys : List Key) (key : Key) (set : NameBytes) → misranked_in t (define_sets line sets (ranked keys)) ≡ [] → Among keys key → Among sets set →
+never_foreign : (t : Table) (line : Line) (sets : List NameBytes) (keys : List NamedKey) (key : NamedKey) (set : NameBytes) → misranked_in t (define_sets line sets (ranked keys)) ≡ [] → Among keys key → Among sets set →
     is_foreign (class_of (value_for t.attributes key.name)) (member_named t set) ≡ false
 never_foreign t line sets keys key set h a b =
     let class = class_of (value_for t.attributes key.name) in
-    let own = at_item (λ (k : Key). misranked_key t line sets k ≡ []) keys key (each_empty (misranked_key t line sets) keys h) a in
+    let own = at_item (λ (k : NamedKey). misranked_key t line sets k ≡ []) keys key (each_empty (misranked_key t line sets) keys h) a in
     let none = none_breaks (is_foreign_to_any t sets class) (errors.RankKey line) own in
     at_item (λ (s : NameBytes). is_foreign class (member_named t s) ≡ false) sets set (none_of_any (λ (s : NameBytes). is_foreign class (member_named t s)) sets none) b
 
 -- one statement has one list of sets
-same_sets : (line other : Line) (sets more : List NameBytes) (order : OrderTree) (keys : List Key) (o : Option PreambleTree) → o ≡ Some (define_sets line sets order) → o ≡ Some (define_sets other more (ranked keys)) → sets ≡ more
+same_sets : (line other : Line) (sets more : List NameBytes) (order : OrderTree) (keys : List NamedKey) (o : Option PreambleTree) → o ≡ Some (define_sets line sets order) → o ≡ Some (define_sets other more (ranked keys)) → sets ≡ more
 same_sets line other sets more order keys o e f =
     let same : define_sets line sets order ≡ define_sets other more (ranked keys) = same_Some (define_sets line sets order) (define_sets other more (ranked keys)) (sym e ∙ f) in
     cc
@@ -112,7 +112,7 @@ module _ (p : ProgramTree) (kept : refusal_of_declarations p ≡ None) where
   all_ranked = every_piece (IsRanked p) (λ (x : Declaration). rank_key_by x.what) (declarations p) (λ x a. rank_key_made p x.what (at_item (Made p) (declarations p) x (all_made p) a))
 
   -- a key of the DEFINE of a set is an attribute of the class of its members
-  key_owned : (name : NameBytes) (set : IsOwned p name) (o : Order) → IsOrdered p (name, o) → (k : RankedBy) → IsRanked p k → nat_eq k.statement o.statement ≡ true → IsKeyOf (table p) set.member k.attribute
+  key_owned : (name : NameBytes) (set : IsOwned p name) (o : DefinedOrder) → IsOrdered p (name, o) → (k : RankedBy) → IsRanked p k → nat_eq k.statement o.statement ≡ true → IsKeyOf (table p) set.member k.attribute
   key_owned name set o made k key is =
       let t = table p in
       let at : slice_get p.preamble o.statement ≡ Some (define_sets key.0 key.1 (ranked key.2)) = ap (slice_get p.preamble) (sym (eqb-true k.statement o.statement is)) ∙ key.4 in
@@ -123,7 +123,7 @@ module _ (p : ProgramTree) (kept : refusal_of_declarations p ≡ None) where
       own_key (value_for t.attributes k.attribute) set.member
       (ap (λ (n : NameBytes). is_foreign (class_of (value_for t.attributes n)) (Some set.member)) (sym key.6) ∙ ap (is_foreign (class_of (value_for t.attributes key.3.name))) (sym member) ∙ free)
 
-  keys_there : (name : NameBytes) (set : IsOwned p name) (o : Order) → IsOrdered p (name, o) → (keys : List RankKey) × (rank_keys (table p) set.member o.statement ≡ Some keys)
+  keys_there : (name : NameBytes) (set : IsOwned p name) (o : DefinedOrder) → IsOrdered p (name, o) → (keys : List RankKey) × (rank_keys (table p) set.member o.statement ≡ Some keys)
   keys_there name set o made =
       let t = table p in
       let of_order : RankedBy → Bool = λ k. k.statement == o.statement in
@@ -132,7 +132,7 @@ module _ (p : ProgramTree) (kept : refusal_of_declarations p ≡ None) where
       let found = each_made (ranked_by t set.member) (λ (key : RankKey). Unit {0}) (filter of_order t.rank_keys) all in
       (found.0, found.1)
 
-  by_rule : (name : NameBytes) (set : IsOwned p name) (o : Order) → IsOrdered p (name, o) → (rule : SetRule) → (x : Discipline) × (ruled (table p) (set_of (classes (declarations p)) (declarations p) name).member o.statement rule ≡ Some x)
+  by_rule : (name : NameBytes) (set : IsOwned p name) (o : DefinedOrder) → IsOrdered p (name, o) → (rule : SetRule) → (x : Discipline) × (ruled (table p) (set_of (classes (declarations p)) (declarations p) name).member o.statement rule ≡ Some x)
   by_rule name set o made rules.Fifo = (disciplines_of.Fifo, refl)
   by_rule name set o made rules.Lifo = (disciplines_of.Lifo, refl)
   by_rule name set o made rules.Ranked =
@@ -142,7 +142,7 @@ module _ (p : ProgramTree) (kept : refusal_of_declarations p ≡ None) where
   discipline_there : (name : NameBytes) → IsOwned p name → (x : Discipline) × (discipline (table p) (set_of (classes (declarations p)) (declarations p) name) ≡ Some x) × Unit {0}
   discipline_there name set = by (value_for (given_by order_by (declarations p)) name) refl
     where
-      by : (o : Option Order) → value_for (given_by order_by (declarations p)) name ≡ o → (x : Discipline) × (ordered (table p) (set_of (classes (declarations p)) (declarations p) name).member o ≡ Some x) × Unit {0}
+      by : (o : Option DefinedOrder) → value_for (given_by order_by (declarations p)) name ≡ o → (x : Discipline) × (ordered (table p) (set_of (classes (declarations p)) (declarations p) name).member o ≡ Some x) × Unit {0}
       by None is = (disciplines_of.Fifo, refl, tt)
       by (Some o) is =
           let orders = every_piece (IsOrdered p) (λ (x : Declaration). order_by x.what) (declarations p) (λ x a. order_made p x.what (at_item (Made p) (declarations p) x (all_made p) a)) in

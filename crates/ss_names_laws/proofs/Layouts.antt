@@ -19,7 +19,7 @@ use Rattle.ss_names_declarations.proofs.Entries.{there, value_at}
 use Rattle.ss_names.specs.declared.entry.Attribute.{Attribute}
 use Rattle.ss_names.specs.declared.entry.Set.{Set}
 use Rattle.ss_names.specs.Entries.{attribute_after, attribute_classes, attributes, attributes_after, attributes_of_class, classes, fields, mode_of_name, set_names, set_of}
-use Rattle.ss_names.specs.Table.{Table, field_mode, table}
+use Rattle.ss_names.specs.Table.{Table, mode_of_attribute, table}
 use Rattle.ss_tables_rules.specs.Broken.{refusal_of_declarations}
 use Rattle.ss_names_meaning.specs.Answers.{each, upto}
 use Rattle.ss_names_meaning.specs.Layouts.{class_layout, layout, set_layout}
@@ -67,7 +67,7 @@ row_few p kept class lt =
 
 class_there : (t : Table) (n : ℕ) (kind : ClassKind) → slice_get (values_of t.classes) n ≡ Some kind → Every (IsKnown t) (get_or t.fields n []) → length (get_or t.fields n []) ≤ 64 → (c : PlainClass) × (class_layout t n ≡ Some c) × (is_narrow c ≡ true)
 class_there t n kind class known few =
-    let modes = each_made (field_mode t) (λ (mode : Mode). Unit {0}) (get_or t.fields n []) (each_item (λ (name : NameBytes). (mode : Mode) × (field_mode t name ≡ Some mode) × Unit {0}) (get_or t.fields n []) (λ name a.
+    let modes = each_made (mode_of_attribute t) (λ (mode : Mode). Unit {0}) (get_or t.fields n []) (each_item (λ (name : NameBytes). (mode : Mode) × (mode_of_attribute t name ≡ Some mode) × Unit {0}) (get_or t.fields n []) (λ name a.
     let k = at_item (IsKnown t) (get_or t.fields n []) name known a in
     (k.0.mode, ap (λ (o : Option Attribute). option_map (λ (x : Attribute). x.mode) o) k.1, tt))) in
     let laid : PlainClass = record { kind = kind; fields = modes.0 } in

@@ -20,7 +20,7 @@ use Rattle.ss_names.specs.Entries.{attribute_by, attribute_classes, attributes, 
 use Rattle.ss_names.specs.Table.{Table, table}
 use Rattle.ss_tables_rules.specs.declared.error.TableError.TheVariants as errors
 use Rattle.ss_tables_rules.specs.Broken.{refusal_of_declarations}
-use Rattle.ss_tables_rules.specs.Rules.{broken_in, field_of, has_member, has_owner, is_too_many, set_by_name}
+use Rattle.ss_tables_rules.specs.Rules.{broken_in, field_number, has_member, has_owner, is_too_many, set_by_name}
 use Rattle.ss_names_laws.proofs.Each.{at_place, every_first, every_if, from_places}
 use Rattle.ss_names_laws.proofs.Names.{entry_of, every_entry, once_as_entries}
 use Rattle.ss_names_laws.proofs.Unbroken.{every_given, fits, two_fit}
@@ -55,10 +55,10 @@ module _ (t : Table) (line : Line) where
   set_few (d.Member set class) h = ((two_fit (has_owner (set_by_name t set)) (not (is_too_many (place_among t.set_names set))) (errors.NoOwner line) (errors.TooMany line) h).1, tt)
   set_few _ h = tt
 
-  attribute_few : (w : Declared) → broken_in t line w ≡ None → Every (λ (e : NameBytes × ℕ). IsFew (field_of (value_for t.attributes e.0))) (attribute_by t.classes w)
+  attribute_few : (w : Declared) → broken_in t line w ≡ None → Every (λ (e : NameBytes × ℕ). IsFew (field_number (value_for t.attributes e.0))) (attribute_by t.classes w)
   attribute_few (d.Attribute name class) h =
-      every_if (λ (e : NameBytes × ℕ). IsFew (field_of (value_for t.attributes e.0))) name (place_in t.classes class)
-      (λ n is. (two_fit (is_some t.usual || is_some (value_for t.modes name)) (not (is_too_many (field_of (value_for t.attributes name)))) (errors.RealMode line) (errors.TooMany line) h).1)
+      every_if (λ (e : NameBytes × ℕ). IsFew (field_number (value_for t.attributes e.0))) name (place_in t.classes class)
+      (λ n is. (two_fit (is_some t.usual || is_some (value_for t.modes name)) (not (is_too_many (field_number (value_for t.attributes name)))) (errors.RealMode line) (errors.TooMany line) h).1)
   attribute_few _ h = tt
 
 -- ---- rows
@@ -115,10 +115,10 @@ module _ (p : ProgramTree) (kept : refusal_of_declarations p ≡ None) where
       let ds = declarations p in
       let all = given_by (attribute_by (classes ds)) ds in
       let mode = mode_of_name ds in
-      let IsOfFew = λ (name : NameBytes). IsFew (field_of (value_for (attributes ds) name)) in
+      let IsOfFew = λ (name : NameBytes). IsFew (field_number (value_for (attributes ds) name)) in
       let P = λ (e : NameBytes × ℕ). IsOfFew e.0 in
       let named = every_after IsOfFew mode [] (first_entries all) (every_first P all (every_given p kept P (attribute_by (classes ds)) (attribute_few (table p)))) in
       let once = subst (IsDistinct same_name) (sym (keys_after mode [] (first_entries all))) (firsts_once all) in
       let numbers = from_places (λ (e : NameBytes × Attribute). e.1.field < 64) (attributes ds) (λ i e at.
-      few e.1.field (subst (λ (o : Option Attribute). IsFew (field_of o)) (value_from_place (attributes ds) i e.0 e.1 once at) (at_place (λ (f : NameBytes × Attribute). IsOfFew f.0) (attributes ds) i e named at))) in
+      few e.1.field (subst (λ (o : Option Attribute). IsFew (field_number o)) (value_from_place (attributes ds) i e.0 e.1 once at) (at_place (λ (f : NameBytes × Attribute). IsOfFew f.0) (attributes ds) i e named at))) in
       rows_few mode class [] (attribute_classes ds) numbers (omega arith)

@@ -12,7 +12,7 @@ use Rattle.ss_tree.specs.Names.{NameBytes}
 use Rattle.ss_tree.specs.Tree.{DefinitionTree, SectionKindTree, main, routine, event, SectionTree, ProgramTree}
 use Rattle.ss_tree.specs.declared.expression.Designator.{Designator}
 use Rattle.ss_tree.specs.declared.expression.Designator.TheVariants as designators
-use Rattle.ss_names_declarations.specs.Declarations.{flat_map_from, in_definition, in_head, in_section, in_statement, local, parameter}
+use Rattle.ss_names_declarations.specs.Declarations.{flat_map_from, in_definition, in_section_head, in_section, in_preamble_statement, local_declaration, parameter_declaration}
 use Rattle.ss_names_declarations.specs.Firsts.{first_entries, place_in, same_name, value_for}
 use Rattle.ss_names_declarations.specs.declared.declaration.Declaration.{Declaration}
 use Rattle.ss_names_declarations.proofs.Entries.{firsts_once, there, value_at, value_by_place, value_from_place}
@@ -98,37 +98,37 @@ module _ (p : ProgramTree) (kept : refusal_of_declarations p ≡ None) where
   abbrev Unbroken : Declaration → Type 0
   Unbroken x = broken_by (table p) x ≡ None
 
-  of_parameters : (line : Line) (k : ℕ) (names : List NameBytes) → Every Unbroken (map (parameter line k) names) → Every (Hides p) (map (used.parameter line) names)
+  of_parameters : (line : Line) (k : ℕ) (names : List NameBytes) → Every Unbroken (map (parameter_declaration line k) names) → Every (Hides p) (map (used.parameter_use line) names)
   of_parameters line k names h =
-      every_image (Hides p) (used.parameter line) names
-      (λ n a. this_one p n (fits (may_be_hidden (value_for (table p).meanings n)) (errors.Twice line) (at_item Unbroken (map (parameter line k) names) (parameter line k n) h (in_image (parameter line k) names n a))))
+      every_image (Hides p) (used.parameter_use line) names
+      (λ n a. this_one p n (fits (may_be_hidden (value_for (table p).meanings n)) (errors.Twice line) (at_item Unbroken (map (parameter_declaration line k) names) (parameter_declaration line k n) h (in_image (parameter_declaration line k) names n a))))
 
-  of_head : (line : Line) (k : ℕ) (kind : SectionKindTree) → Every Unbroken (in_head line k kind) → Every (Hides p) (in_kind line kind)
+  of_head : (line : Line) (k : ℕ) (kind : SectionKindTree) → Every Unbroken (in_section_head line k kind) → Every (Hides p) (in_kind line kind)
   of_head line k main h = tt
   of_head line k (routine name given yielding) h =
-      let parts = in_parts Unbroken (map (parameter line k) given) (map (parameter line k) yielding) h.1 in
-      joined (Hides p) (map (used.parameter line) given) (map (used.parameter line) yielding) (of_parameters line k given parts.0) (of_parameters line k yielding parts.1)
+      let parts = in_parts Unbroken (map (parameter_declaration line k) given) (map (parameter_declaration line k) yielding) h.1 in
+      joined (Hides p) (map (used.parameter_use line) given) (map (used.parameter_use line) yielding) (of_parameters line k given parts.0) (of_parameters line k yielding parts.1)
   of_head line k (event name given saving) h =
       let same = in_places (as_attribute line name) 0 given in
-      let rest = joined (Hides p) (map (used.parameter line) given) same (of_parameters line k given h.1) (all_silent p same (places (as_attribute line name) 0 given (λ i n. record { each = (refl, tt) })).each) in
+      let rest = joined (Hides p) (map (used.parameter_use line) given) same (of_parameters line k given h.1) (all_silent p same (places (as_attribute line name) 0 given (λ i n. record { each = (refl, tt) })).each) in
       (nothing_named p, (nothing_named p, rest))
 
-  of_definitions : (k : ℕ) (ds : List DefinitionTree) → Every Unbroken (flat_map (in_definition k) ds) → Every (Hides p) (flat_map used.in_definition ds)
+  of_definitions : (k : ℕ) (ds : List DefinitionTree) → Every Unbroken (flat_map (in_definition k) ds) → Every (Hides p) (flat_map used.in_local_definition ds)
   of_definitions k ds h =
-      every_piece (Hides p) used.in_definition ds
-      (λ (x : DefinitionTree) a. every_image (Hides p) (used.local x.line x.mode) x.names
+      every_piece (Hides p) used.in_local_definition ds
+      (λ (x : DefinitionTree) a. every_image (Hides p) (used.local_use x.line x.mode) x.names
       (λ n b.
-      let here = at_item Unbroken (flat_map (in_definition k) ds) (local x.line k x.mode n) h (in_pieces (in_definition k) ds x (local x.line k x.mode n) a (in_image (local x.line k x.mode) x.names n b)) in
+      let here = at_item Unbroken (flat_map (in_definition k) ds) (local_declaration x.line k x.mode n) h (in_pieces (in_definition k) ds x (local_declaration x.line k x.mode n) a (in_image (local_declaration x.line k x.mode) x.names n b)) in
       let hidable : Bool = may_be_hidden (value_for (table p).meanings n) in
       this_one p n (two_fit hidable (not (is_real x.mode)) (errors.Twice x.line) (errors.RealMode x.line) here).0))
 
   section_hides : (k : ℕ) (s : SectionTree) → slice_get p.sections k ≡ Some s → Every (Hides p) (uses s)
   section_hides k s at =
-      let all = (in_parts Unbroken (flat_map_from in_statement 0 p.preamble) (flat_map_from in_section 0 p.sections) (none_broken p kept)).1 in
+      let all = (in_parts Unbroken (flat_map_from in_preamble_statement 0 p.preamble) (flat_map_from in_section 0 p.sections) (none_broken p kept)).1 in
       let here = at_number in_section (Every Unbroken) (in_parts Unbroken) p.sections k s all at in
-      let parts = in_parts Unbroken (in_head s.line k s.kind) (flat_map (in_definition k) s.definitions) here in
-      joined (Hides p) (in_kind s.line s.kind ++ flat_map used.in_definition s.definitions) (in_body s.body)
-      (joined (Hides p) (in_kind s.line s.kind) (flat_map used.in_definition s.definitions) (of_head s.line k s.kind parts.0) (of_definitions k s.definitions parts.1))
+      let parts = in_parts Unbroken (in_section_head s.line k s.kind) (flat_map (in_definition k) s.definitions) here in
+      joined (Hides p) (in_kind s.line s.kind ++ flat_map used.in_local_definition s.definitions) (in_body s.body)
+      (joined (Hides p) (in_kind s.line s.kind) (flat_map used.in_local_definition s.definitions) (of_head s.line k s.kind parts.0) (of_definitions k s.definitions parts.1))
       (all_silent p (in_body s.body) (body_silent s.body).each)
 
   pub hides : (k : ℕ) (s : SectionTree) → slice_get p.sections k ≡ Some s → (name : NameBytes) (number : ℕ) → place_in (locals_of (table p) s) name ≡ Some number → IsHidable p name

@@ -21,9 +21,9 @@ use Rattle.ss_names_declarations.proofs.Entries.{firsts_once, key_at, place_from
 use Rattle.ss_names.specs.declared.entry.Attribute.{Attribute}
 use Rattle.ss_names.specs.declared.meaning.Meaning.{Meaning}
 use Rattle.ss_names.specs.declared.meaning.Meaning.TheVariants as m
-use Rattle.ss_names.specs.Entries.{class_by, classes, given_by, routines, set_names, set_of, sets, variables}
-use Rattle.ss_names.specs.Table.{field_mode, numbered, subject_of, table}
-use Rattle.ss_names_scopes.specs.Scopes.{mode_of}
+use Rattle.ss_names.specs.Entries.{class_by, classes, given_by, routines, set_names, set_of, sets, global_variables}
+use Rattle.ss_names.specs.Table.{mode_of_attribute, numbered, subject_of, table}
+use Rattle.ss_names_scopes.specs.Scopes.{mode_of_meaning}
 use Rattle.ss_tables_rules.specs.Broken.{refusal_of_declarations}
 use Rattle.ss_names_meaning.specs.Answers.{each, upto}
 use Rattle.ss_names_meaning.specs.Layouts.{ResolvedLayout, class_layout, count_by, counts, resolved_layout, set_layout, resolved_statistic, statistics}
@@ -45,7 +45,7 @@ module _ (p : ProgramTree) (kept : refusal_of_declarations p ≡ None) (cs : Lis
 
   -- ---- what is numbered is there
 
-  class_at : (class : ℕ) → class < length (classes (declarations p)) → (c : PlainClass) × (slice_get cs class ≡ Some c) × (slice_get (values_of (classes (declarations p))) class ≡ Some c.kind) × (each (field_mode (table p)) (get_or (table p).fields class []) ≡ Some c.fields)
+  class_at : (class : ℕ) → class < length (classes (declarations p)) → (c : PlainClass) × (slice_get cs class ≡ Some c) × (slice_get (values_of (classes (declarations p))) class ≡ Some c.kind) × (each (mode_of_attribute (table p)) (get_or (table p).fields class []) ≡ Some c.fields)
   class_at class lt =
       let laid = numbers_at (class_layout (table p)) (length (classes (declarations p))) cs class are_classes lt in
       let parts = class_parts (table p) class laid.0 laid.2 in
@@ -61,8 +61,8 @@ module _ (p : ProgramTree) (kept : refusal_of_declarations p ≡ None) (cs : Lis
   field_at name a h =
       let place = attribute_there (declarations p) name a h in
       let c = class_at a.class place.0 in
-      let mode = each_at (field_mode (table p)) (get_or (table p).fields a.class []) c.0.fields a.field name c.3 place.1 in
-      let known : field_mode (table p) name ≡ Some a.mode = ap (λ (o : Option Attribute). option_map (λ (y : Attribute). y.mode) o) h in
+      let mode = each_at (mode_of_attribute (table p)) (get_or (table p).fields a.class []) c.0.fields a.field name c.3 place.1 in
+      let known : mode_of_attribute (table p) name ≡ Some a.mode = ap (λ (o : Option Attribute). option_map (λ (y : Attribute). y.mode) o) h in
       (c.0, c.1, mode.1 ∙ sym mode.2 ∙ known)
 
   set_at : (set : ℕ) → set < length (set_names (declarations p)) → IsSetAt (table p) x set
@@ -77,7 +77,7 @@ module _ (p : ProgramTree) (kept : refusal_of_declarations p ≡ None) (cs : Lis
       let s = numbers_at (resolved_statistic (table p)) (length (table p).histories) stats k are_statistics lt in
       (s.0, s.1, subject_kept (table p) k s.0 s.2)
 
-  plain_at : (name : NameBytes) (meaning : Meaning) (k : ℕ) (mode : Mode) → value_for (table p).meanings name ≡ Some meaning → place_in (variables (declarations p)) name ≡ Some k → mode_of meaning ≡ Some mode → count_by meaning ≡ [] → IsPlainAt x k mode
+  plain_at : (name : NameBytes) (meaning : Meaning) (k : ℕ) (mode : Mode) → value_for (table p).meanings name ≡ Some meaning → place_in (global_variables (declarations p)) name ≡ Some k → mode_of_meaning meaning ≡ Some mode → count_by meaning ≡ [] → IsPlainAt x k mode
   plain_at name meaning k mode h place is none = (mode_at p kept name meaning k mode h place is, no_count p kept name meaning k h place none)
 
   -- ---- what names mean

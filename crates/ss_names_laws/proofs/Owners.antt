@@ -19,11 +19,11 @@ use Rattle.ss_names_declarations.specs.declared.declaration.Declared.{Declared}
 use Rattle.ss_names_declarations.specs.declared.declaration.Declared.TheVariants as d
 use Rattle.ss_names_declarations.specs.declared.declaration.Declaration.{Declaration}
 use Rattle.ss_names.specs.declared.entry.Set.{Set}
-use Rattle.ss_names.specs.Entries.{classes, given_by, member_by, owner_by, owner_named, set_by, set_names, set_of}
+use Rattle.ss_names.specs.Entries.{classes, given_by, member_by, owner_entry, owner_named, set_by, set_names, set_of}
 use Rattle.ss_names.specs.Table.{Table, table}
 use Rattle.ss_tables_rules.specs.declared.error.TableError.TheVariants as errors
 use Rattle.ss_tables_rules.specs.Broken.{refusal_of_declarations}
-use Rattle.ss_tables_rules.specs.Rules.{broken_in, has_member, has_owner, is_too_many, set_at, set_by_name}
+use Rattle.ss_tables_rules.specs.Rules.{broken_in, has_member, has_owner, is_too_many, table_set_at, set_by_name}
 use Rattle.ss_names_laws.proofs.Each.{every_if, every_piece}
 use Rattle.ss_names_laws.proofs.Firsts.{mapped, place_in_below, value_among}
 use Rattle.ss_names_laws.proofs.Items.{at_item}
@@ -37,7 +37,7 @@ some_there (Some x) h = (x, refl)
 -- ---- owners and members are classes of the table
 
 module _ (cs : List (NameBytes × ClassKind)) where
-  owner_fits : (w : Declared) → Every (λ (e : NameBytes × Owner). owns_among (length cs) e.1 ≡ true) (owner_by cs w)
+  owner_fits : (w : Declared) → Every (λ (e : NameBytes × Owner). owns_among (length cs) e.1 ≡ true) (owner_entry cs w)
   owner_fits (d.Owner set None) = (refl, tt)
   owner_fits (d.Owner set (Some class)) =
       every_if (λ (e : NameBytes × Owner). owns_among (length cs) e.1 ≡ true) set (option_map owners.Class (place_in cs class)) (λ owner is.
@@ -53,7 +53,7 @@ module _ (cs : List (NameBytes × ClassKind)) where
 -- ---- what owners and members say of each other
 
 module _ (t : Table) (cs : List (NameBytes × ClassKind)) (line : Line) where
-  owner_says : (w : Declared) → broken_in t line w ≡ None → Every (λ (e : NameBytes × Owner). has_member (set_by_name t e.0) ≡ true) (owner_by cs w)
+  owner_says : (w : Declared) → broken_in t line w ≡ None → Every (λ (e : NameBytes × Owner). has_member (set_by_name t e.0) ≡ true) (owner_entry cs w)
   owner_says (d.Owner set class) h =
       every_if (λ (e : NameBytes × Owner). has_member (set_by_name t e.0) ≡ true) set (owner_named cs class)
       (λ owner is. (two_fit (has_member (set_by_name t set)) (not (is_too_many (place_among t.set_names set))) (errors.NoMember line) (errors.TooMany line) h).0)
@@ -87,11 +87,11 @@ module _ (p : ProgramTree) (kept : refusal_of_declarations p ≡ None) where
   known_set : (test : Option Set → Bool) (name : NameBytes) → test None ≡ false → test (set_by_name (table p) name) ≡ true → set_by_name (table p) name ≡ Some (said name)
   known_set test name none h = by (place_among (set_names (declarations p)) name) refl h
     where
-      by : (o : Option ℕ) → place_among (set_names (declarations p)) name ≡ o → test (set_at (table p) o) ≡ true → set_at (table p) o ≡ Some (said name)
+      by : (o : Option ℕ) → place_among (set_names (declarations p)) name ≡ o → test (table_set_at (table p) o) ≡ true → table_set_at (table p) o ≡ Some (said name)
       by None is g = absurd (both_ways (test None) none g)
       by (Some k) is g = slice_get-map said (set_names (declarations p)) k ∙ ap (option_map said) (named_at (set_names (declarations p)) name k is)
 
-  owner_there : (name : NameBytes) → has_owner (set_by_name (table p) name) ≡ true → (owner : Owner) × (value_for (given_by (owner_by (classes (declarations p))) (declarations p)) name ≡ Some owner)
+  owner_there : (name : NameBytes) → has_owner (set_by_name (table p) name) ≡ true → (owner : Owner) × (value_for (given_by (owner_entry (classes (declarations p))) (declarations p)) name ≡ Some owner)
   owner_there name h = some_there (said name).owner (sym (ap has_owner (known_set has_owner name refl h)) ∙ h)
 
   member_there : (name : NameBytes) → has_member (set_by_name (table p) name) ≡ true → (member : ℕ) × (value_for (given_by (member_by (classes (declarations p))) (declarations p)) name ≡ Some member)
@@ -103,7 +103,7 @@ module _ (p : ProgramTree) (kept : refusal_of_declarations p ≡ None) where
       let cs = classes ds in
       let owner = owner_there name h in
       let member = member_there name g in
-      let owners_fit = every_piece (λ (e : NameBytes × Owner). owns_among (length cs) e.1 ≡ true) (λ (x : Declaration). owner_by cs x.what) ds (λ x a. owner_fits cs x.what) in
+      let owners_fit = every_piece (λ (e : NameBytes × Owner). owns_among (length cs) e.1 ≡ true) (λ (x : Declaration). owner_entry cs x.what) ds (λ x a. owner_fits cs x.what) in
       let members_fit = every_piece (λ (e : NameBytes × ℕ). nat_lt e.1 (length cs) ≡ true) (λ (x : Declaration). member_by cs x.what) ds (λ x a. member_fits cs x.what) in
       record {
         owner = owner.0;
@@ -111,7 +111,7 @@ module _ (p : ProgramTree) (kept : refusal_of_declarations p ≡ None) where
         known = known_set has_owner name refl h;
         owned = owner.1;
         filled = member.1;
-        owner_below = at_item (λ (e : NameBytes × Owner). owns_among (length cs) e.1 ≡ true) (given_by (owner_by cs) ds) (name, owner.0) owners_fit (value_among (given_by (owner_by cs) ds) name owner.0 owner.1);
+        owner_below = at_item (λ (e : NameBytes × Owner). owns_among (length cs) e.1 ≡ true) (given_by (owner_entry cs) ds) (name, owner.0) owners_fit (value_among (given_by (owner_entry cs) ds) name owner.0 owner.1);
         member_below = at_item (λ (e : NameBytes × ℕ). nat_lt e.1 (length cs) ≡ true) (given_by (member_by cs) ds) (name, member.0) members_fit (value_among (given_by (member_by cs) ds) name member.0 member.1);
       }
 
@@ -129,7 +129,7 @@ module _ (p : ProgramTree) (kept : refusal_of_declarations p ≡ None) where
       let cs = classes ds in
       let owner = owner_there name h in
       let P = λ (e : NameBytes × Owner). has_member (set_by_name (table p) e.0) ≡ true in
-      at_item P (given_by (owner_by cs) ds) (name, owner.0) (every_given p kept P (owner_by cs) (owner_says (table p) cs)) (value_among (given_by (owner_by cs) ds) name owner.0 owner.1)
+      at_item P (given_by (owner_entry cs) ds) (name, owner.0) (every_given p kept P (owner_entry cs) (owner_says (table p) cs)) (value_among (given_by (owner_entry cs) ds) name owner.0 owner.1)
 
   owned_so : (line : Line) (w : Declared) → broken_in (table p) line w ≡ None → Every (IsOwned p) (set_by w)
   owned_so line (d.Owner set class) h =

@@ -13,7 +13,7 @@ use Rattle.ss_base.specs.declared.line.Line.{Line}
 use Rattle.ss_base.specs.declared.layout.Mode.{Mode}
 use Rattle.ss_tree.specs.Names.{NameBytes}
 use Rattle.ss_tree.specs.Tree.{SectionKindTree, main, routine, event, SectionTree, ProgramTree}
-use Rattle.ss_names_declarations.specs.Declarations.{at_line, flat_map_from, in_definition, in_head, in_section, in_statement, parameter}
+use Rattle.ss_names_declarations.specs.Declarations.{at_line, flat_map_from, in_definition, in_section_head, in_section, in_preamble_statement, parameter_declaration}
 use Rattle.ss_names_declarations.specs.Firsts.{entry_beside, first_entries, same_name, value_for, with_first}
 use Rattle.ss_names_declarations.specs.declared.declaration.Declared.TheVariants as d
 use Rattle.ss_names_declarations.specs.declared.declaration.Declaration.{Declaration}
@@ -34,7 +34,7 @@ use Rattle.ss_names_laws.proofs.Kept.{onces, said_once}
 -- ---- the first uses of a section
 
 module _ (t : Table) (line : Line) where
-  of_parameters : (names : List NameBytes) → flat_map (local_used t) (map (used.parameter line) names) ≡ names
+  of_parameters : (names : List NameBytes) → flat_map (local_used t) (map (used.parameter_use line) names) ≡ names
   of_parameters [] = refl
   of_parameters (n ∷ names) = ap (λ l. n ∷ l) (of_parameters names)
 
@@ -45,16 +45,16 @@ module _ (t : Table) (line : Line) where
   of_head : (kind : SectionKindTree) → flat_map (local_used t) (in_kind line kind) ≡ parameters_of kind
   of_head main = refl
   of_head (routine name given yielding) =
-      flat_map-append (local_used t) (map (used.parameter line) given) (map (used.parameter line) yielding) ∙ (λ i. of_parameters given i ++ of_parameters yielding i)
+      flat_map-append (local_used t) (map (used.parameter_use line) given) (map (used.parameter_use line) yielding) ∙ (λ i. of_parameters given i ++ of_parameters yielding i)
   of_head (event name given saving) =
-      flat_map-append (local_used t) (map (used.parameter line) given) (in_places (as_attribute line name) 0 given)
+      flat_map-append (local_used t) (map (used.parameter_use line) given) (in_places (as_attribute line name) 0 given)
       ∙ (λ i. of_parameters given i ++ of_attributes name 0 given i) ∙ append-nil given
 
 -- the names that a section uses as local variables begin with its parameters
 parameters_first : (t : Table) (s : SectionTree) → (rest : List NameBytes) × (flat_map (local_used t) (uses s) ≡ parameters_of s.kind ++ rest)
 parameters_first t s =
     let head = in_kind s.line s.kind in
-    let ds = flat_map used.in_definition s.definitions in
+    let ds = flat_map used.in_local_definition s.definitions in
     let body = in_body s.body in
     let rest = flat_map (local_used t) (ds ++ body) in
     (rest, ap (flat_map (local_used t)) (append_assoc head ds body) ∙ flat_map-append (local_used t) head (ds ++ body) ∙ ap (λ l. l ++ rest) (of_head t s.line s.kind))
@@ -76,7 +76,7 @@ once_parts t xs ys h =
     let e = λ (b a : Once). same_once a b in
     distinct_parts e (onces t xs) (onces t ys) (subst (IsDistinct e) (flat_map-append (λ (x : Declaration). option_to_list (once_of t x.what)) xs ys) h)
 
-onces_of_parameters : (t : Table) (line : Line) (k : ℕ) (names : List NameBytes) → onces t (map (parameter line k) names) ≡ map (λ n. once.Parameter n k) names
+onces_of_parameters : (t : Table) (line : Line) (k : ℕ) (names : List NameBytes) → onces t (map (parameter_declaration line k) names) ≡ map (λ n. once.Parameter n k) names
 onces_of_parameters t line k [] = refl
 onces_of_parameters t line k (n ∷ names) = ap (λ l. once.Parameter n k ∷ l) (onces_of_parameters t line k names)
 
@@ -90,22 +90,22 @@ names_differ k (n ∷ names) h = (
   names_differ k names h.1,
 )
 
-of_names : (t : Table) (line : Line) (k : ℕ) (names : List NameBytes) → AllOnce t (map (parameter line k) names) → IsDistinct same_name names
+of_names : (t : Table) (line : Line) (k : ℕ) (names : List NameBytes) → AllOnce t (map (parameter_declaration line k) names) → IsDistinct same_name names
 of_names t line k names h = names_differ k names (subst (IsDistinct (λ (b a : Once). same_once a b)) (onces_of_parameters t line k names) h)
 
-none_twice : (t : Table) (line : Line) (k : ℕ) (kind : SectionKindTree) → AllOnce t (in_head line k kind) → IsDistinct same_name (parameters_of kind)
+none_twice : (t : Table) (line : Line) (k : ℕ) (kind : SectionKindTree) → AllOnce t (in_section_head line k kind) → IsDistinct same_name (parameters_of kind)
 unfolding IsDistinct
 none_twice t line k main h = tt
-none_twice t line k (routine name given yielding) h = of_names t line k (given ++ yielding) (subst (AllOnce t) (sym (map-append (parameter line k) given yielding)) h)
+none_twice t line k (routine name given yielding) h = of_names t line k (given ++ yielding) (subst (AllOnce t) (sym (map-append (parameter_declaration line k) given yielding)) h)
 none_twice t line k (event name given saving) h =
-    of_names t line k given (once_parts t (at_line line (d.Event name k (length given) saving) ∷ []) (map (parameter line k) given) h).1
+    of_names t line k given (once_parts t (at_line line (d.Event name k (length given) saving) ∷ []) (map (parameter_declaration line k) given) h).1
 
 parameters_differ : (p : ProgramTree) → refusal_of_declarations p ≡ None → (k : ℕ) (s : SectionTree) → slice_get p.sections k ≡ Some s → IsDistinct same_name (parameters_of s.kind)
 parameters_differ p kept k s at =
     let t = table p in
-    let all = once_parts t (flat_map_from in_statement 0 p.preamble) (flat_map_from in_section 0 p.sections) (said_once p kept) in
+    let all = once_parts t (flat_map_from in_preamble_statement 0 p.preamble) (flat_map_from in_section 0 p.sections) (said_once p kept) in
     let here = at_number in_section (AllOnce t) (once_parts t) p.sections k s all.1 at in
-    none_twice t s.line k s.kind (once_parts t (in_head s.line k s.kind) (flat_map (in_definition k) s.definitions) here).0
+    none_twice t s.line k s.kind (once_parts t (in_section_head s.line k s.kind) (flat_map (in_definition k) s.definitions) here).0
 
 -- ---- the first entries
 

@@ -7,7 +7,7 @@ use Rattle.ss_base.specs.declared.layout.SetLayout.{SetLayout}
 use Rattle.ss_base.specs.Layout.{is_layout, layout_of}
 use Rattle.ss_base.specs.Plain.{PlainClass, PlainLayout}
 use Rattle.ss_program.specs.declared.sections.Statistic.{Statistic}
-use Rattle.ss_names.specs.Table.{Table, field_mode}
+use Rattle.ss_names.specs.Table.{Table, mode_of_attribute}
 use Rattle.ss_names_meaning.specs.Answers.{◌>>=◌, each, upto}
 use Rattle.ss_names_meaning.specs.Layouts.{ResolvedLayout, class_layout, counts, disciplines, resolved_layout, layout, set_layout, resolved_statistic, statistics}
 use Rattle.ss_names_laws.proofs.Steps.{got, upto_length}
@@ -56,10 +56,10 @@ module _ (t : Table) where
       )
 
   -- a class of the layout
-  pub class_parts : (n : ℕ) (c : PlainClass) → class_layout t n ≡ Some c → (slice_get (values_of t.classes) n ≡ Some c.kind) × (each (field_mode t) (get_or t.fields n []) ≡ Some c.fields)
+  pub class_parts : (n : ℕ) (c : PlainClass) → class_layout t n ≡ Some c → (slice_get (values_of t.classes) n ≡ Some c.kind) × (each (mode_of_attribute t) (get_or t.fields n []) ≡ Some c.fields)
   class_parts n c h =
-      let kind = got (slice_get (values_of t.classes) n) (λ kind. each (field_mode t) (get_or t.fields n []) >>= λ modes. Some (record { kind = kind; fields = modes })) c h in
-      let modes = got (each (field_mode t) (get_or t.fields n [])) (λ modes. Some (record { kind = kind.0; fields = modes })) c kind.2 in
+      let kind = got (slice_get (values_of t.classes) n) (λ kind. each (mode_of_attribute t) (get_or t.fields n []) >>= λ modes. Some (record { kind = kind; fields = modes })) c h in
+      let modes = got (each (mode_of_attribute t) (get_or t.fields n [])) (λ modes. Some (record { kind = kind.0; fields = modes })) c kind.2 in
       let made : PlainClass = record { kind = kind.0; fields = modes.0 } in
       let same : made ≡ c = same_Some made c modes.2 in
       (kind.1 ∙ ap (λ (x : PlainClass). Some x.kind) same, modes.1 ∙ ap (λ (x : PlainClass). Some x.fields) same)

@@ -27,9 +27,9 @@ use Rattle.ss_check_rules.specs.declared.error.CheckError.{CheckError}
 use Rattle.ss_check_rules.specs.declared.error.CheckError.TheVariants as errors
 use Rattle.ss_check_rules.specs.Kinds.{may_be_watched}
 use Rattle.ss_check_rules.specs.Modes.{is_text}
-use Rattle.ss_check_rules.specs.Order.{order_of}
+use Rattle.ss_check_rules.specs.Order.{check_error_order}
 use Rattle.ss_names_declarations.specs.Earliest.{unless}
-use Rattle.ss_check_rules.specs.Refusal.{breaches, in_preamble, in_program, in_section, refusal_of_uses, subject_breaks}
+use Rattle.ss_check_rules.specs.Refusal.{breaches, in_preamble, in_program, breaches_in_section, refusal_of_uses, subject_breaks}
 use Rattle.ss_names_meaning.specs.Answers.{upto}
 use Rattle.ss_names_meaning.specs.Layouts.{resolved_statistic, statistics as statistics_of}
 use Rattle.ss_names_laws.proofs.Each.{at_place, each_empty, every_first, every_piece}
@@ -80,8 +80,8 @@ module _ (p : ProgramTree) (kept : refusal_of_uses p ≡ None) where
   subject_whole : (w : Declared) → IsMade p w → Every IsWatched (history_by w)
   subject_whole (d.Subject name weighting) h =
       let t = table p in
-      let rest = in_program p.sections ++ flat_map (in_section t p.sections) p.sections in
-      let none = (both_empty (flat_map (in_preamble t) p.preamble) rest (nothing_found order_of (breaches t p) kept)).0 in
+      let rest = in_program p.sections ++ flat_map (breaches_in_section t p.sections) p.sections in
+      let none = (both_empty (flat_map (in_preamble t) p.preamble) rest (nothing_found check_error_order (breaches t p) kept)).0 in
       let own = at_place (λ (s : PreambleTree). in_preamble t s ≡ []) p.preamble h.0 (statistics h.1 weighting h.2 name) (each_empty (in_preamble t) p.preamble none) h.3 in
       (whole_so h.1 (value_for t.meanings name) (none_listed (subject_breaks h.1 (value_for t.meanings name)) own), tt)
   subject_whole _ h = tt

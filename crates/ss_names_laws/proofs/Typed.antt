@@ -29,18 +29,18 @@ use Rattle.ss_names_declarations.specs.declared.declaration.SetRule.{SetRule}
 use Rattle.ss_names_declarations.specs.declared.declaration.SetRule.TheVariants as rules
 use Rattle.ss_names_declarations.proofs.Entries.{entry_of_key, value_at, value_by_place}
 use Rattle.ss_names.specs.declared.entry.Attribute.{Attribute}
-use Rattle.ss_names.specs.declared.entry.Order.{Order}
+use Rattle.ss_names.specs.declared.entry.DefinedOrder.{DefinedOrder}
 use Rattle.ss_names.specs.declared.entry.RankedBy.{RankedBy}
 use Rattle.ss_names.specs.declared.entry.Set.{Set}
 use Rattle.ss_names.specs.declared.entry.TiedBy.{TiedBy}
 use Rattle.ss_names.specs.declared.meaning.Meaning.{Meaning}
 use Rattle.ss_names.specs.declared.meaning.Meaning.TheVariants as m
 use Rattle.ss_names.specs.Entries.{classes, given_by}
-use Rattle.ss_names.specs.Table.{Table, declares, field_mode, numbered, subject_of, table}
+use Rattle.ss_names.specs.Table.{Table, declares, mode_of_attribute, numbered, subject_of, table}
 use Rattle.ss_check_rules.specs.Modes.{is_text}
 use Rattle.ss_check_rules.specs.Refusal.{refusal_of_uses}
 use Rattle.ss_names_meaning.specs.Answers.{◌>>=◌, each, upto, where_holds}
-use Rattle.ss_names_meaning.specs.Layouts.{ResolvedLayout, class_layout, count_by, counts, discipline, disciplines, key_of, resolved_layout, layout, ordered, rank_keys, ranked_by, ruled, set_layout, resolved_statistic, statistics, tie_keys, tied_by}
+use Rattle.ss_names_meaning.specs.Layouts.{ResolvedLayout, class_layout, count_by, counts, discipline, disciplines, rank_key, resolved_layout, layout, ordered, rank_keys, ranked_by, ruled, set_layout, resolved_statistic, statistics, tie_keys, tied_by}
 use Rattle.ss_names_laws.specs.Laws.{HasLayout, IsWellLaid, LayoutsAreWellTyped, TablesAreThere}
 use Rattle.ss_names_laws.specs.ValidTables.{IsMeant, IsValidTable}
 use Rattle.ss_names_laws.proofs.Attributes.{attribute_there}
@@ -84,7 +84,7 @@ module _ (p : ProgramTree) (cs : List PlainClass) (ss : List SetLayout) (orders 
     (r : Program) (h : HasLayout (laid_of (table p) cs ss orders stats) r) where
   -- ---- classes and attributes
 
-  class_at : (class : ℕ) → class < length (table p).classes → (c : PlainClass) × (slice_get r.layout.classes class ≡ Some c) × (slice_get (values_of (table p).classes) class ≡ Some c.kind) × (each (field_mode (table p)) (get_or (table p).fields class []) ≡ Some c.fields)
+  class_at : (class : ℕ) → class < length (table p).classes → (c : PlainClass) × (slice_get r.layout.classes class ≡ Some c) × (slice_get (values_of (table p).classes) class ≡ Some c.kind) × (each (mode_of_attribute (table p)) (get_or (table p).fields class []) ≡ Some c.fields)
   class_at class lt =
       let laid = numbers_at (class_layout (table p)) (length (table p).classes) cs class are_classes lt in
       let parts = class_parts (table p) class laid.0 laid.2 in
@@ -94,8 +94,8 @@ module _ (p : ProgramTree) (cs : List PlainClass) (ss : List SetLayout) (orders 
   field_at name a is =
       let place = attribute_there (declarations p) name a is in
       let c = class_at a.class place.0 in
-      let mode = each_at (field_mode (table p)) (get_or (table p).fields a.class []) c.0.fields a.field name c.3 place.1 in
-      let known : field_mode (table p) name ≡ Some a.mode = ap (λ (o : Option Attribute). option_map (λ (x : Attribute). x.mode) o) is in
+      let mode = each_at (mode_of_attribute (table p)) (get_or (table p).fields a.class []) c.0.fields a.field name c.3 place.1 in
+      let known : mode_of_attribute (table p) name ≡ Some a.mode = ap (λ (o : Option Attribute). option_map (λ (x : Attribute). x.mode) o) is in
       ap (λ (o : Option PlainClass). option_and_then (λ modes. slice_get modes a.field) (option_map (λ (x : PlainClass). x.fields) o)) c.1 ∙ mode.1 ∙ sym mode.2 ∙ known
 
   -- ---- keys
@@ -103,7 +103,7 @@ module _ (p : ProgramTree) (cs : List PlainClass) (ss : List SetLayout) (orders 
   abbrev IsField : ℕ → RankKey → Type 0
   IsField class key = (mode : Mode) × (typed.field_mode r class key.field ≡ Some mode)
 
-  key_good : (class : ℕ) (high : Bool) (name : NameBytes) (key : RankKey) → key_of (table p) class high name ≡ Some key → IsField class key
+  key_good : (class : ℕ) (high : Bool) (name : NameBytes) (key : RankKey) → rank_key (table p) class high name ≡ Some key → IsField class key
   key_good class high name key e =
       let found = got (value_for (table p).attributes name) (λ (a : Attribute). where_holds (a.class == class) (record { field = a.field; high = high })) key e in
       let made : RankKey = record { field = found.0.field; high = high } in
@@ -128,7 +128,7 @@ module _ (p : ProgramTree) (cs : List PlainClass) (ss : List SetLayout) (orders 
       each_every (ranked_by (table p) y.member) (IsField y.member) (filter (λ (k : RankedBy). k.statement == statement) (table p).rank_keys) keys.0 keys.1 (λ k key g. key_good y.member k.high k.attribute key g) in
       subst (typed.GoodDiscipline r y) (same_Some (orders_of.Ranked keys.0) x keys.2) good
 
-  ordered_good : (y : SetLayout) (o : Option Order) (x : Discipline) → ordered (table p) (Some y.member) o ≡ Some x → typed.GoodDiscipline r y x
+  ordered_good : (y : SetLayout) (o : Option DefinedOrder) (x : Discipline) → ordered (table p) (Some y.member) o ≡ Some x → typed.GoodDiscipline r y x
   ordered_good y None x e = subst (typed.GoodDiscipline r y) (same_Some orders_of.Fifo x e) tt
   ordered_good y (Some o) x e = ruled_good y o.statement o.rule x e
 

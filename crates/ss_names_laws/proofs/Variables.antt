@@ -12,7 +12,7 @@ use Rattle.ss_program.specs.declared.expression.Variable.TheVariants.{Global}
 use Rattle.ss_program.specs.declared.statement.CountedClass.{CountedClass}
 use Rattle.ss_tree.specs.Names.{NameBytes}
 use Rattle.ss_tree.specs.Tree.{ProgramTree}
-use Rattle.ss_tree.specs.declared.preamble.Mode.{Mode as ModeWord}
+use Rattle.ss_tree.specs.declared.preamble.ModeWord.{ModeWord}
 use Rattle.ss_names_declarations.specs.Declarations.{at_line, declarations}
 use Rattle.ss_names_declarations.specs.Firsts.{place_in, value_for}
 use Rattle.ss_names_declarations.specs.declared.declaration.Declared.{Declared}
@@ -20,10 +20,10 @@ use Rattle.ss_names_declarations.specs.declared.declaration.Declared.TheVariants
 use Rattle.ss_names_declarations.proofs.Entries.{place_of_value, value_at, value_by_place}
 use Rattle.ss_names.specs.declared.meaning.Meaning.{Meaning}
 use Rattle.ss_names.specs.declared.meaning.Meaning.TheVariants as m
-use Rattle.ss_names.specs.Entries.{attributes, class_variables, given_by, variable_by, variables}
+use Rattle.ss_names.specs.Entries.{attributes, class_variables, given_by, variable_by, global_variables}
 use Rattle.ss_names.specs.Modes.{value_mode}
 use Rattle.ss_names.specs.Table.{declares, numbered, table, variable_meaning}
-use Rattle.ss_names_scopes.specs.Scopes.{mode_of}
+use Rattle.ss_names_scopes.specs.Scopes.{mode_of_meaning}
 use Rattle.ss_tables_rules.specs.Broken.{refusal_of_declarations}
 use Rattle.ss_names_meaning.specs.Layouts.{count_by, counts}
 use Rattle.ss_names_laws.proofs.Classes.{class_meant, class_there, count_meant}
@@ -42,7 +42,7 @@ module _ (p : ProgramTree) (kept : refusal_of_declarations p ≡ None) where
 
   -- a name means something of this mode
   abbrev HasMode : NameBytes × Mode → Type 0
-  HasMode e = (meaning : Meaning) × (value_for (table p).meanings e.0 ≡ Some meaning) × (mode_of meaning ≡ Some e.1)
+  HasMode e = (meaning : Meaning) × (value_for (table p).meanings e.0 ≡ Some meaning) × (mode_of_meaning meaning ≡ Some e.1)
 
   class_has_mode : (line : Line) (name : NameBytes) (kind : ClassKind) → Among (declarations p) (at_line line (d.Class name kind)) → HasMode (name, Integer)
   class_has_mode line name kind a = let c = class_there (declarations p) line name kind a in (m.Class c.0 c.1 c.2, class_meant p kept line name kind a c, refl)
@@ -63,10 +63,10 @@ module _ (p : ProgramTree) (kept : refusal_of_declarations p ≡ None) where
       let mode = value_mode word in
       let entry : Among (variable_by (attributes ds) (d.Variable name word)) (name, mode) = subst (λ (b : Bool). Among {A = NameBytes × Mode} (cond b [] ((name, mode) ∷ [])) (name, mode)) (sym is) (inl refl) in
       let v = declared_value (variable_by (attributes ds)) ds x name mode a entry in
-      let place = place_of_value (variables ds) name v.0 v.1 in
+      let place = place_of_value (global_variables ds) name v.0 v.1 in
       let meaning : Meaning = m.Variable (Global place.0) mode in
       let named : variable_meaning (numbered ds) name mode ≡ Some meaning =
-      ap (λ (b : Bool). cond b None (option_map (λ (k : ℕ). m.Variable (Global k) mode) (place_in (variables ds) name))) is
+      ap (λ (b : Bool). cond b None (option_map (λ (k : ℕ). m.Variable (Global k) mode) (place_in (global_variables ds) name))) is
       ∙ ap (option_map (λ (k : ℕ). m.Variable (Global k) mode)) place.1.0 in
       ((meaning, meant p kept x name meaning refl a (entry_here name (variable_meaning (numbered ds) name mode) meaning named), refl), tt)
 
@@ -76,19 +76,19 @@ module _ (p : ProgramTree) (kept : refusal_of_declarations p ≡ None) where
   modes_of line _ a = tt
 
   -- the mode of a variable is that of what its name means
-  pub mode_at : (name : NameBytes) (meaning : Meaning) (k : ℕ) (mode : Mode) → value_for (table p).meanings name ≡ Some meaning → place_in (variables (declarations p)) name ≡ Some k → mode_of meaning ≡ Some mode → slice_get (values_of (variables (declarations p))) k ≡ Some mode
+  pub mode_at : (name : NameBytes) (meaning : Meaning) (k : ℕ) (mode : Mode) → value_for (table p).meanings name ≡ Some meaning → place_in (global_variables (declarations p)) name ≡ Some k → mode_of_meaning meaning ≡ Some mode → slice_get (values_of (global_variables (declarations p))) k ≡ Some mode
   mode_at name meaning k mode h at is =
       let ds = declarations p in
-      let v = value_by_place (variables ds) name k at in
+      let v = value_by_place (global_variables ds) name k at in
       let x = value_declared (variable_by (attributes ds)) ds name v.0 v.1 in
       let known = at_item HasMode (variable_by (attributes ds) x.0.what) (name, v.0) (modes_of x.0.line x.0.what x.1) x.2 in
       let same : known.0 ≡ meaning = same_Some known.0 meaning (sym known.1 ∙ h) in
-      value_at (variables ds) k name v.0 v.2 ∙ sym known.2 ∙ ap mode_of same ∙ is
+      value_at (global_variables ds) k name v.0 v.2 ∙ sym known.2 ∙ ap mode_of_meaning same ∙ is
 
   -- ---- N. of classes
 
   -- the variable of a name that means no N. of a class is none
-  pub no_count : (name : NameBytes) (meaning : Meaning) (k : ℕ) → value_for (table p).meanings name ≡ Some meaning → place_in (variables (declarations p)) name ≡ Some k → count_by meaning ≡ [] → Every (λ (c : CountedClass). c.variable ≢ k) (counts (table p))
+  pub no_count : (name : NameBytes) (meaning : Meaning) (k : ℕ) → value_for (table p).meanings name ≡ Some meaning → place_in (global_variables (declarations p)) name ≡ Some k → count_by meaning ≡ [] → Every (λ (c : CountedClass). c.variable ≢ k) (counts (table p))
   no_count name meaning k h at none =
       let ds = declarations p in
       let ms = (table p).meanings in
@@ -96,8 +96,8 @@ module _ (p : ProgramTree) (kept : refusal_of_declarations p ≡ None) where
       let from = from_pieces count_by (values_of ms) c a in
       let e = from_image (λ (e : NameBytes × Meaning). e.1) ms from.0 from.1 in
       let means : value_for ms e.0.0 ≡ Some (m.Count c) = value_of_entry (given_by (declares (numbered ds)) ds) e.0.0 e.0.1 e.1 ∙ ap Some (e.2 ∙ count_from from.0 c from.2) in
-      let there = value_by_place (variables ds) e.0.0 k ((name_known ds e.0.0 (m.Count c) means).4 ∙ ap Some same) in
-      let here = value_by_place (variables ds) name k at in
+      let there = value_by_place (global_variables ds) e.0.0 k ((name_known ds e.0.0 (m.Count c) means).4 ∙ ap Some same) in
+      let here = value_by_place (global_variables ds) name k at in
       let one : e.0.0 ≡ name = (some_pair_parts e.0.0 name there.0 here.0 (sym there.2 ∙ here.2)).0 in
       let alike : m.Count c ≡ meaning = same_Some (m.Count c) meaning (sym means ∙ ap (value_for ms) one ∙ h) in
       let empty : c ∷ [] ≡ [] = ap count_by alike ∙ none in

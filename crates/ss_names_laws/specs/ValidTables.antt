@@ -19,7 +19,7 @@ use Rattle.ss_names.specs.declared.entry.Set.{Set}
 use Rattle.ss_names.specs.declared.meaning.Meaning.{Meaning}
 use Rattle.ss_names.specs.declared.meaning.Meaning.TheVariants as m
 use Rattle.ss_names.specs.Entries.{count_name}
-use Rattle.ss_names.specs.Table.{Table, field_mode, subject_of}
+use Rattle.ss_names.specs.Table.{Table, mode_of_attribute, subject_of}
 use Rattle.ss_names_scopes.specs.Locals.{Moded}
 use Rattle.ss_tables_rules.specs.Rules.{may_be_hidden}
 use Rattle.ss_names_meaning.specs.Answers.{each}
@@ -71,7 +71,7 @@ pub record IsNamedClass (t : Table) (class : ℕ) (c : PlainClass) : Type 0 wher
   pub variable : ℕ
   pub there : slice_get (keys_of t.classes) class ≡ Some name
   pub meant : value_for t.meanings name ≡ Some (m.Class class c.kind variable)
-  pub fields : each (field_mode t) (get_or t.fields class []) ≡ Some c.fields
+  pub fields : each (mode_of_attribute t) (get_or t.fields class []) ≡ Some c.fields
 
 -- a subject of TALLY or ACCUMULATE, with its statistic
 pub record IsWatched (t : Table) (x : ResolvedLayout) (name : NameBytes) : Type 0 where

@@ -17,8 +17,8 @@ use Rattle.ss_tree.specs.declared.expression.Designator.TheVariants as designato
 use Rattle.ss_names_declarations.specs.Firsts.{value_for}
 use Rattle.ss_names.specs.declared.meaning.Meaning.{Meaning}
 use Rattle.ss_names.specs.declared.meaning.Meaning.TheVariants as meanings
-use Rattle.ss_names.specs.Table.{owner_of}
-use Rattle.ss_names_scopes.specs.Scopes.{Scope, meaning, meaning_of_class, variable_of}
+use Rattle.ss_names.specs.Table.{owner_of_meaning}
+use Rattle.ss_names_scopes.specs.Scopes.{Scope, meaning_of, meaning_of_class, variable_of}
 use Rattle.ss_names_meaning.specs.Answers.{◌>>=◌, of_one, of_two}
 
 -- ---- words
@@ -35,9 +35,9 @@ abbrev pub entity_implied : Scope → ℕ → Option Expression
 entity_implied s class = meaning_of_class s class >>= λ m. of_one (variable_of m) Fetch
 
 -- of each entity of a class: the one in the subscript, or else the one in the variable of the class
-abbrev pub of_class : Scope → ℕ → Option Expression → Option (Option Expression)
-of_class s class (Some e) = Some (Some e)
-of_class s class None = of_one (entity_implied s class) Some
+abbrev pub entity_or_implied : Scope → ℕ → Option Expression → Option (Option Expression)
+entity_or_implied s class (Some e) = Some (Some e)
+entity_or_implied s class None = of_one (entity_implied s class) Some
 
 -- of THE SYSTEM: none, and no subscript
 abbrev pub of_system : Option Expression → Option (Option Expression)
@@ -46,13 +46,13 @@ of_system (Some e) = None
 
 abbrev pub of_owner : Scope → Owner → Option Expression → Option (Option Expression)
 of_owner s owners.System e = of_system e
-of_owner s (owners.Class class) e = of_class s class e
+of_owner s (owners.Class class) e = entity_or_implied s class e
 
 -- the entity that has what a name means, by the subscript if there is one; None for what no entity has. TIME.A takes its
 -- subscript.
 abbrev pub entity_of : Scope → Meaning → Option Expression → Option (Option Expression)
 entity_of s meanings.NoticeTime e = Some e
-entity_of s meaning e = of_owner s (owner_of s.table meaning) e
+entity_of s meaning e = of_owner s (owner_of_meaning s.table meaning) e
 
 -- the value of what an entity has; a mean is no value
 abbrev pub value_of_entity : Meaning → Expression → Option Expression
@@ -106,9 +106,9 @@ set_of_name s (designators.Name name) = set_number (value_for s.table.meanings n
 set_of_name s _ = None
 
 -- what is named, and the entity that has it, by the subscript if there is one
-abbrev pub with_entity : Scope → Designator → Option Expression → Option (Meaning × Option Expression)
-with_entity s place e = do
-  m ← meaning s place
+abbrev pub meaning_with_entity : Scope → Designator → Option Expression → Option (Meaning × Option Expression)
+meaning_with_entity s place e = do
+  m ← meaning_of s place
   of_one {B = Meaning × Option Expression} (entity_of s m e) (λ of. (m, of))
 
 -- ---- expressions
@@ -121,7 +121,7 @@ module _ (s : Scope) where
     expression (text t) = Some (Constant (Text t))
     expression (named designator subscripts) = do
       e ← subscript subscripts
-      p ← with_entity s designator e
+      p ← meaning_with_entity s designator e
       resolved_value p.0 p.1
     expression (call (One op) arguments) = of_one (one arguments) (Unary op)
     expression (call (Two op) arguments) = of_one (two arguments) (λ p. Calculate op p.0 p.1)
@@ -159,7 +159,7 @@ module _ (s : Scope) where
 
   -- what is named, with its subscripts, and the entity that has it
   abbrev pub place_named : Designator → ExpressionRow → Option (Meaning × Option Expression)
-  place_named place subscripts = subscript subscripts >>= with_entity s place
+  place_named place subscripts = subscript subscripts >>= meaning_with_entity s place
 
   -- an item of PRINT: a mean if one is named alone, in any parentheses, and else a value
   abbrev pub item : ExpressionTree → Option PrintItem

@@ -13,13 +13,13 @@ use Rattle.ss_tree.specs.Names.{NameBytes}
 use Rattle.ss_names_declarations.specs.declared.declaration.SetRule.{SetRule}
 use Rattle.ss_names_declarations.specs.declared.declaration.SetRule.TheVariants as rules
 use Rattle.ss_names_declarations.specs.Firsts.{same_name, value_for}
-use Rattle.ss_names.specs.declared.entry.Order.{Order}
+use Rattle.ss_names.specs.declared.entry.DefinedOrder.{DefinedOrder}
 use Rattle.ss_names.specs.declared.entry.Set.{Set}
 use Rattle.ss_names.specs.declared.entry.RankedBy.{RankedBy}
 use Rattle.ss_names.specs.declared.entry.TiedBy.{TiedBy}
 use Rattle.ss_names.specs.declared.meaning.Meaning.{Meaning}
 use Rattle.ss_names.specs.declared.meaning.Meaning.TheVariants as meanings
-use Rattle.ss_names.specs.Table.{Table, field_mode}
+use Rattle.ss_names.specs.Table.{Table, mode_of_attribute}
 use Rattle.ss_program.specs.declared.sections.Statistic.{Statistic}
 use Rattle.ss_program.specs.declared.statement.CountedClass.{CountedClass}
 use Rattle.ss_names_meaning.specs.Answers.{◌>>=◌, each, of_one, of_three, of_two, upto, where_holds}
@@ -29,7 +29,7 @@ use Rattle.ss_names_meaning.specs.Answers.{◌>>=◌, each, of_one, of_three, of
 -- the class of this number, with the modes of its attributes
 abbrev pub class_layout : Table → ℕ → Option PlainClass
 class_layout t n =
-    of_two {C = PlainClass} (slice_get (values_of t.classes) n) (each (field_mode t) (get_or t.fields n []))
+    of_two {C = PlainClass} (slice_get (values_of t.classes) n) (each (mode_of_attribute t) (get_or t.fields n []))
     (λ kind modes. record { kind = kind; fields = modes })
 
 -- a set, which needs an owner and a class of members
@@ -45,16 +45,16 @@ layout t = do
 -- ---- disciplines and ties
 
 -- an attribute of a class as a key
-abbrev pub key_of : Table → ℕ → Bool → NameBytes → Option RankKey
-key_of t class high name = do
+abbrev pub rank_key : Table → ℕ → Bool → NameBytes → Option RankKey
+rank_key t class high name = do
   attribute ← value_for t.attributes name
   where_holds (attribute.class == class) (record { field = attribute.field; high = high })
 
 abbrev pub ranked_by : Table → ℕ → RankedBy → Option RankKey
-ranked_by t class k = key_of t class k.high k.attribute
+ranked_by t class k = rank_key t class k.high k.attribute
 
 abbrev pub tied_by : Table → ℕ → TiedBy → Option RankKey
-tied_by t class k = key_of t class k.high k.attribute
+tied_by t class k = rank_key t class k.high k.attribute
 
 -- the keys of a DEFINE, by its number, for a class of members
 abbrev pub rank_keys : Table → ℕ → ℕ → Option (List RankKey)
@@ -72,7 +72,7 @@ ruled t member statement rules.Ranked = do
   of_one (rank_keys t class statement) orders.Ranked
 
 -- a set without a DEFINE is FIFO
-abbrev pub ordered : Table → Option ℕ → Option Order → Option Discipline
+abbrev pub ordered : Table → Option ℕ → Option DefinedOrder → Option Discipline
 ordered t member None = Some orders.Fifo
 ordered t member (Some o) = ruled t member o.statement o.rule
 

@@ -12,7 +12,7 @@ use Rattle.ss_names_declarations.specs.Firsts.{value_for}
 use Rattle.ss_names.specs.declared.entry.RoutineSection.{RoutineSection}
 use Rattle.ss_names.specs.declared.meaning.Meaning.{Meaning}
 use Rattle.ss_names.specs.declared.meaning.Meaning.TheVariants as meanings
-use Rattle.ss_names.specs.Entries.{is_notice}
+use Rattle.ss_names.specs.Entries.{is_notice_class}
 use Rattle.ss_names.specs.Table.{Table}
 use Rattle.ss_names_scopes.specs.Locals.{Moded, locals_of}
 use Rattle.ss_names_scopes.specs.Scopes.{is_main_section, local_mode}
@@ -34,13 +34,13 @@ pub record Parts : Type 0 where
   pub body : Block
 
 -- the statements of a section, where sections have these local variables, and it has these
-abbrev pub body_with : Table → List Moded → Moded → SectionTree → Option Block
-body_with t all locals s = statements (record { table = t; locals = locals; sections = all }) (statement_row s.body)
+abbrev pub resolved_body : Table → List Moded → Moded → SectionTree → Option Block
+resolved_body t all locals s = statements (record { table = t; locals = locals; sections = all }) (statement_row s.body)
 
 -- the section
 abbrev pub parts_with : Table → List Moded → Moded → SectionTree → Option Parts
 parts_with t all locals s =
-    of_two {C = Parts} (local_modes locals) (body_with t all locals s) (λ modes done. record { line = s.line; modes = modes; body = done })
+    of_two {C = Parts} (local_modes locals) (resolved_body t all locals s) (λ modes done. record { line = s.line; modes = modes; body = done })
 
 -- the section of this number, where sections have these local variables
 abbrev pub parts_with_locals : Table → List Moded → List SectionTree → ℕ → Option Parts
@@ -104,7 +104,7 @@ event_from t section class = do
 
 -- whether the class of an EVENT section is a notice class
 abbrev pub is_known_kind : Table → SectionKindTree → Bool
-is_known_kind t (event name given saving) = is_notice (value_for t.classes name)
+is_known_kind t (event name given saving) = is_notice_class (value_for t.classes name)
 is_known_kind t _ = true
 
 abbrev pub is_known : Table → SectionTree → Bool

@@ -7,14 +7,14 @@ use Rattle.ss_tree.specs.Tree.{ConditionTree, ExpressionTree, NamedTree, HeadTre
 use Rattle.ss_tree.specs.Names.{NameBytes}
 use Rattle.ss_program.specs.declared.expression.Variable.{Variable}
 use Rattle.ss_base.specs.declared.words.Sign.TheVariants.{Plus, Minus}
-use Rattle.ss_program.specs.Program.{Expression, Fetch, Place, ToVariable, Target, Position, ByDiscipline, AsFirst, AsLast, BeforeMember, AfterMember, When, At, In, Now, Restart, Statement, Let, Change, Call, Return, Stop, Read, Simulate, If, Loop, For, Find, Create, CreateEvery, Destroy, File, RemoveEnd, Remove, ScheduleNew, Schedule, Cancel, Reset, Print, Skip, Block, Done, Then}
+use Rattle.ss_program.specs.Program.{Expression, Fetch, Place, ToVariable, InputTarget, Position, ByDiscipline, AsFirst, AsLast, BeforeMember, AfterMember, When, At, In, Now, Restart, Statement, Let, Change, Call, Return, Stop, Read, Simulate, If, Loop, For, Find, Create, CreateEvery, Destroy, File, RemoveEnd, Remove, ScheduleNew, Schedule, Cancel, Reset, Print, Skip, Block, Done, Then}
 use Rattle.std.specs.Map.{values_of}
 use Rattle.ss_names_declarations.specs.Firsts.{value_for}
 use Rattle.ss_names_uses.specs.declared.used.ClassNeed.TheVariants as needs
 use Rattle.ss_names.specs.declared.entry.RoutineSection.{RoutineSection}
 use Rattle.ss_names.specs.declared.meaning.Meaning.{Meaning}
 use Rattle.ss_names.specs.declared.meaning.Meaning.TheVariants as meanings
-use Rattle.ss_names_scopes.specs.Scopes.{Scope, history_of, mode_of}
+use Rattle.ss_names_scopes.specs.Scopes.{Scope, history_of, mode_of_meaning}
 use Rattle.ss_names_meaning.specs.Classes.{class_named, counted}
 use Rattle.ss_names_meaning.specs.Answers.{◌>>=◌, each, of_one, of_three, of_two, where_holds}
 use Rattle.ss_names_meaning.specs.Expressions.{expression, item, place_named, place_of, set_named, target}
@@ -24,10 +24,10 @@ use Rattle.ss_names_meaning.specs.Heads.{resolved_phrase, guard, phrases_of, hea
 -- ---- targets
 
 -- the variable or attribute that READ reads into, with its mode
-abbrev pub reader : Scope → NamedTree → Option Target
+abbrev pub reader : Scope → NamedTree → Option InputTarget
 reader c n = do
   p ← place_named c n.designator n.subscripts
-  of_two {C = Target} (place_of p.0 p.1) (mode_of p.0) (λ place mode. record { place = place; mode = mode })
+  of_two {C = InputTarget} (place_of p.0 p.1) (mode_of_meaning p.0) (λ place mode. record { place = place; mode = mode })
 
 -- the target of the number of a new entity: the one after CALLED, or else the variable of the class
 abbrev pub new_place : Scope → Variable → Option NamedTree → Option Place

@@ -3,7 +3,7 @@
 ghost use Rattle.std.specs.Prelude.{◌≡◌, IfOk};
 ghost use Rattle.ss_names_declarations.specs.Firsts.{value_for};
 ghost use Rattle.ss_names_meaning.specs.Answers.{Gives, each, upto};
-ghost use Rattle.ss_names.specs.Table.{field_mode};
+ghost use Rattle.ss_names.specs.Table.{mode_of_attribute};
 ghost use Rattle.ss_names_meaning.specs.Layouts.{class_layout, layout, set_layout};
 
 use crate::error::ResolveError;
@@ -21,7 +21,7 @@ pub(crate) fn attribute_named(names: &Names, name: &Name) -> Option<Attribute>
 
 // The mode of an attribute.
 fn field_mode(names: &Names, name: &Name) -> Result<Mode, ResolveError>
-    ensures { Gives (λ x. x) result (field_mode names.now name.now) }
+    ensures { Gives (λ x. x) result (mode_of_attribute names.now name.now) }
 {
     match attribute_named(names, name) {
         Some(attribute) => Ok(attribute.mode),
@@ -31,7 +31,7 @@ fn field_mode(names: &Names, name: &Name) -> Result<Mode, ResolveError>
 
 // The modes of attributes.
 fn field_modes(alloc: Global, names: &Names, trees: &[Name]) -> Result<Vec<Mode>, ResolveError>
-    ensures { Gives (λ v. v.items) result (each (field_mode names.now) trees.now) }
+    ensures { Gives (λ v. v.items) result (each (mode_of_attribute names.now) trees.now) }
 {
     let mut resolved = Vec::new(alloc);
     for tree in trees {

@@ -2,21 +2,21 @@
 
 ghost use Rattle.std.specs.Prelude.{◌≡◌, ◌==◌, IfOk};
 ghost use Rattle.std.specs.List.{filter};
-ghost use Rattle.ss_program.specs.View.{view_option};
+ghost use Rattle.std.specs.Option.{option_map};
 ghost use Rattle.ss_names_declarations.specs.Firsts.{same_name};
 ghost use Rattle.ss_names_meaning.specs.Answers.{Gives, each};
-ghost use Rattle.ss_names_meaning.specs.Layouts.{discipline, disciplines, key_of, ordered, rank_keys, ranked_by, tie_keys, tied_by};
+ghost use Rattle.ss_names_meaning.specs.Layouts.{discipline, disciplines, rank_key, ordered, rank_keys, ranked_by, tie_keys, tied_by};
 
 use crate::error::ResolveError;
 use crate::layouts::attribute_named;
 use ss_base::{Discipline, Name, RankKey, RankKeys};
-use ss_names::{Names, Order, RankedBy, Set, TiedBy};
+use ss_names::{DefinedOrder, Names, RankedBy, Set, TiedBy};
 use ss_names_declarations::SetRule;
 use std::alloc::{AllocError, Global};
 
 // An attribute of a class as a key.
 fn key_of(names: &Names, class: usize, high: bool, name: &Name) -> Result<RankKey, ResolveError>
-    ensures { Gives (λ x. x) result (key_of names.now class high name.now) }
+    ensures { Gives (λ x. x) result (rank_key names.now class high name.now) }
 {
     let Some(known) = attribute_named(names, name) else {
         return Err(ResolveError::Unresolved);
@@ -114,7 +114,7 @@ fn ordered(
     alloc: Global,
     names: &Names,
     member: Option<usize>,
-    order: Option<Order>,
+    order: Option<DefinedOrder>,
 ) -> Result<Discipline, ResolveError>
     ensures { Gives (λ x. x) result (ordered names.now member order) }
 {
@@ -173,7 +173,7 @@ pub(crate) fn resolve_disciplines(
 /// # Errors
 /// `AllocError` where memory is refused.
 pub fn disciplines(alloc: Global, names: &Names) -> Result<Option<Vec<Discipline>>, AllocError>
-    ensures { IfOk result (λ d. view_option (λ v. v.items) d ≡ disciplines names.now) }
+    ensures { IfOk result (λ d. option_map (λ v. v.items) d ≡ disciplines names.now) }
 {
     match resolve_disciplines(alloc, names) {
         Ok(disciplines) => Ok(Some(disciplines)),

@@ -22,7 +22,7 @@ pub found_after : {X A B : Type 0} (step : B → A → B) (f : X → List A) (st
 found_after step f start before after xs i x lt is b a =
     a ∙ ap (λ z. fold step z (f x)) b ∙ sym (fold-append step start (flat_map f (take i xs)) (f x)) ∙ ap (fold step start) (list_more f xs i x lt is)
 
--- the same, where the items are seen as others
+-- what was found before one item, and after it, where the items are seen as others
 pub viewed_after : {X Y A B : Type 0} (view : X → Y) (step : B → A → B) (f : Y → List A) (start before after : B) (xs : List X) (i : ℕ) (x : X) → i < length xs → x ≡ get_or xs i x
     → before ≡ fold step start (flat_map f (map view (take i xs))) → after ≡ fold step before (f (view x)) → after ≡ fold step start (flat_map f (map view (take (i + 1) xs)))
 viewed_after view step f start before after xs i x lt is b a =

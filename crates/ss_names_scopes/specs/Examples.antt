@@ -10,15 +10,15 @@ use Rattle.ss_program.specs.declared.expression.MemberQuery.TheVariants as membe
 use Rattle.ss_program.specs.declared.expression.Variable.TheVariants as variables
 use Rattle.ss_tree.specs.declared.expression.Designator.TheVariants as designators
 use Rattle.ss_base.specs.declared.layout.ClassKind.TheVariants.{Permanent, Temporary, Notice}
-use Rattle.ss_tree.specs.declared.preamble.Mode.TheVariants.{Integer, Alpha}
+use Rattle.ss_tree.specs.declared.preamble.ModeWord.TheVariants.{Integer, Alpha}
 use Rattle.ss_tree.specs.declared.preamble.StatisticKind.TheVariants.{Sum, Mean}
 use Rattle.ss_base.specs.declared.words.Weighting.TheVariants.{Tally}
 use Rattle.ss_tree.specs.Names.{NameBytes}
 use Rattle.ss_tree.specs.Tree.{PreambleTree, every, normally, system_owns, define_variables, statistics, has, owns, belongs_to, main, routine, SectionTree, ProgramTree}
 use Rattle.ss_names.specs.declared.meaning.Meaning.{Meaning}
 use Rattle.ss_names.specs.declared.meaning.Meaning.TheVariants as m
-use Rattle.ss_names.specs.Table.{Table, owner_of, table}
-use Rattle.ss_names_scopes.specs.Scopes.{Scope, implied, meaning, scope_of}
+use Rattle.ss_names.specs.Table.{Table, owner_of_meaning, table}
+use Rattle.ss_names_scopes.specs.Scopes.{Scope, implied, meaning_of, scope_of}
 
 abbrev line : ℕ → Line
 line n = record { 0 = n }
@@ -55,7 +55,7 @@ abbrev scope_in : SectionTree → Scope
 scope_in s = scope_of names program.sections s
 
 abbrev means : SectionTree → NameBytes → Option Meaning
-means s name = meaning (scope_in s) (designators.Name name)
+means s name = meaning_of (scope_in s) (designators.Name name)
 
 -- variables are numbered in the order of the text: MACHINE, N.MACHINE, JOB, BELL, W
 pub a_variable : means in_main (codes "W") ≡ Some (m.Variable (variables.Global 4) modes.Alpha)
@@ -94,23 +94,23 @@ a_mean = refl
 pub a_routine : means in_main (codes "R") ≡ Some (m.Routine 0)
 a_routine = refl
 
-pub a_time : meaning (scope_in in_main) designators.TimeV ≡ Some m.Clock
+pub a_time : meaning_of (scope_in in_main) designators.TimeV ≡ Some m.Clock
 a_time = refl
 
 pub nothing : means in_main (codes "FOO") ≡ None
 nothing = refl
 
 -- F.QUEUE is a machine's, S.QUEUE a job's, S1 nobody's, M2 a job's
-pub owned_by_a_machine : owner_of names (m.OfSet set_queries.FirstMember 0) ≡ owners.Class 0
+pub owned_by_a_machine : owner_of_meaning names (m.OfSet set_queries.FirstMember 0) ≡ owners.Class 0
 owned_by_a_machine = refl
 
-pub had_by_a_job : owner_of names (m.OfMember member_queries.Successor 0) ≡ owners.Class 1
+pub had_by_a_job : owner_of_meaning names (m.OfMember member_queries.Successor 0) ≡ owners.Class 1
 had_by_a_job = refl
 
-pub of_the_system : owner_of names (m.Statistic (Some folds.Sum) 0) ≡ owners.System
+pub of_the_system : owner_of_meaning names (m.Statistic (Some folds.Sum) 0) ≡ owners.System
 of_the_system = refl
 
-pub of_each_job : owner_of names (m.Statistic None 1) ≡ owners.Class 1
+pub of_each_job : owner_of_meaning names (m.Statistic None 1) ≡ owners.Class 1
 of_each_job = refl
 
 -- RANK without subscript is of the job in JOB, which the routine hides

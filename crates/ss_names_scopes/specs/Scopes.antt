@@ -19,7 +19,7 @@ use Rattle.ss_names_uses.specs.declared.used.ClassNeed.{ClassNeed}
 use Rattle.ss_names_uses.specs.declared.used.ClassNeed.TheVariants as needs
 use Rattle.ss_names.specs.declared.meaning.Meaning.{Meaning}
 use Rattle.ss_names.specs.declared.meaning.Meaning.TheVariants as meanings
-use Rattle.ss_names.specs.Table.{Table, owner_of}
+use Rattle.ss_names.specs.Table.{Table, owner_of_meaning}
 use Rattle.ss_names_scopes.specs.Locals.{Moded, locals_of}
 
 -- a section: the table, its local variables, and those of all sections
@@ -57,10 +57,10 @@ meaning_of_name s name =
     hidden_by s.locals name (position (same_name name) (keys_of s.locals)) (value_for s.table.meanings name)
 
 -- what is named; None for a name that means nothing
-abbrev pub meaning : Scope → Designator → Option Meaning
-meaning s (designators.Name name) = meaning_of_name s name
-meaning s designators.TimeV = Some meanings.Clock
-meaning s designators.TimeA = Some meanings.NoticeTime
+abbrev pub meaning_of : Scope → Designator → Option Meaning
+meaning_of s (designators.Name name) = meaning_of_name s name
+meaning_of s designators.TimeV = Some meanings.Clock
+meaning_of s designators.TimeA = Some meanings.NoticeTime
 
 -- ---- what is of a kind, has a mode, is a variable, or is of an entity
 
@@ -73,12 +73,12 @@ is_kind needs.Single kinds.Notice = true
 is_kind _ _ = false
 
 -- the mode of what a name means; a set and a routine have none
-abbrev pub mode_of : Meaning → Option Mode
-mode_of (meanings.Variable variable mode) = Some mode
-mode_of (meanings.Attribute class field mode) = Some mode
-mode_of (meanings.Set set) = None
-mode_of (meanings.Routine routine) = None
-mode_of _ = Some Integer
+abbrev pub mode_of_meaning : Meaning → Option Mode
+mode_of_meaning (meanings.Variable variable mode) = Some mode
+mode_of_meaning (meanings.Attribute class field mode) = Some mode
+mode_of_meaning (meanings.Set set) = None
+mode_of_meaning (meanings.Routine routine) = None
+mode_of_meaning _ = Some Integer
 
 -- the variable that a name means: a local or a global one, or that of a class
 abbrev pub variable_of : Meaning → Option Variable
@@ -96,7 +96,7 @@ meaning_of_owner s (owners.Class class) = meaning_of_class s class
 
 -- the variable that has the entity of what a name means, where no subscript is written; None where it is of no entity
 abbrev pub implied : Scope → Meaning → Option Meaning
-implied s m = meaning_of_owner s (owner_of s.table m)
+implied s m = meaning_of_owner s (owner_of_meaning s.table m)
 
 -- ---- histories
 
@@ -119,9 +119,9 @@ mode_given known = option_and_then (λ mode. mode) known
 abbrev pub local_mode : Moded → ℕ → Option Mode
 local_mode locals n = mode_given (slice_get (values_of locals) n)
 
-abbrev pub mode_at : Option Moded → ℕ → Option Mode
-mode_at found number = option_and_then (λ locals. local_mode locals number) found
+abbrev pub local_mode_at : Option Moded → ℕ → Option Mode
+local_mode_at found number = option_and_then (λ locals. local_mode locals number) found
 
 -- the mode of a parameter of the routine of a section: the given ones come before those that it yields
 abbrev pub parameter_mode : Scope → ℕ → ℕ → Option Mode
-parameter_mode s section number = mode_at (slice_get s.sections section) number
+parameter_mode s section number = local_mode_at (slice_get s.sections section) number

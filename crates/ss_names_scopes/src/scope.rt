@@ -4,7 +4,7 @@ ghost use Rattle.ss_names_scopes.specs.Seen.{view_scope};
 ghost use Rattle.std.specs.Prelude.{◌≡◌, ◌+◌, slice_get};
 ghost use Rattle.std.specs.Map.{values_of};
 ghost use Rattle.ss_tree.specs.View.{view_section};
-ghost use Rattle.ss_names_scopes.specs.Scopes.{history_of, implied, is_kind, is_main_section, known_mode, meaning, meaning_of_class, meaning_of_name, mode_at, mode_given, mode_of, parameter_mode, variable_of};
+ghost use Rattle.ss_names_scopes.specs.Scopes.{history_of, implied, is_kind, is_main_section, known_mode, meaning_of, meaning_of_class, meaning_of_name, local_mode_at, mode_given, mode_of_meaning, parameter_mode, variable_of};
 
 use crate::locals::Locals;
 use ss_base::{ClassKind, Mode, Name, Owner};
@@ -46,7 +46,7 @@ fn mode_given(mode: Option<Option<Mode>>) -> Option<Mode>
 
 // The mode of the local variable of a number in a section.
 fn mode_in_section(sections: &[Locals], section: usize, number: usize) -> Option<Mode>
-    ensures { result ≡ mode_at (slice_get sections.now section) number }
+    ensures { result ≡ local_mode_at (slice_get sections.now section) number }
 {
     match sections.get(section) {
         Some(locals) => mode_given(locals.mode_at(number)),
@@ -75,7 +75,7 @@ fn yielded_in_section(
     given: usize,
     place: usize,
 ) -> Option<Mode>
-    ensures { result ≡ mode_at (slice_get sections.now section) (given + place) }
+    ensures { result ≡ local_mode_at (slice_get sections.now section) (given + place) }
 {
     match sections.get(section) {
         Some(locals) => mode_after(locals, given, place),
@@ -106,7 +106,7 @@ pub fn is_kind(need: ClassNeed, kind: ClassKind) -> bool
 
 /// The mode of what a name means; a set and a routine have none.
 pub fn mode_of(meaning: Meaning) -> Option<Mode>
-    ensures { result ≡ mode_of meaning }
+    ensures { result ≡ mode_of_meaning meaning }
 {
     match meaning {
         Meaning::Variable { mode, .. } => Some(mode),
@@ -147,7 +147,7 @@ impl<'a> Scope<'a> {
 
     /// What is named.
     pub fn meaning(&self, place: Designator) -> Option<Meaning>
-        ensures { result ≡ meaning (view_scope self.now) place }
+        ensures { result ≡ meaning_of (view_scope self.now) place }
     {
         match place {
             Designator::Name(name) => self.meaning_of_name(&name),

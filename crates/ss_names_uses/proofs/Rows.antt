@@ -17,13 +17,13 @@ use Rattle.ss_tree.specs.declared.statement.FindOutcome.{FindOutcome}
 use Rattle.ss_tree.specs.declared.statement.Statement.{Statement}
 use Rattle.ss_tree.specs.declared.statement.Statement.TheVariants as statements
 use Rattle.ss_tree.specs.Tree.{ExpressionTree, StatementTree, expression_row, term_row, statement_row}
-use Rattle.ss_tree.specs.View.{view_expression, view_named, view_statement, view_term}
-use Rattle.ss_tree.specs.Views.{view_named_made, view_call_made, view_product_made, view_sum_made, view_if_made, view_loop_made, view_find_if_made}
+use Rattle.ss_tree.specs.View.{view_expression_tree, view_named, view_statement_tree, view_term}
+use Rattle.ss_tree.specs.Views.{view_named_made, view_call_made, view_product_made, view_sum_made, view_if_tree_made, view_loop_tree_made, view_find_if_made}
 use Rattle.ss_names_uses.specs.declared.used.Role.{Role}
 use Rattle.ss_names_uses.specs.declared.used.Role.TheVariants as roles
 use Rattle.ss_names_uses.specs.declared.used.CountNeed.TheVariants as counts
 use Rattle.ss_names_uses.specs.declared.used.Use.{Use}
-use Rattle.ss_names_uses.specs.Uses.{row_length, place, count, in_expression, in_numbers, in_terms, in_named, in_item, in_places, in_itself, in_inner, in_row, in_statement, in_body}
+use Rattle.ss_names_uses.specs.Uses.{row_length, place_use, count, in_expression, in_numbers, in_terms, in_named, in_item, in_places, in_itself, in_inner, in_row, in_statement, in_body}
 
 -- ---- rows
 
@@ -42,37 +42,37 @@ in_term_row : (line : Line) (ts : List (Sign × ExpressionTree)) → in_terms li
 in_term_row line [] = refl
 in_term_row line (t ∷ ts) = ap (λ us. in_expression line true t.1 ++ us) (in_term_row line ts)
 
-row_counted : (es : List Expression) → row_length (expression_row (map view_expression es)) ≡ length es
+row_counted : (es : List Expression) → row_length (expression_row (map view_expression_tree es)) ≡ length es
 row_counted [] = refl
 row_counted (e ∷ es) = ap suc (row_counted es)
 
 -- a named place, by the list of its subscripts
-pub in_named_listed : (line : Line) (role : Role) (b : Bool) (n : Named) → in_named line role b (view_named n) ≡ place line role b n.designator (length n.subscripts.items) ∷ in_all_numbers line (map view_expression n.subscripts.items)
+pub in_named_listed : (line : Line) (role : Role) (b : Bool) (n : Named) → in_named line role b (view_named n) ≡ place_use line role b n.designator (length n.subscripts.items) ∷ in_all_numbers line (map view_expression_tree n.subscripts.items)
 in_named_listed line role b n =
-    ap (λ (k : ℕ). place line role b n.designator k ∷ in_numbers line (expression_row (map view_expression n.subscripts.items))) (row_counted n.subscripts.items) ∙
-    ap (λ us. place line role b n.designator (length n.subscripts.items) ∷ us) (in_number_row line (map view_expression n.subscripts.items))
+    ap (λ (k : ℕ). place_use line role b n.designator k ∷ in_numbers line (expression_row (map view_expression_tree n.subscripts.items))) (row_counted n.subscripts.items) ∙
+    ap (λ us. place_use line role b n.designator (length n.subscripts.items) ∷ us) (in_number_row line (map view_expression_tree n.subscripts.items))
 
-pub in_named_made : (line : Line) (b : Bool) (n : Named) → in_expression line b (view_expression (variants.Named n)) ≡ place line roles.Value b n.designator (length n.subscripts.items) ∷ in_all_numbers line (map view_expression n.subscripts.items)
+pub in_named_made : (line : Line) (b : Bool) (n : Named) → in_expression line b (view_expression_tree (variants.Named n)) ≡ place_use line roles.Value b n.designator (length n.subscripts.items) ∷ in_all_numbers line (map view_expression_tree n.subscripts.items)
 in_named_made line b n = ap (in_expression line b) (view_named_made n) ∙ in_named_listed line roles.Value b n
 
-pub in_call_made : (line : Line) (b : Bool) (f : Function) (v : Vec Expression) → in_expression line b (view_expression (variants.Call f v)) ≡ count line (length v.items) (counts.Arguments f) ∷ in_all_numbers line (map view_expression v.items)
+pub in_call_made : (line : Line) (b : Bool) (f : Function) (v : Vec Expression) → in_expression line b (view_expression_tree (variants.Call f v)) ≡ count line (length v.items) (counts.Arguments f) ∷ in_all_numbers line (map view_expression_tree v.items)
 in_call_made line b f v =
     ap (in_expression line b) (view_call_made f v) ∙
-    ap (λ (k : ℕ). count line k (counts.Arguments f) ∷ in_numbers line (expression_row (map view_expression v.items))) (row_counted v.items) ∙
-    ap (λ us. count line (length v.items) (counts.Arguments f) ∷ us) (in_number_row line (map view_expression v.items))
+    ap (λ (k : ℕ). count line k (counts.Arguments f) ∷ in_numbers line (expression_row (map view_expression_tree v.items))) (row_counted v.items) ∙
+    ap (λ us. count line (length v.items) (counts.Arguments f) ∷ us) (in_number_row line (map view_expression_tree v.items))
 
-pub in_product_made : (line : Line) (b : Bool) (e : Box Expression) (v : Vec Expression) → in_expression line b (view_expression (variants.Product e v)) ≡ in_expression line true (view_expression e.value) ++ in_all_numbers line (map view_expression v.items)
+pub in_product_made : (line : Line) (b : Bool) (e : Box Expression) (v : Vec Expression) → in_expression line b (view_expression_tree (variants.Product e v)) ≡ in_expression line true (view_expression_tree e.value) ++ in_all_numbers line (map view_expression_tree v.items)
 in_product_made line b e v =
     ap (in_expression line b) (view_product_made e v) ∙
-    ap (λ us. in_expression line true (view_expression e.value) ++ us) (in_number_row line (map view_expression v.items))
+    ap (λ us. in_expression line true (view_expression_tree e.value) ++ us) (in_number_row line (map view_expression_tree v.items))
 
-pub in_sum_made : (line : Line) (b : Bool) (e : Box Expression) (v : Vec Term) → in_expression line b (view_expression (variants.Sum e v)) ≡ in_expression line true (view_expression e.value) ++ in_each_term line (map view_term v.items)
+pub in_sum_made : (line : Line) (b : Bool) (e : Box Expression) (v : Vec Term) → in_expression line b (view_expression_tree (variants.Sum e v)) ≡ in_expression line true (view_expression_tree e.value) ++ in_each_term line (map view_term v.items)
 in_sum_made line b e v =
     ap (in_expression line b) (view_sum_made e v) ∙
-    ap (λ us. in_expression line true (view_expression e.value) ++ us) (in_term_row line (map view_term v.items))
+    ap (λ us. in_expression line true (view_expression_tree e.value) ++ us) (in_term_row line (map view_term v.items))
 
 -- an item that is a named place
-pub item_named : (line : Line) (n : Named) → in_item line (view_expression (variants.Named n)) ≡ in_named line roles.Item false (view_named n)
+pub item_named : (line : Line) (n : Named) → in_item line (view_expression_tree (variants.Named n)) ≡ in_named line roles.Item false (view_named n)
 item_named line n = ap (in_item line) (view_named_made n)
 
 -- ---- the next of a list
@@ -126,24 +126,24 @@ in_statement_row : (ts : List StatementTree) → in_row (statement_row ts) ≡ i
 in_statement_row [] = refl
 in_statement_row (t ∷ ts) = ap (λ us. in_statement t ++ us) (in_statement_row ts)
 
-pub inner_if : (l : Line) (c : Condition) (t e : Vec Statement) → in_inner (view_statement (statements.If l c t e)) ≡ in_body (map view_statement t.items) ++ in_body (map view_statement e.items)
+pub inner_if : (l : Line) (c : Condition) (t e : Vec Statement) → in_inner (view_statement_tree (statements.If l c t e)) ≡ in_body (map view_statement_tree t.items) ++ in_body (map view_statement_tree e.items)
 inner_if l c t e =
-    ap in_inner (view_if_made l c t e) ∙
-    ap (λ us. us ++ in_row (statement_row (map view_statement e.items))) (in_statement_row (map view_statement t.items)) ∙
-    ap (λ us. in_body (map view_statement t.items) ++ us) (in_statement_row (map view_statement e.items))
+    ap in_inner (view_if_tree_made l c t e) ∙
+    ap (λ us. us ++ in_row (statement_row (map view_statement_tree e.items))) (in_statement_row (map view_statement_tree t.items)) ∙
+    ap (λ us. in_body (map view_statement_tree t.items) ++ us) (in_statement_row (map view_statement_tree e.items))
 
-pub inner_find_if : (l : Line) (h : Head) (o : FindOutcome) (t e : Vec Statement) → in_inner (view_statement (statements.FindIf l h o t e)) ≡ in_body (map view_statement t.items) ++ in_body (map view_statement e.items)
+pub inner_find_if : (l : Line) (h : Head) (o : FindOutcome) (t e : Vec Statement) → in_inner (view_statement_tree (statements.FindIf l h o t e)) ≡ in_body (map view_statement_tree t.items) ++ in_body (map view_statement_tree e.items)
 inner_find_if l h o t e =
     ap in_inner (view_find_if_made l h o t e) ∙
-    ap (λ us. us ++ in_row (statement_row (map view_statement e.items))) (in_statement_row (map view_statement t.items)) ∙
-    ap (λ us. in_body (map view_statement t.items) ++ us) (in_statement_row (map view_statement e.items))
+    ap (λ us. us ++ in_row (statement_row (map view_statement_tree e.items))) (in_statement_row (map view_statement_tree t.items)) ∙
+    ap (λ us. in_body (map view_statement_tree t.items) ++ us) (in_statement_row (map view_statement_tree e.items))
 
-pub inner_loop : (l : Line) (h : LoopHead) (b : Vec Statement) → in_inner (view_statement (statements.Loop l h b)) ≡ in_body (map view_statement b.items)
-inner_loop l h b = ap in_inner (view_loop_made l h b) ∙ in_statement_row (map view_statement b.items)
+pub inner_loop : (l : Line) (h : LoopHead) (b : Vec Statement) → in_inner (view_statement_tree (statements.Loop l h b)) ≡ in_body (map view_statement_tree b.items)
+inner_loop l h b = ap in_inner (view_loop_tree_made l h b) ∙ in_statement_row (map view_statement_tree b.items)
 
 -- the uses of one more statement of a body come last: its own, and then those of the statements in it
-pub next_walked : (xs : List Statement) (i : ℕ) (x : Statement) (old now noted new : List Use) → i < length xs → x ≡ get_or xs i x → now ≡ old ++ in_body (map view_statement (take i xs)) → noted ≡ now ++ in_itself (view_statement x) → new ≡ noted ++ in_inner (view_statement x) → new ≡ old ++ in_body (map view_statement (take (i + 1) xs))
+pub next_walked : (xs : List Statement) (i : ℕ) (x : Statement) (old now noted new : List Use) → i < length xs → x ≡ get_or xs i x → now ≡ old ++ in_body (map view_statement_tree (take i xs)) → noted ≡ now ++ in_itself (view_statement_tree x) → new ≡ noted ++ in_inner (view_statement_tree x) → new ≡ old ++ in_body (map view_statement_tree (take (i + 1) xs))
 next_walked xs i x old now noted new lt is h n e =
-    let s = view_statement x in
+    let s = view_statement_tree x in
     let whole : new ≡ now ++ in_statement s = e ∙ ap (λ l. l ++ in_inner s) n ∙ append_assoc now (in_itself s) (in_inner s) in
-    next_noted in_statement view_statement xs i x old now new lt is h whole
+    next_noted in_statement view_statement_tree xs i x old now new lt is h whole

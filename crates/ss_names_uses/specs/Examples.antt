@@ -10,7 +10,7 @@ use Rattle.ss_tree.specs.Names.{NameBytes}
 use Rattle.ss_tree.specs.declared.expression.Function.TheVariants.{Two}
 use Rattle.ss_base.specs.declared.words.Operator.TheVariants.{Least}
 use Rattle.ss_tree.specs.declared.expression.Designator.TheVariants as designators
-use Rattle.ss_tree.specs.declared.preamble.Mode.TheVariants as tree_modes
+use Rattle.ss_tree.specs.declared.preamble.ModeWord.TheVariants as tree_modes
 use Rattle.ss_tree.specs.Tree.{ExpressionTree, number, text, named, call, parenthesised, sum, no_expression, and_expression, no_term, and_term, NamedTree, compare, empty, from_end, over_range, over_members, over_class, for_head, at_time, in_units, let_statement, call_statement, start_simulation, if_statement, loop_statement, create_statement, create_every, schedule_new, cancel_statement, remove_end, reset_statement, print_statement, skip_statement, no_statement, and_statement, main, routine, event}
 use Rattle.ss_names_uses.specs.declared.used.Role.{Role}
 use Rattle.ss_names_uses.specs.declared.used.Role.TheVariants.{Value, Item, Target, Reset, Set, LoopVariable}
@@ -23,7 +23,7 @@ use Rattle.ss_names_uses.specs.declared.used.CountNeed.TheVariants as counts
 use Rattle.ss_names_uses.specs.declared.used.Used.{Used}
 use Rattle.ss_names_uses.specs.declared.used.Used.TheVariants.{Parameter, Local, Place, Class, Routine, Start, Same, Count, Mean, Unfit}
 use Rattle.ss_names_uses.specs.declared.used.Use.{Use}
-use Rattle.ss_names_uses.specs.Uses.{at_line, in_statement, uses}
+use Rattle.ss_names_uses.specs.Uses.{use_at_line, in_statement, uses}
 
 abbrev line : ℕ → Line
 line n = record { 0 = n }
@@ -46,7 +46,7 @@ one = number (pos 1)
 
 -- a use in this line
 abbrev used : ℕ → Used → Use
-used n what = at_line (line n) what
+used n what = use_at_line (line n) what
 
 -- a name in a role, with so many subscripts, and whether it has to be a number
 abbrev named_in : ℕ → Role → NameBytes → ℕ → Bool → Use

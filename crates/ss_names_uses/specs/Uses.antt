@@ -8,7 +8,7 @@ use Rattle.ss_picture.specs.Pictures.{picture_fields}
 use Rattle.ss_tree.specs.Names.{NameBytes}
 use Rattle.ss_tree.specs.declared.expression.Designator.{Designator}
 use Rattle.ss_tree.specs.declared.expression.Designator.TheVariants as designators
-use Rattle.ss_tree.specs.declared.preamble.Mode.{Mode}
+use Rattle.ss_tree.specs.declared.preamble.ModeWord.{ModeWord}
 use Rattle.ss_tree.specs.Tree.{ExpressionTree, number, text, named, call, parenthesised, product, signed, sum, ExpressionRow, no_expression, and_expression, TermRow, no_term, and_term, NamedTree, TestTree, compare, empty, member, data_ended, ConditionTree, PhraseTree, GuardTree, StartTree, from_end, from_member, after_member, HeadTree, over_range, over_members, over_class, LoopHeadTree, for_head, guarded, PositionTree, before, after, WhenTree, at_time, in_units, now, StatementTree, let_statement, add_statement, subtract_statement, call_statement, read_statement, start_simulation, if_statement, loop_statement, find_statement, find_if_statement, create_statement, create_every, destroy_statement, file_statement, remove_end, remove_statement, schedule_new, schedule_statement, cancel_statement, reset_statement, print_statement, skip_statement, StatementRow, no_statement, and_statement, DefinitionTree, SectionKindTree, main, routine, event, SectionTree}
 use Rattle.ss_names_uses.specs.declared.used.Role.{Role}
 use Rattle.ss_names_uses.specs.declared.used.Role.TheVariants as roles
@@ -24,24 +24,24 @@ use Rattle.ss_names_uses.specs.declared.used.Use.{Use}
 
 -- ---- single uses
 
-abbrev pub at_line : Line → Used → Use
-at_line line what = record { line = line; what = what }
+abbrev pub use_at_line : Line → Used → Use
+use_at_line line what = record { line = line; what = what }
 
 -- two modes that have to be the same
 abbrev pub same : Line → ModeOf → ModeOf → Use
-same line found wanted = at_line line (Same found wanted)
+same line found wanted = use_at_line line (Same found wanted)
 
 -- a named place in a role, with so many subscripts, and whether it has to be a number
-abbrev pub place : Line → Role → Bool → Designator → ℕ → Use
-place line role is_number designator subscripts = at_line line (Place role designator subscripts is_number)
+abbrev pub place_use : Line → Role → Bool → Designator → ℕ → Use
+place_use line role is_number designator subscripts = use_at_line line (Place role designator subscripts is_number)
 
 -- a class, and whether its entity is named
 abbrev pub class_used : Line → ClassNeed → NameBytes → Bool → Use
-class_used line need class is_called = at_line line (Class need class is_called)
+class_used line need class is_called = use_at_line line (Class need class is_called)
 
 -- a count, and how many are wanted
 abbrev pub count : Line → ℕ → CountNeed → Use
-count line found wanted = at_line line (Count found wanted)
+count line found wanted = use_at_line line (Count found wanted)
 
 -- ---- expressions
 
@@ -56,11 +56,11 @@ designated (designators.Name name) = modes.Named name
 designated _ = modes.Integer
 
 -- the mode of an expression; a text in parentheses is still a text
-abbrev pub expression_mode : ExpressionTree → ModeOf
-expression_mode (text t) = modes.Alpha
-expression_mode (named designator subscripts) = designated designator
-expression_mode (parenthesised e) = expression_mode e
-expression_mode _ = modes.Integer
+abbrev pub expression_tree_mode : ExpressionTree → ModeOf
+expression_tree_mode (text t) = modes.Alpha
+expression_tree_mode (named designator subscripts) = designated designator
+expression_tree_mode (parenthesised e) = expression_tree_mode e
+expression_tree_mode _ = modes.Integer
 
 -- a text where a number may have to be
 abbrev pub of_text : Line → Bool → List Use
@@ -74,7 +74,7 @@ abbrev mutual
   in_expression line is_number (number z) = []
   in_expression line is_number (text t) = of_text line is_number
   in_expression line is_number (named designator subscripts) =
-      place line roles.Value is_number designator (row_length subscripts) ∷ in_numbers line subscripts
+      place_use line roles.Value is_number designator (row_length subscripts) ∷ in_numbers line subscripts
   in_expression line is_number (call function arguments) =
       count line (row_length arguments) (counts.Arguments function) ∷ in_numbers line arguments
   in_expression line is_number (parenthesised e) = in_expression line is_number e
@@ -93,7 +93,7 @@ abbrev mutual
 -- a named place in a role, and its subscripts
 abbrev pub in_named : Line → Role → Bool → NamedTree → List Use
 in_named line role is_number n =
-    place line role is_number n.designator (row_length n.subscripts) ∷ in_numbers line n.subscripts
+    place_use line role is_number n.designator (row_length n.subscripts) ∷ in_numbers line n.subscripts
 
 -- several named places in a role, of any mode
 abbrev pub in_all_named : Line → Role → List NamedTree → List Use
@@ -112,7 +112,7 @@ in_places of i (x ∷ xs) = of i x ++ in_places of (i + 1) xs
 
 abbrev pub in_test : Line → TestTree → List Use
 in_test line (compare left relation right) =
-    same line (expression_mode left) (expression_mode right) ∷ in_expression line false left ++ in_expression line false right
+    same line (expression_tree_mode left) (expression_tree_mode right) ∷ in_expression line false left ++ in_expression line false right
 in_test line (empty set negated) = in_named line roles.Set false set
 in_test line (member x set negated) = in_expression line true x ++ in_named line roles.Set false set
 in_test line (data_ended negated) = []
@@ -133,7 +133,7 @@ in_start line (after_member e) = in_expression line true e
 
 -- the variable of a loop takes numbers
 abbrev pub loop_variable : Line → NameBytes → List Use
-loop_variable line name = place line roles.LoopVariable true (designators.Name name) 0 ∷ []
+loop_variable line name = place_use line roles.LoopVariable true (designators.Name name) 0 ∷ []
 
 -- the head of a FOR. Without CALLED a loop over a class has the variable of the class.
 abbrev pub in_head : Line → HeadTree → List Use
@@ -173,7 +173,7 @@ in_old line need class called =
 
 -- a value that has this mode
 abbrev pub in_value : Line → ModeOf → ExpressionTree → List Use
-in_value line wanted e = same line (expression_mode e) wanted ∷ in_expression line false e
+in_value line wanted e = same line (expression_tree_mode e) wanted ∷ in_expression line false e
 
 -- a target that takes a value of this mode
 abbrev pub in_target : Line → ModeOf → NamedTree → List Use
@@ -186,7 +186,7 @@ in_given line class given =
 
 abbrev pub in_call : Line → NameBytes → List ExpressionTree → List NamedTree → List Use
 in_call line name given yielding =
-    at_line line (Routine name)
+    use_at_line line (Routine name)
     ∷ count line (length given) (counts.Given name)
     ∷ count line (length yielding) (counts.Yielded name)
     ∷ in_places (λ i. in_value line (modes.Given name i)) 0 given
@@ -195,8 +195,8 @@ in_call line name given yielding =
 -- ---- PRINT
 
 -- the fields of pictures, from the left, one picture after another
-abbrev pub fields_of : List (List ℕ) → List Field
-fields_of pictures = flat_map picture_fields pictures
+abbrev pub fields_of_pictures : List (List ℕ) → List Field
+fields_of_pictures pictures = flat_map picture_fields pictures
 
 -- an item in a field with decimals: a place named alone, in any parentheses, that has to be a MEAN
 abbrev pub as_mean : ExpressionTree → Used
@@ -211,7 +211,7 @@ of_decimals e decimals = if nat_le decimals 9 then as_mean e else Unfit
 -- a field without decimals takes any item
 abbrev pub with_decimals : Line → ExpressionTree → ℕ → List Use
 with_decimals line e zero = []
-with_decimals line e (suc more) = at_line line (of_decimals e (suc more)) ∷ []
+with_decimals line e (suc more) = use_at_line line (of_decimals e (suc more)) ∷ []
 
 abbrev pub in_field : Line → ExpressionTree → Field → List Use
 in_field line e field = with_decimals line e field.decimals
@@ -233,7 +233,7 @@ in_item_at line fields i e = in_field_at line fields i e ++ in_item line e
 -- whether there are as many items as fields
 abbrev pub of_fit : Line → Bool → List Use
 of_fit line true = []
-of_fit line false = at_line line Unfit ∷ []
+of_fit line false = use_at_line line Unfit ∷ []
 
 -- items with fields
 abbrev pub in_items : Line → List ExpressionTree → List Field → List Use
@@ -260,18 +260,18 @@ in_entity_statement _ = []
 
 -- the uses of a statement, without those of the statements in it: of an IF its condition, of a loop its head
 abbrev pub in_itself : StatementTree → List Use
-in_itself (let_statement line n e) = in_target line (expression_mode e) n ++ in_expression line false e
+in_itself (let_statement line n e) = in_target line (expression_tree_mode e) n ++ in_expression line false e
 in_itself (add_statement line e n) = in_expression line true e ++ in_named line roles.Target true n
 in_itself (subtract_statement line e n) = in_expression line true e ++ in_named line roles.Target true n
 in_itself (call_statement line name given yielding) = in_call line name given yielding
 in_itself (read_statement line targets) = in_all_named line roles.Target targets
-in_itself (start_simulation line) = at_line line Start ∷ []
+in_itself (start_simulation line) = use_at_line line Start ∷ []
 in_itself (if_statement line condition first second) = in_condition line condition
 in_itself (loop_statement line head body) = in_loop_head line head
 in_itself (find_statement line head) = in_head line head
 in_itself (find_if_statement line head outcome first second) = in_head line head
 in_itself (reset_statement line targets) = in_all_named line roles.Reset targets
-in_itself (print_statement line items pictures) = in_items line items (fields_of pictures)
+in_itself (print_statement line items pictures) = in_items line items (fields_of_pictures pictures)
 in_itself (skip_statement line lines) = in_expression line true lines
 in_itself s = in_entity_statement s
 
@@ -297,8 +297,8 @@ in_body body = flat_map in_statement body
 
 -- ---- sections
 
-abbrev pub parameter : Line → NameBytes → Use
-parameter line name = at_line line (Parameter name)
+abbrev pub parameter_use : Line → NameBytes → Use
+parameter_use line name = use_at_line line (Parameter name)
 
 -- a parameter of an EVENT section has the mode of the attribute in its place
 abbrev pub as_attribute : Line → NameBytes → ℕ → NameBytes → List Use
@@ -309,21 +309,21 @@ abbrev pub in_event : Line → NameBytes → List NameBytes → List Use
 in_event line class given =
     class_used line Notice class true
     ∷ count line (length given) (counts.Attributes class)
-    ∷ map (parameter line) given ++ in_places (as_attribute line class) 0 given
+    ∷ map (parameter_use line) given ++ in_places (as_attribute line class) 0 given
 
 -- the head of a section
 abbrev pub in_kind : Line → SectionKindTree → List Use
 in_kind line main = []
-in_kind line (routine name given yielding) = map (parameter line) given ++ map (parameter line) yielding
+in_kind line (routine name given yielding) = map (parameter_use line) given ++ map (parameter_use line) yielding
 in_kind line (event name given saving) = in_event line name given
 
-abbrev pub local : Line → Mode → NameBytes → Use
-local line mode name = at_line line (Local name mode)
+abbrev pub local_use : Line → ModeWord → NameBytes → Use
+local_use line mode name = use_at_line line (Local name mode)
 
 -- the names that a local DEFINE gives a mode
-abbrev pub in_definition : DefinitionTree → List Use
-in_definition d = map (local d.line d.mode) d.names
+abbrev pub in_local_definition : DefinitionTree → List Use
+in_local_definition d = map (local_use d.line d.mode) d.names
 
 -- the uses of a section
 abbrev pub uses : SectionTree → List Use
-uses s = in_kind s.line s.kind ++ flat_map in_definition s.definitions ++ in_body s.body
+uses s = in_kind s.line s.kind ++ flat_map in_local_definition s.definitions ++ in_body s.body

@@ -2,7 +2,7 @@
 
 ghost use Rattle.std.specs.Prelude.{◌≡◌, ◌++◌, map, IfOk};
 ghost use Rattle.std.specs.List.{flat_map};
-ghost use Rattle.ss_tree.specs.View.{view_condition, view_test};
+ghost use Rattle.ss_tree.specs.View.{view_condition_tree, view_test_tree};
 ghost use Rattle.ss_names_uses.specs.Uses.{in_condition, in_test};
 
 use crate::expressions::{add_expression, add_named, add_same, expression_mode};
@@ -13,7 +13,7 @@ use std::alloc::AllocError;
 
 // Adds the uses of a test.
 fn add_test(into: &mut Vec<Use>, line: Line, test: &Test) -> Result<(), AllocError>
-    ensures { IfOk result (λ _. into.new.items ≡ into.old.items ++ in_test line (view_test test.now)) }
+    ensures { IfOk result (λ _. into.new.items ≡ into.old.items ++ in_test line (view_test_tree test.now)) }
 {
     match test {
         Test::Compare { left, right, .. } => {
@@ -32,7 +32,7 @@ fn add_test(into: &mut Vec<Use>, line: Line, test: &Test) -> Result<(), AllocErr
 
 // Adds the uses of tests joined by AND.
 fn add_tests(into: &mut Vec<Use>, line: Line, tests: &[Test]) -> Result<(), AllocError>
-    ensures { IfOk result (λ _. into.new.items ≡ into.old.items ++ flat_map (in_test line) (map view_test tests.now)) }
+    ensures { IfOk result (λ _. into.new.items ≡ into.old.items ++ flat_map (in_test line) (map view_test_tree tests.now)) }
 {
     for test in tests {
         add_test(into, line, test)?;
@@ -46,7 +46,7 @@ pub(crate) fn add_condition(
     line: Line,
     condition: &Condition,
 ) -> Result<(), AllocError>
-    ensures { IfOk result (λ _. into.new.items ≡ into.old.items ++ in_condition line (view_condition condition.now)) }
+    ensures { IfOk result (λ _. into.new.items ≡ into.old.items ++ in_condition line (view_condition_tree condition.now)) }
 {
     for conjunction in &condition.alternatives {
         add_tests(into, line, &conjunction.tests)?;

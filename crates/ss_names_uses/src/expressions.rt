@@ -4,8 +4,9 @@ ghost use Rattle.std.specs.Prelude.{◌≡◌, ◌++◌, ◌∷◌, [], map, tru
 ghost use Rattle.std.specs.List.{flat_map};
 ghost use Rattle.ss_base.specs.declared.words.Sign.{Sign};
 ghost use Rattle.ss_tree.specs.Tree.{ExpressionTree};
-ghost use Rattle.ss_tree.specs.View.{view_expression, view_named, view_option, view_term};
-ghost use Rattle.ss_names_uses.specs.Uses.{at_line, class_used, count, designated, in_all_named, in_expression, in_named, in_option, expression_mode, of_text, place, same};
+ghost use Rattle.ss_tree.specs.View.{view_expression_tree, view_named, view_term};
+ghost use Rattle.std.specs.Option.{option_map};
+ghost use Rattle.ss_names_uses.specs.Uses.{use_at_line, class_used, count, designated, in_all_named, in_expression, in_named, in_option, expression_tree_mode, of_text, place_use, same};
 
 use crate::used::{ClassNeed, CountNeed, ModeOf, Role, Use, Used};
 use ss_base::{Line, Name};
@@ -30,9 +31,9 @@ pub(crate) fn mode_of_target(target: &Named) -> ModeOf
 }
 
 // The mode of an expression; a text in parentheses is still a text.
-#[tactic(auto, unfolding(ss_tree::specs::View::view_expression))]
+#[tactic(auto, unfolding(ss_tree::specs::View::view_expression_tree))]
 pub(crate) fn expression_mode(expression: &Expression) -> ModeOf
-    ensures { result ≡ expression_mode (view_expression expression.now) }
+    ensures { result ≡ expression_tree_mode (view_expression_tree expression.now) }
 {
     match expression {
         Expression::Text(_) => ModeOf::Alpha,
@@ -48,7 +49,7 @@ pub(crate) fn expression_mode(expression: &Expression) -> ModeOf
 
 // Adds one use.
 pub(crate) fn add(into: &mut Vec<Use>, line: Line, what: Used) -> Result<(), AllocError>
-    ensures { IfOk result (λ _. into.new.items ≡ into.old.items ++ at_line line what ∷ []) }
+    ensures { IfOk result (λ _. into.new.items ≡ into.old.items ++ use_at_line line what ∷ []) }
 {
     // The checker needs to see the types of what a use holds.
     let _place = Designator::TimeV;
@@ -109,7 +110,7 @@ pub(crate) fn add_place(
     designator: Designator,
     subscripts: usize,
 ) -> Result<(), AllocError>
-    ensures { IfOk result (λ _. into.new.items ≡ into.old.items ++ place line role number designator subscripts ∷ []) }
+    ensures { IfOk result (λ _. into.new.items ≡ into.old.items ++ place_use line role number designator subscripts ∷ []) }
 {
     let what = Used::Place {
         role,
@@ -134,14 +135,14 @@ fn add_text(into: &mut Vec<Use>, line: Line, number: bool) -> Result<(), AllocEr
 // Adds the uses of an expression, from left to right. It may have to be a number; what is added, subtracted, multiplied or
 // has a sign, each subscript, and each argument of a function has to be one.
 #[cycle(adding)]
-#[tactic(auto, unfolding(ss_tree::specs::View::view_expression))]
+#[tactic(auto, unfolding(ss_tree::specs::View::view_expression_tree))]
 pub(crate) fn add_expression(
     into: &mut Vec<Use>,
     line: Line,
     number: bool,
     expression: &Expression,
 ) -> Result<(), AllocError>
-    ensures { IfOk result (λ _. into.new.items ≡ into.old.items ++ in_expression line number (view_expression expression.now)) }
+    ensures { IfOk result (λ _. into.new.items ≡ into.old.items ++ in_expression line number (view_expression_tree expression.now)) }
 {
     match expression {
         Expression::Number(_) => Ok(()),
@@ -186,7 +187,7 @@ fn add_numbers(
     line: Line,
     expressions: &[Expression],
 ) -> Result<(), AllocError>
-    ensures { IfOk result (λ _. into.new.items ≡ into.old.items ++ flat_map (in_expression line true) (map view_expression expressions.now)) }
+    ensures { IfOk result (λ _. into.new.items ≡ into.old.items ++ flat_map (in_expression line true) (map view_expression_tree expressions.now)) }
 {
     for expression in expressions {
         add_expression(into, line, true, expression)?;
@@ -211,7 +212,7 @@ pub(crate) fn add_maybe(
     line: Line,
     expression: &Option<Expression>,
 ) -> Result<(), AllocError>
-    ensures { IfOk result (λ _. into.new.items ≡ into.old.items ++ in_option (in_expression line true) (view_option view_expression expression.now)) }
+    ensures { IfOk result (λ _. into.new.items ≡ into.old.items ++ in_option (in_expression line true) (option_map view_expression_tree expression.now)) }
 {
     match expression {
         Some(expression) => add_expression(into, line, true, expression),
@@ -255,7 +256,7 @@ pub(crate) fn add_maybe_target(
     line: Line,
     target: &Option<Named>,
 ) -> Result<(), AllocError>
-    ensures { IfOk result (λ _. into.new.items ≡ into.old.items ++ in_option (in_named line Role.Target true) (view_option view_named target.now)) }
+    ensures { IfOk result (λ _. into.new.items ≡ into.old.items ++ in_option (in_named line Role.Target true) (option_map view_named target.now)) }
 {
     match target {
         Some(target) => add_named(into, line, Role::Target, true, target),

@@ -1,7 +1,7 @@
 //! The uses of values that are passed, each with the mode that is wanted in its place.
 
 ghost use Rattle.std.specs.Prelude.{◌≡◌, ℕ, ◌++◌, map, IfOk};
-ghost use Rattle.ss_tree.specs.View.{view_expression, view_named};
+ghost use Rattle.ss_tree.specs.View.{view_expression_tree, view_named};
 ghost use Rattle.ss_names_uses.specs.Uses.{as_attribute, in_places, in_target, in_value};
 ghost use Rattle.ss_names_uses.specs.declared.used.ModeOf.TheVariants as modes;
 
@@ -18,7 +18,7 @@ fn add_value(
     wanted: ModeOf,
     value: &Expression,
 ) -> Result<(), AllocError>
-    ensures { IfOk result (λ _. into.new.items ≡ into.old.items ++ in_value line wanted (view_expression value.now)) }
+    ensures { IfOk result (λ _. into.new.items ≡ into.old.items ++ in_value line wanted (view_expression_tree value.now)) }
 {
     add_same(into, line, expression_mode(value), wanted)?;
     add_expression(into, line, false, value)
@@ -44,7 +44,7 @@ pub(crate) fn add_for_attributes(
     class: &Name,
     values: &[Expression],
 ) -> Result<(), AllocError>
-    ensures { IfOk result (λ _. into.new.items ≡ into.old.items ++ in_places (λ (i : ℕ). in_value line (modes.Attribute class.now i)) 0 (map view_expression values.now)) }
+    ensures { IfOk result (λ _. into.new.items ≡ into.old.items ++ in_places (λ (i : ℕ). in_value line (modes.Attribute class.now i)) 0 (map view_expression_tree values.now)) }
 {
     for (place, value) in values.iter().enumerate() {
         let wanted = ModeOf::Attribute {
@@ -63,7 +63,7 @@ pub(crate) fn add_for_given(
     routine: &Name,
     values: &[Expression],
 ) -> Result<(), AllocError>
-    ensures { IfOk result (λ _. into.new.items ≡ into.old.items ++ in_places (λ (i : ℕ). in_value line (modes.Given routine.now i)) 0 (map view_expression values.now)) }
+    ensures { IfOk result (λ _. into.new.items ≡ into.old.items ++ in_places (λ (i : ℕ). in_value line (modes.Given routine.now i)) 0 (map view_expression_tree values.now)) }
 {
     for (place, value) in values.iter().enumerate() {
         let wanted = ModeOf::Given {

@@ -2,7 +2,7 @@
 
 ghost use Rattle.std.specs.Prelude.{◌≡◌, ◌++◌, map, IfOk};
 ghost use Rattle.std.specs.List.{flat_map};
-ghost use Rattle.ss_tree.specs.View.{view_guard, view_head, view_loop_head, view_phrase, view_start};
+ghost use Rattle.ss_tree.specs.View.{view_guard_tree, view_head_tree, view_loop_head, view_phrase_tree, view_start_tree};
 ghost use Rattle.ss_names_uses.specs.Uses.{in_guard, in_head, in_loop_head, in_option, in_phrase, in_start, loop_variable};
 
 use crate::conditions::add_condition;
@@ -33,7 +33,7 @@ fn add_called(into: &mut Vec<Use>, line: Line, called: &Option<Name>) -> Result<
 
 // Adds the uses of the member with which a loop begins.
 fn add_start(into: &mut Vec<Use>, line: Line, start: &MemberStart) -> Result<(), AllocError>
-    ensures { IfOk result (λ _. into.new.items ≡ into.old.items ++ in_start line (view_start start.now)) }
+    ensures { IfOk result (λ _. into.new.items ≡ into.old.items ++ in_start line (view_start_tree start.now)) }
 {
     match start {
         MemberStart::End => Ok(()),
@@ -45,7 +45,7 @@ fn add_start(into: &mut Vec<Use>, line: Line, start: &MemberStart) -> Result<(),
 
 // Adds the uses of the phrases of a FOR.
 fn add_phrases(into: &mut Vec<Use>, line: Line, phrases: &[Phrase]) -> Result<(), AllocError>
-    ensures { IfOk result (λ _. into.new.items ≡ into.old.items ++ flat_map (in_phrase line) (map view_phrase phrases.now)) }
+    ensures { IfOk result (λ _. into.new.items ≡ into.old.items ++ flat_map (in_phrase line) (map view_phrase_tree phrases.now)) }
 {
     for phrase in phrases {
         add_condition(into, line, &phrase.condition)?;
@@ -55,7 +55,7 @@ fn add_phrases(into: &mut Vec<Use>, line: Line, phrases: &[Phrase]) -> Result<()
 
 // Adds the uses of the conditions of a loop that begins with WHILE or UNTIL.
 fn add_guards(into: &mut Vec<Use>, line: Line, guards: &[Guard]) -> Result<(), AllocError>
-    ensures { IfOk result (λ _. into.new.items ≡ into.old.items ++ flat_map (in_guard line) (map view_guard guards.now)) }
+    ensures { IfOk result (λ _. into.new.items ≡ into.old.items ++ flat_map (in_guard line) (map view_guard_tree guards.now)) }
 {
     for guard in guards {
         add_condition(into, line, &guard.condition)?;
@@ -65,7 +65,7 @@ fn add_guards(into: &mut Vec<Use>, line: Line, guards: &[Guard]) -> Result<(), A
 
 // Adds the uses of the head of a FOR.
 pub(crate) fn add_head(into: &mut Vec<Use>, line: Line, head: &Head) -> Result<(), AllocError>
-    ensures { IfOk result (λ _. into.new.items ≡ into.old.items ++ in_head line (view_head head.now)) }
+    ensures { IfOk result (λ _. into.new.items ≡ into.old.items ++ in_head line (view_head_tree head.now)) }
 {
     match head {
         Head::Range {

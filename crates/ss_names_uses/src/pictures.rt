@@ -2,8 +2,8 @@
 
 ghost use Rattle.std.specs.Prelude.{◌≡◌, ◌++◌, map, slice_get, IfOk};
 ghost use Rattle.ss_picture.specs.Pictures.{picture_fields};
-ghost use Rattle.ss_tree.specs.View.{view_expression};
-ghost use Rattle.ss_names_uses.specs.Uses.{as_mean, fields_of, in_field, in_field_at, in_item, in_item_at, in_items, in_places, of_decimals, of_fit};
+ghost use Rattle.ss_tree.specs.View.{view_expression_tree};
+ghost use Rattle.ss_names_uses.specs.Uses.{as_mean, fields_of_pictures, in_field, in_field_at, in_item, in_item_at, in_items, in_places, of_decimals, of_fit};
 
 use crate::expressions::{add, add_expression, add_named};
 use crate::used::{Role, Use, Used};
@@ -22,7 +22,7 @@ fn add_fields(alloc: Global, into: &mut Vec<Field>, picture: &PictureLine) -> Re
 
 // The fields of some pictures, from the left, one picture after another.
 fn fields_of(alloc: Global, pictures: &[PictureLine]) -> Result<Vec<Field>, AllocError>
-    ensures { IfOk result (λ fields. fields.items ≡ fields_of pictures.now) }
+    ensures { IfOk result (λ fields. fields.items ≡ fields_of_pictures pictures.now) }
 {
     let mut fields = Vec::new(alloc);
     for picture in pictures {
@@ -32,9 +32,9 @@ fn fields_of(alloc: Global, pictures: &[PictureLine]) -> Result<Vec<Field>, Allo
 }
 
 // What an item is in a field with decimals: it has to be a MEAN.
-#[tactic(auto, unfolding(ss_tree::specs::View::view_expression))]
+#[tactic(auto, unfolding(ss_tree::specs::View::view_expression_tree))]
 fn as_mean(item: &Expression) -> Used
-    ensures { result ≡ as_mean (view_expression item.now) }
+    ensures { result ≡ as_mean (view_expression_tree item.now) }
 {
     match item {
         Expression::Named(named) => Used::Mean {
@@ -52,7 +52,7 @@ fn as_mean(item: &Expression) -> Used
 
 // What an item is in a field of so many decimals, which may be at most 9.
 fn of_decimals(item: &Expression, decimals: usize) -> Used
-    ensures { result ≡ of_decimals (view_expression item.now) decimals }
+    ensures { result ≡ of_decimals (view_expression_tree item.now) decimals }
 {
     if decimals <= 9 {
         as_mean(item)
@@ -68,7 +68,7 @@ fn add_field(
     item: &Expression,
     field: Field,
 ) -> Result<(), AllocError>
-    ensures { IfOk result (λ _. into.new.items ≡ into.old.items ++ in_field line (view_expression item.now) field) }
+    ensures { IfOk result (λ _. into.new.items ≡ into.old.items ++ in_field line (view_expression_tree item.now) field) }
 {
     if field.decimals == 0 {
         return Ok(());
@@ -91,7 +91,7 @@ fn add_field_at(
     place: usize,
     item: &Expression,
 ) -> Result<(), AllocError>
-    ensures { IfOk result (λ _. into.new.items ≡ into.old.items ++ in_field_at line fields.now place (view_expression item.now)) }
+    ensures { IfOk result (λ _. into.new.items ≡ into.old.items ++ in_field_at line fields.now place (view_expression_tree item.now)) }
 {
     match field_at(fields, place) {
         Some(field) => add_field(into, line, item, field),
@@ -100,9 +100,9 @@ fn add_field_at(
 }
 
 // Adds the uses of an item: a place named alone, in any parentheses, may be a MEAN.
-#[tactic(auto, unfolding(ss_tree::specs::View::view_expression))]
+#[tactic(auto, unfolding(ss_tree::specs::View::view_expression_tree))]
 fn add_item(into: &mut Vec<Use>, line: Line, item: &Expression) -> Result<(), AllocError>
-    ensures { IfOk result (λ _. into.new.items ≡ into.old.items ++ in_item line (view_expression item.now)) }
+    ensures { IfOk result (λ _. into.new.items ≡ into.old.items ++ in_item line (view_expression_tree item.now)) }
 {
     match item {
         Expression::Named(named) => add_named(into, line, Role::Item, false, named),
@@ -124,7 +124,7 @@ fn add_item_at(
     place: usize,
     item: &Expression,
 ) -> Result<(), AllocError>
-    ensures { IfOk result (λ _. into.new.items ≡ into.old.items ++ in_item_at line fields.now place (view_expression item.now)) }
+    ensures { IfOk result (λ _. into.new.items ≡ into.old.items ++ in_item_at line fields.now place (view_expression_tree item.now)) }
 {
     add_field_at(into, line, fields, place, item)?;
     add_item(into, line, item)
@@ -137,7 +137,7 @@ fn add_placed_items(
     fields: &[Field],
     items: &[Expression],
 ) -> Result<(), AllocError>
-    ensures { IfOk result (λ _. into.new.items ≡ into.old.items ++ in_places (in_item_at line fields.now) 0 (map view_expression items.now)) }
+    ensures { IfOk result (λ _. into.new.items ≡ into.old.items ++ in_places (in_item_at line fields.now) 0 (map view_expression_tree items.now)) }
 {
     for (place, item) in items.iter().enumerate() {
         add_item_at(into, line, fields, place, item)?;
@@ -163,7 +163,7 @@ fn add_items(
     items: &[Expression],
     fields: &[Field],
 ) -> Result<(), AllocError>
-    ensures { IfOk result (λ _. into.new.items ≡ into.old.items ++ in_items line (map view_expression items.now) fields.now) }
+    ensures { IfOk result (λ _. into.new.items ≡ into.old.items ++ in_items line (map view_expression_tree items.now) fields.now) }
 {
     let fits = items.len() == fields.len();
     add_fit(into, line, fits)?;
@@ -178,7 +178,7 @@ pub(crate) fn add_print(
     items: &[Expression],
     pictures: &[PictureLine],
 ) -> Result<(), AllocError>
-    ensures { IfOk result (λ _. into.new.items ≡ into.old.items ++ in_items line (map view_expression items.now) (fields_of pictures.now)) }
+    ensures { IfOk result (λ _. into.new.items ≡ into.old.items ++ in_items line (map view_expression_tree items.now) (fields_of_pictures pictures.now)) }
 {
     let fields = fields_of(alloc, pictures)?;
     add_items(into, line, items, &fields)

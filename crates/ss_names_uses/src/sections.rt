@@ -3,20 +3,20 @@
 ghost use Rattle.std.specs.Prelude.{◌≡◌, ◌++◌, map, IfOk};
 ghost use Rattle.std.specs.List.{flat_map};
 ghost use Rattle.ss_tree.specs.View.{view_definition, view_kind, view_section};
-ghost use Rattle.ss_names_uses.specs.Uses.{in_definition, in_event, in_kind, local, parameter, uses};
+ghost use Rattle.ss_names_uses.specs.Uses.{in_local_definition, in_event, in_kind, local_use, parameter_use, uses};
 
 use crate::expressions::{add, add_class, add_count};
 use crate::handed::add_as_attributes;
 use crate::statements::add_body;
 use crate::used::{ClassNeed, CountNeed, Use, Used};
 use ss_base::{Line, Name};
-use ss_tree::preamble::Mode;
+use ss_tree::preamble::ModeWord;
 use ss_tree::program::{LocalDefinition, Section, SectionKind};
 use std::alloc::{AllocError, Global};
 
 // Adds the uses of parameters.
 fn add_parameters(into: &mut Vec<Use>, line: Line, names: &[Name]) -> Result<(), AllocError>
-    ensures { IfOk result (λ _. into.new.items ≡ into.old.items ++ map (parameter line) names.now) }
+    ensures { IfOk result (λ _. into.new.items ≡ into.old.items ++ map (parameter_use line) names.now) }
 {
     for name in names {
         add(into, line, Used::Parameter { name: *name })?;
@@ -58,8 +58,13 @@ fn add_kind(into: &mut Vec<Use>, line: Line, kind: &SectionKind) -> Result<(), A
 }
 
 // Adds the uses of names that a local DEFINE gives a mode.
-fn add_locals(into: &mut Vec<Use>, line: Line, mode: Mode, names: &[Name]) -> Result<(), AllocError>
-    ensures { IfOk result (λ _. into.new.items ≡ into.old.items ++ map (local line mode) names.now) }
+fn add_locals(
+    into: &mut Vec<Use>,
+    line: Line,
+    mode: ModeWord,
+    names: &[Name],
+) -> Result<(), AllocError>
+    ensures { IfOk result (λ _. into.new.items ≡ into.old.items ++ map (local_use line mode) names.now) }
 {
     for name in names {
         add(into, line, Used::Local { name: *name, mode })?;
@@ -69,7 +74,7 @@ fn add_locals(into: &mut Vec<Use>, line: Line, mode: Mode, names: &[Name]) -> Re
 
 // Adds the uses of the names that local DEFINEs give modes.
 fn add_definitions(into: &mut Vec<Use>, definitions: &[LocalDefinition]) -> Result<(), AllocError>
-    ensures { IfOk result (λ _. into.new.items ≡ into.old.items ++ flat_map in_definition (map view_definition definitions.now)) }
+    ensures { IfOk result (λ _. into.new.items ≡ into.old.items ++ flat_map in_local_definition (map view_definition definitions.now)) }
 {
     for definition in definitions {
         add_locals(into, definition.line, definition.mode, &definition.names)?;

@@ -2,8 +2,9 @@
 
 ghost use Rattle.std.specs.Prelude.{◌≡◌, true, false, ◌++◌, map, IfOk};
 ghost use Rattle.ss_tree.specs.Names.{NameBytes};
-ghost use Rattle.ss_tree.specs.View.{view_expression, view_named, view_option, view_position, view_statement, view_when};
-ghost use Rattle.ss_names_uses.specs.Uses.{class_used, in_body, in_call, in_entity_statement, in_expression, in_given, in_inner, in_itself, in_new, in_old, in_position, in_target, in_when, expression_mode};
+ghost use Rattle.ss_tree.specs.View.{view_expression_tree, view_named, view_position_tree, view_statement_tree, view_when_tree};
+ghost use Rattle.std.specs.Option.{option_map};
+ghost use Rattle.ss_names_uses.specs.Uses.{class_used, in_body, in_call, in_entity_statement, in_expression, in_given, in_inner, in_itself, in_new, in_old, in_position, in_target, in_when, expression_tree_mode};
 ghost use Rattle.ss_names_uses.specs.declared.used.ClassNeed.TheVariants as needs;
 
 use crate::conditions::add_condition;
@@ -22,7 +23,7 @@ use std::alloc::{AllocError, Global};
 
 // Adds the uses of the position at which a member is filed.
 fn add_position(into: &mut Vec<Use>, line: Line, position: &Position) -> Result<(), AllocError>
-    ensures { IfOk result (λ _. into.new.items ≡ into.old.items ++ in_position line (view_position position.now)) }
+    ensures { IfOk result (λ _. into.new.items ≡ into.old.items ++ in_position line (view_position_tree position.now)) }
 {
     match position {
         Position::Discipline | Position::First | Position::Last => Ok(()),
@@ -34,7 +35,7 @@ fn add_position(into: &mut Vec<Use>, line: Line, position: &Position) -> Result<
 
 // Adds the uses of the time at which a notice is due.
 fn add_when(into: &mut Vec<Use>, line: Line, when: &When) -> Result<(), AllocError>
-    ensures { IfOk result (λ _. into.new.items ≡ into.old.items ++ in_when line (view_when when.now)) }
+    ensures { IfOk result (λ _. into.new.items ≡ into.old.items ++ in_when line (view_when_tree when.now)) }
 {
     match when {
         When::At(time) | When::In(time) => add_expression(into, line, true, time),
@@ -50,7 +51,7 @@ fn add_new(
     class: Name,
     called: &Option<Named>,
 ) -> Result<(), AllocError>
-    ensures { IfOk result (λ _. into.new.items ≡ into.old.items ++ in_new line need class (view_option view_named called.now)) }
+    ensures { IfOk result (λ _. into.new.items ≡ into.old.items ++ in_new line need class (option_map view_named called.now)) }
 {
     add_class(into, line, need, class, called.is_some())?;
     add_maybe_target(into, line, called)
@@ -64,7 +65,7 @@ fn add_old(
     class: Name,
     called: &Option<Expression>,
 ) -> Result<(), AllocError>
-    ensures { IfOk result (λ _. into.new.items ≡ into.old.items ++ in_old line need class (view_option view_expression called.now)) }
+    ensures { IfOk result (λ _. into.new.items ≡ into.old.items ++ in_old line need class (option_map view_expression_tree called.now)) }
 {
     add_class(into, line, need, class, called.is_some())?;
     add_maybe(into, line, called)
@@ -87,7 +88,7 @@ fn add_given(
     class: &Name,
     given: &[Expression],
 ) -> Result<(), AllocError>
-    ensures { IfOk result (λ _. into.new.items ≡ into.old.items ++ in_given line class.now (map view_expression given.now)) }
+    ensures { IfOk result (λ _. into.new.items ≡ into.old.items ++ in_given line class.now (map view_expression_tree given.now)) }
 {
     add_count(into, line, given.len(), CountNeed::Attributes(*class))?;
     add_for_attributes(into, line, class, given)
@@ -102,7 +103,7 @@ fn add_call(
     given: &[Expression],
     yielding: &[Named],
 ) -> Result<(), AllocError>
-    ensures { IfOk result (λ _. into.new.items ≡ into.old.items ++ in_call line routine.now (map view_expression given.now) (map view_named yielding.now)) }
+    ensures { IfOk result (λ _. into.new.items ≡ into.old.items ++ in_call line routine.now (map view_expression_tree given.now) (map view_named yielding.now)) }
 {
     add(into, line, Used::Routine { routine: *routine })?;
     add_count(into, line, given.len(), CountNeed::Given(*routine))?;
@@ -118,16 +119,16 @@ fn add_let(
     target: &Named,
     value: &Expression,
 ) -> Result<(), AllocError>
-    ensures { IfOk result (λ _. into.new.items ≡ into.old.items ++ (in_target line (expression_mode (view_expression value.now)) (view_named target.now) ++ in_expression line false (view_expression value.now))) }
+    ensures { IfOk result (λ _. into.new.items ≡ into.old.items ++ (in_target line (expression_tree_mode (view_expression_tree value.now)) (view_named target.now) ++ in_expression line false (view_expression_tree value.now))) }
 {
     add_target(into, line, expression_mode(value), target)?;
     add_expression(into, line, false, value)
 }
 
 // Adds the uses of a statement on entities, sets or notices, and none of others.
-#[tactic(auto, unfolding(ss_tree::specs::View::view_statement))]
+#[tactic(auto, unfolding(ss_tree::specs::View::view_statement_tree))]
 fn add_of_entities(into: &mut Vec<Use>, statement: &Statement) -> Result<(), AllocError>
-    ensures { IfOk result (λ _. into.new.items ≡ into.old.items ++ in_entity_statement (view_statement statement.now)) }
+    ensures { IfOk result (λ _. into.new.items ≡ into.old.items ++ in_entity_statement (view_statement_tree statement.now)) }
 {
     match statement {
         Statement::Create {
@@ -196,9 +197,9 @@ fn add_of_entities(into: &mut Vec<Use>, statement: &Statement) -> Result<(), All
 }
 
 // Adds the uses of a statement, without those of the statements in it.
-#[tactic(auto, unfolding(ss_tree::specs::View::view_statement))]
+#[tactic(auto, unfolding(ss_tree::specs::View::view_statement_tree))]
 fn add_itself(alloc: Global, into: &mut Vec<Use>, statement: &Statement) -> Result<(), AllocError>
-    ensures { IfOk result (λ _. into.new.items ≡ into.old.items ++ in_itself (view_statement statement.now)) }
+    ensures { IfOk result (λ _. into.new.items ≡ into.old.items ++ in_itself (view_statement_tree statement.now)) }
 {
     match statement {
         Statement::Let {
@@ -250,9 +251,9 @@ fn add_itself(alloc: Global, into: &mut Vec<Use>, statement: &Statement) -> Resu
 
 // Adds the uses of the statements in a statement, in the order of the text.
 #[cycle(walking)]
-#[tactic(auto, unfolding(ss_tree::specs::View::view_statement))]
+#[tactic(auto, unfolding(ss_tree::specs::View::view_statement_tree))]
 fn add_inner(alloc: Global, into: &mut Vec<Use>, statement: &Statement) -> Result<(), AllocError>
-    ensures { IfOk result (λ _. into.new.items ≡ into.old.items ++ in_inner (view_statement statement.now)) }
+    ensures { IfOk result (λ _. into.new.items ≡ into.old.items ++ in_inner (view_statement_tree statement.now)) }
 {
     match statement {
         Statement::If {
@@ -283,7 +284,7 @@ pub(crate) fn add_body(
     into: &mut Vec<Use>,
     body: &[Statement],
 ) -> Result<(), AllocError>
-    ensures { IfOk result (λ _. into.new.items ≡ into.old.items ++ in_body (map view_statement body.now)) }
+    ensures { IfOk result (λ _. into.new.items ≡ into.old.items ++ in_body (map view_statement_tree body.now)) }
 {
     for statement in body {
         add_itself(alloc, into, statement)?;

@@ -2,7 +2,7 @@
 
 use ss_base::{Line, Name};
 use ss_tree::expression::{Designator, Function};
-use ss_tree::preamble::Mode;
+use ss_tree::preamble::ModeWord;
 
 /// The role of a named place.
 #[derive(Clone, Copy, Debug, PartialEq, Eq)]
@@ -65,7 +65,7 @@ pub enum Used {
     /// A local variable, by a DEFINE.
     Local {
         name: Name,
-        mode: Mode,
+        mode: ModeWord,
     },
     /// A named place with so many subscripts, and whether it has to be a number.
     Place {

@@ -5,12 +5,12 @@ use Rattle.ss_lex.specs.declared.word.Word.{Word}
 use Rattle.ss_lex.specs.declared.word.Word.TheVariants as words
 use Rattle.ss_lex.specs.declared.token.TokenKind.TheVariants as kinds
 use Rattle.ss_lex.specs.declared.token.Token.{Token}
-use Rattle.ss_tree.specs.declared.preamble.Mode.{Mode}
+use Rattle.ss_tree.specs.declared.preamble.ModeWord.{ModeWord}
 use Rattle.ss_base.specs.declared.layout.ClassKind.{ClassKind}
-use Rattle.ss_tree.specs.declared.preamble.Key.{Key}
+use Rattle.ss_tree.specs.declared.preamble.NamedKey.{NamedKey}
 use Rattle.ss_base.specs.declared.words.Weighting.{Weighting}
 use Rattle.ss_base.specs.declared.words.Weighting.TheVariants as weightings
-use Rattle.ss_tree.specs.declared.preamble.Statistic.{Statistic}
+use Rattle.ss_tree.specs.declared.preamble.NamedStatistic.{NamedStatistic}
 use Rattle.ss_tree.specs.Tree.{ClauseTree, PreambleTree, permanent_entities, temporary_entities, event_notices, every, normally, system_owns, define_variables, define_sets, priority_order, break_ties, statistics}
 use Rattle.ss_parse_expressions.specs.declared.classes.WordClass.TheVariants as alike
 use Rattle.ss_parse_expressions.specs.Shapes.{Shape, ◌▷◌, never, either_shape, Word_is, Name_is, Word_for, separated_list}
@@ -32,7 +32,7 @@ pub preamble_known : (x : PreambleTree) → preamble_word (preamble_first x) ≡
 preamble_known (statistics line weighting fs subject) = (weighting_known weighting).1
 preamble_known _ = refl
 
-mode_no_article : (w : Word) (mode : Mode) → mode_of_word w ≡ Some mode → has_word alike.Article w ≡ false
+mode_no_article : (w : Word) (mode : ModeWord) → mode_of_word w ≡ Some mode → has_word alike.Article w ≡ false
 mode_no_article words.Integer mode e = refl
 mode_no_article words.Alpha mode e = refl
 mode_no_article words.Real mode e = refl
@@ -98,7 +98,7 @@ module _ (k : ℕ) where
       from (event_notices l included) u w at ts rest s = (included, ap (λ (l : Line). event_notices l included) (sym at), s)
       from _ u w at ts rest s = absurd cc
 
-  abbrev normally_parts : Mode → Shape
+  abbrev normally_parts : ModeWord → Shape
   normally_parts mode = noisy words.Mode ▷ Word_is words.Is ▷ Word_for mode_of_word mode
 
   normally_form : (group : Option ClassKind) (line : Line) → Reads k (normally_at line) (normally_at line) (Pre_is group line words.Normally) continues_preamble
@@ -137,7 +137,7 @@ module _ (k : ℕ) where
       from (priority_order l classes) u w at ts rest s = (classes, ap (λ (l : Line). priority_order l classes) (sym at), s)
       from _ u w at ts rest s = absurd cc
 
-  abbrev break_parts : List ℕ × List Key → Shape
+  abbrev break_parts : List ℕ × List NamedKey → Shape
   break_parts p = Name_is p.0 ▷ Word_is words.Ties ▷ Word_is words.By ▷ Keys_are p.1
 
   break_form : (group : Option ClassKind) (line : Line) → Reads k (break_at line) (break_at line) (Pre_is group line words.Break) continues_preamble
@@ -208,7 +208,7 @@ module _ (k : ℕ) where
       from _ u w at ts rest s = absurd cc
 
   -- TALLY and ACCUMULATE
-  abbrev Statistics_parts : List Statistic × List ℕ → Shape
+  abbrev Statistics_parts : List NamedStatistic × List ℕ → Shape
   Statistics_parts p = separated_list Statistic_is p.0 ▷ Word_is words.Of ▷ Name_is p.1
 
   statistics_form : (group : Option ClassKind) (line : Line) (weighting : Weighting) (w : Word) → weighting_word weighting ≡ w → statistics_word w ≡ true → ((v : Weighting) → weighting_word v ≡ w → weighting ≡ v) → Reads k (statistics_at line weighting) (statistics_at line weighting) (Pre_is group line w) continues_preamble
@@ -216,7 +216,7 @@ module _ (k : ℕ) where
   statistics_form group line weighting w is known only =
       fewer_reads (apply_reads {S = Statistics_parts} (seq_reads (found_reads k) (marked_reads (word words.Of) (name_reads k)) (λ n ts rest s stop. ap (λ (r : List Token). begins_more begins_name r || (continues_never r || continues_never r)) s.1.2)) (λ p. statistics line weighting p.0 p.1) (Pre_is group line w) (λ p ts rest s. (refl, is, s)) from) continues_preamble (λ ts stop. refl)
     where
-      from : (x : PreambleTree) (ts rest : List Token) → Pre_is group line w x ts rest → (p : List Statistic × List ℕ) × (statistics line weighting p.0 p.1 ≡ x) × Statistics_parts p ts rest
+      from : (x : PreambleTree) (ts rest : List Token) → Pre_is group line w x ts rest → (p : List NamedStatistic × List ℕ) × (statistics line weighting p.0 p.1 ≡ x) × Statistics_parts p ts rest
       from (statistics l v fs subject) ts rest (at, u, s) = let same : weighting ≡ v = only v u in ((fs, subject), (λ i. statistics (sym at i) (same i) fs subject), s)
       from (permanent_entities a) ts rest (at, u, s) = absurd (no_statistics words.Permanent w refl u known)
       from (temporary_entities a) ts rest (at, u, s) = absurd (no_statistics words.Temporary w refl u known)

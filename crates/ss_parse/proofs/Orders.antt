@@ -4,7 +4,7 @@ use Rattle.ss_lex.specs.declared.word.Word.{Word}
 use Rattle.ss_lex.specs.declared.word.Word.TheVariants as words
 use Rattle.ss_lex.specs.declared.token.TokenKind.TheVariants as kinds
 use Rattle.ss_lex.specs.declared.token.Token.{Token}
-use Rattle.ss_tree.specs.declared.preamble.Key.{Key}
+use Rattle.ss_tree.specs.declared.preamble.NamedKey.{NamedKey}
 use Rattle.ss_tree.specs.Tree.{OrderTree, fifo, lifo, ranked}
 use Rattle.ss_parse_expressions.specs.declared.failure.Failure.{Failure}
 use Rattle.ss_parse_expressions.specs.declared.failure.Failure.TheVariants as failures
@@ -63,13 +63,13 @@ module _ (k : ℕ) where
   unfolding key
   key_reads = apply_reads (seq_reads (word_in_reads k rank_of) (name_reads k) (λ n ts rest s stop. refl)) key_tree Key_is (λ p ts rest s. s) (λ x ts rest s. ((x.high, x.name), refl, s))
 
-  key_less : (ts : List Token) (x : Key) (rest : List Token) → Key_is x ts rest → length rest < length ts
+  key_less : (ts : List Token) (x : NamedKey) (rest : List Token) → Key_is x ts rest → length rest < length ts
   key_less ts x rest (a, (w, means, at), s) = omega (arith, token_less (kinds.Word w) ts a at, name_less a x.name rest s)
 
   then_rank_reads : Reads k then_rank then_rank (λ high. noisy words.Then ▷ Word_is words.By ▷ Word_for rank_of high) continues_never
   then_rank_reads = following_reads (noisy_mark_reads k (word words.Then) refl) (marked_reads (word words.By) (word_in_reads k rank_of)) (λ x ts rest s stop. refl)
 
-  abbrev Then_key : Key → Shape
+  abbrev Then_key : NamedKey → Shape
   Then_key x = noisy words.Then ▷ Word_is words.By ▷ Key_is x
 
   then_reads : Reads k then_key then_key Then_key continues_never
@@ -79,7 +79,7 @@ module _ (k : ℕ) where
       to : (p : Bool × List ℕ) (ts rest : List Token) → ((noisy words.Then ▷ Word_is words.By ▷ Word_for rank_of p.0) ▷ Name_is p.1) ts rest → Then_key (key_tree p) ts rest
       to p ts rest (c, (a, t, (b, by, r)), n) = (a, t, (b, by, (c, r, n)))
 
-      from : (x : Key) (ts rest : List Token) → Then_key x ts rest → (p : Bool × List ℕ) × (key_tree p ≡ x) × ((noisy words.Then ▷ Word_is words.By ▷ Word_for rank_of p.0) ▷ Name_is p.1) ts rest
+      from : (x : NamedKey) (ts rest : List Token) → Then_key x ts rest → (p : Bool × List ℕ) × (key_tree p ≡ x) × ((noisy words.Then ▷ Word_is words.By ▷ Word_for rank_of p.0) ▷ Name_is p.1) ts rest
       from x ts rest (a, t, (b, by, (c, r, n))) = ((x.high, x.name), refl, (c, (a, t, (b, by, r)), n))
 
   then_item : Item k (begins_noisy (word words.Then)) then_key then_key Then_key continues_never
@@ -90,7 +90,7 @@ module _ (k : ℕ) where
 
   -- ---- how a set is ordered
 
-  abbrev Ranked_parts : List Key → Shape
+  abbrev Ranked_parts : List NamedKey → Shape
   Ranked_parts ks = Word_is words.Ranked ▷ Word_is words.By ▷ Keys_are ks
 
   abbrev Ranking_is : OrderTree → Shape

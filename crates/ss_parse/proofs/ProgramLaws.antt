@@ -7,10 +7,10 @@ use Rattle.ss_lex.specs.declared.token.Span.{Span}
 use Rattle.ss_lex.specs.declared.token.Symbol.TheVariants.{Comma}
 use Rattle.ss_lex.specs.declared.token.TokenKind.TheVariants as kinds
 use Rattle.ss_lex.specs.declared.token.Token.{Token}
-use Rattle.ss_tree.specs.declared.preamble.Mode.{Mode}
+use Rattle.ss_tree.specs.declared.preamble.ModeWord.{ModeWord}
 use Rattle.ss_tree.specs.Tree.{StatementTree, DefinitionTree, SectionKindTree, main, routine, event, SectionTree}
 use Rattle.ss_parse_expressions.specs.declared.classes.WordClass.TheVariants as classes
-use Rattle.ss_parse_expressions.specs.Shapes.{Shape, ◌▷◌, nothing, optional, provided, noise, Word_is, Name_is, at, first_token_line, each, flagged}
+use Rattle.ss_parse_expressions.specs.Shapes.{Shape, ◌▷◌, nothing, optional, provided, noise, Word_is, Name_is, at, first_token_line, each_in_turn, flagged}
 use Rattle.ss_parse_expressions.specs.Words.{has_word, One_of, perhaps_listed}
 use Rattle.ss_parse_expressions.specs.Reading.{word, is, begins, expect, after_dropped, maybe_list, rows, begins_more}
 use Rattle.ss_parse_expressions.specs.ReadWords.{fail, begins_class, begins_among, begins_name, names}
@@ -59,7 +59,7 @@ kind_names w held ts stop =
     let b : begins_more begins_name ts ≡ false = (or_false (begins_among kind_more ts) (begins_more begins_name ts) stop).1 in
     rw (a, b) refl
 
-mode_no_article : (w : Word) (mode : Mode) → mode_of_word w ≡ Some mode → has_word classes.Article w ≡ false
+mode_no_article : (w : Word) (mode : ModeWord) → mode_of_word w ≡ Some mode → has_word classes.Article w ≡ false
 mode_no_article words.Integer mode e = refl
 mode_no_article words.Alpha mode e = refl
 mode_no_article words.Real mode e = refl
@@ -138,7 +138,7 @@ module _ (k : ℕ) where
   definition_item : Item k (begins (word words.Define)) definition definition Definition_is continues_never
   definition_item = item_of (begins (word words.Define)) definition_reads (λ ts x rest s. mark_begins (word words.Define) ts s.1.0 s.1.1) (λ ts x rest s. omega (arith, token_less (kinds.Word words.Define) ts s.1.0 s.1.1, variables_reads.shorter s.1.0 (x.names, x.mode) rest s.1.2))
 
-  definitions_reads : Reads k definitions definitions (each Definition_is) (λ ts. begins (word words.Define) ts || continues_never ts)
+  definitions_reads : Reads k definitions definitions (each_in_turn Definition_is) (λ ts. begins (word words.Define) ts || continues_never ts)
   definitions_reads = rows_reads definition_item (λ ts x rest s. refl)
 
 pub definitions_loop : Loop (begins (word words.Define)) definition
@@ -167,7 +167,7 @@ module _ (n : ℕ) where
 
   -- the statements of a section, and END
   abbrev Statements_end : List StatementTree → Shape
-  Statements_end xs = each Room_statement xs ▷ Word_is words.End
+  Statements_end xs = each_in_turn Room_statement xs ▷ Word_is words.End
 
   false_at_end : (c : List Token → Bool) → ((span span' : Span) (line line' : Line) (w : Word) (ts : List Token) → form_word w ≡ true → c (token (kinds.Symbol Comma) span line ∷ token (kinds.Word w) span' line' ∷ ts) ≡ false) → ((w : Word) (span : Span) (line : Line) (ts : List Token) → form_word w ≡ true → c (token (kinds.Word w) span line ∷ ts) ≡ false) → ((span : Span) (line : Line) (ts : List Token) → c (token (kinds.Word words.End) span line ∷ ts) ≡ false) → (xs : List StatementTree) (ts rest : List Token) → Statements_end xs ts rest → c ts ≡ false
   false_at_end c on_comma on_word on_end [] ts rest (a, e, (span, line, f)) = ap c (e ∙ f) ∙ on_end span line rest
@@ -177,7 +177,7 @@ module _ (n : ℕ) where
   no_define xs ts rest s = false_at_end (begins (word words.Define)) (λ span span' line line' w r e. refl) (λ w span line r e. (word_no_define w e).0) (λ span line ts. refl) xs ts rest s
 
   abbrev Body_is : List DefinitionTree × List StatementTree → Shape
-  Body_is p = each Definition_is p.0 ▷ Statements_end p.1
+  Body_is p = each_in_turn Definition_is p.0 ▷ Statements_end p.1
 
   body_no_kind : (p : List DefinitionTree × List StatementTree) (ts rest : List Token) → Body_is p ts rest → continues_kind ts ≡ false
   body_no_kind (d ∷ ds, xs) ts rest (a, (b, (at, (c, (span, line, e), s)), more), t) = ap continues_kind e
@@ -230,7 +230,7 @@ module _ (n m : ℕ) (le : n ≤ m) where
   abbrev continues_program : List Token → Bool
   continues_program ts = begins (word words.Preamble) ts || begins_section ts
 
-  sections_reads : Reads (suc n) (rows begins_section (section_in (suc n))) (rows begins_section (section_in (suc m))) (each (Section_is n)) continues_program
+  sections_reads : Reads (suc n) (rows begins_section (section_in (suc n))) (rows begins_section (section_in (suc m))) (each_in_turn (Section_is n)) continues_program
   sections_reads = fewer_reads (rows_reads section_item (λ ts x rest s. refl)) continues_program (λ ts stop. let none = (or_false (begins (word words.Preamble) ts) (begins_section ts) stop).1 in rw none refl)
 
   section_no_preamble : (x : SectionTree) (ts rest : List Token) → Section_is n x ts rest → (begins (word words.Preamble) ts || continues_never ts) ≡ false
@@ -241,7 +241,7 @@ module _ (n m : ℕ) (le : n ≤ m) where
       go (routine name given yielding) e = rw e refl
       go (event name given saving) e = rw e refl
 
-  sections_stop : (xs : List SectionTree) (ts rest : List Token) → each (Section_is n) xs ts rest → continues_program rest ≡ false → (begins (word words.Preamble) ts || continues_never ts) ≡ false
+  sections_stop : (xs : List SectionTree) (ts rest : List Token) → each_in_turn (Section_is n) xs ts rest → continues_program rest ≡ false → (begins (word words.Preamble) ts || continues_never ts) ≡ false
   sections_stop [] ts rest e stop = let none = (or_false (begins (word words.Preamble) rest) (begins_section rest) stop).0 in rw (e, none) refl
   sections_stop (x ∷ xs) ts rest (a, one, more) stop = section_no_preamble x ts a one
 

@@ -7,7 +7,7 @@ use Rattle.ss_lex.specs.declared.token.Token.{Token}
 use Rattle.ss_base.specs.declared.words.Weighting.{Weighting}
 use Rattle.ss_base.specs.declared.words.Weighting.TheVariants as weightings
 use Rattle.ss_tree.specs.declared.preamble.StatisticKind.{StatisticKind}
-use Rattle.ss_tree.specs.declared.preamble.Statistic.{Statistic}
+use Rattle.ss_tree.specs.declared.preamble.NamedStatistic.{NamedStatistic}
 use Rattle.ss_tree.specs.Tree.{PreambleTree, statistics}
 use Rattle.ss_parse_expressions.specs.declared.failure.Failure.{Failure}
 use Rattle.ss_parse_expressions.specs.declared.failure.Failure.TheVariants as failures
@@ -58,10 +58,10 @@ module _ (k : ℕ) where
   unfolding statistic
   statistic_reads = apply_reads (seq_reads (name_reads k) (marked_reads (word words.As) (optional_reads (word_in_reads k statistic_of) (word words.The) (λ x ts rest s. ap (begins (word words.The)) s.2.2 ∙ rank_reads_word s.0 x s.1))) (λ n ts rest s stop. refl)) statistic_tree Statistic_is (λ p ts rest s. s) (λ x ts rest s. ((x.name, x.kind), refl, s))
 
-  statistic_begins : (ts : List Token) (x : Statistic) (rest : List Token) → Statistic_is x ts rest → begins_name ts ≡ true
+  statistic_begins : (ts : List Token) (x : NamedStatistic) (rest : List Token) → Statistic_is x ts rest → begins_name ts ≡ true
   statistic_begins ts x rest s = name_begins ts x.name s.0 s.1
 
-  statistic_less : (ts : List Token) (x : Statistic) (rest : List Token) → Statistic_is x ts rest → length rest < length ts
+  statistic_less : (ts : List Token) (x : NamedStatistic) (rest : List Token) → Statistic_is x ts rest → length rest < length ts
   statistic_less ts x rest s = omega (arith, name_less ts x.name s.0 s.1, (marked_reads (word words.As) (optional_reads (word_in_reads k statistic_of) (word words.The) (λ x ts rest s. ap (begins (word words.The)) s.2.2 ∙ rank_reads_word s.0 x s.1))).shorter s.0 x.kind rest s.2)
 
   pub found_reads : Reads k found found (separated_list Statistic_is) (λ ts. begins_more begins_name ts || (continues_never ts || continues_never ts))

@@ -4,4 +4,3 @@ pub mod SpelledPrograms
 pub mod ReadPreambles
 pub mod ReadPrograms
 pub mod Promise
-pub mod Errors

@@ -5,11 +5,11 @@ use Rattle.ss_lex.specs.declared.word.Word.{Word}
 use Rattle.ss_lex.specs.declared.word.Word.TheVariants as words
 use Rattle.ss_lex.specs.declared.token.Token.{Token}
 use Rattle.ss_base.specs.declared.layout.ClassKind.{ClassKind}
-use Rattle.ss_tree.specs.declared.preamble.Key.{Key}
+use Rattle.ss_tree.specs.declared.preamble.NamedKey.{NamedKey}
 use Rattle.ss_base.specs.declared.words.Weighting.{Weighting}
 use Rattle.ss_base.specs.declared.words.Weighting.TheVariants as weightings
 use Rattle.ss_tree.specs.declared.preamble.StatisticKind.{StatisticKind}
-use Rattle.ss_tree.specs.declared.preamble.Statistic.{Statistic}
+use Rattle.ss_tree.specs.declared.preamble.NamedStatistic.{NamedStatistic}
 use Rattle.ss_tree.specs.Tree.{ClauseTree, has, owns, belongs_to, OrderTree, fifo, lifo, ranked, PreambleTree, permanent_entities, temporary_entities, event_notices, every, normally, system_owns, define_variables, define_sets, priority_order, break_ties, statistics}
 use Rattle.ss_parse_expressions.specs.declared.classes.WordClass.TheVariants as alike
 use Rattle.ss_parse_expressions.specs.Reading.{Reader, ◌>>=◌, word, begins, begins_by, expect, in_table, taken, name_in_token, seq, after_dropped, closed, apply, maybe_list, choose_reader, first_and, list_of}
@@ -21,34 +21,34 @@ use Rattle.ss_parse_statements.specs.ReadStatements.{by_word}
 
 -- ---- parts
 
-abbrev pub key_tree : Bool × List ℕ → Key
+abbrev pub key_tree : Bool × List ℕ → NamedKey
 key_tree p = record { high = p.0; name = p.1 }
 
-unfoldable pub key : Reader Key
+unfoldable pub key : Reader NamedKey
 key = apply key_tree (seq (taken (in_table rank_of)) (taken name_in_token))
 
 -- THEN BY, and HIGH or LOW
 abbrev pub then_rank : Reader Bool
 then_rank = after_dropped (expect_noisy (word words.Then)) (after_dropped (expect (word words.By)) (taken (in_table rank_of)))
 
-unfoldable pub then_key : Reader Key
+unfoldable pub then_key : Reader NamedKey
 then_key = apply key_tree (seq then_rank (taken name_in_token))
 
 -- keys, the further ones after THEN BY
-abbrev pub keys : Reader (List Key)
+abbrev pub keys : Reader (List NamedKey)
 keys = first_and key (begins_noisy (word words.Then)) then_key
 
-abbrev pub statistic_tree : List ℕ × StatisticKind → Statistic
+abbrev pub statistic_tree : List ℕ × StatisticKind → NamedStatistic
 statistic_tree p = record { name = p.0; kind = p.1 }
 
 -- AS and the kind of a statistic
 abbrev pub statistic_kind : Reader StatisticKind
 statistic_kind = after_dropped (expect (word words.As)) (after_the (taken (in_table statistic_of)))
 
-unfoldable pub statistic : Reader Statistic
+unfoldable pub statistic : Reader NamedStatistic
 statistic = apply statistic_tree (seq (taken name_in_token) statistic_kind)
 
-abbrev pub found : Reader (List Statistic)
+abbrev pub found : Reader (List NamedStatistic)
 found = list_of begins_name statistic
 
 unfoldable pub clause : Reader ClauseTree

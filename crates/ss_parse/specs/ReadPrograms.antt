@@ -6,7 +6,7 @@ use Rattle.ss_lex.specs.declared.word.Word.TheVariants as words
 use Rattle.ss_lex.specs.declared.token.Token.{Token}
 use Rattle.ss_parse_expressions.specs.declared.failure.ParseFault.{ParseFault}
 use Rattle.ss_parse_expressions.specs.declared.failure.ParseFault.TheVariants.{Syntax}
-use Rattle.ss_tree.specs.declared.preamble.Mode.{Mode}
+use Rattle.ss_tree.specs.declared.preamble.ModeWord.{ModeWord}
 use Rattle.ss_tree.specs.Tree.{PreambleTree, DefinitionTree, SectionKindTree, main, routine, event, SectionTree, ProgramTree, StatementTree}
 use Rattle.ss_parse_expressions.specs.declared.classes.WordClass.TheVariants as classes
 use Rattle.ss_parse_expressions.specs.ReadWords.{done, fail, skip_class, begins_among, names}
@@ -50,10 +50,10 @@ kind_after words.Event = event_kind
 kind_after _ = fail
 
 -- names and their mode, after DEFINE
-unfoldable pub variables : Reader (List (List ℕ) × Mode)
+unfoldable pub variables : Reader (List (List ℕ) × ModeWord)
 variables = seq names (after_dropped (expect (word words.As)) (λ ts. closed (taken (in_table mode_of_word)) (expect (word words.Variable)) (skip_class classes.Article ts)))
 
-abbrev pub definition_tree : Line → List (List ℕ) × Mode → DefinitionTree
+abbrev pub definition_tree : Line → List (List ℕ) × ModeWord → DefinitionTree
 definition_tree line p = record { line = line; names = p.0; mode = p.1 }
 
 unfoldable pub definition_at : Line → Reader DefinitionTree

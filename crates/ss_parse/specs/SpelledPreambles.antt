@@ -3,13 +3,13 @@ use Rattle.std.specs.Prelude.{◌≡◌, ℕ, List, [], ◌∷◌, Option, Some,
 use Rattle.ss_base.specs.declared.line.Line.{Line}
 use Rattle.ss_lex.specs.declared.word.Word.{Word}
 use Rattle.ss_lex.specs.declared.word.Word.TheVariants as words
-use Rattle.ss_tree.specs.declared.preamble.Mode.{Mode}
+use Rattle.ss_tree.specs.declared.preamble.ModeWord.{ModeWord}
 use Rattle.ss_base.specs.declared.layout.ClassKind.{ClassKind}
 use Rattle.ss_base.specs.declared.layout.ClassKind.TheVariants as classes
-use Rattle.ss_tree.specs.declared.preamble.Key.{Key}
+use Rattle.ss_tree.specs.declared.preamble.NamedKey.{NamedKey}
 use Rattle.ss_base.specs.declared.words.Weighting.{Weighting}
 use Rattle.ss_base.specs.declared.words.Weighting.TheVariants as weightings
-use Rattle.ss_tree.specs.declared.preamble.Statistic.{Statistic}
+use Rattle.ss_tree.specs.declared.preamble.NamedStatistic.{NamedStatistic}
 use Rattle.ss_tree.specs.Tree.{ClauseTree, has, owns, belongs_to, OrderTree, fifo, lifo, ranked, PreambleTree, permanent_entities, temporary_entities, event_notices, every, normally, system_owns, define_variables, define_sets, priority_order, break_ties, statistics}
 use Rattle.ss_parse_expressions.specs.declared.classes.WordClass.TheVariants as alike
 use Rattle.ss_parse_expressions.specs.Shapes.{Shape, ◌▷◌, nothing, optional, provided, Word_is, Name_is, Word_for, first_and_each, separated_list, at}
@@ -19,14 +19,14 @@ use Rattle.ss_parse_expressions.specs.WordTables.{mode_of_word, rank_of, statist
 
 -- ---- parts
 
-abbrev pub Key_is : Key → Shape
+abbrev pub Key_is : NamedKey → Shape
 Key_is key = Word_for rank_of key.high ▷ Name_is key.name
 
 -- keys, the further ones after THEN BY
-abbrev pub Keys_are : List Key → Shape
+abbrev pub Keys_are : List NamedKey → Shape
 Keys_are = first_and_each Key_is (λ key. noisy words.Then ▷ Word_is words.By ▷ Key_is key)
 
-abbrev pub Statistic_is : Statistic → Shape
+abbrev pub Statistic_is : NamedStatistic → Shape
 Statistic_is s = Name_is s.name ▷ Word_is words.As ▷ the ▷ Word_for statistic_of s.kind
 
 abbrev pub Clause_is : ClauseTree → Shape
@@ -49,7 +49,7 @@ abbrev pub article : Shape
 article = optional (One_of alike.Article)
 
 -- names and their mode, after DEFINE
-abbrev pub Variables_are : List (List ℕ) × Mode → Shape
+abbrev pub Variables_are : List (List ℕ) × ModeWord → Shape
 Variables_are p = separated_list Name_is p.0 ▷ Word_is words.As ▷ article ▷ Word_for mode_of_word p.1 ▷ Word_is words.Variable
 
 -- ---- statements of a preamble

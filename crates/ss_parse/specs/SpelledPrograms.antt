@@ -4,7 +4,7 @@ use Rattle.ss_lex.specs.declared.token.Token.{Token}
 use Rattle.ss_lex.specs.declared.word.Word.{Word}
 use Rattle.ss_lex.specs.declared.word.Word.TheVariants as words
 use Rattle.ss_tree.specs.Tree.{DefinitionTree, SectionKindTree, main, routine, event, SectionTree, ProgramTree}
-use Rattle.ss_parse_expressions.specs.Shapes.{Shape, ◌▷◌, nothing, optional, Word_is, Name_is, each, flagged, at}
+use Rattle.ss_parse_expressions.specs.Shapes.{Shape, ◌▷◌, nothing, optional, Word_is, Name_is, each_in_turn, flagged, at}
 use Rattle.ss_parse_expressions.specs.declared.classes.WordClass.TheVariants as alike
 use Rattle.ss_parse_expressions.specs.Words.{One_of, the, perhaps_listed}
 use Rattle.ss_parse_statements.specs.SpelledStatements.{Statement_is}
@@ -32,10 +32,10 @@ abbrev pub Definition_is : DefinitionTree → Shape
 Definition_is d = at d.line (Word_is words.Define ▷ Variables_are (d.names, d.mode))
 
 abbrev pub Section_is : ℕ → SectionTree → Shape
-Section_is levels s = at s.line (Word_is (section_word s.kind) ▷ Kind_rest s.kind ▷ each Definition_is s.definitions ▷ each (Statement_is levels) s.body ▷ Word_is words.End)
+Section_is levels s = at s.line (Word_is (section_word s.kind) ▷ Kind_rest s.kind ▷ each_in_turn Definition_is s.definitions ▷ each_in_turn (Statement_is levels) s.body ▷ Word_is words.End)
 
 abbrev pub Program_is : ℕ → ProgramTree → Shape
-Program_is levels p = Whole_preamble p.preamble ▷ each (Section_is levels) p.sections
+Program_is levels p = Whole_preamble p.preamble ▷ each_in_turn (Section_is levels) p.sections
 
 -- The tokens spell the program, whose nesting is so many levels at most.
 abbrev pub Spell : List Token → ℕ → ProgramTree → Type 0

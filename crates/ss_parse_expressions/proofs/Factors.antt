@@ -12,7 +12,7 @@ use Rattle.ss_tree.specs.declared.expression.Function.{Function}
 use Rattle.ss_tree.specs.declared.expression.Designator.{Designator}
 use Rattle.ss_tree.specs.declared.expression.Designator.TheVariants as designators
 use Rattle.ss_tree.specs.Tree.{ExpressionTree, number, text, named, call, parenthesised, product, signed, sum, ExpressionRow, no_expression, and_expression, expression_row, no_term, and_term}
-use Rattle.ss_parse_expressions.specs.Shapes.{Shape, ◌▷◌, nothing, never, Symbol_is, Word_for, separator, each, separated_list, nested_shape}
+use Rattle.ss_parse_expressions.specs.Shapes.{Shape, ◌▷◌, nothing, never, Symbol_is, Word_for, separator, each_in_turn, separated_list, nested_shape}
 use Rattle.ss_parse_expressions.specs.SpelledExpressions.{ExpressionPlace, sum_place, factor_place, Designated, Spelled, Further_arguments}
 use Rattle.ss_parse_expressions.specs.WordTables.{function_of}
 use Rattle.ss_parse_expressions.specs.Openers.{opens, openers}
@@ -27,11 +27,11 @@ use Rattle.ss_parse_expressions.proofs.Beginnings.{In, in_begins, sum_no_and, co
 
 -- ---- rows of arguments as lists
 
-pub further_arguments : (levels : ℕ) (xs : List ExpressionTree) (ts rest : List Token) → each (λ e. separator ▷ Spelled e sum_place levels) xs ts rest → Further_arguments (expression_row xs) levels ts rest
+pub further_arguments : (levels : ℕ) (xs : List ExpressionTree) (ts rest : List Token) → each_in_turn (λ e. separator ▷ Spelled e sum_place levels) xs ts rest → Further_arguments (expression_row xs) levels ts rest
 further_arguments levels [] ts rest e = e
 further_arguments levels (x ∷ xs) ts rest (m, (n, separated, one), more) = (n, separated, (m, one, further_arguments levels xs m rest more))
 
-pub arguments_listed : (levels : ℕ) (es : ExpressionRow) (ts rest : List Token) → Further_arguments es levels ts rest → (xs : List ExpressionTree) × (expression_row xs ≡ es) × each (λ e. separator ▷ Spelled e sum_place levels) xs ts rest
+pub arguments_listed : (levels : ℕ) (es : ExpressionRow) (ts rest : List Token) → Further_arguments es levels ts rest → (xs : List ExpressionTree) × (expression_row xs ≡ es) × each_in_turn (λ e. separator ▷ Spelled e sum_place levels) xs ts rest
 arguments_listed levels no_expression ts rest e = ([], refl, e)
 arguments_listed levels (and_expression x es) ts rest (n, separated, (m, one, more)) =
     let found = arguments_listed levels es m rest more in

@@ -10,7 +10,7 @@ use Rattle.ss_base.specs.declared.words.PhraseKind.{PhraseKind}
 use Rattle.ss_base.specs.declared.words.GuardKind.{GuardKind}
 use Rattle.ss_tree.specs.Tree.{ExpressionTree, NamedTree, ConditionTree, PhraseTree, GuardTree, StartTree, from_end, from_member, after_member, HeadTree, over_range, over_members, over_class, LoopHeadTree, guarded}
 use Rattle.ss_parse_expressions.specs.declared.classes.WordClass.TheVariants as classes
-use Rattle.ss_parse_expressions.specs.Shapes.{Shape, ◌▷◌, nothing, either_shape, provided, noise, Word_is, Symbol_is, Name_is, Word_for, each, perhaps, flagged}
+use Rattle.ss_parse_expressions.specs.Shapes.{Shape, ◌▷◌, nothing, either_shape, provided, noise, Word_is, Symbol_is, Name_is, Word_for, each_in_turn, perhaps, flagged}
 use Rattle.ss_parse_expressions.specs.Words.{One_of, the}
 use Rattle.ss_parse_expressions.specs.SpelledExpressions.{Sum_is, Reference_is}
 use Rattle.ss_parse_expressions.specs.SpelledConditions.{Start_is, Head_rest}
@@ -99,11 +99,11 @@ module _ (n m : ℕ) (le : n ≤ m) where
   phrase_item : Item n (λ ts. begins_phrase (skip_comma ts)) (λ r. phrase_in n (skip_comma r)) (λ r. phrase_in m (skip_comma r)) (λ x. noise ▷ Bare_phrase n x) continues_condition
   phrase_item = noisy_item phrase_reads begins_phrase (phrase_starts n) phrase_no_comma (λ ts x rest s. omega (arith, token_less (kinds.Word s.1.0) ts s.0 s.1.2, condition_less n m le s.0 x.condition rest s.2))
 
-  pub phrases_reads : Reads n (phrases_in n) (phrases_in m) (each (λ x. noise ▷ Bare_phrase n x)) (λ ts. begins_phrase (skip_comma ts) || continues_condition ts)
+  pub phrases_reads : Reads n (phrases_in n) (phrases_in m) (each_in_turn (λ x. noise ▷ Bare_phrase n x)) (λ ts. begins_phrase (skip_comma ts) || continues_condition ts)
   phrases_reads = rows_reads phrase_item (λ ts x rest s. no_condition ts (phrase_stops n ts x rest s))
 
   -- a token that can't continue a head and begins no phrase doesn't begin phrases
-  pub phrases_stop : (xs : List PhraseTree) (ts rest : List Token) → each (λ x. noise ▷ Bare_phrase n x) xs ts rest → continues_head rest ≡ false → continues_head ts ≡ false
+  pub phrases_stop : (xs : List PhraseTree) (ts rest : List Token) → each_in_turn (λ x. noise ▷ Bare_phrase n x) xs ts rest → continues_head rest ≡ false → continues_head ts ≡ false
   phrases_stop xs ts rest s stop = each_first continues_head (phrase_stops n) xs ts rest s stop
 
 pub phrases_loop : (n : ℕ) → Loop (λ ts. begins_phrase (skip_comma ts)) (λ r. phrase_in n (skip_comma r))
@@ -147,11 +147,11 @@ module _ (n m : ℕ) (le : n ≤ m) where
   guard_item : Item n (λ ts. begins_guard (skip_comma ts)) (λ r. guard_in n (skip_comma r)) (λ r. guard_in m (skip_comma r)) (λ x. noise ▷ Bare_guard n x) continues_condition
   guard_item = noisy_item guard_reads begins_guard (guard_starts n) guard_no_comma (λ ts x rest s. omega (arith, token_less (kinds.Word s.1.0) ts s.0 s.1.2, condition_less n m le s.0 x.condition rest s.2))
 
-  pub guards_reads : Reads n (guards_in n) (guards_in m) (each (λ x. noise ▷ Bare_guard n x)) (λ ts. begins_guard (skip_comma ts) || continues_condition ts)
+  pub guards_reads : Reads n (guards_in n) (guards_in m) (each_in_turn (λ x. noise ▷ Bare_guard n x)) (λ ts. begins_guard (skip_comma ts) || continues_condition ts)
   guards_reads = rows_reads guard_item (λ ts x rest s. no_condition ts (guard_stops n ts x rest s))
 
   -- a token that can't continue a head and begins no guard doesn't begin guards
-  pub guards_stop : (xs : List GuardTree) (ts rest : List Token) → each (λ x. noise ▷ Bare_guard n x) xs ts rest → continues_head rest ≡ false → continues_head ts ≡ false
+  pub guards_stop : (xs : List GuardTree) (ts rest : List Token) → each_in_turn (λ x. noise ▷ Bare_guard n x) xs ts rest → continues_head rest ≡ false → continues_head ts ≡ false
   guards_stop xs ts rest s stop = each_first continues_head (guard_stops n) xs ts rest s stop
 
 pub guards_loop : (n : ℕ) → Loop (λ ts. begins_guard (skip_comma ts)) (λ r. guard_in n (skip_comma r))
@@ -170,7 +170,7 @@ module _ (n m : ℕ) (le : n ≤ m) where
   room_sum : Reads (suc n) (sum_in (suc n)) (sum_in (suc m)) (λ e. Sum_is n e) continues_sum
   room_sum = sum_in_reads (suc n) (suc m) (omega arith)
 
-  room_phrases : Reads (suc n) (phrases_in (suc n)) (phrases_in (suc m)) (each (Noisy_phrase (suc n))) continues_for
+  room_phrases : Reads (suc n) (phrases_in (suc n)) (phrases_in (suc m)) (each_in_turn (Noisy_phrase (suc n))) continues_for
   room_phrases = fewer_reads (phrases_reads (suc n) (suc m) (omega arith)) continues_for (λ ts stop.
       let both = or_false (begins_phrase (skip_comma ts)) (continues_head ts) stop in
       let a : begins_phrase (skip_comma ts) ≡ false = both.0 in
@@ -178,7 +178,7 @@ module _ (n m : ℕ) (le : n ≤ m) where
       rw (a, b) refl)
 
   -- what can't continue a part of a head is no phrase
-  by_phrases : (xs : List PhraseTree) (ts rest : List Token) → each (Noisy_phrase (suc n)) xs ts rest → continues_for rest ≡ false → continues_head ts ≡ false
+  by_phrases : (xs : List PhraseTree) (ts rest : List Token) → each_in_turn (Noisy_phrase (suc n)) xs ts rest → continues_for rest ≡ false → continues_head ts ≡ false
   by_phrases xs ts rest s stop = phrases_stop (suc n) (suc n) (omega arith) xs ts rest s (or_false (begins_phrase (skip_comma rest)) (continues_head rest) stop).1
 
   step_reads : Reads (suc n) (step_in (suc n)) (step_in (suc m)) (perhaps (λ e. Word_is words.By ▷ Sum_is n e)) (λ ts. begins (word words.By) ts || continues_sum ts)
@@ -190,12 +190,12 @@ module _ (n m : ℕ) (le : n ≤ m) where
       let b : continues_sum ts ≡ false = no_sum ts stop in
       rw (a, b) refl
 
-  step_stops : (p : Option ExpressionTree × List PhraseTree) (ts rest : List Token) → (perhaps (λ e. Word_is words.By ▷ Sum_is n e) p.0 ▷ each (Noisy_phrase (suc n)) p.1) ts rest → continues_for rest ≡ false → continues_sum ts ≡ false
+  step_stops : (p : Option ExpressionTree × List PhraseTree) (ts rest : List Token) → (perhaps (λ e. Word_is words.By ▷ Sum_is n e) p.0 ▷ each_in_turn (Noisy_phrase (suc n)) p.1) ts rest → continues_for rest ≡ false → continues_sum ts ≡ false
   step_stops (None, ps) ts rest (a, e, s) stop = ap continues_sum e ∙ no_sum a (by_phrases ps a rest s stop)
   step_stops (Some e, ps) ts rest (a, (b, (span, line, f), s), t) stop = ap continues_sum f
 
   abbrev Range_parts : List ℕ × (ExpressionTree × (ExpressionTree × (Option ExpressionTree × List PhraseTree))) → Shape
-  Range_parts p = Name_is p.0 ▷ Symbol_is Equals ▷ Sum_is n p.1.0 ▷ Word_is words.To ▷ Sum_is n p.1.1.0 ▷ perhaps (λ e. Word_is words.By ▷ Sum_is n e) p.1.1.1.0 ▷ each (Noisy_phrase (suc n)) p.1.1.1.1
+  Range_parts p = Name_is p.0 ▷ Symbol_is Equals ▷ Sum_is n p.1.0 ▷ Word_is words.To ▷ Sum_is n p.1.1.0 ▷ perhaps (λ e. Word_is words.By ▷ Sum_is n e) p.1.1.1.0 ▷ each_in_turn (Noisy_phrase (suc n)) p.1.1.1.1
 
   range_reads : Reads (suc n) (range_in (suc n)) (range_in (suc m)) (Made range_tree Range_parts) continues_for
   unfolding range_in
@@ -254,11 +254,11 @@ module _ (n m : ℕ) (le : n ≤ m) where
       let a : begins (word words.In) ts ≡ false = no_word head_more words.In refl ts (no_more ts stop) in
       rw a refl
 
-  reverse_stops : (p : Bool × List PhraseTree) (ts rest : List Token) → (flagged Reverse_words p.0 ▷ each (Noisy_phrase (suc n)) p.1) ts rest → continues_for rest ≡ false → continues_start ts ≡ false
+  reverse_stops : (p : Bool × List PhraseTree) (ts rest : List Token) → (flagged Reverse_words p.0 ▷ each_in_turn (Noisy_phrase (suc n)) p.1) ts rest → continues_for rest ≡ false → continues_start ts ≡ false
   reverse_stops (true, ps) ts rest (a, (b, (span, line, e), s), t) stop = ap continues_start e
   reverse_stops (false, ps) ts rest (a, e, t) stop = ap continues_start e ∙ stops_start a (by_phrases ps a rest t stop)
 
-  start_stops : (p : StartTree × (Bool × List PhraseTree)) (ts rest : List Token) → (Start_is n p.0 ▷ flagged Reverse_words p.1.0 ▷ each (Noisy_phrase (suc n)) p.1.1) ts rest → continues_for rest ≡ false → continues_place ts ≡ false
+  start_stops : (p : StartTree × (Bool × List PhraseTree)) (ts rest : List Token) → (Start_is n p.0 ▷ flagged Reverse_words p.1.0 ▷ each_in_turn (Noisy_phrase (suc n)) p.1.1) ts rest → continues_for rest ≡ false → continues_place ts ≡ false
   start_stops (from_end, q) ts rest (a, e, s) stop =
       let no = reverse_stops q a rest s stop in
       ap continues_place e ∙ stops_place a (or_false (begins (word words.After) a) (continues_sum a) (or_false (begins (word words.From) a) (begins (word words.After) a || continues_sum a) no).1).1
@@ -266,7 +266,7 @@ module _ (n m : ℕ) (le : n ≤ m) where
   start_stops (after_member x, q) ts rest (a, (b, (span, line, e), s), t) stop = ap continues_place e
 
   abbrev Members_parts : NamedTree × (StartTree × (Bool × List PhraseTree)) → Shape
-  Members_parts p = Word_is words.In ▷ (the ▷ Reference_is n p.0) ▷ Start_is n p.1.0 ▷ flagged Reverse_words p.1.1.0 ▷ each (Noisy_phrase (suc n)) p.1.1.1
+  Members_parts p = Word_is words.In ▷ (the ▷ Reference_is n p.0) ▷ Start_is n p.1.0 ▷ flagged Reverse_words p.1.1.0 ▷ each_in_turn (Noisy_phrase (suc n)) p.1.1.1
 
   members_item : (v : List ℕ) → Item (suc n) (begins (word words.In)) (members_in (suc n) v) (members_in (suc m) v) (Made (members_tree v) Members_parts) continues_for
   unfolding members_in
@@ -278,7 +278,7 @@ module _ (n m : ℕ) (le : n ≤ m) where
   Called_name = perhaps (λ v. Word_is words.Called ▷ Name_is v)
 
   abbrev Class_parts : Option (List ℕ) × List PhraseTree → Shape
-  Class_parts p = Called_name p.0 ▷ each (Noisy_phrase (suc n)) p.1
+  Class_parts p = Called_name p.0 ▷ each_in_turn (Noisy_phrase (suc n)) p.1
 
   stops_called : (ts : List Token) → continues_head ts ≡ false → (begins (word words.Called) ts || continues_never ts) ≡ false
   stops_called ts stop =
@@ -336,7 +336,7 @@ module _ (n m : ℕ) (le : n ≤ m) where
   abbrev pub continues_guarded : List Token → Bool
   continues_guarded ts = begins_guard (skip_comma ts) || continues_head ts
 
-  room_guards : Reads (suc n) (guards_in (suc n)) (guards_in (suc m)) (each (λ x. noise ▷ Bare_guard (suc n) x)) continues_guarded
+  room_guards : Reads (suc n) (guards_in (suc n)) (guards_in (suc m)) (each_in_turn (λ x. noise ▷ Bare_guard (suc n) x)) continues_guarded
   room_guards = fewer_reads (guards_reads (suc n) (suc m) (omega arith)) continues_guarded (λ ts stop.
       let both = or_false (begins_guard (skip_comma ts)) (continues_head ts) stop in
       let a : begins_guard (skip_comma ts) ≡ false = both.0 in
@@ -344,7 +344,7 @@ module _ (n m : ℕ) (le : n ≤ m) where
       rw (a, b) refl)
 
   abbrev pub Guards_made : GuardKind → ConditionTree → LoopHeadTree → Shape
-  Guards_made kind c = Made guarded (Made (λ gs. guard_tree (kind, c) ∷ gs) (each (λ x. noise ▷ Bare_guard (suc n) x)))
+  Guards_made kind c = Made guarded (Made (λ gs. guard_tree (kind, c) ∷ gs) (each_in_turn (λ x. noise ▷ Bare_guard (suc n) x)))
 
   guards_no_condition : (kind : GuardKind) (c : ConditionTree) (x : LoopHeadTree) (ts rest : List Token) → Guards_made kind c x ts rest → continues_guarded rest ≡ false → continues_condition ts ≡ false
   guards_no_condition kind c x ts rest (all, is, (gs, makes, s)) stop = no_condition ts (guards_stop (suc n) (suc n) (omega arith) gs ts rest s (or_false (begins_guard (skip_comma rest)) (continues_head rest) stop).1)

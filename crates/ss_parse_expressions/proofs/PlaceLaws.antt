@@ -13,7 +13,7 @@ use Rattle.ss_parse_expressions.specs.Shapes.{Shape, ◌▷◌, Token_is, Symbol
 use Rattle.ss_parse_expressions.specs.SpelledExpressions.{Designated, Subscript, Target_is, Plain_name, Reference_is}
 use Rattle.ss_parse_expressions.specs.Reading.{word, is, begins, is_some, taken, seq, apply, maybe, begins_more, skip_separator}
 use Rattle.ss_parse_expressions.specs.ReadExpressions.{opening, closing, designator_of_word, designator_of, begins_sum, sum_in}
-use Rattle.ss_parse_expressions.specs.ReadPlaces.{subscript_row, named_tree, subscript_with, plain_of, place_in, target_in, reference_in, begins_target, targets_in, sums_in}
+use Rattle.ss_parse_expressions.specs.ReadPlaces.{subscript_row, named_tree, subscript_with, plain_of, named_place_in, target_in, reference_in, begins_target, targets_in, sums_in}
 use Rattle.ss_parse_expressions.proofs.Marks.{mark_begins, token_less, In_table, begins_table}
 use Rattle.ss_parse_expressions.proofs.ReaderLaws.{Reads, Item, continues_never, item_of, taken_reads, seq_reads, before_mark_reads, opened_reads, apply_reads, reshaped_reads, maybe_reads, too_deep_reads}
 use Rattle.ss_parse_expressions.proofs.Rows.{list_reads, Loop, loop_of, separated_item}
@@ -99,8 +99,8 @@ module _ (table : TokenKind → Option Designator) (D : Designator → Shape) (t
   abbrev pub In_place : ℕ → NamedTree → Shape
   In_place room t = nested_shape (λ l. Place_is l t) room
 
-  pub place_in_reads : (n m : ℕ) → n ≤ m → Reads n (place_in table n) (place_in table m) (In_place n) continues_place
-  unfolding place_in
+  pub place_in_reads : (n m : ℕ) → n ≤ m → Reads n (named_place_in table n) (named_place_in table m) (In_place n) continues_place
+  unfolding named_place_in
   place_in_reads zero m le = too_deep_reads
   place_in_reads (suc n) zero le = absurd (omega arith)
   place_in_reads (suc n) (suc m) le = place_with_reads n m (omega arith)

@@ -9,7 +9,7 @@ use Rattle.ss_parse_expressions.specs.Openers.{openers}
 use Rattle.ss_parse_expressions.specs.Reading.{Reader, ◌>>=◌, FailsReading, row, rows, first_and, comma, word, begins, skip, skip_separator, begins_more, list_of, kind_of_mark}
 use Rattle.ss_lex.specs.declared.word.Word.TheVariants as words
 use Rattle.ss_parse_expressions.specs.Shapes as shapes
-use Rattle.ss_parse_expressions.specs.Shapes.{Shape, ◌▷◌, nothing, never, either_shape, each, separated_list, separator}
+use Rattle.ss_parse_expressions.specs.Shapes.{Shape, ◌▷◌, nothing, never, either_shape, each_in_turn, separated_list, separator}
 use Rattle.ss_parse_expressions.proofs.Tools.{bind_ok, which, chosen, carry, or_false, and_true, ok_or_err}
 use Rattle.ss_lex.specs.declared.token.Span.{Span}
 use Rattle.ss_base.specs.declared.line.Line.{Line}
@@ -18,28 +18,28 @@ use Rattle.ss_parse_expressions.proofs.Depth.{Upto, upto_same, upto_bind, upto_i
 use Rattle.ss_parse_expressions.proofs.ReaderLaws.{Reads, Item}
 
 module _ {A : Type 0} {k : ℕ} {starts : List Token → Bool} {item item' : Reader A} {S : A → Shape} {continues : List Token → Bool} (law : Item k starts item item' S continues) (stops : (ts : List Token) (x : A) (rest : List Token) → S x ts rest → continues ts ≡ false) where
-  row_sound : (n : ℕ) (ts : List Token) (xs : List A) (rest : List Token) → row starts item n ts ≡ Ok (xs, rest) → each S xs ts rest
-  row_sound zero ts xs rest e = carry (λ (y : List A) (z : List Token). each S y ts z) [] xs ts rest e refl
+  row_sound : (n : ℕ) (ts : List Token) (xs : List A) (rest : List Token) → row starts item n ts ≡ Ok (xs, rest) → each_in_turn S xs ts rest
+  row_sound zero ts xs rest e = carry (λ (y : List A) (z : List Token). each_in_turn S y ts z) [] xs ts rest e refl
   row_sound (suc n) ts xs rest e =
       elim (chosen (starts ts) _ _ _ e) [
         | inl p ↦
             let x = bind_ok (item ts) _ _ p.1 in
             let more = bind_ok (row starts item n x.0.1) _ _ x.2 in
-            carry (λ (y : List A) (z : List Token). each S y ts z) (x.0.0 ∷ more.0.0) xs more.0.1 rest more.2
+            carry (λ (y : List A) (z : List Token). each_in_turn S y ts z) (x.0.0 ∷ more.0.0) xs more.0.1 rest more.2
             (x.0.1, law.sound ts x.0.0 x.0.1 p.0 x.1, row_sound n x.0.1 more.0.0 more.0.1 more.1)
-        | inr p ↦ carry (λ (y : List A) (z : List Token). each S y ts z) [] xs ts rest p.1 refl
+        | inr p ↦ carry (λ (y : List A) (z : List Token). each_in_turn S y ts z) [] xs ts rest p.1 refl
       ]
 
-  each_shorter : (xs : List A) (ts rest : List Token) → each S xs ts rest → length rest ≤ length ts
+  each_shorter : (xs : List A) (ts rest : List Token) → each_in_turn S xs ts rest → length rest ≤ length ts
   each_shorter [] ts rest e = omega (arith, ap length e)
   each_shorter (x ∷ xs) ts rest (m, one, more) = omega (arith, law.less ts x m one, each_shorter xs m rest more)
 
   -- no further item continues the item before it
-  each_stops : (xs : List A) (ts rest : List Token) → each S xs ts rest → continues rest ≡ false → continues ts ≡ false
+  each_stops : (xs : List A) (ts rest : List Token) → each_in_turn S xs ts rest → continues rest ≡ false → continues ts ≡ false
   each_stops [] ts rest e stop = ap continues e ∙ stop
   each_stops (x ∷ xs) ts rest (m, one, more) stop = stops ts x m one
 
-  row_complete : (n : ℕ) (xs : List A) (ts rest : List Token) → each S xs ts rest → length ts ≤ n → starts rest ≡ false → continues rest ≡ false → row starts item n ts ≡ Ok (xs, rest)
+  row_complete : (n : ℕ) (xs : List A) (ts rest : List Token) → each_in_turn S xs ts rest → length ts ≤ n → starts rest ≡ false → continues rest ≡ false → row starts item n ts ≡ Ok (xs, rest)
   row_complete zero [] ts rest e long over stop = ap (λ (r : List Token). Ok ([], r)) e
   row_complete zero (x ∷ xs) ts rest (m, one, more) long over stop = absurd (omega (arith, law.less ts x m one))
   row_complete (suc n) [] ts rest e long over stop =
@@ -63,7 +63,7 @@ module _ {A : Type 0} {k : ℕ} {starts : List Token → Bool} {item item' : Rea
       (bounded_bind k (openers ts) (item ts) _ (law.opening ts) (λ x. bounded_bind k (openers x.1) (row starts item n x.1) _ (row_opening n x.1) (λ xs. omega arith)))
       (omega arith)
 
-  pub rows_reads : Reads k (rows starts item) (rows starts item') (each S) (λ ts. starts ts || continues ts)
+  pub rows_reads : Reads k (rows starts item) (rows starts item') (each_in_turn S) (λ ts. starts ts || continues ts)
   unfolding rows
   rows_reads = record {
     sound = λ ts xs rest e. row_sound (length ts) ts xs rest e;
@@ -76,10 +76,10 @@ module _ {A : Type 0} {k : ℕ} {starts : List Token → Bool} {item item' : Rea
 -- ---- an item and further ones
 
 module _ {A : Type 0} {k : ℕ} {r r' : Reader A} {S : A → Shape} {starts : List Token → Bool} {item item' : Reader A} {T : A → Shape} {c d : List Token → Bool} (first : Reads k r r' S c) (further : Item k starts item item' T d) (stops : (ts : List Token) (x : A) (rest : List Token) → T x ts rest → (c ts ≡ false) × (d ts ≡ false)) (less : (ts : List Token) (x : A) (rest : List Token) → S x ts rest → length rest < length ts) where
-  others : Reads k (rows starts item) (rows starts item') (each T) (λ ts. starts ts || d ts)
+  others : Reads k (rows starts item) (rows starts item') (each_in_turn T) (λ ts. starts ts || d ts)
   others = rows_reads further (λ ts x rest s. (stops ts x rest s).1)
 
-  first_stops : (xs : List A) (ts rest : List Token) → each T xs ts rest → c rest ≡ false → c ts ≡ false
+  first_stops : (xs : List A) (ts rest : List Token) → each_in_turn T xs ts rest → c rest ≡ false → c ts ≡ false
   first_stops [] ts rest e stop = ap c e ∙ stop
   first_stops (x ∷ xs) ts rest (m, one, more) stop = (stops ts x m one).0
 
@@ -118,7 +118,7 @@ module _ {A : Type 0} {k : ℕ} {r r' : Reader A} {S : A → Shape} {starts : Li
   }
 
 -- a token that can't continue the rest and begins no item doesn't begin the row
-pub each_first : {A : Type 0} {S : A → Shape} (c : List Token → Bool) → ((ts : List Token) (x : A) (rest : List Token) → S x ts rest → c ts ≡ false) → (xs : List A) (ts rest : List Token) → each S xs ts rest → c rest ≡ false → c ts ≡ false
+pub each_first : {A : Type 0} {S : A → Shape} (c : List Token → Bool) → ((ts : List Token) (x : A) (rest : List Token) → S x ts rest → c ts ≡ false) → (xs : List A) (ts rest : List Token) → each_in_turn S xs ts rest → c rest ≡ false → c ts ≡ false
 each_first c stops [] ts rest e stop = ap c e ∙ stop
 each_first c stops (x ∷ xs) ts rest (m, one, more) stop = stops ts x m one
 

@@ -7,7 +7,7 @@ use Rattle.ss_lex.specs.declared.token.Token.{Token}
 use Rattle.ss_base.specs.declared.words.Sign.{Sign}
 use Rattle.ss_base.specs.declared.words.Sign.TheVariants as signs
 use Rattle.ss_tree.specs.Tree.{ExpressionTree, number, text, named, call, parenthesised, product, signed, sum, ExpressionRow, no_expression, and_expression, expression_row, TermRow, no_term, and_term, term_row}
-use Rattle.ss_parse_expressions.specs.Shapes.{Shape, ◌▷◌, Token_is, Symbol_is, each}
+use Rattle.ss_parse_expressions.specs.Shapes.{Shape, ◌▷◌, Token_is, Symbol_is, each_in_turn}
 use Rattle.ss_parse_expressions.specs.SpelledExpressions.{sum_place, first_place, term_place, factor_place, Sign_is, Spelled, Further_factors, Further_terms}
 use Rattle.ss_parse_expressions.specs.Reading.{begins, skip, taken, seq, apply, skip_separator, begins_more}
 use Rattle.ss_parse_expressions.specs.ReadExpressions.{star, sign_of_token, begins_sign, begins_sum, sum_of_terms, product_of, factor_with, further_factors_with, term_with, signed_term_with, first_term_with, further_terms_with, sum_with, sum_in}
@@ -20,11 +20,11 @@ use Rattle.ss_parse_expressions.proofs.Factors.{factor_reads, factor_less}
 
 -- ---- rows of factors and of terms as lists
 
-further_factors : (levels : ℕ) (xs : List ExpressionTree) (ts rest : List Token) → each (λ e. Symbol_is Star ▷ Spelled e factor_place levels) xs ts rest → Further_factors (expression_row xs) levels ts rest
+further_factors : (levels : ℕ) (xs : List ExpressionTree) (ts rest : List Token) → each_in_turn (λ e. Symbol_is Star ▷ Spelled e factor_place levels) xs ts rest → Further_factors (expression_row xs) levels ts rest
 further_factors levels [] ts rest e = e
 further_factors levels (x ∷ xs) ts rest (m, (n, separated, one), more) = (n, separated, (m, one, further_factors levels xs m rest more))
 
-factors_listed : (levels : ℕ) (es : ExpressionRow) (ts rest : List Token) → Further_factors es levels ts rest → (xs : List ExpressionTree) × (expression_row xs ≡ es) × each (λ e. Symbol_is Star ▷ Spelled e factor_place levels) xs ts rest
+factors_listed : (levels : ℕ) (es : ExpressionRow) (ts rest : List Token) → Further_factors es levels ts rest → (xs : List ExpressionTree) × (expression_row xs ≡ es) × each_in_turn (λ e. Symbol_is Star ▷ Spelled e factor_place levels) xs ts rest
 factors_listed levels no_expression ts rest e = ([], refl, e)
 factors_listed levels (and_expression x es) ts rest (n, separated, (m, one, more)) =
     let found = factors_listed levels es m rest more in
@@ -34,11 +34,11 @@ factors_listed levels (and_expression x es) ts rest (n, separated, (m, one, more
 abbrev Term_is : ℕ → Sign × ExpressionTree → Shape
 Term_is levels t = Sign_is t.0 ▷ Spelled t.1 term_place levels
 
-further_terms : (levels : ℕ) (xs : List (Sign × ExpressionTree)) (ts rest : List Token) → each (Term_is levels) xs ts rest → Further_terms (term_row xs) levels ts rest
+further_terms : (levels : ℕ) (xs : List (Sign × ExpressionTree)) (ts rest : List Token) → each_in_turn (Term_is levels) xs ts rest → Further_terms (term_row xs) levels ts rest
 further_terms levels [] ts rest e = e
 further_terms levels (x ∷ xs) ts rest (m, (n, sign, one), more) = (n, sign, (m, one, further_terms levels xs m rest more))
 
-terms_listed : (levels : ℕ) (es : TermRow) (ts rest : List Token) → Further_terms es levels ts rest → (xs : List (Sign × ExpressionTree)) × (term_row xs ≡ es) × each (Term_is levels) xs ts rest
+terms_listed : (levels : ℕ) (es : TermRow) (ts rest : List Token) → Further_terms es levels ts rest → (xs : List (Sign × ExpressionTree)) × (term_row xs ≡ es) × each_in_turn (Term_is levels) xs ts rest
 terms_listed levels no_term ts rest e = ([], refl, e)
 terms_listed levels (and_term sign x es) ts rest (n, signs_is, (m, one, more)) =
     let found = terms_listed levels es m rest more in
@@ -66,10 +66,10 @@ module _ (n m : ℕ) (inner : Reads n (sum_in n) (sum_in m) (In n) continues_sum
   factor_item : Item (suc n) (begins star) (λ r. factor_with (sum_in n) (skip star r)) (λ r. factor_with (sum_in m) (skip star r)) (λ e. Symbol_is Star ▷ Spelled e factor_place n) continues_factor
   factor_item = item_skipped star (factor_reads n m inner inner_less)
 
-  further_factors_reads : Reads (suc n) (further_factors_with (sum_in n)) (further_factors_with (sum_in m)) (each (λ e. Symbol_is Star ▷ Spelled e factor_place n)) continues_term
+  further_factors_reads : Reads (suc n) (further_factors_with (sum_in n)) (further_factors_with (sum_in m)) (each_in_turn (λ e. Symbol_is Star ▷ Spelled e factor_place n)) continues_term
   further_factors_reads = rows_reads factor_item (λ ts e rest s. ap continues_factor s.1.2)
 
-  factors_reads : Reads (suc n) (seq (factor_with (sum_in n)) (further_factors_with (sum_in n))) (seq (factor_with (sum_in m)) (further_factors_with (sum_in m))) (λ p. Spelled p.0 factor_place n ▷ each (λ e. Symbol_is Star ▷ Spelled e factor_place n) p.1) continues_term
+  factors_reads : Reads (suc n) (seq (factor_with (sum_in n)) (further_factors_with (sum_in n))) (seq (factor_with (sum_in m)) (further_factors_with (sum_in m))) (λ p. Spelled p.0 factor_place n ▷ each_in_turn (λ e. Symbol_is Star ▷ Spelled e factor_place n) p.1) continues_term
   factors_reads =
       seq_reads (factor_reads n m inner inner_less) further_factors_reads
       (λ xs ts rest s stop. each_first continues_factor (λ ts e rest s. ap continues_factor s.1.2) xs ts rest s (or_false (begins star rest) (continues_factor rest) stop).1)
@@ -89,18 +89,18 @@ module _ (n m : ℕ) (inner : Reads n (sum_in n) (sum_in m) (In n) continues_sum
   as_term (sum e no_term) ts rest s = s
   as_term (sum e (and_term sign f fs)) ts rest s = absurd s.0
 
-  term_to : (p : ExpressionTree × List ExpressionTree) (ts rest : List Token) → (Spelled p.0 factor_place n ▷ each (λ e. Symbol_is Star ▷ Spelled e factor_place n) p.1) ts rest → Spelled (product_of p.0 p.1) term_place n ts rest
+  term_to : (p : ExpressionTree × List ExpressionTree) (ts rest : List Token) → (Spelled p.0 factor_place n ▷ each_in_turn (λ e. Symbol_is Star ▷ Spelled e factor_place n) p.1) ts rest → Spelled (product_of p.0 p.1) term_place n ts rest
   term_to (e, []) ts rest (m, one, is) = as_term e ts rest (subst (λ r. Spelled e factor_place n ts r) is one)
   term_to (e, f ∷ fs) ts rest (m, one, more) = (tt, (m, one, further_factors n (f ∷ fs) m rest more))
 
-  term_from : (x : ExpressionTree) (ts rest : List Token) → Spelled x term_place n ts rest → (p : ExpressionTree × List ExpressionTree) × (product_of p.0 p.1 ≡ x) × (Spelled p.0 factor_place n ▷ each (λ e. Symbol_is Star ▷ Spelled e factor_place n) p.1) ts rest
+  term_from : (x : ExpressionTree) (ts rest : List Token) → Spelled x term_place n ts rest → (p : ExpressionTree × List ExpressionTree) × (product_of p.0 p.1 ≡ x) × (Spelled p.0 factor_place n ▷ each_in_turn (λ e. Symbol_is Star ▷ Spelled e factor_place n) p.1) ts rest
   term_from x ts rest s =
       elim (term_cases x n ts rest s) [
         | inl p ↦ go p.0 p.1 p.2 p.3.0 p.3.1
         | inr f ↦ ((x, []), refl, (rest, f, refl))
       ]
     where
-      go : (f : ExpressionTree) (fs : ExpressionRow) → x ≡ product f fs → (fs ≡ no_expression → ⊥) → (Spelled f factor_place n ▷ Further_factors fs n) ts rest → (p : ExpressionTree × List ExpressionTree) × (product_of p.0 p.1 ≡ x) × (Spelled p.0 factor_place n ▷ each (λ e. Symbol_is Star ▷ Spelled e factor_place n) p.1) ts rest
+      go : (f : ExpressionTree) (fs : ExpressionRow) → x ≡ product f fs → (fs ≡ no_expression → ⊥) → (Spelled f factor_place n ▷ Further_factors fs n) ts rest → (p : ExpressionTree × List ExpressionTree) × (product_of p.0 p.1 ≡ x) × (Spelled p.0 factor_place n ▷ each_in_turn (λ e. Symbol_is Star ▷ Spelled e factor_place n) p.1) ts rest
       go f no_expression is some s = absurd (some refl)
       go f (and_expression e es) is some (m, one, (a, star_is, (b, next, more))) =
           let found = factors_listed n es b rest more in
@@ -137,7 +137,7 @@ module _ (n m : ℕ) (inner : Reads n (sum_in n) (sum_in m) (In n) continues_sum
   sign_stops signs.Plus ts m (span, line, e) = rw e refl
   sign_stops signs.Minus ts m (span, line, e) = rw e refl
 
-  further_terms_reads : Reads (suc n) (further_terms_with (sum_in n)) (further_terms_with (sum_in m)) (each (Term_is n)) continues_sum
+  further_terms_reads : Reads (suc n) (further_terms_with (sum_in n)) (further_terms_with (sum_in m)) (each_in_turn (Term_is n)) continues_sum
   further_terms_reads = rows_reads signed_term_item (λ ts x rest s. sign_stops x.0 ts s.0 s.1)
 
   -- a term is the first term of a sum
@@ -176,7 +176,7 @@ module _ (n m : ℕ) (inner : Reads n (sum_in n) (sum_in m) (In n) continues_sum
         | inr t ↦ inr ((term_begins x n ts rest t).1, t)
       ])
 
-  terms_reads : Reads (suc n) (seq (first_term_with (sum_in n)) (further_terms_with (sum_in n))) (seq (first_term_with (sum_in m)) (further_terms_with (sum_in m))) (λ p. Spelled p.0 first_place n ▷ each (Term_is n) p.1) continues_sum
+  terms_reads : Reads (suc n) (seq (first_term_with (sum_in n)) (further_terms_with (sum_in n))) (seq (first_term_with (sum_in m)) (further_terms_with (sum_in m))) (λ p. Spelled p.0 first_place n ▷ each_in_turn (Term_is n) p.1) continues_sum
   terms_reads =
       seq_reads first_term_reads further_terms_reads
       (λ xs ts rest s stop.
@@ -198,18 +198,18 @@ module _ (n m : ℕ) (inner : Reads n (sum_in n) (sum_in m) (In n) continues_sum
   as_sum (sum e no_term) ts rest s = s
   as_sum (sum e (and_term sign f fs)) ts rest s = absurd s.0
 
-  sum_to : (p : ExpressionTree × List (Sign × ExpressionTree)) (ts rest : List Token) → (Spelled p.0 first_place n ▷ each (Term_is n) p.1) ts rest → Spelled (sum_of_terms p.0 p.1) sum_place n ts rest
+  sum_to : (p : ExpressionTree × List (Sign × ExpressionTree)) (ts rest : List Token) → (Spelled p.0 first_place n ▷ each_in_turn (Term_is n) p.1) ts rest → Spelled (sum_of_terms p.0 p.1) sum_place n ts rest
   sum_to (e, []) ts rest (m, one, is) = as_sum e ts rest (subst (λ r. Spelled e first_place n ts r) is one)
   sum_to (e, f ∷ fs) ts rest (m, one, more) = (tt, (m, one, further_terms n (f ∷ fs) m rest more))
 
-  sum_from : (x : ExpressionTree) (ts rest : List Token) → Spelled x sum_place n ts rest → (p : ExpressionTree × List (Sign × ExpressionTree)) × (sum_of_terms p.0 p.1 ≡ x) × (Spelled p.0 first_place n ▷ each (Term_is n) p.1) ts rest
+  sum_from : (x : ExpressionTree) (ts rest : List Token) → Spelled x sum_place n ts rest → (p : ExpressionTree × List (Sign × ExpressionTree)) × (sum_of_terms p.0 p.1 ≡ x) × (Spelled p.0 first_place n ▷ each_in_turn (Term_is n) p.1) ts rest
   sum_from x ts rest s =
       elim (sum_cases x n ts rest s) [
         | inl p ↦ go p.0 p.1 p.2 p.3.0 p.3.1
         | inr f ↦ ((x, []), refl, (rest, f, refl))
       ]
     where
-      go : (f : ExpressionTree) (fs : TermRow) → x ≡ sum f fs → (fs ≡ no_term → ⊥) → (Spelled f first_place n ▷ Further_terms fs n) ts rest → (p : ExpressionTree × List (Sign × ExpressionTree)) × (sum_of_terms p.0 p.1 ≡ x) × (Spelled p.0 first_place n ▷ each (Term_is n) p.1) ts rest
+      go : (f : ExpressionTree) (fs : TermRow) → x ≡ sum f fs → (fs ≡ no_term → ⊥) → (Spelled f first_place n ▷ Further_terms fs n) ts rest → (p : ExpressionTree × List (Sign × ExpressionTree)) × (sum_of_terms p.0 p.1 ≡ x) × (Spelled p.0 first_place n ▷ each_in_turn (Term_is n) p.1) ts rest
       go f no_term is some s = absurd (some refl)
       go f (and_term sign e es) is some (m, one, (a, sign_is, (b, next, more))) =
           let found = terms_listed n es b rest more in

@@ -26,17 +26,17 @@ plain_of (kinds.Name n) = Some (designators.Name n)
 plain_of _ = None
 
 -- a name that the table knows, with a subscript or without
-unfoldable pub place_in : (TokenKind → Option Designator) → ℕ → Reader NamedTree
-place_in table zero = too_deep
-place_in table (suc room) = apply named_tree (seq (taken table) (maybe (begins opening) (subscript_with (sum_in room))))
+unfoldable pub named_place_in : (TokenKind → Option Designator) → ℕ → Reader NamedTree
+named_place_in table zero = too_deep
+named_place_in table (suc room) = apply named_tree (seq (taken table) (maybe (begins opening) (subscript_with (sum_in room))))
 
 -- what a value is put into
 abbrev pub target_in : ℕ → Reader NamedTree
-target_in = place_in designator_of
+target_in = named_place_in designator_of
 
 -- a set
 abbrev pub reference_in : ℕ → Reader NamedTree
-reference_in = place_in plain_of
+reference_in = named_place_in plain_of
 
 abbrev pub begins_target : List Token → Bool
 begins_target = begins_by designator_of

@@ -61,14 +61,14 @@ abbrev pub separator : Shape
 separator = either_shape (Symbol_is symbols.Comma) (either_shape (Word_is words.And) (Symbol_is symbols.Comma ▷ Word_is words.And))
 
 -- each of these in turn
-abbrev pub each : {X : Type 0} → (X → Shape) → List X → Shape
-each S [] = nothing
-each S (x ∷ xs) = S x ▷ each S xs
+abbrev pub each_in_turn : {X : Type 0} → (X → Shape) → List X → Shape
+each_in_turn S [] = nothing
+each_in_turn S (x ∷ xs) = S x ▷ each_in_turn S xs
 
 -- the first, and then each of the others in another way
 abbrev pub first_and_each : {X : Type 0} → (X → Shape) → (X → Shape) → List X → Shape
 first_and_each S T [] = never
-first_and_each S T (x ∷ xs) = S x ▷ each T xs
+first_and_each S T (x ∷ xs) = S x ▷ each_in_turn T xs
 
 -- one at least, with separators between
 abbrev pub separated_list : {X : Type 0} → (X → Shape) → List X → Shape

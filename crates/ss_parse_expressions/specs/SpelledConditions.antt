@@ -8,7 +8,7 @@ use Rattle.ss_base.specs.declared.words.Relation.TheVariants as relations
 use Rattle.ss_base.specs.declared.words.GuardKind.{GuardKind}
 use Rattle.ss_base.specs.declared.words.GuardKind.TheVariants as guards
 use Rattle.ss_tree.specs.Tree.{TestTree, compare, empty, member, data_ended, ConditionTree, PhraseTree, GuardTree, StartTree, from_end, from_member, after_member, HeadTree, over_range, over_members, over_class, LoopHeadTree, for_head, guarded}
-use Rattle.ss_parse_expressions.specs.Shapes.{Shape, ◌▷◌, nothing, never, either_shape, optional, provided, Word_is, Symbol_is, Name_is, Word_for, noise, each, first_and_each, perhaps, flagged}
+use Rattle.ss_parse_expressions.specs.Shapes.{Shape, ◌▷◌, nothing, never, either_shape, optional, provided, Word_is, Symbol_is, Name_is, Word_for, noise, each_in_turn, first_and_each, perhaps, flagged}
 use Rattle.ss_parse_expressions.specs.declared.classes.WordClass.TheVariants as classes
 use Rattle.ss_parse_expressions.specs.Words.{One_of, the}
 use Rattle.ss_parse_expressions.specs.SpelledExpressions.{Sum_is, Reference_is}
@@ -70,19 +70,19 @@ loop_head_word _ = words.For
 abbrev pub Head_rest : ℕ → HeadTree → Shape
 Head_rest levels (over_range variable from to step phrases) =
     Name_is variable ▷ Symbol_is Equals ▷ Sum_is levels from ▷ Word_is words.To ▷ Sum_is levels to
-    ▷ perhaps (λ e. Word_is words.By ▷ Sum_is levels e) step ▷ each (Phrase_is levels) phrases
+    ▷ perhaps (λ e. Word_is words.By ▷ Sum_is levels e) step ▷ each_in_turn (Phrase_is levels) phrases
 Head_rest levels (over_members variable set start reverse phrases) =
     One_of classes.Each ▷ Name_is variable ▷ Word_is words.In ▷ the ▷ Reference_is levels set
-    ▷ Start_is levels start ▷ flagged (Word_is words.In ▷ Word_is words.Reverse ▷ Word_is words.Order) reverse ▷ each (Phrase_is levels) phrases
+    ▷ Start_is levels start ▷ flagged (Word_is words.In ▷ Word_is words.Reverse ▷ Word_is words.Order) reverse ▷ each_in_turn (Phrase_is levels) phrases
 Head_rest levels (over_class class variable phrases) =
-    One_of classes.Each ▷ Name_is class ▷ perhaps (λ v. Word_is words.Called ▷ Name_is v) variable ▷ each (Phrase_is levels) phrases
+    One_of classes.Each ▷ Name_is class ▷ perhaps (λ v. Word_is words.Called ▷ Name_is v) variable ▷ each_in_turn (Phrase_is levels) phrases
 
 -- the head of a loop after its first word
 abbrev pub Loop_head_rest : ℕ → LoopHeadTree → Shape
 Loop_head_rest levels (for_head head) = Head_rest levels head
 -- WHILE and UNTIL, of which the first has no comma before it
 Loop_head_rest levels (guarded []) = never
-Loop_head_rest levels (guarded (g ∷ gs)) = Condition_is levels g.condition ▷ each (λ h. noise ▷ Guard_is levels h) gs
+Loop_head_rest levels (guarded (g ∷ gs)) = Condition_is levels g.condition ▷ each_in_turn (λ h. noise ▷ Guard_is levels h) gs
 
 -- begins with FOR
 abbrev pub Begins_with_for : LoopHeadTree → Type 0

@@ -14,8 +14,8 @@ use Rattle.ss_base.specs.declared.words.GuardKind.{GuardKind}
 use Rattle.ss_base.specs.declared.words.GuardKind.TheVariants as guards
 use Rattle.ss_tree.specs.declared.statement.FindOutcome.{FindOutcome}
 use Rattle.ss_tree.specs.declared.statement.FindOutcome.TheVariants as outcomes
-use Rattle.ss_tree.specs.declared.preamble.Mode.{Mode}
-use Rattle.ss_tree.specs.declared.preamble.Mode.TheVariants as modes
+use Rattle.ss_tree.specs.declared.preamble.ModeWord.{ModeWord}
+use Rattle.ss_tree.specs.declared.preamble.ModeWord.TheVariants as modes
 use Rattle.ss_tree.specs.declared.preamble.StatisticKind.{StatisticKind}
 use Rattle.ss_tree.specs.declared.preamble.StatisticKind.TheVariants as statistics_kinds
 
@@ -56,7 +56,7 @@ outcome_of words.Found = Some outcomes.Found
 outcome_of words.None = Some outcomes.None
 outcome_of _ = None
 
-abbrev pub mode_of_word : Word → Option Mode
+abbrev pub mode_of_word : Word → Option ModeWord
 mode_of_word words.Integer = Some modes.Integer
 mode_of_word words.Alpha = Some modes.Alpha
 mode_of_word words.Real = Some modes.Real

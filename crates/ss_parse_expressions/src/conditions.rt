@@ -2,7 +2,8 @@
 
 ghost use Rattle.std.specs.Prelude.{◌≡◌, map};
 ghost use Rattle.ss_tree.specs.Tree.{expression_row};
-ghost use Rattle.ss_tree.specs.View.{view_expression, view_option, view_named, view_test, view_conjunction, view_condition};
+ghost use Rattle.ss_tree.specs.View.{view_expression_tree, view_named, view_test_tree, view_conjunction_tree, view_condition_tree};
+ghost use Rattle.std.specs.Option.{option_map};
 ghost use Rattle.ss_parse_expressions.specs.Reading.{GivesReading, word, expect, apply};
 ghost use Rattle.ss_parse_expressions.specs.declared.conditions.Verb.TheVariants.{Compares};
 ghost use Rattle.ss_parse_expressions.specs.ReadConditions.{relation_symbol, test_word_of, verb_end, worded_verb, verb, is_short, is_reference, reference_of, data_test, test_end, sum_test, test_in, conjunction_in, condition_in};
@@ -128,7 +129,7 @@ fn any_verb(tokens: &[Token]) -> Result<(Verb, &[Token]), Failure>
 
 /// Whether there is one at most.
 fn is_short(subscripts: &[Expression]) -> bool
-    ensures { result ≡ is_short (expression_row (map view_expression subscripts.now)) }
+    ensures { result ≡ is_short (expression_row (map view_expression_tree subscripts.now)) }
 {
     match subscripts {
         [] => true,
@@ -150,9 +151,9 @@ fn is_reference(named: &Named) -> bool
 }
 
 /// The set that the expression names.
-#[tactic(auto, unfolding(ss_tree::specs::View::view_expression))]
+#[tactic(auto, unfolding(ss_tree::specs::View::view_expression_tree))]
 fn reference_of(expression: Expression) -> Option<Named>
-    ensures { view_option view_named result ≡ reference_of (view_expression expression) }
+    ensures { option_map view_named result ≡ reference_of (view_expression_tree expression) }
 {
     match expression {
         Expression::Named(named) => {
@@ -181,7 +182,7 @@ fn test_end(
     tokens: &[Token],
     room: u8,
 ) -> Result<(Test, &[Token]), Failure>
-    ensures { GivesReading (λ x. (view_test x.0, x.1.now)) result (test_end room (view_expression left) verb tokens.now) }
+    ensures { GivesReading (λ x. (view_test_tree x.0, x.1.now)) result (test_end room (view_expression_tree left) verb tokens.now) }
 {
     match verb {
         Verb::Compares(relation) => {
@@ -213,7 +214,7 @@ fn test_end(
 /// DATA IS ENDED.
 #[tactic(auto, unfolding(crate::specs::ReadConditions::data_test))]
 fn data_test(tokens: &[Token]) -> Result<(Test, &[Token]), Failure>
-    ensures { GivesReading (λ x. (view_test x.0, x.1.now)) result (data_test tokens.now) }
+    ensures { GivesReading (λ x. (view_test_tree x.0, x.1.now)) result (data_test tokens.now) }
 {
     let rest = expect_word(tokens, Word::Data)?;
     let rest = expect_word(rest, Word::Is)?;
@@ -225,7 +226,7 @@ fn data_test(tokens: &[Token]) -> Result<(Test, &[Token]), Failure>
 /// A test that begins with an expression.
 #[tactic(auto, unfolding(crate::specs::ReadConditions::sum_test))]
 fn sum_test(alloc: Global, tokens: &[Token], room: u8) -> Result<(Test, &[Token]), Failure>
-    ensures { GivesReading (λ x. (view_test x.0, x.1.now)) result (sum_test room tokens.now) }
+    ensures { GivesReading (λ x. (view_test_tree x.0, x.1.now)) result (sum_test room tokens.now) }
 {
     let (left, rest) = sum(alloc, tokens, room)?;
     let (verb, rest) = any_verb(rest)?;
@@ -235,7 +236,7 @@ fn sum_test(alloc: Global, tokens: &[Token], room: u8) -> Result<(Test, &[Token]
 /// A test, where this many levels of nesting, one around it among them, may be opened.
 #[tactic(auto, unfolding(crate::specs::ReadConditions::test_in))]
 fn test(alloc: Global, tokens: &[Token], room: u8) -> Result<(Test, &[Token]), Failure>
-    ensures { GivesReading (λ x. (view_test x.0, x.1.now)) result (test_in room tokens.now) }
+    ensures { GivesReading (λ x. (view_test_tree x.0, x.1.now)) result (test_in room tokens.now) }
 {
     if room == 0 {
         return Err(too_deep(tokens));
@@ -253,7 +254,7 @@ fn conjunction(
     tokens: &[Token],
     room: u8,
 ) -> Result<(Conjunction, &[Token]), Failure>
-    ensures { GivesReading (λ x. (view_conjunction x.0, x.1.now)) result (conjunction_in room tokens.now) }
+    ensures { GivesReading (λ x. (view_conjunction_tree x.0, x.1.now)) result (conjunction_in room tokens.now) }
 {
     let (first, mut rest) = test(alloc, tokens, room)?;
     let mut all = alone(alloc, first)?;
@@ -271,7 +272,7 @@ pub fn condition(
     tokens: &[Token],
     room: u8,
 ) -> Result<(Condition, &[Token]), Failure>
-    ensures { GivesReading (λ x. (view_condition x.0, x.1.now)) result (condition_in room tokens.now) }
+    ensures { GivesReading (λ x. (view_condition_tree x.0, x.1.now)) result (condition_in room tokens.now) }
 {
     let (first, mut rest) = conjunction(alloc, tokens, room)?;
     let mut all = alone(alloc, first)?;

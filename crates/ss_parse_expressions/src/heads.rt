@@ -1,7 +1,8 @@
 //! The heads of loops.
 
 ghost use Rattle.std.specs.Prelude.{◌≡◌, map};
-ghost use Rattle.ss_tree.specs.View.{view_expression, view_option, view_phrase, view_guard, view_start, view_head, view_loop_head};
+ghost use Rattle.ss_tree.specs.View.{view_expression_tree, view_phrase_tree, view_guard_tree, view_start_tree, view_head_tree, view_loop_head};
+ghost use Rattle.std.specs.Option.{option_map};
 ghost use Rattle.ss_parse_expressions.specs.Reading.{GivesReading, apply, skip_comma};
 ghost use Rattle.ss_parse_expressions.specs.ReadHeads.{begins_phrase, begins_guard, phrase_in, guard_in, phrases_in, further_guards, step_in, range_in, start_in, reverse, members_in, class_in, class_tree, each_named, each_in, for_in, guarded_in};
 
@@ -31,7 +32,7 @@ fn begins_phrase(tokens: &[Token]) -> bool
 /// A phrase.
 #[tactic(auto, unfolding(crate::specs::ReadHeads::phrase_in))]
 fn phrase(alloc: Global, tokens: &[Token], room: u8) -> Result<(Phrase, &[Token]), Failure>
-    ensures { GivesReading (λ x. (view_phrase x.0, x.1.now)) result (phrase_in room tokens.now) }
+    ensures { GivesReading (λ x. (view_phrase_tree x.0, x.1.now)) result (phrase_in room tokens.now) }
 {
     let (kind, rest) = take_word_of::<PhraseWords>(tokens)?;
     let (condition, rest) = condition(alloc, rest, room)?;
@@ -40,7 +41,7 @@ fn phrase(alloc: Global, tokens: &[Token], room: u8) -> Result<(Phrase, &[Token]
 
 /// Phrases, each with a comma before it or not.
 fn phrases(alloc: Global, tokens: &[Token], room: u8) -> Result<(Vec<Phrase>, &[Token]), Failure>
-    ensures { GivesReading (λ x. (map view_phrase x.0.items, x.1.now)) result (phrases_in room tokens.now) }
+    ensures { GivesReading (λ x. (map view_phrase_tree x.0.items, x.1.now)) result (phrases_in room tokens.now) }
 {
     let mut all = Vec::new(alloc);
     let mut rest = tokens;
@@ -69,7 +70,7 @@ fn begins_next_guard(tokens: &[Token]) -> bool
 /// WHILE or UNTIL and its condition.
 #[tactic(auto, unfolding(crate::specs::ReadHeads::guard_in))]
 fn guard(alloc: Global, tokens: &[Token], room: u8) -> Result<(Guard, &[Token]), Failure>
-    ensures { GivesReading (λ x. (view_guard x.0, x.1.now)) result (guard_in room tokens.now) }
+    ensures { GivesReading (λ x. (view_guard_tree x.0, x.1.now)) result (guard_in room tokens.now) }
 {
     let (kind, rest) = take_word_of::<GuardWords>(tokens)?;
     let (condition, rest) = condition(alloc, rest, room)?;
@@ -83,7 +84,7 @@ fn guards(
     tokens: &[Token],
     room: u8,
 ) -> Result<(Vec<Guard>, &[Token]), Failure>
-    ensures { GivesReading (λ x. (map view_guard x.0.items, x.1.now)) result (further_guards room (view_guard first) tokens.now) }
+    ensures { GivesReading (λ x. (map view_guard_tree x.0.items, x.1.now)) result (further_guards room (view_guard_tree first) tokens.now) }
 {
     let mut all = alone(alloc, first)?;
     let mut rest = tokens;
@@ -101,7 +102,7 @@ fn step(
     tokens: &[Token],
     room: u8,
 ) -> Result<(Option<Expression>, &[Token]), Failure>
-    ensures { GivesReading (λ x. (view_option view_expression x.0, x.1.now)) result (step_in room tokens.now) }
+    ensures { GivesReading (λ x. (option_map view_expression_tree x.0, x.1.now)) result (step_in room tokens.now) }
 {
     if !begins_word(tokens, Word::By) {
         return Ok((None, tokens));
@@ -113,7 +114,7 @@ fn step(
 /// The head of a FOR over numbers, after FOR.
 #[tactic(auto, unfolding(crate::specs::ReadHeads::range_in))]
 fn range(alloc: Global, tokens: &[Token], room: u8) -> Result<(Head, &[Token]), Failure>
-    ensures { GivesReading (λ x. (view_head x.0, x.1.now)) result (range_in room tokens.now) }
+    ensures { GivesReading (λ x. (view_head_tree x.0, x.1.now)) result (range_in room tokens.now) }
 {
     let variable = name(tokens)?;
     let rest = expect_symbol(after_first(tokens), Symbol::Equals)?;
@@ -136,7 +137,7 @@ fn range(alloc: Global, tokens: &[Token], room: u8) -> Result<(Head, &[Token]), 
 /// The member with which a loop over a set begins.
 #[tactic(auto, unfolding(crate::specs::ReadHeads::start_in))]
 fn start(alloc: Global, tokens: &[Token], room: u8) -> Result<(MemberStart, &[Token]), Failure>
-    ensures { GivesReading (λ x. (view_start x.0, x.1.now)) result (start_in room tokens.now) }
+    ensures { GivesReading (λ x. (view_start_tree x.0, x.1.now)) result (start_in room tokens.now) }
 {
     if begins_word(tokens, Word::From) {
         let (member, rest) = sum(alloc, skip_word(tokens, Word::From), room)?;
@@ -170,7 +171,7 @@ fn members(
     tokens: &[Token],
     room: u8,
 ) -> Result<(Head, &[Token]), Failure>
-    ensures { GivesReading (λ x. (view_head x.0, x.1.now)) result (members_in room variable tokens.now) }
+    ensures { GivesReading (λ x. (view_head_tree x.0, x.1.now)) result (members_in room variable tokens.now) }
 {
     let rest = expect_word(tokens, Word::In)?;
     let (set, rest) = reference(alloc, skip_word(rest, Word::The), room)?;
@@ -195,7 +196,7 @@ fn class_phrases(
     tokens: &[Token],
     room: u8,
 ) -> Result<(Head, &[Token]), Failure>
-    ensures { GivesReading (λ x. (view_head x.0, x.1.now)) result (apply (λ ps. class_tree class (called, ps)) (phrases_in room) tokens.now) }
+    ensures { GivesReading (λ x. (view_head_tree x.0, x.1.now)) result (apply (λ ps. class_tree class (called, ps)) (phrases_in room) tokens.now) }
 {
     let (phrases, rest) = phrases(alloc, tokens, room)?;
     let head = Head::Class {
@@ -214,7 +215,7 @@ fn class(
     tokens: &[Token],
     room: u8,
 ) -> Result<(Head, &[Token]), Failure>
-    ensures { GivesReading (λ x. (view_head x.0, x.1.now)) result (class_in room class tokens.now) }
+    ensures { GivesReading (λ x. (view_head_tree x.0, x.1.now)) result (class_in room class tokens.now) }
 {
     if !begins_word(tokens, Word::Called) {
         return class_phrases(alloc, class, None, tokens, room);
@@ -231,7 +232,7 @@ fn each_named(
     tokens: &[Token],
     room: u8,
 ) -> Result<(Head, &[Token]), Failure>
-    ensures { GivesReading (λ x. (view_head x.0, x.1.now)) result (each_named room name tokens.now) }
+    ensures { GivesReading (λ x. (view_head_tree x.0, x.1.now)) result (each_named room name tokens.now) }
 {
     if begins_word(tokens, Word::In) {
         members(alloc, name, tokens, room)
@@ -243,7 +244,7 @@ fn each_named(
 /// The head of a FOR over a set or a class, after FOR.
 #[tactic(auto, unfolding(crate::specs::ReadHeads::each_in))]
 fn each(alloc: Global, tokens: &[Token], room: u8) -> Result<(Head, &[Token]), Failure>
-    ensures { GivesReading (λ x. (view_head x.0, x.1.now)) result (each_in room tokens.now) }
+    ensures { GivesReading (λ x. (view_head_tree x.0, x.1.now)) result (each_in room tokens.now) }
 {
     let rest = expect_class(tokens, WordClass::Each)?;
     let variable = name(rest)?;
@@ -253,7 +254,7 @@ fn each(alloc: Global, tokens: &[Token], room: u8) -> Result<(Head, &[Token]), F
 /// The head of a FOR, after its first word.
 #[tactic(auto, unfolding(crate::specs::ReadHeads::for_in))]
 pub fn for_head(alloc: Global, tokens: &[Token], room: u8) -> Result<(Head, &[Token]), Failure>
-    ensures { GivesReading (λ x. (view_head x.0, x.1.now)) result (for_in room tokens.now) }
+    ensures { GivesReading (λ x. (view_head_tree x.0, x.1.now)) result (for_in room tokens.now) }
 {
     if begins_class(tokens, WordClass::Each) {
         each(alloc, tokens, room)

@@ -2,7 +2,8 @@
 
 ghost use Rattle.std.specs.Prelude.{◌≡◌, IfOk, map, drop};
 ghost use Rattle.ss_tree.specs.Tree.{expression_row};
-ghost use Rattle.ss_tree.specs.View.{view_expression, view_option, view_named};
+ghost use Rattle.ss_tree.specs.View.{view_expression_tree, view_named};
+ghost use Rattle.std.specs.Option.{option_map};
 ghost use Rattle.ss_parse_expressions.specs.Reading.{GivesReading, begins, maybe, taken, begins_more};
 ghost use Rattle.ss_parse_expressions.specs.ReadExpressions.{opening, designator_of, sum_in};
 ghost use Rattle.ss_parse_expressions.specs.ReadPlaces.{subscript_row, subscript_with, plain_of, target_in, reference_in, begins_target, targets_in};
@@ -55,7 +56,7 @@ fn subscript(
     tokens: &[Token],
     room: u8,
 ) -> Result<(Option<Expression>, &[Token]), Failure>
-    ensures { GivesReading (λ x. (view_option view_expression x.0, x.1.now)) result (maybe (begins opening) (subscript_with (sum_in room)) tokens.now) }
+    ensures { GivesReading (λ x. (option_map view_expression_tree x.0, x.1.now)) result (maybe (begins opening) (subscript_with (sum_in room)) tokens.now) }
 {
     if !begins_symbol(tokens, Symbol::OpenParenthesis) {
         return Ok((None, tokens));
@@ -70,7 +71,7 @@ fn subscripts_of(
     alloc: Global,
     subscript: Option<Expression>,
 ) -> Result<Vec<Expression>, AllocError>
-    ensures { IfOk result (λ v. expression_row (map view_expression v.items) ≡ subscript_row (view_option view_expression subscript)) }
+    ensures { IfOk result (λ v. expression_row (map view_expression_tree v.items) ≡ subscript_row (option_map view_expression_tree subscript)) }
 {
     match subscript {
         Some(subscript) => alone(alloc, subscript),
@@ -79,7 +80,7 @@ fn subscripts_of(
 }
 
 /// What a value is put into, where this many levels of nesting, itself among them, may be opened.
-#[tactic(auto, unfolding(crate::specs::ReadPlaces::place_in))]
+#[tactic(auto, unfolding(crate::specs::ReadPlaces::named_place_in))]
 pub fn target(alloc: Global, tokens: &[Token], room: u8) -> Result<(Named, &[Token]), Failure>
     ensures { GivesReading (λ x. (view_named x.0, x.1.now)) result (target_in room tokens.now) }
 {
@@ -97,7 +98,7 @@ pub fn target(alloc: Global, tokens: &[Token], room: u8) -> Result<(Named, &[Tok
 }
 
 /// A reference to a set, where this many levels of nesting, itself among them, may be opened.
-#[tactic(auto, unfolding(crate::specs::ReadPlaces::place_in))]
+#[tactic(auto, unfolding(crate::specs::ReadPlaces::named_place_in))]
 pub fn reference(alloc: Global, tokens: &[Token], room: u8) -> Result<(Named, &[Token]), Failure>
     ensures { GivesReading (λ x. (view_named x.0, x.1.now)) result (reference_in room tokens.now) }
 {

@@ -8,7 +8,7 @@ use ss_lex::Word;
 use ss_tree::condition::Relation;
 use ss_tree::expression::{Function, Operator, UnaryOperator};
 use ss_tree::head::{GuardKind, PhraseKind};
-use ss_tree::preamble::{Mode, StatisticKind};
+use ss_tree::preamble::{ModeWord, StatisticKind};
 use ss_tree::statement::FindOutcome;
 
 /// The relation that the word names.
@@ -97,15 +97,15 @@ impl WordTable for OutcomeWords {
 pub struct ModeWords;
 
 impl WordTable for ModeWords {
-    type Means = Mode;
+    type Means = ModeWord;
 
     ghost table = { mode_of_word };
 
-    fn meaning_of(word: Word) -> Option<Mode> {
+    fn meaning_of(word: Word) -> Option<ModeWord> {
         match word {
-            Word::Integer => Some(Mode::Integer),
-            Word::Alpha => Some(Mode::Alpha),
-            Word::Real => Some(Mode::Real),
+            Word::Integer => Some(ModeWord::Integer),
+            Word::Alpha => Some(ModeWord::Alpha),
+            Word::Real => Some(ModeWord::Real),
             _ => None,
         }
     }

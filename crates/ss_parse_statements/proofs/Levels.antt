@@ -8,7 +8,7 @@ use Rattle.ss_lex.specs.declared.token.TokenKind.TheVariants as kinds
 use Rattle.ss_lex.specs.declared.token.Token.{Token}
 use Rattle.ss_tree.specs.Tree.{StatementTree, if_statement, loop_statement, find_statement, find_if_statement}
 use Rattle.ss_parse_expressions.specs.Openers.{opens}
-use Rattle.ss_parse_expressions.specs.Shapes.{Shape, ◌▷◌, noise, Word_is, first_token_line, each, nested_shape}
+use Rattle.ss_parse_expressions.specs.Shapes.{Shape, ◌▷◌, noise, Word_is, first_token_line, each_in_turn, nested_shape}
 use Rattle.ss_parse_expressions.specs.Reading.{choose_reader, skip_comma}
 use Rattle.ss_parse_expressions.proofs.Marks.{token}
 use Rattle.ss_parse_expressions.proofs.ReaderLaws.{Reads, Item, reshaped_reads, fewer_reads, noisy_item, too_deep_reads}
@@ -117,7 +117,7 @@ statement_item : (n m : ℕ) → n ≤ m → Item n begins_statement (λ r. stat
 statement_item n m le = noisy_item (statement_in_reads n m le) begins_form (in_statement_begins n) form_no_comma (in_statement_less n)
 
 -- statements, each with a comma before it or not
-pub all_statements_reads : (n m : ℕ) → n ≤ m → Reads n (statements_in n) (statements_in m) (each (λ x. noise ▷ In_statement n x)) (λ ts. begins_statement ts || continues_statement ts)
+pub all_statements_reads : (n m : ℕ) → n ≤ m → Reads n (statements_in n) (statements_in m) (each_in_turn (λ x. noise ▷ In_statement n x)) (λ ts. begins_statement ts || continues_statement ts)
 all_statements_reads n m le = rows_reads (statement_item n m le) (in_statement_stops n)
 
 pub statements_loop : (n : ℕ) → Loop begins_statement (λ r. statement_in n (skip_comma r))

@@ -11,7 +11,7 @@ use Rattle.ss_base.specs.declared.words.GuardKind.TheVariants as guards
 use Rattle.ss_tree.specs.declared.statement.FindOutcome.{FindOutcome}
 use Rattle.ss_tree.specs.Tree.{ConditionTree, HeadTree, LoopHeadTree, for_head, guarded, StatementTree, let_statement, add_statement, subtract_statement, call_statement, return_statement, stop_statement, read_statement, start_simulation, if_statement, loop_statement, find_statement, find_if_statement, create_statement, create_every, destroy_statement, file_statement, remove_end, remove_statement, schedule_new, schedule_statement, cancel_statement, reset_statement, print_statement, skip_statement, StatementRow, no_statement, and_statement, statement_row}
 use Rattle.ss_parse_expressions.specs.Openers.{openers}
-use Rattle.ss_parse_expressions.specs.Shapes.{Shape, ◌▷◌, nothing, either_shape, optional, provided, noise, Word_for, each}
+use Rattle.ss_parse_expressions.specs.Shapes.{Shape, ◌▷◌, nothing, either_shape, optional, provided, noise, Word_for, each_in_turn}
 use Rattle.ss_parse_expressions.specs.SpelledConditions.{guard_word, Head_rest}
 use Rattle.ss_parse_expressions.specs.WordTables.{guard_of, outcome_of}
 use Rattle.ss_parse_expressions.specs.Reading.{word, kind_of_mark, is, is_some, begins, after_dropped, closed, choose_reader, comma, skip_comma}
@@ -33,11 +33,11 @@ use Rattle.ss_parse_statements.proofs.Beginnings.{both_false, word_no_other, for
 
 -- ---- rows as lists
 
-statements_to : (n : ℕ) (xs : List StatementTree) (ts rest : List Token) → each (λ x. noise ▷ Statement_from x n) xs ts rest → Statements_are (statement_row xs) n ts rest
+statements_to : (n : ℕ) (xs : List StatementTree) (ts rest : List Token) → each_in_turn (λ x. noise ▷ Statement_from x n) xs ts rest → Statements_are (statement_row xs) n ts rest
 statements_to n [] ts rest s = s
 statements_to n (x ∷ xs) ts rest (a, one, more) = (a, one, statements_to n xs a rest more)
 
-statements_from : (n : ℕ) (row : StatementRow) (ts rest : List Token) → Statements_are row n ts rest → (xs : List StatementTree) × (statement_row xs ≡ row) × each (λ x. noise ▷ Statement_from x n) xs ts rest
+statements_from : (n : ℕ) (row : StatementRow) (ts rest : List Token) → Statements_are row n ts rest → (xs : List StatementTree) × (statement_row xs ≡ row) × each_in_turn (λ x. noise ▷ Statement_from x n) xs ts rest
 statements_from n no_statement ts rest s = ([], refl, s)
 statements_from n (and_statement x row) ts rest (a, one, more) =
     let found = statements_from n row a rest more in
@@ -55,13 +55,13 @@ module _ (k j : ℕ) (le : k ≤ j) (inner : Reads (suc k) (statement_in (suc k)
   inner_item : Item (suc k) begins_statement (λ r. statement_in (suc k) (skip_comma r)) (λ r. statement_in (suc j) (skip_comma r)) Noisy_statement continues_statement
   inner_item = noisy_item inner begins_form (λ ts x rest s. form_begins k x ts rest s) form_no_comma inner_less
 
-  pub statements_reads : Reads (suc k) (statements_with (statement_in (suc k))) (statements_with (statement_in (suc j))) (each Noisy_statement) continues_statements
+  pub statements_reads : Reads (suc k) (statements_with (statement_in (suc k))) (statements_with (statement_in (suc j))) (each_in_turn Noisy_statement) continues_statements
   statements_reads = rows_reads inner_item (λ ts x rest s. statement_stops k x ts rest s)
 
   -- ---- ELSE and ALWAYS
 
   abbrev Else_words : List StatementTree → Shape
-  Else_words xs = noisy words.Else ▷ each Noisy_statement xs
+  Else_words xs = noisy words.Else ▷ each_in_turn Noisy_statement xs
 
   abbrev Else_list : List StatementTree → Shape
   Else_list [] = optional (noisy words.Else)
@@ -88,7 +88,7 @@ module _ (k j : ℕ) (le : k ≤ j) (inner : Reads (suc k) (statement_in (suc k)
   else_stops (y ∷ ys) ts rest (a, w, s) stop = noisy_stops continues_statements (word words.Else) (λ span line ts. refl) (λ span span' line line' ts. refl) ts a w
 
   abbrev Branch_lists : List StatementTree × List StatementTree → Shape
-  Branch_lists p = (each Noisy_statement p.0 ▷ Else_list p.1) ▷ noisy words.Always
+  Branch_lists p = (each_in_turn Noisy_statement p.0 ▷ Else_list p.1) ▷ noisy words.Always
 
   else_to : (ys : List StatementTree) (ts rest : List Token) → Else_list ys ts rest → Else_part (statement_row ys) k ts rest
   else_to [] ts rest s = s
@@ -148,7 +148,7 @@ module _ (k j : ℕ) (le : k ≤ j) (inner : Reads (suc k) (statement_in (suc k)
   -- ---- what a loop repeats
 
   abbrev Do_list : List StatementTree → Shape
-  Do_list xs = noisy words.Do ▷ each Noisy_statement xs ▷ noisy words.Loop
+  Do_list xs = noisy words.Do ▷ each_in_turn Noisy_statement xs ▷ noisy words.Loop
 
   do_item : Item (suc k) (begins_noisy (word words.Do)) (do_with (statement_in (suc k))) (do_with (statement_in (suc j))) Do_list continues_never
   unfolding do_with
@@ -156,7 +156,7 @@ module _ (k j : ℕ) (le : k ≤ j) (inner : Reads (suc k) (statement_in (suc k)
       item_of (begins_noisy (word words.Do)) (following_reads (noisy_mark_reads (suc k) (word words.Do) refl) between (λ xs ts rest s stop. refl)) (λ ts xs rest s. noisy_begins (word words.Do) refl ts s.0 s.1)
       (λ ts xs rest s. omega (arith, noisy_less (word words.Do) ts s.0 s.1, between.shorter s.0 xs rest s.2))
     where
-      between : Reads (suc k) (closed (statements_with (statement_in (suc k))) (expect_noisy (word words.Loop))) (closed (statements_with (statement_in (suc j))) (expect_noisy (word words.Loop))) (λ xs. each Noisy_statement xs ▷ noisy words.Loop) continues_never
+      between : Reads (suc k) (closed (statements_with (statement_in (suc k))) (expect_noisy (word words.Loop))) (closed (statements_with (statement_in (suc j))) (expect_noisy (word words.Loop))) (λ xs. each_in_turn Noisy_statement xs ▷ noisy words.Loop) continues_never
       between = closed_reads statements_reads (noisy_mark_reads (suc k) (word words.Loop) refl) (λ ts rest s stop. noisy_stops continues_statements (word words.Loop) (λ span line ts. refl) (λ span span' line line' ts. refl) ts rest s)
 
   abbrev Governed_one : StatementTree → Shape

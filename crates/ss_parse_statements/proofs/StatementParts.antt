@@ -9,7 +9,7 @@ use Rattle.ss_lex.specs.declared.token.TokenKind.TheVariants as kinds
 use Rattle.ss_lex.specs.declared.token.Token.{Token}
 use Rattle.ss_tree.specs.Tree.{ExpressionTree, NamedTree, PositionTree, by_discipline, at_first, at_last, before, after, WhenTree, at_time, in_units, now}
 use Rattle.ss_parse_expressions.specs.declared.classes.WordClass.TheVariants as classes
-use Rattle.ss_parse_expressions.specs.Shapes.{Shape, ◌▷◌, nothing, either_shape, provided, Token_is, Word_is, each}
+use Rattle.ss_parse_expressions.specs.Shapes.{Shape, ◌▷◌, nothing, either_shape, provided, Token_is, Word_is, each_in_turn}
 use Rattle.ss_parse_expressions.specs.Words.{has_word, One_of, the, perhaps_listed}
 use Rattle.ss_parse_expressions.specs.SpelledExpressions.{Sum_is, Target_is, Reference_is}
 use Rattle.ss_parse_expressions.specs.Openers.{openers}
@@ -102,7 +102,7 @@ picture_reads k = reshaped_reads (taken_reads k picture_token) Picture_is pictur
 
 -- so many pictures
 abbrev pub Pictures_are : ℕ → List (List ℕ) → Shape
-Pictures_are n ps = provided (length ps ≡ n) (each Picture_is ps)
+Pictures_are n ps = provided (length ps ≡ n) (each_in_turn Picture_is ps)
 
 pub pictures_reads : (k n : ℕ) → Reads k (pictures_at n) (pictures_at n) (Pictures_are n) continues_never
 unfolding pictures_at
@@ -117,7 +117,7 @@ pictures_reads k n = record { sound = sound n; complete = λ ts ps rest s stop. 
         carry (λ (ps : List (List ℕ)) (r : List Token). Pictures_are (suc n) ps ts r) (p.0.0 ∷ qs.0.0) ps qs.0.1 rest qs.2
         (ap suc s.0, (p.0.1, (picture_reads k).sound ts p.0.0 p.0.1 p.1, s.1))
 
-    complete : (n : ℕ) (ps : List (List ℕ)) (ts rest : List Token) → length ps ≡ n → each Picture_is ps ts rest → pictures_at n ts ≡ Ok (ps, rest)
+    complete : (n : ℕ) (ps : List (List ℕ)) (ts rest : List Token) → length ps ≡ n → each_in_turn Picture_is ps ts rest → pictures_at n ts ≡ Ok (ps, rest)
     complete zero [] ts rest counts s = ap (λ (r : List Token). Ok ([], r)) s
     complete zero (p ∷ ps) ts rest counts s = absurd (omega arith)
     complete (suc n) [] ts rest counts s = absurd (omega arith)
@@ -126,7 +126,7 @@ pictures_reads k n = record { sound = sound n; complete = λ ts ps rest s stop. 
         let others : pictures_at n m ≡ Ok (ps, rest) = complete n ps m rest (omega arith) more in
         rw (first, others) refl
 
-    shorter : (ps : List (List ℕ)) (ts rest : List Token) → each Picture_is ps ts rest → length rest ≤ length ts
+    shorter : (ps : List (List ℕ)) (ts rest : List Token) → each_in_turn Picture_is ps ts rest → length rest ≤ length ts
     shorter [] ts rest s = omega (arith, ap length s)
     shorter (p ∷ ps) ts rest (m, one, more) = omega (arith, token_less (kinds.Picture p) ts m one, shorter ps m rest more)
 

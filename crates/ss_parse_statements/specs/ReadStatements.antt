@@ -147,7 +147,7 @@ nested_word words.While = true
 nested_word words.Until = true
 nested_word _ = false
 
--- the same statement, which is too deep where no level may be opened
+-- a statement that opens a level; it is too deep where no level may be opened
 abbrev pub nested_in : ℕ → Reader StatementTree → Line → Word → Reader StatementTree
 nested_in zero statement line w = too_deep
 nested_in (suc room) statement line w = nested_at line (suc room) statement w

@@ -7,7 +7,7 @@ use Rattle.ss_lex.specs.declared.word.Word.{Word}
 use Rattle.ss_lex.specs.declared.word.Word.TheVariants as words
 use Rattle.ss_tree.specs.Tree.{StatementTree, let_statement, add_statement, subtract_statement, call_statement, return_statement, stop_statement, read_statement, start_simulation, if_statement, loop_statement, find_statement, find_if_statement, create_statement, create_every, destroy_statement, file_statement, remove_end, remove_statement, schedule_new, schedule_statement, cancel_statement, reset_statement, print_statement, skip_statement, StatementRow, no_statement, and_statement}
 use Rattle.ss_parse_expressions.specs.declared.classes.WordClass.TheVariants as classes
-use Rattle.ss_parse_expressions.specs.Shapes.{Shape, ◌▷◌, nothing, never, either_shape, optional, provided, Token_is, Word_is, Symbol_is, Name_is, Word_for, noise, each, separated_list, at, nested_shape}
+use Rattle.ss_parse_expressions.specs.Shapes.{Shape, ◌▷◌, nothing, never, either_shape, optional, provided, Token_is, Word_is, Symbol_is, Name_is, Word_for, noise, each_in_turn, separated_list, at, nested_shape}
 use Rattle.ss_parse_expressions.specs.Words.{One_of, the, perhaps_listed}
 use Rattle.ss_parse_expressions.specs.SpelledExpressions.{Sum_is, Target_is, Reference_is}
 use Rattle.ss_parse_expressions.specs.SpelledConditions.{Condition_is, loop_head_word, Head_rest, Loop_head_rest, Begins_with_for}
@@ -122,7 +122,7 @@ abbrev mutual
   Statement_rest (reset_statement line targets) levels = the ▷ Word_is words.Totals ▷ Word_is words.Of ▷ separated_list (Target_is levels) targets
   Statement_rest (print_statement line items pictures) levels =
       provided (0 < length pictures) (Token_is (kinds.Number (pos (length pictures))) ▷ Word_is words.Line
-      ▷ perhaps_listed (Word_is words.With) (Sum_is levels) items ▷ Trigger ▷ each Picture_is pictures)
+      ▷ perhaps_listed (Word_is words.With) (Sum_is levels) items ▷ Trigger ▷ each_in_turn Picture_is pictures)
   Statement_rest (skip_statement line count) levels = Sum_is levels count ▷ optional (Word_is words.Output) ▷ Word_is words.Line
 
   -- statements, each with a comma before it or not

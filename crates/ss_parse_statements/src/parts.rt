@@ -1,7 +1,8 @@
 //! Parts of statements.
 
 ghost use Rattle.std.specs.Prelude.{◌≡◌, map};
-ghost use Rattle.ss_tree.specs.View.{view_expression, view_option, view_named, view_position, view_when};
+ghost use Rattle.ss_tree.specs.View.{view_expression_tree, view_named, view_position_tree, view_when_tree};
+ghost use Rattle.std.specs.Option.{option_map};
 ghost use Rattle.ss_parse_expressions.specs.Reading.{GivesReading, word, expect, after_dropped, taken};
 ghost use Rattle.ss_parse_expressions.specs.ReadExpressions.{sum_in};
 ghost use Rattle.ss_parse_expressions.specs.ReadPlaces.{target_in};
@@ -63,7 +64,7 @@ pub fn items(
     tokens: &[Token],
     room: u8,
 ) -> Result<(Vec<Expression>, &[Token]), Failure>
-    ensures { GivesReading (λ x. (map view_expression x.0.items, x.1.now)) result (items_in room tokens.now) }
+    ensures { GivesReading (λ x. (map view_expression_tree x.0.items, x.1.now)) result (items_in room tokens.now) }
 {
     if !begins_word(tokens, Word::With) {
         return Ok((Vec::new(alloc), tokens));
@@ -123,7 +124,7 @@ pub fn given(
     tokens: &[Token],
     room: u8,
 ) -> Result<(Vec<Expression>, &[Token]), Failure>
-    ensures { GivesReading (λ x. (map view_expression x.0.items, x.1.now)) result (given_in room tokens.now) }
+    ensures { GivesReading (λ x. (map view_expression_tree x.0.items, x.1.now)) result (given_in room tokens.now) }
 {
     if !begins_class(tokens, WordClass::Given) {
         return Ok((Vec::new(alloc), tokens));
@@ -151,7 +152,7 @@ pub fn called_value(
     tokens: &[Token],
     room: u8,
 ) -> Result<(Option<Expression>, &[Token]), Failure>
-    ensures { GivesReading (λ x. (view_option view_expression x.0, x.1.now)) result (called (sum_in room) tokens.now) }
+    ensures { GivesReading (λ x. (option_map view_expression_tree x.0, x.1.now)) result (called (sum_in room) tokens.now) }
 {
     if !begins_word(tokens, Word::Called) {
         return Ok((None, tokens));
@@ -166,7 +167,7 @@ pub fn called_target(
     tokens: &[Token],
     room: u8,
 ) -> Result<(Option<Named>, &[Token]), Failure>
-    ensures { GivesReading (λ x. (view_option view_named x.0, x.1.now)) result (called (target_in room) tokens.now) }
+    ensures { GivesReading (λ x. (option_map view_named x.0, x.1.now)) result (called (target_in room) tokens.now) }
 {
     if !begins_word(tokens, Word::Called) {
         return Ok((None, tokens));
@@ -178,7 +179,7 @@ pub fn called_target(
 /// Where a member is filed.
 #[tactic(auto, unfolding(crate::specs::ReadSimple::position_in))]
 pub fn place(alloc: Global, tokens: &[Token], room: u8) -> Result<(Position, &[Token]), Failure>
-    ensures { GivesReading (λ x. (view_position x.0, x.1.now)) result (position_in room tokens.now) }
+    ensures { GivesReading (λ x. (view_position_tree x.0, x.1.now)) result (position_in room tokens.now) }
 {
     if begins_word(tokens, Word::First) {
         Ok((Position::First, skip_word(tokens, Word::First)))
@@ -198,7 +199,7 @@ pub fn place(alloc: Global, tokens: &[Token], room: u8) -> Result<(Position, &[T
 /// When a notice is due.
 #[tactic(auto, unfolding(crate::specs::ReadSimple::when_in))]
 pub fn due(alloc: Global, tokens: &[Token], room: u8) -> Result<(When, &[Token]), Failure>
-    ensures { GivesReading (λ x. (view_when x.0, x.1.now)) result (when_in room tokens.now) }
+    ensures { GivesReading (λ x. (view_when_tree x.0, x.1.now)) result (when_in room tokens.now) }
 {
     if begins_word(tokens, Word::At) {
         let (time, rest) = sum(alloc, skip_word(tokens, Word::At), room)?;
@@ -219,7 +220,7 @@ pub fn given_and_due(
     tokens: &[Token],
     room: u8,
 ) -> Result<(Vec<Expression>, When, &[Token]), Failure>
-    ensures { GivesReading (λ x. ((map view_expression x.0.items, view_when x.1), x.2.now)) result (due_in room tokens.now) }
+    ensures { GivesReading (λ x. ((map view_expression_tree x.0.items, view_when_tree x.1), x.2.now)) result (due_in room tokens.now) }
 {
     let (given, rest) = given(alloc, tokens, room)?;
     let (given, (when, rest)) = beside(given, due(alloc, rest, room))?;
@@ -232,7 +233,7 @@ pub fn value_set(
     tokens: &[Token],
     room: u8,
 ) -> Result<(Expression, &[Token]), Failure>
-    ensures { GivesReading (λ x. (view_expression x.0, x.1.now)) result (after_dropped (expect equals) (sum_in room) tokens.now) }
+    ensures { GivesReading (λ x. (view_expression_tree x.0, x.1.now)) result (after_dropped (expect equals) (sum_in room) tokens.now) }
 {
     let rest = expect_symbol(tokens, Symbol::Equals)?;
     sum(alloc, rest, room)

@@ -1,7 +1,7 @@
 //! Statements that have no others in them.
 
 ghost use Rattle.std.specs.Prelude.{◌≡◌, map};
-ghost use Rattle.ss_tree.specs.View.{view_expression, view_statement};
+ghost use Rattle.ss_tree.specs.View.{view_expression_tree, view_statement_tree};
 ghost use Rattle.ss_parse_expressions.specs.Reading.{GivesReading};
 ghost use Rattle.ss_parse_statements.specs.ReadSimple.{let_at, add_at, subtract_at, call_at, read_at, start_at, new_at, create_at, destroy_at, cancel_at, file_at, remove_end_at, remove_this_at, remove_at, schedule_the_at, schedule_a_at, schedule_at, reset_at, print_head, print_at, skip_at, simple_at};
 
@@ -24,14 +24,14 @@ use ss_tree::statement::Statement;
 use std::alloc::Global;
 
 /// The rest of a LET, after its first word.
-#[tactic(auto, unfolding(crate::specs::ReadSimple::let_at, ss_tree::specs::View::view_statement))]
+#[tactic(auto, unfolding(crate::specs::ReadSimple::let_at, ss_tree::specs::View::view_statement_tree))]
 fn let_form(
     alloc: Global,
     line: Line,
     tokens: &[Token],
     room: u8,
 ) -> Result<(Statement, &[Token]), Failure>
-    ensures { GivesReading (λ x. (view_statement x.0, x.1.now)) result (let_at line room tokens.now) }
+    ensures { GivesReading (λ x. (view_statement_tree x.0, x.1.now)) result (let_at line room tokens.now) }
 {
     let (target, rest) = target(alloc, tokens, room)?;
     let (target, (value, rest)) = beside(target, value_set(alloc, rest, room))?;
@@ -44,14 +44,14 @@ fn let_form(
 }
 
 /// The rest of an ADD, after its first word.
-#[tactic(auto, unfolding(crate::specs::ReadSimple::add_at, ss_tree::specs::View::view_statement))]
+#[tactic(auto, unfolding(crate::specs::ReadSimple::add_at, ss_tree::specs::View::view_statement_tree))]
 fn add_form(
     alloc: Global,
     line: Line,
     tokens: &[Token],
     room: u8,
 ) -> Result<(Statement, &[Token]), Failure>
-    ensures { GivesReading (λ x. (view_statement x.0, x.1.now)) result (add_at line room tokens.now) }
+    ensures { GivesReading (λ x. (view_statement_tree x.0, x.1.now)) result (add_at line room tokens.now) }
 {
     let (amount, rest) = sum(alloc, tokens, room)?;
     let (amount, (target, rest)) = beside(amount, target_after(alloc, Word::To, rest, room))?;
@@ -64,14 +64,14 @@ fn add_form(
 }
 
 /// The rest of a SUBTRACT, after its first word.
-#[tactic(auto, unfolding(crate::specs::ReadSimple::subtract_at, ss_tree::specs::View::view_statement))]
+#[tactic(auto, unfolding(crate::specs::ReadSimple::subtract_at, ss_tree::specs::View::view_statement_tree))]
 fn subtract_form(
     alloc: Global,
     line: Line,
     tokens: &[Token],
     room: u8,
 ) -> Result<(Statement, &[Token]), Failure>
-    ensures { GivesReading (λ x. (view_statement x.0, x.1.now)) result (subtract_at line room tokens.now) }
+    ensures { GivesReading (λ x. (view_statement_tree x.0, x.1.now)) result (subtract_at line room tokens.now) }
 {
     let (amount, rest) = sum(alloc, tokens, room)?;
     let (amount, (target, rest)) = beside(amount, target_after(alloc, Word::From, rest, room))?;
@@ -84,14 +84,14 @@ fn subtract_form(
 }
 
 /// The rest of a CALL, after its first word.
-#[tactic(auto, unfolding(crate::specs::ReadSimple::call_at, ss_tree::specs::View::view_statement))]
+#[tactic(auto, unfolding(crate::specs::ReadSimple::call_at, ss_tree::specs::View::view_statement_tree))]
 fn call_form(
     alloc: Global,
     line: Line,
     tokens: &[Token],
     room: u8,
 ) -> Result<(Statement, &[Token]), Failure>
-    ensures { GivesReading (λ x. (view_statement x.0, x.1.now)) result (call_at line room tokens.now) }
+    ensures { GivesReading (λ x. (view_statement_tree x.0, x.1.now)) result (call_at line room tokens.now) }
 {
     let routine = name(tokens)?;
     let (given, rest) = given(alloc, after_first(tokens), room)?;
@@ -106,37 +106,37 @@ fn call_form(
 }
 
 /// The rest of a READ, after its first word.
-#[tactic(auto, unfolding(crate::specs::ReadSimple::read_at, ss_tree::specs::View::view_statement))]
+#[tactic(auto, unfolding(crate::specs::ReadSimple::read_at, ss_tree::specs::View::view_statement_tree))]
 fn read_form(
     alloc: Global,
     line: Line,
     tokens: &[Token],
     room: u8,
 ) -> Result<(Statement, &[Token]), Failure>
-    ensures { GivesReading (λ x. (view_statement x.0, x.1.now)) result (read_at line room tokens.now) }
+    ensures { GivesReading (λ x. (view_statement_tree x.0, x.1.now)) result (read_at line room tokens.now) }
 {
     let (targets, rest) = targets(alloc, tokens, room)?;
     Ok((Statement::Read { line, targets }, rest))
 }
 
 /// The rest of a START SIMULATION, after its first word.
-#[tactic(auto, unfolding(crate::specs::ReadSimple::start_at, ss_tree::specs::View::view_statement))]
+#[tactic(auto, unfolding(crate::specs::ReadSimple::start_at, ss_tree::specs::View::view_statement_tree))]
 fn start_form(line: Line, tokens: &[Token]) -> Result<(Statement, &[Token]), Failure>
-    ensures { GivesReading (λ x. (view_statement x.0, x.1.now)) result (start_at line tokens.now) }
+    ensures { GivesReading (λ x. (view_statement_tree x.0, x.1.now)) result (start_at line tokens.now) }
 {
     let rest = expect_word(tokens, Word::Simulation)?;
     Ok((Statement::StartSimulation { line }, rest))
 }
 
 /// The rest of a CREATE A, after its first word.
-#[tactic(auto, unfolding(crate::specs::ReadSimple::new_at, ss_tree::specs::View::view_statement))]
+#[tactic(auto, unfolding(crate::specs::ReadSimple::new_at, ss_tree::specs::View::view_statement_tree))]
 fn new_form(
     alloc: Global,
     line: Line,
     tokens: &[Token],
     room: u8,
 ) -> Result<(Statement, &[Token]), Failure>
-    ensures { GivesReading (λ x. (view_statement x.0, x.1.now)) result (new_at line room tokens.now) }
+    ensures { GivesReading (λ x. (view_statement_tree x.0, x.1.now)) result (new_at line room tokens.now) }
 {
     let rest = skip_class(tokens, WordClass::Indefinite);
     let class = name(rest)?;
@@ -150,14 +150,14 @@ fn new_form(
 }
 
 /// The rest of a CREATE, after its first word.
-#[tactic(auto, unfolding(crate::specs::ReadSimple::create_at, ss_tree::specs::View::view_statement))]
+#[tactic(auto, unfolding(crate::specs::ReadSimple::create_at, ss_tree::specs::View::view_statement_tree))]
 fn create_form(
     alloc: Global,
     line: Line,
     tokens: &[Token],
     room: u8,
 ) -> Result<(Statement, &[Token]), Failure>
-    ensures { GivesReading (λ x. (view_statement x.0, x.1.now)) result (create_at line room tokens.now) }
+    ensures { GivesReading (λ x. (view_statement_tree x.0, x.1.now)) result (create_at line room tokens.now) }
 {
     if !begins_word(tokens, Word::Every) {
         return new_form(alloc, line, tokens, room);
@@ -167,14 +167,14 @@ fn create_form(
 }
 
 /// The rest of a DESTROY, after its first word.
-#[tactic(auto, unfolding(crate::specs::ReadSimple::destroy_at, ss_tree::specs::View::view_statement))]
+#[tactic(auto, unfolding(crate::specs::ReadSimple::destroy_at, ss_tree::specs::View::view_statement_tree))]
 fn destroy_form(
     alloc: Global,
     line: Line,
     tokens: &[Token],
     room: u8,
 ) -> Result<(Statement, &[Token]), Failure>
-    ensures { GivesReading (λ x. (view_statement x.0, x.1.now)) result (destroy_at line room tokens.now) }
+    ensures { GivesReading (λ x. (view_statement_tree x.0, x.1.now)) result (destroy_at line room tokens.now) }
 {
     let rest = skip_word(tokens, Word::The);
     let class = name(rest)?;
@@ -188,14 +188,14 @@ fn destroy_form(
 }
 
 /// The rest of a CANCEL, after its first word.
-#[tactic(auto, unfolding(crate::specs::ReadSimple::cancel_at, ss_tree::specs::View::view_statement))]
+#[tactic(auto, unfolding(crate::specs::ReadSimple::cancel_at, ss_tree::specs::View::view_statement_tree))]
 fn cancel_form(
     alloc: Global,
     line: Line,
     tokens: &[Token],
     room: u8,
 ) -> Result<(Statement, &[Token]), Failure>
-    ensures { GivesReading (λ x. (view_statement x.0, x.1.now)) result (cancel_at line room tokens.now) }
+    ensures { GivesReading (λ x. (view_statement_tree x.0, x.1.now)) result (cancel_at line room tokens.now) }
 {
     let rest = skip_word(tokens, Word::The);
     let class = name(rest)?;
@@ -209,14 +209,14 @@ fn cancel_form(
 }
 
 /// The rest of a FILE, after its first word.
-#[tactic(auto, unfolding(crate::specs::ReadSimple::file_at, ss_tree::specs::View::view_statement))]
+#[tactic(auto, unfolding(crate::specs::ReadSimple::file_at, ss_tree::specs::View::view_statement_tree))]
 fn file_form(
     alloc: Global,
     line: Line,
     tokens: &[Token],
     room: u8,
 ) -> Result<(Statement, &[Token]), Failure>
-    ensures { GivesReading (λ x. (view_statement x.0, x.1.now)) result (file_at line room tokens.now) }
+    ensures { GivesReading (λ x. (view_statement_tree x.0, x.1.now)) result (file_at line room tokens.now) }
 {
     let (member, rest) = sum(alloc, skip_word(tokens, Word::The), room)?;
     let (member, (position, rest)) = beside(member, place(alloc, rest, room))?;
@@ -232,14 +232,14 @@ fn file_form(
 }
 
 /// The rest of a REMOVE FIRST or LAST, after THE.
-#[tactic(auto, unfolding(crate::specs::ReadSimple::remove_end_at, ss_tree::specs::View::view_statement))]
+#[tactic(auto, unfolding(crate::specs::ReadSimple::remove_end_at, ss_tree::specs::View::view_statement_tree))]
 fn remove_end_form(
     alloc: Global,
     line: Line,
     tokens: &[Token],
     room: u8,
 ) -> Result<(Statement, &[Token]), Failure>
-    ensures { GivesReading (λ x. (view_statement x.0, x.1.now)) result (remove_end_at line room tokens.now) }
+    ensures { GivesReading (λ x. (view_statement_tree x.0, x.1.now)) result (remove_end_at line room tokens.now) }
 {
     let (end, rest) = take_word_of::<EndWords>(tokens)?;
     let (target, rest) = target(alloc, rest, room)?;
@@ -254,14 +254,14 @@ fn remove_end_form(
 }
 
 /// The rest of a REMOVE of a given member, after THE.
-#[tactic(auto, unfolding(crate::specs::ReadSimple::remove_this_at, ss_tree::specs::View::view_statement))]
+#[tactic(auto, unfolding(crate::specs::ReadSimple::remove_this_at, ss_tree::specs::View::view_statement_tree))]
 fn remove_this_form(
     alloc: Global,
     line: Line,
     tokens: &[Token],
     room: u8,
 ) -> Result<(Statement, &[Token]), Failure>
-    ensures { GivesReading (λ x. (view_statement x.0, x.1.now)) result (remove_this_at line room tokens.now) }
+    ensures { GivesReading (λ x. (view_statement_tree x.0, x.1.now)) result (remove_this_at line room tokens.now) }
 {
     let (member, rest) = sum(alloc, tokens, room)?;
     let (member, (set, rest)) = beside(member, set_after(alloc, Word::From, rest, room))?;
@@ -269,14 +269,14 @@ fn remove_this_form(
 }
 
 /// The rest of a REMOVE, after its first word.
-#[tactic(auto, unfolding(crate::specs::ReadSimple::remove_at, ss_tree::specs::View::view_statement))]
+#[tactic(auto, unfolding(crate::specs::ReadSimple::remove_at, ss_tree::specs::View::view_statement_tree))]
 fn remove_form(
     alloc: Global,
     line: Line,
     tokens: &[Token],
     room: u8,
 ) -> Result<(Statement, &[Token]), Failure>
-    ensures { GivesReading (λ x. (view_statement x.0, x.1.now)) result (remove_at line room tokens.now) }
+    ensures { GivesReading (λ x. (view_statement_tree x.0, x.1.now)) result (remove_at line room tokens.now) }
 {
     let rest = skip_word(tokens, Word::The);
     if begins_word_of::<EndWords>(rest) {
@@ -287,14 +287,14 @@ fn remove_form(
 }
 
 /// The rest of a SCHEDULE THE, after its first word.
-#[tactic(auto, unfolding(crate::specs::ReadSimple::schedule_the_at, ss_tree::specs::View::view_statement))]
+#[tactic(auto, unfolding(crate::specs::ReadSimple::schedule_the_at, ss_tree::specs::View::view_statement_tree))]
 fn schedule_the_form(
     alloc: Global,
     line: Line,
     tokens: &[Token],
     room: u8,
 ) -> Result<(Statement, &[Token]), Failure>
-    ensures { GivesReading (λ x. (view_statement x.0, x.1.now)) result (schedule_the_at line room tokens.now) }
+    ensures { GivesReading (λ x. (view_statement_tree x.0, x.1.now)) result (schedule_the_at line room tokens.now) }
 {
     let rest = expect_word(tokens, Word::The)?;
     let class = name(rest)?;
@@ -311,14 +311,14 @@ fn schedule_the_form(
 }
 
 /// The rest of a SCHEDULE A, after its first word.
-#[tactic(auto, unfolding(crate::specs::ReadSimple::schedule_a_at, ss_tree::specs::View::view_statement))]
+#[tactic(auto, unfolding(crate::specs::ReadSimple::schedule_a_at, ss_tree::specs::View::view_statement_tree))]
 fn schedule_a_form(
     alloc: Global,
     line: Line,
     tokens: &[Token],
     room: u8,
 ) -> Result<(Statement, &[Token]), Failure>
-    ensures { GivesReading (λ x. (view_statement x.0, x.1.now)) result (schedule_a_at line room tokens.now) }
+    ensures { GivesReading (λ x. (view_statement_tree x.0, x.1.now)) result (schedule_a_at line room tokens.now) }
 {
     let rest = expect_class(tokens, WordClass::Indefinite)?;
     let class = name(rest)?;
@@ -335,14 +335,14 @@ fn schedule_a_form(
 }
 
 /// The rest of a SCHEDULE, after its first word.
-#[tactic(auto, unfolding(crate::specs::ReadSimple::schedule_at, ss_tree::specs::View::view_statement))]
+#[tactic(auto, unfolding(crate::specs::ReadSimple::schedule_at, ss_tree::specs::View::view_statement_tree))]
 fn schedule_form(
     alloc: Global,
     line: Line,
     tokens: &[Token],
     room: u8,
 ) -> Result<(Statement, &[Token]), Failure>
-    ensures { GivesReading (λ x. (view_statement x.0, x.1.now)) result (schedule_at line room tokens.now) }
+    ensures { GivesReading (λ x. (view_statement_tree x.0, x.1.now)) result (schedule_at line room tokens.now) }
 {
     if begins_word(tokens, Word::The) {
         schedule_the_form(alloc, line, tokens, room)
@@ -352,14 +352,14 @@ fn schedule_form(
 }
 
 /// The rest of a RESET, after its first word.
-#[tactic(auto, unfolding(crate::specs::ReadSimple::reset_at, ss_tree::specs::View::view_statement))]
+#[tactic(auto, unfolding(crate::specs::ReadSimple::reset_at, ss_tree::specs::View::view_statement_tree))]
 fn reset_form(
     alloc: Global,
     line: Line,
     tokens: &[Token],
     room: u8,
 ) -> Result<(Statement, &[Token]), Failure>
-    ensures { GivesReading (λ x. (view_statement x.0, x.1.now)) result (reset_at line room tokens.now) }
+    ensures { GivesReading (λ x. (view_statement_tree x.0, x.1.now)) result (reset_at line room tokens.now) }
 {
     let rest = expect_word(skip_word(tokens, Word::The), Word::Totals)?;
     let rest = expect_word(rest, Word::Of)?;
@@ -374,7 +374,7 @@ fn print_head(
     tokens: &[Token],
     room: u8,
 ) -> Result<(u64, Vec<Expression>, &[Token]), Failure>
-    ensures { GivesReading (λ x. ((x.0, map view_expression x.1.items), x.2.now)) result (print_head room tokens.now) }
+    ensures { GivesReading (λ x. ((x.0, map view_expression_tree x.1.items), x.2.now)) result (print_head room tokens.now) }
 {
     let (count, rest) = positive(tokens)?;
     let rest = expect_word(rest, Word::Line)?;
@@ -384,14 +384,14 @@ fn print_head(
 }
 
 /// The rest of a PRINT, after its first word.
-#[tactic(auto, unfolding(crate::specs::ReadSimple::print_at, ss_tree::specs::View::view_statement))]
+#[tactic(auto, unfolding(crate::specs::ReadSimple::print_at, ss_tree::specs::View::view_statement_tree))]
 fn print_form(
     alloc: Global,
     line: Line,
     tokens: &[Token],
     room: u8,
 ) -> Result<(Statement, &[Token]), Failure>
-    ensures { GivesReading (λ x. (view_statement x.0, x.1.now)) result (print_at line room tokens.now) }
+    ensures { GivesReading (λ x. (view_statement_tree x.0, x.1.now)) result (print_at line room tokens.now) }
 {
     let (count, items, rest) = print_head(alloc, tokens, room)?;
     let (items, (pictures, rest)) = beside(items, pictures(alloc, rest, count))?;
@@ -404,14 +404,14 @@ fn print_form(
 }
 
 /// The rest of a SKIP, after its first word.
-#[tactic(auto, unfolding(crate::specs::ReadSimple::skip_at, ss_tree::specs::View::view_statement))]
+#[tactic(auto, unfolding(crate::specs::ReadSimple::skip_at, ss_tree::specs::View::view_statement_tree))]
 fn skip_form(
     alloc: Global,
     line: Line,
     tokens: &[Token],
     room: u8,
 ) -> Result<(Statement, &[Token]), Failure>
-    ensures { GivesReading (λ x. (view_statement x.0, x.1.now)) result (skip_at line room tokens.now) }
+    ensures { GivesReading (λ x. (view_statement_tree x.0, x.1.now)) result (skip_at line room tokens.now) }
 {
     let (count, rest) = sum(alloc, tokens, room)?;
     let rest = expect_word(skip_word(rest, Word::Output), Word::Line);
@@ -420,7 +420,7 @@ fn skip_form(
 }
 
 /// The rest of a statement that has no others in it, after its first word.
-#[tactic(auto, unfolding(crate::specs::ReadSimple::simple_at, ss_tree::specs::View::view_statement))]
+#[tactic(auto, unfolding(crate::specs::ReadSimple::simple_at, ss_tree::specs::View::view_statement_tree))]
 pub fn simple_form(
     alloc: Global,
     line: Line,
@@ -428,7 +428,7 @@ pub fn simple_form(
     tokens: &[Token],
     room: u8,
 ) -> Result<(Statement, &[Token]), Failure>
-    ensures { GivesReading (λ x. (view_statement x.0, x.1.now)) result (simple_at line room word tokens.now) }
+    ensures { GivesReading (λ x. (view_statement_tree x.0, x.1.now)) result (simple_at line room word tokens.now) }
 {
     match word {
         Word::Let => let_form(alloc, line, tokens, room),

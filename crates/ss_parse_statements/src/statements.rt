@@ -2,7 +2,7 @@
 
 ghost use Rattle.std.specs.Prelude.{◌≡◌, map};
 ghost use Rattle.ss_tree.specs.Tree.{statement_row};
-ghost use Rattle.ss_tree.specs.View.{view_statement, view_head, view_loop_head};
+ghost use Rattle.ss_tree.specs.View.{view_statement_tree, view_head_tree, view_loop_head};
 ghost use Rattle.ss_parse_expressions.specs.WordTables.{outcome_of};
 ghost use Rattle.ss_lex.specs.declared.word.Word.TheVariants.{If};
 ghost use Rattle.ss_parse_expressions.specs.Reading.{GivesReading, word, skip, skip_comma, after_dropped, seq, taken, in_table};
@@ -121,7 +121,7 @@ pub fn statements(
     tokens: &[Token],
     room: u8,
 ) -> Result<(Vec<Statement>, &[Token]), Failure>
-    ensures { GivesReading (λ x. (map view_statement x.0.items, x.1.now)) result (statements_in room tokens.now) }
+    ensures { GivesReading (λ x. (map view_statement_tree x.0.items, x.1.now)) result (statements_in room tokens.now) }
 {
     let mut all = Vec::new(alloc);
     let mut rest = tokens;
@@ -141,7 +141,7 @@ fn otherwise(
     tokens: &[Token],
     room: u8,
 ) -> Result<(Vec<Statement>, &[Token]), Failure>
-    ensures { GivesReading (λ x. (map view_statement x.0.items, x.1.now)) result (else_with (statement_in room) tokens.now) }
+    ensures { GivesReading (λ x. (map view_statement_tree x.0.items, x.1.now)) result (else_with (statement_in room) tokens.now) }
 {
     if !begins_noisy(tokens, Word::Else) {
         return Ok((Vec::new(alloc), tokens));
@@ -157,7 +157,7 @@ fn branches(
     tokens: &[Token],
     room: u8,
 ) -> Result<(Vec<Statement>, Vec<Statement>, &[Token]), Failure>
-    ensures { GivesReading (λ x. ((statement_row (map view_statement x.0.items), statement_row (map view_statement x.1.items)), x.2.now)) result (branches_with (statement_in room) tokens.now) }
+    ensures { GivesReading (λ x. ((statement_row (map view_statement_tree x.0.items), statement_row (map view_statement_tree x.1.items)), x.2.now)) result (branches_with (statement_in room) tokens.now) }
 {
     let (then, rest) = statements(alloc, tokens, room)?;
     let (then, (otherwise, rest)) = beside(then, otherwise(alloc, rest, room))?;
@@ -169,7 +169,7 @@ fn branches(
 #[cycle(statements)]
 #[tactic(auto, unfolding(crate::specs::ReadStatements::do_with))]
 fn do_body(alloc: Global, tokens: &[Token], room: u8) -> Result<(Vec<Statement>, &[Token]), Failure>
-    ensures { GivesReading (λ x. (map view_statement x.0.items, x.1.now)) result (do_with (statement_in room) tokens.now) }
+    ensures { GivesReading (λ x. (map view_statement_tree x.0.items, x.1.now)) result (do_with (statement_in room) tokens.now) }
 {
     let rest = expect_noisy(tokens, Word::Do)?;
     let (body, rest) = statements(alloc, rest, room)?;
@@ -185,7 +185,7 @@ fn governed(
     tokens: &[Token],
     room: u8,
 ) -> Result<(Vec<Statement>, &[Token]), Failure>
-    ensures { GivesReading (λ x. (map view_statement x.0.items, x.1.now)) result (governed_with (statement_in room) tokens.now) }
+    ensures { GivesReading (λ x. (map view_statement_tree x.0.items, x.1.now)) result (governed_with (statement_in room) tokens.now) }
 {
     let tokens = skip_symbol(tokens, Symbol::Comma);
     if begins_guard(tokens) {
@@ -199,7 +199,7 @@ fn governed(
 #[cycle(statements)]
 #[tactic(auto, unfolding(crate::specs::ReadStatements::body_with))]
 fn body(alloc: Global, tokens: &[Token], room: u8) -> Result<(Vec<Statement>, &[Token]), Failure>
-    ensures { GivesReading (λ x. (statement_row (map view_statement x.0.items), x.1.now)) result (body_with (statement_in room) tokens.now) }
+    ensures { GivesReading (λ x. (statement_row (map view_statement_tree x.0.items), x.1.now)) result (body_with (statement_in room) tokens.now) }
 {
     if begins_noisy(tokens, Word::Do) {
         do_body(alloc, tokens, room)
@@ -210,14 +210,14 @@ fn body(alloc: Global, tokens: &[Token], room: u8) -> Result<(Vec<Statement>, &[
 
 /// The rest of an IF, after its first word.
 #[cycle(statements)]
-#[tactic(auto, unfolding(crate::specs::ReadStatements::if_with), using(ss_tree::specs::Views::view_if_made))]
+#[tactic(auto, unfolding(crate::specs::ReadStatements::if_with), using(ss_tree::specs::Views::view_if_tree_made))]
 fn if_form(
     alloc: Global,
     line: Line,
     tokens: &[Token],
     room: u8,
 ) -> Result<(Statement, &[Token]), Failure>
-    ensures { GivesReading (λ x. (view_statement x.0, x.1.now)) result (if_with line room (statement_in room) tokens.now) }
+    ensures { GivesReading (λ x. (view_statement_tree x.0, x.1.now)) result (if_with line room (statement_in room) tokens.now) }
 {
     let (condition, rest) = condition(alloc, tokens, room)?;
     let branches = branches(alloc, rest, room);
@@ -233,7 +233,7 @@ fn if_form(
 
 /// The rest of a loop, after its head.
 #[cycle(statements)]
-#[tactic(auto, using(ss_tree::specs::Views::view_loop_made))]
+#[tactic(auto, using(ss_tree::specs::Views::view_loop_tree_made))]
 fn loop_form(
     alloc: Global,
     line: Line,
@@ -241,7 +241,7 @@ fn loop_form(
     tokens: &[Token],
     room: u8,
 ) -> Result<(Statement, &[Token]), Failure>
-    ensures { GivesReading (λ x. (view_statement x.0, x.1.now)) result (loop_with line room (statement_in room) (view_loop_head head) tokens.now) }
+    ensures { GivesReading (λ x. (view_statement_tree x.0, x.1.now)) result (loop_with line room (statement_in room) (view_loop_head head) tokens.now) }
 {
     let (head, (body, rest)) = beside(head, body(alloc, tokens, room))?;
     Ok((Statement::Loop { line, head, body }, rest))
@@ -255,7 +255,7 @@ fn outcome_and_branches(
     tokens: &[Token],
     room: u8,
 ) -> Result<(FindOutcome, (Vec<Statement>, Vec<Statement>), &[Token]), Failure>
-    ensures { GivesReading (λ x. ((x.0, (statement_row (map view_statement x.1.0.items), statement_row (map view_statement x.1.1.items))), x.2.now)) result (after_dropped (expect_noisy (word If)) (seq (taken (in_table outcome_of)) (branches_with (statement_in room))) tokens.now) }
+    ensures { GivesReading (λ x. ((x.0, (statement_row (map view_statement_tree x.1.0.items), statement_row (map view_statement_tree x.1.1.items))), x.2.now)) result (after_dropped (expect_noisy (word If)) (seq (taken (in_table outcome_of)) (branches_with (statement_in room))) tokens.now) }
 {
     let rest = expect_noisy(tokens, Word::If)?;
     let (outcome, rest) = take_word_of::<OutcomeWords>(rest)?;
@@ -273,7 +273,7 @@ fn find_if_form(
     tokens: &[Token],
     room: u8,
 ) -> Result<(Statement, &[Token]), Failure>
-    ensures { GivesReading (λ x. (view_statement x.0, x.1.now)) result (find_if_with line room (statement_in room) (view_head head) tokens.now) }
+    ensures { GivesReading (λ x. (view_statement_tree x.0, x.1.now)) result (find_if_with line room (statement_in room) (view_head_tree head) tokens.now) }
 {
     let (head, (outcome, (then, otherwise), rest)) = beside(
         head,
@@ -291,7 +291,7 @@ fn find_if_form(
 
 /// The rest of a FIND, after the head of its loop.
 #[cycle(statements)]
-#[tactic(auto, unfolding(crate::specs::ReadStatements::find_with, ss_tree::specs::View::view_statement))]
+#[tactic(auto, unfolding(crate::specs::ReadStatements::find_with, ss_tree::specs::View::view_statement_tree))]
 fn find_form(
     alloc: Global,
     line: Line,
@@ -299,7 +299,7 @@ fn find_form(
     tokens: &[Token],
     room: u8,
 ) -> Result<(Statement, &[Token]), Failure>
-    ensures { GivesReading (λ x. (view_statement x.0, x.1.now)) result (find_with line room (statement_in room) (view_head head) tokens.now) }
+    ensures { GivesReading (λ x. (view_statement_tree x.0, x.1.now)) result (find_with line room (statement_in room) (view_head_tree head) tokens.now) }
 {
     let (head, rest) = beside(head, find_words(tokens))?;
     if begins_find_if(rest) {
@@ -318,7 +318,7 @@ fn for_form(
     tokens: &[Token],
     room: u8,
 ) -> Result<(Statement, &[Token]), Failure>
-    ensures { GivesReading (λ x. (view_statement x.0, x.1.now)) result (for_with line room (statement_in room) tokens.now) }
+    ensures { GivesReading (λ x. (view_statement_tree x.0, x.1.now)) result (for_with line room (statement_in room) tokens.now) }
 {
     let (head, rest) = for_head(alloc, tokens, room)?;
     if begins_noisy(rest, Word::Find) {
@@ -338,7 +338,7 @@ fn guarded_form(
     tokens: &[Token],
     room: u8,
 ) -> Result<(Statement, &[Token]), Failure>
-    ensures { GivesReading (λ x. (view_statement x.0, x.1.now)) result (guarded_with line room (statement_in room) kind tokens.now) }
+    ensures { GivesReading (λ x. (view_statement_tree x.0, x.1.now)) result (guarded_with line room (statement_in room) kind tokens.now) }
 {
     let (head, rest) = guarded_head(alloc, kind, tokens, room)?;
     loop_form(alloc, line, head, rest, room)
@@ -355,7 +355,7 @@ fn nested_form(
     tokens: &[Token],
     room: u8,
 ) -> Result<(Statement, &[Token]), Failure>
-    ensures { GivesReading (λ x. (view_statement x.0, x.1.now)) result (nested_in room (statement_in room) line word tokens.now) }
+    ensures { GivesReading (λ x. (view_statement_tree x.0, x.1.now)) result (nested_in room (statement_in room) line word tokens.now) }
 {
     if room == 0 {
         return Err(too_deep(tokens));
@@ -373,7 +373,7 @@ fn nested_form(
 #[cycle(statements)]
 #[tactic(auto, unfolding(crate::specs::ReadStatements::statement_in))]
 fn statement(alloc: Global, tokens: &[Token], room: u8) -> Result<(Statement, &[Token]), Failure>
-    ensures { GivesReading (λ x. (view_statement x.0, x.1.now)) result (statement_in room tokens.now) }
+    ensures { GivesReading (λ x. (view_statement_tree x.0, x.1.now)) result (statement_in room tokens.now) }
 {
     if room == 0 {
         return Err(too_deep(tokens));

@@ -2,5 +2,5 @@
 use Rattle.ss_program.specs.declared.sections.Program.{Program}
 
 -- a checked program is seen as the program
-abbrev pub program_in : Program → Program
-program_in p = p
+abbrev pub checked_program : Program → Program
+checked_program p = p

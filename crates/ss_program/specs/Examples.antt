@@ -15,7 +15,7 @@ use Rattle.ss_program.specs.declared.expression.Variable.TheVariants.{Global, Lo
 use Rattle.ss_base.specs.declared.words.Operator.TheVariants.{Add, Multiply}
 use Rattle.ss_base.specs.declared.words.Sign.TheVariants.{Plus}
 use Rattle.ss_program.specs.Program.{Expression, Constant, Fetch, Calculate, TheSystem, Entity, AtEnd, Numbers, Members, AValue, ToVariable, ToAttribute, ToCount, ByDiscipline, At, Let, Change, Read, Simulate, For, Create, CreateEvery, File, ScheduleNew, Print, Block, Done, Then, Program}
-use Rattle.ss_program.specs.WellTyped.{WellTyped, Scope, HaveModes, kind_of_class}
+use Rattle.ss_program.specs.WellTyped.{WellTyped, TypedScope, HaveModes, kind_of_class}
 use Rattle.ss_program.specs.Nodes.{nodes}
 
 abbrev number : ℕ → Expression
@@ -157,7 +157,7 @@ bells_fit l = record {
   main = (((refl, (Integer ∷ [], refl, (refl, tt))), (refl, tt), refl), (refl, tt));
 }
 
-loud_is_no_tone : (s : Scope) (modes : List Mode) → Some (Integer ∷ []) ≡ Some modes → HaveModes s (Constant (Text (codes "LOUD")) ∷ []) (take 1 modes) → ⊥
+loud_is_no_tone : (s : TypedScope) (modes : List Mode) → Some (Integer ∷ []) ≡ Some modes → HaveModes s (Constant (Text (codes "LOUD")) ∷ []) (take 1 modes) → ⊥
 loud_is_no_tone s [] e h = cc
 loud_is_no_tone s (m ∷ ms) e h = cc
 

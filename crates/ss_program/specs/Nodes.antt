@@ -2,7 +2,7 @@
 -- text and picture in it, as far as it was written. Two places that are empty in no text's program count as one where
 -- they are, so that the nodes bound the code of every program: the tests of an alternative, and the alternatives of a condition.
 use Rattle.std.specs.Prelude.{ℕ, ◌+◌, List, [], ◌∷◌, length, Option, Some, None}
-use Rattle.ss_program.specs.Program.{Expression, Constant, Fetch, Attribute, OfSystemSet, OfSet, OfMember, Clock, TimeOf, Figure, FigureOf, Signed, Unary, Calculate, SetOwner, TheSystem, Entity, Test, Compare, DataEnded, Empty, Member, Condition, Start, AtEnd, From, After, Head, Numbers, Members, Each, Phrase, Guard, Place, ToVariable, ToAttribute, ToCount, Target, Position, ByDiscipline, AsFirst, AsLast, BeforeMember, AfterMember, When, At, In, Now, Restart, PrintItem, AValue, AMean, AMeanOf, Statement, Let, Change, Call, Return, Stop, Read, Simulate, If, Loop, For, Find, Create, CreateEvery, Destroy, File, RemoveEnd, Remove, ScheduleNew, Schedule, Cancel, Reset, Print, Skip, Block, Done, Then, Routine, Event, Program}
+use Rattle.ss_program.specs.Program.{Expression, Constant, Fetch, Attribute, OfSystemSet, OfSet, OfMember, Clock, TimeOf, Figure, FigureOf, Signed, Unary, Calculate, SetOwner, TheSystem, Entity, Test, Compare, DataEnded, Empty, Member, Condition, Start, AtEnd, From, After, Head, Numbers, Members, Each, Phrase, Guard, Place, ToVariable, ToAttribute, ToCount, InputTarget, Position, ByDiscipline, AsFirst, AsLast, BeforeMember, AfterMember, When, At, In, Now, Restart, PrintItem, AValue, AMean, AMeanOf, Statement, Let, Change, Call, Return, Stop, Read, Simulate, If, Loop, For, Find, Create, CreateEvery, Destroy, File, RemoveEnd, Remove, ScheduleNew, Schedule, Cancel, Reset, Print, Skip, Block, Done, Then, Routine, Event, Program}
 
 -- the nodes of the things in a list
 abbrev pub total : {A : Type 0} → (A → ℕ) → List A → ℕ
@@ -76,7 +76,7 @@ place_nodes (ToVariable x) = 1
 place_nodes (ToAttribute class field e) = 1 + subscript_nodes e
 place_nodes (ToCount count) = 1
 
-abbrev pub target_nodes : Target → ℕ
+abbrev pub target_nodes : InputTarget → ℕ
 target_nodes t = place_nodes t.place
 
 abbrev pub start_nodes : Start → ℕ

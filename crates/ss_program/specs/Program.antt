@@ -107,7 +107,7 @@ pub data Place : Type 0 where
   ToCount : CountedClass → Place
 
 -- what takes a word of input, and its mode
-pub record Target : Type 0 where
+pub record InputTarget : Type 0 where
   pub place : Place
   pub mode : Mode
 
@@ -146,7 +146,7 @@ mutual
     Call : Line → (routine : ℕ) → (given : List Expression) → (yielding : List Place) → Statement
     Return : Statement
     Stop : Statement
-    Read : Line → List Target → Statement
+    Read : Line → List InputTarget → Statement
     -- START SIMULATION
     Simulate : Statement
     -- the statements before ELSE, and those after it

@@ -18,7 +18,7 @@ use Rattle.ss_program.specs.declared.statement.PrintItem.{PrintItem as ItemValue
 use Rattle.ss_program.specs.declared.statement.PrintItem.TheVariants as items
 use Rattle.ss_program.specs.declared.statement.Place.{Place as PlaceValue}
 use Rattle.ss_program.specs.declared.statement.Place.TheVariants as places
-use Rattle.ss_program.specs.declared.statement.Target.{Target as TargetValue}
+use Rattle.ss_program.specs.declared.statement.InputTarget.{InputTarget as TargetValue}
 use Rattle.ss_program.specs.declared.statement.Position.{Position as PositionValue}
 use Rattle.ss_program.specs.declared.statement.Position.TheVariants as positions
 use Rattle.ss_program.specs.declared.statement.When.{When as WhenValue}
@@ -29,7 +29,8 @@ use Rattle.ss_program.specs.declared.statement.Statement.{Row_of-Statement, end_
 use Rattle.ss_program.specs.declared.sections.Routine.{Routine as RoutineValue}
 use Rattle.ss_program.specs.declared.sections.Event.{Event as EventValue}
 use Rattle.ss_program.specs.declared.sections.Program.{Program as ProgramValue}
-use Rattle.ss_program.specs.Program.{Expression, Constant, Fetch, Attribute, OfSystemSet, OfSet, OfMember, Clock, TimeOf, Figure, FigureOf, Signed, Unary, Calculate, SetOwner, TheSystem, Entity, Test, Compare, DataEnded, Empty, Member, Condition, Start, AtEnd, From, After, Head, Numbers, Members, Each, Phrase, Guard, Place, ToVariable, ToAttribute, ToCount, Target, Position, ByDiscipline, AsFirst, AsLast, BeforeMember, AfterMember, When, At, In, Now, Restart, PrintItem, AValue, AMean, AMeanOf, Statement, Let, Change, Call, Return, Stop, Read, Simulate, If, Loop, For, Find, Create, CreateEvery, Destroy, File, RemoveEnd, Remove, ScheduleNew, Schedule, Cancel, Reset, Print, Skip, Block, Done, Then, Routine, Event, Program}
+use Rattle.ss_program.specs.Program.{Expression, Constant, Fetch, Attribute, OfSystemSet, OfSet, OfMember, Clock, TimeOf, Figure, FigureOf, Signed, Unary, Calculate, SetOwner, TheSystem, Entity, Test, Compare, DataEnded, Empty, Member, Condition, Start, AtEnd, From, After, Head, Numbers, Members, Each, Phrase, Guard, Place, ToVariable, ToAttribute, ToCount, InputTarget, Position, ByDiscipline, AsFirst, AsLast, BeforeMember, AfterMember, When, At, In, Now, Restart, PrintItem, AValue, AMean, AMeanOf, Statement, Let, Change, Call, Return, Stop, Read, Simulate, If, Loop, For, Find, Create, CreateEvery, Destroy, File, RemoveEnd, Remove, ScheduleNew, Schedule, Cancel, Reset, Print, Skip, Block, Done, Then, Routine, Event, Program}
+use Rattle.std.specs.Option.{option_map}
 
 unfoldable mutual
   pub view_expression : expressions.Expression → Expression
@@ -79,13 +80,8 @@ view_start starts.AtEnd = AtEnd
 view_start (starts.From e) = From (view_expression e)
 view_start (starts.After e) = After (view_expression e)
 
--- the view of an optional value
-abbrev pub view_option : {A B : Type 0} → (A → B) → Option A → Option B
-view_option view None = None
-view_option view (Some x) = Some (view x)
-
 abbrev pub view_head : HeadValue → Head
-view_head (heads.Numbers x first limit step) = Numbers x (view_expression first) (view_expression limit) (view_option view_expression step)
+view_head (heads.Numbers x first limit step) = Numbers x (view_expression first) (view_expression limit) (option_map view_expression step)
 view_head (heads.Members x set owner start reverse) = Members x set (view_owner owner) (view_start start) reverse
 view_head (heads.Each x class) = Each x class
 
@@ -94,7 +90,7 @@ view_place (places.ToVariable x) = ToVariable x
 view_place (places.ToAttribute class field e) = ToAttribute class field (view_expression e)
 view_place (places.ToCount count) = ToCount count
 
-abbrev pub view_target : TargetValue → Target
+abbrev pub view_target : TargetValue → InputTarget
 view_target t = record { place = view_place t.place; mode = t.mode }
 
 abbrev pub view_position : PositionValue → Position
@@ -110,7 +106,7 @@ view_when (whens.In e) = In (view_expression e)
 view_when whens.Now = Now
 
 abbrev pub view_restart : RestartValue → Restart
-view_restart r = record { statistic = r.statistic; of = view_option view_expression r.of }
+view_restart r = record { statistic = r.statistic; of = option_map view_expression r.of }
 
 abbrev pub view_item : ItemValue → PrintItem
 view_item (items.Value e) = AValue (view_expression e)

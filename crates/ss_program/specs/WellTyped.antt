@@ -70,19 +70,19 @@ abbrev pub HasSubject : Program → (Program → Subject → Type 0) → (statis
 HasSubject p Fits k = (s : Statistic) × (slice_get p.statistics k ≡ Some s) × Fits p s.subject
 
 -- where a statement is: the program, the local variables of its section, and whether that is MAIN
-pub record Scope : Type 0 where
+pub record TypedScope : Type 0 where
   pub program : Program
   pub locals : List Mode
   pub is_main : Bool
 
-abbrev pub mode_at : Scope → Variable → Option Mode
+abbrev pub mode_at : TypedScope → Variable → Option Mode
 mode_at s (Global k) = slice_get s.program.globals k
 mode_at s (Local k) = slice_get s.locals k
 
 -- ---- expressions and conditions
 
 -- the expression has the mode
-abbrev pub HasMode : Scope → Expression → Mode → Type 0
+abbrev pub HasMode : TypedScope → Expression → Mode → Type 0
 HasMode s (Constant v) m = mode_of v ≡ m
 HasMode s (Fetch x) m = mode_at s x ≡ Some m
 HasMode s (Attribute class field e) m = (field_mode s.program class field ≡ Some m) × HasMode s e Integer
@@ -98,21 +98,21 @@ HasMode s (Unary op e) m = (m ≡ Integer) × HasMode s e Integer
 HasMode s (Calculate operator a b) m = (m ≡ Integer) × HasMode s a Integer × HasMode s b Integer
 
 -- the expressions have these modes, and are as many
-abbrev pub HaveModes : Scope → List Expression → List Mode → Type 0
+abbrev pub HaveModes : TypedScope → List Expression → List Mode → Type 0
 HaveModes s = AllZip (HasMode s)
 
 -- the owner is such as the sets of the name have
-abbrev pub OwnerFits : Scope → (set : ℕ) → SetOwner → Type 0
+abbrev pub OwnerFits : TypedScope → (set : ℕ) → SetOwner → Type 0
 OwnerFits s set TheSystem = owner_of_set s.program set ≡ Some System
 OwnerFits s set (Entity e) = IsOwned s.program set × HasMode s e Integer
 
-abbrev pub GoodTest : Scope → Test → Type 0
+abbrev pub GoodTest : TypedScope → Test → Type 0
 GoodTest s (Compare relation a b) = (m : Mode) × HasMode s a m × HasMode s b m
 GoodTest s (DataEnded negated) = Unit {0}
 GoodTest s (Empty negated set owner) = OwnerFits s set owner
 GoodTest s (Member negated set e owner) = HasMode s e Integer × OwnerFits s set owner
 
-abbrev pub GoodCondition : Scope → Condition → Type 0
+abbrev pub GoodCondition : TypedScope → Condition → Type 0
 GoodCondition s = Every (Every (GoodTest s))
 
 -- ---- places and heads of loops
@@ -123,66 +123,66 @@ IsPlain p (Global k) = Every (λ count. count.variable ≢ k) p.counts
 IsPlain p (Local k) = Unit {0}
 
 -- the place takes values of the mode
-abbrev pub TakesMode : Scope → Place → Mode → Type 0
+abbrev pub TakesMode : TypedScope → Place → Mode → Type 0
 TakesMode s (ToVariable x) m = (mode_at s x ≡ Some m) × IsPlain s.program x
 TakesMode s (ToAttribute class field e) m = (field_mode s.program class field ≡ Some m) × HasMode s e Integer
 TakesMode s (ToCount count) m = (m ≡ Integer) × Contains s.program.counts count
 
-abbrev pub GoodStart : Scope → Start → Type 0
+abbrev pub GoodStart : TypedScope → Start → Type 0
 GoodStart s AtEnd = Unit {0}
 GoodStart s (From e) = HasMode s e Integer
 GoodStart s (After e) = HasMode s e Integer
 
-abbrev pub GoodHead : Scope → Head → Type 0
+abbrev pub GoodHead : TypedScope → Head → Type 0
 GoodHead s (Numbers x a b step) = TakesMode s (ToVariable x) Integer × HasMode s a Integer × HasMode s b Integer × IfSome step (λ e. HasMode s e Integer)
 GoodHead s (Members x set owner start reverse) = TakesMode s (ToVariable x) Integer × OwnerFits s set owner × GoodStart s start
 GoodHead s (Each x class) = TakesMode s (ToVariable x) Integer × (kind_of_class s.program class ≡ Some Permanent)
 
 -- the condition of a phrase is good
-abbrev pub GoodPhrase : Scope → Phrase → Type 0
+abbrev pub GoodPhrase : TypedScope → Phrase → Type 0
 GoodPhrase s phrase = GoodCondition s phrase.condition
 
 -- ---- statements
 
 -- the routine is there, and takes and yields as many values, of the same modes
-abbrev pub GoodCall : Scope → (routine : ℕ) → List Expression → List Place → Type 0
+abbrev pub GoodCall : TypedScope → (routine : ℕ) → List Expression → List Place → Type 0
 GoodCall s k given yielding =
     (r : Routine) × (slice_get s.program.routines k ≡ Some r) × HaveModes s given r.given × AllZip (TakesMode s) yielding r.yielding
 
-abbrev pub GoodPosition : Scope → Position → Type 0
+abbrev pub GoodPosition : TypedScope → Position → Type 0
 GoodPosition s ByDiscipline = Unit {0}
 GoodPosition s AsFirst = Unit {0}
 GoodPosition s AsLast = Unit {0}
 GoodPosition s (BeforeMember e) = HasMode s e Integer
 GoodPosition s (AfterMember e) = HasMode s e Integer
 
-abbrev pub GoodWhen : Scope → When → Type 0
+abbrev pub GoodWhen : TypedScope → When → Type 0
 GoodWhen s (At e) = HasMode s e Integer
 GoodWhen s (In e) = HasMode s e Integer
 GoodWhen s Now = Unit {0}
 
 -- the class is one of notices, whose first attributes take the values given
-abbrev pub GoodGiven : Scope → (class : ℕ) → List Expression → Type 0
+abbrev pub GoodGiven : TypedScope → (class : ℕ) → List Expression → Type 0
 GoodGiven s class given =
     (kind_of_class s.program class ≡ Some Notice) × ((modes : List Mode) × (fields_of s.program class ≡ Some modes) × HaveModes s given (take (length given) modes))
 
 -- the statistic is that of one thing or, with an expression, of each entity
-abbrev pub GoodRestart : Scope → (statistic : ℕ) → Option Expression → Type 0
+abbrev pub GoodRestart : TypedScope → (statistic : ℕ) → Option Expression → Type 0
 GoodRestart s k None = HasSubject s.program IsAlone k
 GoodRestart s k (Some e) = HasSubject s.program IsOfEntities k × HasMode s e Integer
 
 -- a field takes the item: a value where it has no decimals, a mean where it has at most 9
-abbrev pub TakesItem : Scope → Field → PrintItem → Type 0
+abbrev pub TakesItem : TypedScope → Field → PrintItem → Type 0
 TakesItem s field (AValue e) = ((m : Mode) × HasMode s e m) × (field.decimals ≡ 0)
 TakesItem s field (AMean k) = HasSubject s.program IsAlone k × (field.decimals ≤ 9)
 TakesItem s field (AMeanOf k e) = HasSubject s.program IsOfEntities k × HasMode s e Integer × (field.decimals ≤ 9)
 
 -- the fields of the pictures take the items, and are as many
-abbrev pub GoodPrint : Scope → List PrintItem → List (List ℕ) → Type 0
+abbrev pub GoodPrint : TypedScope → List PrintItem → List (List ℕ) → Type 0
 GoodPrint s items pictures = AllZip (TakesItem s) (flat_map picture_fields pictures) items
 
 abbrev mutual
-  pub Good : Scope → Statement → Type 0
+  pub Good : TypedScope → Statement → Type 0
   Good s (Let l x e) = (m : Mode) × TakesMode s x m × HasMode s e m
   Good s (Change l sign x e) = TakesMode s x Integer × HasMode s e Integer
   Good s (Call l routine given yielding) = GoodCall s routine given yielding
@@ -207,7 +207,7 @@ abbrev mutual
   Good s (Print l items pictures) = GoodPrint s items pictures
   Good s (Skip l e) = HasMode s e Integer
 
-  pub GoodBlock : Scope → Block → Type 0
+  pub GoodBlock : TypedScope → Block → Type 0
   GoodBlock s Done = Unit {0}
   GoodBlock s (Then statement rest) = Good s statement × GoodBlock s rest
 

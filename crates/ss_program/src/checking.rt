@@ -3,7 +3,7 @@
 ghost use Rattle.std.specs.Prelude.{◌≡◌};
 ghost use Rattle.ss_program.specs.View.{view_program};
 ghost use Rattle.ss_program.specs.WellTyped.{WellTyped};
-ghost use Rattle.ss_program.specs.Checking.{program_in};
+ghost use Rattle.ss_program.specs.Checking.{checked_program};
 
 use crate::checked::Checked;
 use crate::sections::Program;
@@ -12,14 +12,14 @@ impl Checked {
     /// A program, where it is shown that it is well typed.
     pub fn new(program: Program) -> Checked
         requires { WellTyped (view_program program) }
-        ensures { program_in result ≡ program }
+        ensures { checked_program result ≡ program }
     {
         Checked { program }
     }
 
     /// The program, which is well typed.
     pub fn program(&self) -> &Program
-        ensures same { result.now ≡ program_in self.now }
+        ensures same { result.now ≡ checked_program self.now }
         ensures typed { WellTyped (view_program result.now) }
     {
         &self.program

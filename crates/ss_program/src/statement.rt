@@ -34,7 +34,7 @@ pub enum Place {
 
 /// What takes a word of input, and its mode.
 #[derive(Drop)]
-pub struct Target {
+pub struct InputTarget {
     pub place: Place,
     pub mode: Mode,
 }
@@ -117,7 +117,7 @@ pub enum Statement {
     /// READ: each target takes the next word of input.
     Read {
         line: Line,
-        targets: Vec<Target>,
+        targets: Vec<InputTarget>,
     },
     /// START SIMULATION: the events that are pending, one after the other, until none is.
     Simulate,

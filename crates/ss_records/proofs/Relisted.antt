@@ -6,7 +6,7 @@ use Rattle.ss_base.specs.declared.fault.FaultKind.TheVariants.{Overflow, BadCoun
 use Rattle.ss_base.specs.declared.value.Value.{Value}
 use Rattle.ss_base.specs.declared.layout.ClassKind.{ClassKind}
 use Rattle.ss_base.specs.declared.layout.ClassKind.TheVariants.{Permanent, Temporary, Notice}
-use Rattle.ss_world.specs.State.{State, Record, members_of, with_members, and_then, number_in, entity_in, notice, kind_of, is_filed, contains, with_entity, with_entity_of_kind, with_value, with_time, created, created_all, made_many, destroyed, let_go, assigned, timed, is_made, with_made, with_created, in_a_set, owns_members, LAST_NUMBER, MOST_ENTITIES}
+use Rattle.ss_world.specs.State.{State, Record, members_of, with_members, and_then, number_in, entity_in, notice, kind_of, is_filed, contains, with_entity, with_entity_of_kind, record_with_value, with_time, created, created_all, made_many, destroyed, let_go, assigned, timed, is_made, with_made, with_created, in_a_set, owns_members, LAST_NUMBER, MOST_ENTITIES}
 use Rattle.ss_world.specs.Sets.{owner, joiner, with_list_of, put_in, put_beside, taken_out, put_before, put_after, less, filed_first, filed_last, filed_before, filed_after, removed}
 use Rattle.ss_records.specs.Commands.{LeavesOthers, KeepsLists}
 use Rattle.ss_records.proofs.Same.{differs, by_same}
@@ -113,9 +113,9 @@ with_entity_keeps Notice st c n r = refl
 
 pub assigned_keeps : (c f : ℕ) (x : ℤ) (v : Value) → KeepsLists (λ st. assigned st c f x v)
 assigned_keeps c f x v st t h =
-    let a = both_ok (entity_in st c x) (λ r. Ok (with_entity st c (number_in x) (with_value r f v))) t h in
-    let e : with_entity st c (number_in x) (with_value a.0 f v) ≡ t = cc in
-    ap (λ (u : State). u.lists) (sym e) ∙ with_entity_keeps (kind_of st.layout c) st c (number_in x) (with_value a.0 f v)
+    let a = both_ok (entity_in st c x) (λ r. Ok (with_entity st c (number_in x) (record_with_value r f v))) t h in
+    let e : with_entity st c (number_in x) (record_with_value a.0 f v) ≡ t = cc in
+    ap (λ (u : State). u.lists) (sym e) ∙ with_entity_keeps (kind_of st.layout c) st c (number_in x) (record_with_value a.0 f v)
 
 pub timed_keeps : (x i : ℤ) → KeepsLists (λ st. timed st x i)
 timed_keeps x i st t h =

@@ -7,7 +7,7 @@ use Rattle.ss_base.specs.declared.layout.ClassKind.{ClassKind}
 use Rattle.ss_base.specs.declared.layout.ClassKind.TheVariants.{Permanent, Temporary, Notice}
 use Rattle.ss_records.specs.declared.commands.Command.{Command}
 use Rattle.ss_records.specs.declared.commands.Command.TheVariants.{Create, CreateAll, Destroy, SetValue, SetTime, FileFirst, FileLast, FileBefore, FileAfter, Remove}
-use Rattle.ss_world.specs.State.{State, Record, and_then, number_in, entity_in, notice, kind_of, is_made, is_filed, contains, members_of, in_a_set, owns_members, with_entity_of_kind, with_entity, with_value, with_time, with_created, with_made, LAST_NUMBER, MOST_ENTITIES, created_all, made_many, destroyed, let_go, assigned, timed}
+use Rattle.ss_world.specs.State.{State, Record, and_then, number_in, entity_in, notice, kind_of, is_made, is_filed, contains, members_of, in_a_set, owns_members, with_entity_of_kind, with_entity, record_with_value, with_time, with_created, with_made, LAST_NUMBER, MOST_ENTITIES, created_all, made_many, destroyed, let_go, assigned, timed}
 use Rattle.ss_world.specs.Sets.{joiner, owner, with_list_of, put_in, put_beside, taken_out, put_before, put_after, less, filed_first, filed_last, filed_before, filed_after, removed}
 use Rattle.ss_records.specs.Commands.{done_with_state, state_in, after_command}
 use Rattle.ss_records.specs.declared.commands.CommandAnswer.{CommandAnswer}
@@ -79,7 +79,7 @@ same_layout (Create class) s = keeps_created s (with_created s class) (pos (leng
 same_layout (CreateAll class n) s = keeps_done s (created_all s class n) (keeps_if s (is_made s class) (Err CreatedTwice) (made_many s class n) tt (made_keeps s class n))
 same_layout (Destroy class r) s = keeps_done s (destroyed s class r) (keeps_then s (entity_in s class r) (λ e. let_go s class (number_in r)) (λ e. let_go_keeps s class (number_in r)))
 same_layout (SetValue class field r value) s = keeps_done s (assigned s class field r value)
-    (keeps_then s (entity_in s class r) (λ e. Ok (with_entity s class (number_in r) (with_value e field value))) (λ e. with_entity_keeps (kind_of s.layout class) s class (number_in r) (with_value e field value)))
+    (keeps_then s (entity_in s class r) (λ e. Ok (with_entity s class (number_in r) (record_with_value e field value))) (λ e. with_entity_keeps (kind_of s.layout class) s class (number_in r) (record_with_value e field value)))
 same_layout (SetTime r time) s = keeps_done s (timed s r time)
     (keeps_then s (notice s r) (λ e. Ok (record s { records = slice_set s.records (number_in r - 1) (Some (with_time e time)) })) (λ e. refl))
 same_layout (FileFirst set o member) s = keeps_done s (filed_first s set o member) (put_keeps (λ y l. y ∷ l) s set o member)

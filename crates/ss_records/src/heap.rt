@@ -3,7 +3,7 @@ ghost use Rattle.ss_base.specs.Arithmetic.{plus_of, minus_of};
 ghost use Rattle.ss_base.specs.Layout.{mode_of};
 ghost use Rattle.ss_base.specs.declared.fault.FaultKind.{FaultKind as FaultSeen};
 ghost use Rattle.ss_base.specs.declared.layout.Owner.TheVariants.{System, Class};
-ghost use Rattle.ss_world.specs.State.{State, first_state, numbered, known_in, known_notice_in, kind_of, modes_of, value_in, time_in, created, created_all, destroyed, assigned, timed, no_value, RefusedFor, living_numbers, living_records};
+ghost use Rattle.ss_world.specs.State.{State, first_state, numbered_record, known_in, known_notice_in, kind_of, modes_of, value_in, time_in, created, created_all, destroyed, assigned, timed, no_value, RefusedFor, living_numbers, living_records};
 ghost use Rattle.ss_world.specs.Disciplines.{first_removed, last_removed, member_test, owned};
 ghost use Rattle.ss_world.specs.Sets.{member_class, joiner, owner, owner_kind, first_in, last_in, count_in, next_in, previous_in, owner_of_member, filed_first, filed_last, filed_before, filed_after, removed, Apart};
 ghost use Rattle.ss_records_entities.specs.Attributes.{IsAssigned, IsChanged, changed_number};
@@ -94,7 +94,7 @@ impl Heap {
     #[inline(always)]
     pub fn class_of(&self, r: i64) -> Option<usize>
         ensures found { IfSome result (λ c. HasClass self.now.state r c) }
-        ensures none { result ≡ None → (kind : FaultSeen) × (numbered self.now.state r ≡ Err kind) }
+        ensures none { result ≡ None → (kind : FaultSeen) × (numbered_record self.now.state r ≡ Err kind) }
     {
         self.records.class_of(r)
     }

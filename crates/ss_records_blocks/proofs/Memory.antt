@@ -13,7 +13,7 @@ use denote.Plain.{uint_in, uint_out}
 use borrow.Table.OneValue.{part_in, part_out}
 use denote.Steps.{only}
 use denote.RawPtr.{Ptr, RawPtr, block_ptr, null_ptr, ptr_val, ◌+ₚ◌}
-use Rattle.ss_records_blocks.specs.Cells.{Word, blank, number, counter, link, Block, Cells, same_ptr, words_at, word_of, with_word, put_word, word_at}
+use Rattle.ss_records_blocks.specs.Cells.{Word, blank, number, counter, link, StoredBlock, Cells, same_ptr, words_at, word_of, with_word, put_word, word_at}
 use Rattle.ss_records_blocks.specs.Ownership.{word_owns, words_own, deed_owns, block_owns, store_owns}
 use Rattle.ss_records_blocks.proofs.Numbers.{same_ptr_eq, length-with_word}
 
@@ -61,7 +61,7 @@ module _ {M : Type 1} {𝓤 : Ura M} (𝓛 : Logic 𝓤) where
       subst (λ (q : Ptr). Takes (words_own p (w ∷ ws)) (word_owns q (word_of ws k)) (word_owns q x) (words_own p (w ∷ with_word ws k x))) (word_ptr-suc p k)
       (after (words_own (p +ₚ 8) ws) (word_owns q (word_of ws k)) (word_owns q x) (words_own (p +ₚ 8) (with_word ws k x)) (word_owns p w) (words_take ws (p +ₚ 8) k x (omega arith)))
 
-  block_take : (c : Block) (k : ℕ) (x : Word) → k < length c.1 → Takes (block_owns c) (word_owns (word_ptr c.0 k) (word_of c.1 k)) (word_owns (word_ptr c.0 k) x) (block_owns (c.0, with_word c.1 k x))
+  block_take : (c : StoredBlock) (k : ℕ) (x : Word) → k < length c.1 → Takes (block_owns c) (word_owns (word_ptr c.0 k) (word_of c.1 k)) (word_owns (word_ptr c.0 k) x) (block_owns (c.0, with_word c.1 k x))
   block_take c k x inside =
       subst (λ (n : ℕ). Takes (block_owns c) (word_owns (word_ptr c.0 k) (word_of c.1 k)) (word_owns (word_ptr c.0 k) x) (fsep (words_own c.0 (with_word c.1 k x)) (deed_owns c.0 n))) (sym (length-with_word c.1 k x))
       (beside (words_own c.0 c.1) (word_owns (word_ptr c.0 k) (word_of c.1 k)) (word_owns (word_ptr c.0 k) x) (words_own c.0 (with_word c.1 k x)) (deed_owns c.0 (length c.1)) (words_take c.1 c.0 k x inside))

@@ -13,9 +13,9 @@ use Rattle.std.proofs.Math.Dec.{ltb}
 use Rattle.std.proofs.lemmas.List.{map-append}
 use Rattle.std.proofs.lemmas.List.Sums.{sum_by-cons, sum_by_push}
 use Rattle.std.proofs.lemmas.Bool.{le-leb, leb-true, ltb-true, ltb-false}
-use Rattle.ss_records_blocks.specs.declared.store.Address.{Address}
+use Rattle.ss_records_blocks.specs.declared.store.BlockPlace.{BlockPlace}
 use Rattle.ss_records_blocks.specs.Places.{living_count}
-use Rattle.ss_records_blocks.specs.Pages.{Page, Pages, in_page, slot, page_of, entry, upto, Paged}
+use Rattle.ss_records_blocks.specs.Pages.{Page, Pages, in_page, slot, page_of, entry, tabulate, Paged}
 use Rattle.ss_records_blocks.proofs.Same.{same, differs, equal, by_same}
 use Rattle.ss_records_blocks.proofs.Entries.{get_inside, get_there, living_push, living_bound, living_gone, length_set}
 
@@ -50,29 +50,29 @@ len_push : {A : Type 0} (xs : List A) (x : A) → length (xs ++ x ∷ []) ≡ su
 len_push [] x = refl
 len_push (y ∷ ys) x = ap suc (len_push ys x)
 
-pub upto_length : {A : Type 0} (f : ℕ → A) (n : ℕ) → length (upto f n) ≡ n
+pub upto_length : {A : Type 0} (f : ℕ → A) (n : ℕ) → length (tabulate f n) ≡ n
 upto_length f zero = refl
-upto_length f (suc n) = len_push (upto f n) (f n) ∙ ap suc (upto_length f n)
+upto_length f (suc n) = len_push (tabulate f n) (f n) ∙ ap suc (upto_length f n)
 
-pub upto_get : {A : Type 0} (f : ℕ → A) (n i : ℕ) → i < n → slice_get (upto f n) i ≡ Some (f i)
+pub upto_get : {A : Type 0} (f : ℕ → A) (n i : ℕ) → i < n → slice_get (tabulate f n) i ≡ Some (f i)
 upto_get f zero i h = absurd (less_zero i h)
 upto_get f (suc n) i h = by_same i n
-    (λ e q. (λ z. slice_get (upto f n ++ f n ∷ []) ((q ∙ sym (upto_length f n)) z)) ∙ get_end (upto f n) (f n) ∙ ap (λ k. Some (f k)) (sym q))
-    (λ e m. let k : i < n = omega (arith, h, m) in get_front (upto f n) (f n ∷ []) i (omega (arith, k, upto_length f n)) ∙ upto_get f n i k)
+    (λ e q. (λ z. slice_get (tabulate f n ++ f n ∷ []) ((q ∙ sym (upto_length f n)) z)) ∙ get_end (tabulate f n) (f n) ∙ ap (λ k. Some (f k)) (sym q))
+    (λ e m. let k : i < n = omega (arith, h, m) in get_front (tabulate f n) (f n ∷ []) i (omega (arith, k, upto_length f n)) ∙ upto_get f n i k)
 
-pub upto_same : {A : Type 0} (f g : ℕ → A) (n : ℕ) → ((i : ℕ) → i < n → g i ≡ f i) → upto g n ≡ upto f n
+pub upto_same : {A : Type 0} (f g : ℕ → A) (n : ℕ) → ((i : ℕ) → i < n → g i ≡ f i) → tabulate g n ≡ tabulate f n
 upto_same f g zero h = refl
 upto_same f g (suc n) h = λ z. upto_same f g n (λ i k. h i (omega (arith, k))) z ++ h n (omega arith) z ∷ []
 
-pub upto_set : {A : Type 0} (f g : ℕ → A) (n i : ℕ) (v : A) → i < n → g i ≡ v → ((j : ℕ) → j < n → (i ≡ j → ⊥) → g j ≡ f j) → upto g n ≡ slice_set (upto f n) i v
+pub upto_set : {A : Type 0} (f g : ℕ → A) (n i : ℕ) (v : A) → i < n → g i ≡ v → ((j : ℕ) → j < n → (i ≡ j → ⊥) → g j ≡ f j) → tabulate g n ≡ slice_set (tabulate f n) i v
 upto_set f g zero i v h e o = absurd (less_zero i h)
 upto_set f g (suc n) i v h e o = by_same i n
     (λ z q.
     (λ t. upto_same f g n (λ j k. o j (omega (arith, k)) (λ r. absurd (not_less i j n r q k))) t ++ (ap g (sym q) ∙ e) t ∷ [])
-    ∙ sym (set_end (upto f n) (f n) v) ∙ (λ t. slice_set (upto f n ++ f n ∷ []) ((upto_length f n ∙ sym q) t) v))
+    ∙ sym (set_end (tabulate f n) (f n) v) ∙ (λ t. slice_set (tabulate f n ++ f n ∷ []) ((upto_length f n ∙ sym q) t) v))
     (λ z m. let k : i < n = omega (arith, h, m) in
     (λ t. upto_set f g n i v k e (λ j a b. o j (omega (arith, a)) b) t ++ o n (omega arith) m t ∷ [])
-    ∙ sym (set_front (upto f n) (f n ∷ []) i v (omega (arith, k, upto_length f n)))) where
+    ∙ sym (set_front (tabulate f n) (f n ∷ []) i v (omega (arith, k, upto_length f n)))) where
       not_less : (a b c : ℕ) → a ≡ b → a ≡ c → b < c → ⊥
       not_less a b c p q r = omega (arith, p, q, r)
 
@@ -84,33 +84,33 @@ none_living (None ∷ ps) zero h = refl
 none_living (None ∷ ps) (suc k) h = none_living ps k h
 none_living (Some q ∷ ps) k h = absurd (omega (arith, h))
 
-pub living_set : (p : Page) (k : ℕ) (q : Address) → slice_get p k ≡ Some None → living_count (slice_set p k (Some q)) ≡ living_count p + 1
+pub living_set : (p : Page) (k : ℕ) (q : BlockPlace) → slice_get p k ≡ Some None → living_count (slice_set p k (Some q)) ≡ living_count p + 1
 living_set [] k q h = cc
 living_set (None ∷ ps) zero q h = omega arith
 living_set (Some r ∷ ps) zero q h = cc
 living_set (None ∷ ps) (suc k) q h = living_set ps k q h
 living_set (Some r ∷ ps) (suc k) q h = omega (arith, living_set ps k q h)
 
-pub some_living : (p : Page) (k : ℕ) (q : Address) → slice_get p k ≡ Some (Some q) → 1 ≤ living_count p
+pub some_living : (p : Page) (k : ℕ) (q : BlockPlace) → slice_get p k ≡ Some (Some q) → 1 ≤ living_count p
 some_living p k q h = omega (arith, living_gone p k q h)
 
 pub living_none : (n : ℕ) → living_count (replicate n None) ≡ 0
 living_none zero = refl
 living_none (suc n) = living_none n
 
-pub length_none : (n : ℕ) → length (replicate {A = Option Address} n None) ≡ n
+pub length_none : (n : ℕ) → length (replicate {A = Option BlockPlace} n None) ≡ n
 length_none zero = refl
 length_none (suc n) = ap suc (length_none n)
 
 pub page_few : (p : Page) → length p ≡ 256 → living_count p ≤ 256
 page_few p h = omega (arith, living_bound p, h)
 
-slot_set : (p : Page) (k : ℕ) (v : Option Address) → k < length p → slot (Some (slice_set p k v)) k ≡ v
+slot_set : (p : Page) (k : ℕ) (v : Option BlockPlace) → k < length p → slot (Some (slice_set p k v)) k ≡ v
 slot_set [] k v h = absurd (less_zero k h)
 slot_set (x ∷ xs) zero v h = refl
 slot_set (x ∷ xs) (suc k) v h = slot_set xs k v (omega (arith, h))
 
-slot_other : (p : Page) (k : ℕ) (v : Option Address) (j : ℕ) → (k ≡ j → ⊥) → slot (Some (slice_set p k v)) j ≡ slot (Some p) j
+slot_other : (p : Page) (k : ℕ) (v : Option BlockPlace) (j : ℕ) → (k ≡ j → ⊥) → slot (Some (slice_set p k v)) j ≡ slot (Some p) j
 slot_other [] k v j n = refl
 slot_other (x ∷ xs) zero v zero n = absurd (n refl)
 slot_other (x ∷ xs) zero v (suc j) n = refl
@@ -173,14 +173,14 @@ sum_turned : (ps : Pages) (q : ℕ) (cur : Page) → sum_by living_count (values
 sum_turned ps q cur = ap (sum_by living_count) (map-append (λ (e : ℕ × Page). e.1) ps ((q, cur) ∷ [])) ∙ sum_by_push living_count (values_of ps) cur
 
 module _ (ps : Pages) (cur : Page) (start issued : ℕ) (P : Paged ps cur start issued) where
-  abbrev f : ℕ → Option Address
+  abbrev f : ℕ → Option BlockPlace
   f = entry ps cur start
 
   -- the slot of the next number
   pub next_slot : issued < start + 256 → slice_get cur (issued - start) ≡ Some None
   next_slot h = let k : issued - start < length cur = omega (arith, h, P.low, P.size) in slot_is cur (issued - start) k ∙ ap Some (P.rest (issued - start) (omega (arith, P.low)))
 
-  module _ (q : Address) (room : issued < start + 256) where
+  module _ (q : BlockPlace) (room : issued < start + 256) where
     abbrev cur' : Page
     cur' = slice_set cur (issued - start) (Some q)
 
@@ -194,7 +194,7 @@ module _ (ps : Pages) (cur : Page) (start issued : ℕ) (P : Paged ps cur start 
     pushed_at : entry ps cur' start issued ≡ Some q
     pushed_at = at_current ps cur' start issued P.low ∙ slot_set cur (issued - start) (Some q) (omega (arith, room, P.low, P.size))
 
-    pub places_pushed : upto (entry ps cur' start) (issued + 1) ≡ upto f issued ++ Some q ∷ []
+    pub places_pushed : tabulate (entry ps cur' start) (issued + 1) ≡ tabulate f issued ++ Some q ∷ []
     places_pushed = let n : issued + 1 ≡ suc issued = omega arith in rw n (λ z. upto_same f (entry ps cur' start) issued pushed_before z ++ pushed_at z ∷ [])
 
     pub paged_pushed : Paged ps cur' start (issued + 1)
@@ -205,7 +205,7 @@ module _ (ps : Pages) (cur : Page) (start issued : ℕ) (P : Paged ps cur start 
       low = omega (arith, P.low);
       high = omega (arith, room);
       rest = λ k h. slot_other cur (issued - start) (Some q) k (λ e. absurd (later k h e)) ∙ P.rest k (omega (arith, h));
-      total = omega (arith, P.total, living_set cur (issued - start) q (next_slot room), ap living_count places_pushed, living_push (upto f issued) q);
+      total = omega (arith, P.total, living_set cur (issued - start) q (next_slot room), ap living_count places_pushed, living_push (tabulate f issued) q);
     } where
       later : (k : ℕ) → issued + 1 ≤ start + k → issued - start ≡ k → ⊥
       later k h e = omega (arith, h, e, P.low)
@@ -232,7 +232,7 @@ module _ (ps : Pages) (cur : Page) (start issued : ℕ) (P : Paged ps cur start 
 
     -- and all its numbers are destroyed: it serves the next
     module _ (none : living_count cur ≡ 0) where
-      pub places_again : upto (entry ps cur (start + 256)) issued ≡ upto f issued
+      pub places_again : tabulate (entry ps cur (start + 256)) issued ≡ tabulate f issued
       places_again = upto_same f (entry ps cur (start + 256)) issued (λ i h. at_earlier ps cur (start + 256) i (omega (arith, h, full)) ∙ by_part start i
           (λ a. (λ z. slot (page_of ps ((in_current i a h).0 z)) (i % 256)) ∙ ap (λ o. slot o (i % 256)) no_page_here ∙ sym (at_current ps cur start i a ∙ none_living cur (i - start) none))
           (λ a. sym (at_earlier ps cur start i a)))
@@ -265,7 +265,7 @@ module _ (ps : Pages) (cur : Page) (start issued : ℕ) (P : Paged ps cur start 
       has_other : (q : ℕ) → (here ≡ q → ⊥) → page_of es q ≡ page_of ps q
       has_other q n = page_turned ps here cur no_page_here q ∙ ap (λ b. cond b (Some cur) (page_of ps q)) (is_at_other here q n)
 
-      pub places_turned : upto (entry es new (start + 256)) issued ≡ upto f issued
+      pub places_turned : tabulate (entry es new (start + 256)) issued ≡ tabulate f issued
       places_turned = upto_same f (entry es new (start + 256)) issued (λ i h. at_earlier es new (start + 256) i (omega (arith, h, full)) ∙ by_part start i
           (λ a. let n = in_current i a h in (λ z. slot (page_of es (n.0 z)) (n.1 z)) ∙ ap (λ o. slot o (i - start)) has_here ∙ sym (at_current ps cur start i a))
           (λ a. ap (λ o. slot o (i % 256)) (has_other (i / 256) (before_here i a)) ∙ sym (at_earlier ps cur start i a)))
@@ -286,17 +286,17 @@ module _ (ps : Pages) (cur : Page) (start issued : ℕ) (P : Paged ps cur start 
         the_same e = cc
 
   -- a number is let go of
-  module _ (i : ℕ) (p : Address) (g : slice_get (upto f issued) i ≡ Some (Some p)) where
+  module _ (i : ℕ) (p : BlockPlace) (g : slice_get (tabulate f issued) i ≡ Some (Some p)) where
     inside : i < issued
-    inside = omega (arith, get_inside (upto f issued) i (Some p) g, upto_length f issued)
+    inside = omega (arith, get_inside (tabulate f issued) i (Some p) g, upto_length f issued)
 
     is_there : f i ≡ Some p
     is_there = the_same (sym (upto_get f issued i inside) ∙ g) where
-      the_same : {v w : Option Address} → Some v ≡ Some w → v ≡ w
+      the_same : {v w : Option BlockPlace} → Some v ≡ Some w → v ≡ w
       the_same e = cc
 
-    pub gone : living_count (slice_set (upto f issued) i None) + 1 ≡ living_count (upto f issued)
-    gone = living_gone (upto f issued) i p g
+    pub gone : living_count (slice_set (tabulate f issued) i None) + 1 ≡ living_count (tabulate f issued)
+    gone = living_gone (tabulate f issued) i p g
 
     module _ (a : start ≤ i) where
       pub in_cur : slice_get cur (i - start) ≡ Some (Some p)
@@ -308,7 +308,7 @@ module _ (ps : Pages) (cur : Page) (start issued : ℕ) (P : Paged ps cur start 
       abbrev cur'' : Page
       cur'' = slice_set cur (i - start) None
 
-      pub places_cleared : upto (entry ps cur'' start) issued ≡ slice_set (upto f issued) i None
+      pub places_cleared : tabulate (entry ps cur'' start) issued ≡ slice_set (tabulate f issued) i None
       places_cleared = upto_set f (entry ps cur'' start) issued i None inside
           (at_current ps cur'' start i a ∙ slot_set cur (i - start) None (omega (arith, in_page_room, P.size)))
           (λ j h n. by_part start j
@@ -334,7 +334,7 @@ module _ (ps : Pages) (cur : Page) (start issued : ℕ) (P : Paged ps cur start 
 
       pub its_page : (pg : Page) × (page_of ps q ≡ Some pg) × (length pg ≡ 256) × (slice_get pg (i % 256) ≡ Some (Some p))
       its_page = by_case (page_of ps q) refl where
-        clash : {o : Option Address} → o ≡ None → o ≡ Some p → ⊥
+        clash : {o : Option BlockPlace} → o ≡ None → o ≡ Some p → ⊥
         clash e k = none_some (sym e ∙ k) where
           none_some : None ≡ Some p → ⊥
           none_some z = cc
@@ -356,7 +356,7 @@ module _ (ps : Pages) (cur : Page) (start issued : ℕ) (P : Paged ps cur start 
         has_rest : (r : ℕ) → (q ≡ r → ⊥) → page_of es r ≡ page_of ps r
         has_rest r n = has r ∙ ap (λ b. cond b w (page_of ps r)) (is_at_other q r n)
 
-        pub places_dropped : upto (entry es cur start) issued ≡ slice_set (upto f issued) i None
+        pub places_dropped : tabulate (entry es cur start) issued ≡ slice_set (tabulate f issued) i None
         places_dropped = upto_set f (entry es cur start) issued i None inside
             (at_earlier es cur start i a ∙ ap (λ o. slot o (i % 256)) has_it ∙ slots (i % 256) ∙ slot_set pg (i % 256) None (omega (arith, rem i, size)))
             (λ j h n. by_part start j
@@ -385,40 +385,40 @@ module _ (ps : Pages) (cur : Page) (start issued : ℕ) (P : Paged ps cur start 
 -- ## Reading, and how many pages there are
 
 module _ (ps : Pages) (cur : Page) (start issued : ℕ) (P : Paged ps cur start issued) where
-  module _ (i : ℕ) (h : i < length (upto (entry ps cur start) issued)) where
+  module _ (i : ℕ) (h : i < length (tabulate (entry ps cur start) issued)) where
     pub inside_of : i < issued
     inside_of = omega (arith, h, upto_length (entry ps cur start) issued)
 
     pub room_current : start ≤ i → i - start < 256
     room_current a = omega (arith, a, inside_of, P.high)
 
-    pub read_current : start ≤ i → (e : Option Address) → slice_get cur (i - start) ≡ Some e → slice_get (upto (entry ps cur start) issued) i ≡ Some e
+    pub read_current : start ≤ i → (e : Option BlockPlace) → slice_get cur (i - start) ≡ Some e → slice_get (tabulate (entry ps cur start) issued) i ≡ Some e
     read_current a e g = upto_get (entry ps cur start) issued i inside_of ∙ ap Some (at_current ps cur start i a ∙ ap in_page g)
 
-    pub read_earlier : i < start → (p : Page) → page_of ps (i / 256) ≡ Some p → (e : Option Address) → slice_get p (i % 256) ≡ Some e → slice_get (upto (entry ps cur start) issued) i ≡ Some e
+    pub read_earlier : i < start → (p : Page) → page_of ps (i / 256) ≡ Some p → (e : Option BlockPlace) → slice_get p (i % 256) ≡ Some e → slice_get (tabulate (entry ps cur start) issued) i ≡ Some e
     read_earlier a p w e g = upto_get (entry ps cur start) issued i inside_of ∙ ap Some (at_earlier ps cur start i a ∙ ap (λ o. slot o (i % 256)) w ∙ ap in_page g)
 
-    pub read_none : i < start → page_of ps (i / 256) ≡ None → slice_get (upto (entry ps cur start) issued) i ≡ Some None
+    pub read_none : i < start → page_of ps (i / 256) ≡ None → slice_get (tabulate (entry ps cur start) issued) i ≡ Some None
     read_none a w = upto_get (entry ps cur start) issued i inside_of ∙ ap Some (at_earlier ps cur start i a ∙ ap (λ o. slot o (i % 256)) w)
 
   -- reading any number, where its page was found
-  module _ (i : ℕ) (e : Option Address) where
-    long : i < issued → i < length (upto (entry ps cur start) issued)
+  module _ (i : ℕ) (e : Option BlockPlace) where
+    long : i < issued → i < length (tabulate (entry ps cur start) issued)
     long h = omega (arith, h, upto_length (entry ps cur start) issued)
 
-    by_entry : (v : Option Address) → slice_get (upto (entry ps cur start) issued) i ≡ Some v → IfSome v (λ p. slice_get (upto (entry ps cur start) issued) i ≡ Some (Some p))
+    by_entry : (v : Option BlockPlace) → slice_get (tabulate (entry ps cur start) issued) i ≡ Some v → IfSome v (λ p. slice_get (tabulate (entry ps cur start) issued) i ≡ Some (Some p))
     by_entry None h = tt
     by_entry (Some p) h = h
 
-    pub near_current : start ≤ i → i < issued → slice_get cur (i - start) ≡ Some e → IfSome e (λ p. slice_get (upto (entry ps cur start) issued) i ≡ Some (Some p))
+    pub near_current : start ≤ i → i < issued → slice_get cur (i - start) ≡ Some e → IfSome e (λ p. slice_get (tabulate (entry ps cur start) issued) i ≡ Some (Some p))
     near_current a h g = by_entry e (read_current i (long h) a e g)
 
-    pub near_earlier : i < start → (p : Page) → page_of ps (i / 256) ≡ Some p → slice_get p (i % 256) ≡ Some e → IfSome e (λ p. slice_get (upto (entry ps cur start) issued) i ≡ Some (Some p))
+    pub near_earlier : i < start → (p : Page) → page_of ps (i / 256) ≡ Some p → slice_get p (i % 256) ≡ Some e → IfSome e (λ p. slice_get (tabulate (entry ps cur start) issued) i ≡ Some (Some p))
     near_earlier a p w g = by_entry e (read_earlier i (long (omega (arith, a, P.low))) a p w e g)
 
-    near_issued : start ≤ i → slice_get cur (i - start) ≡ Some e → IfSome e (λ p. slice_get (upto (entry ps cur start) issued) i ≡ Some (Some p))
+    near_issued : start ≤ i → slice_get cur (i - start) ≡ Some e → IfSome e (λ p. slice_get (tabulate (entry ps cur start) issued) i ≡ Some (Some p))
     near_issued a g = by_part issued i none (λ b. near_current a b g) where
-      none : issued ≤ i → IfSome e (λ p. slice_get (upto (entry ps cur start) issued) i ≡ Some (Some p))
+      none : issued ≤ i → IfSome e (λ p. slice_get (tabulate (entry ps cur start) issued) i ≡ Some (Some p))
       none b = let is : e ≡ None = sym (ap in_page g) ∙ P.rest (i - start) (omega (arith, a, b)) in rw is tt
 
     -- by how far a number is from the start, as 64 bits
@@ -426,7 +426,7 @@ module _ (ps : Pages) (cur : Page) (start issued : ℕ) (P : Paged ps cur start 
       abbrev far : ℕ
       far = (i + (2 ^ 64 - start)) % 2 ^ 64
 
-      pub near_within : far < 256 → slice_get cur far ≡ Some e → IfSome e (λ p. slice_get (upto (entry ps cur start) issued) i ≡ Some (Some p))
+      pub near_within : far < 256 → slice_get cur far ≡ Some e → IfSome e (λ p. slice_get (tabulate (entry ps cur start) issued) i ≡ Some (Some p))
       near_within a g = near_issued from (subst (λ k. slice_get cur k ≡ Some e) is g) where
         from : start ≤ i
         from = omega (arith, a, low, fits, P.whole)
@@ -434,13 +434,13 @@ module _ (ps : Pages) (cur : Page) (start issued : ℕ) (P : Paged ps cur start 
         is : far ≡ i - start
         is = omega (arith, from, low, fits)
 
-      pub near_beyond : 256 ≤ far → (p : Page) → page_of ps (i / 256) ≡ Some p → slice_get p (i % 256) ≡ Some e → IfSome e (λ p. slice_get (upto (entry ps cur start) issued) i ≡ Some (Some p))
+      pub near_beyond : 256 ≤ far → (p : Page) → page_of ps (i / 256) ≡ Some p → slice_get p (i % 256) ≡ Some e → IfSome e (λ p. slice_get (tabulate (entry ps cur start) issued) i ≡ Some (Some p))
       near_beyond a p w g = by_part start i (λ b. absurd (clash b)) (λ b. near_earlier b p w g) where
         clash : start ≤ i → ⊥
         clash b = let h = (P.pages (i / 256) p w).2 in omega (arith, a, b, low, fits, h, quot i, rem i)
 
   -- where a page is not held, none of its numbers is living
-  pub not_held : (q : ℕ) → q < start / 256 → page_of ps q ≡ None → (i : ℕ) → i / 256 ≡ q → in_page (slice_get (upto (entry ps cur start) issued) i) ≡ None
+  pub not_held : (q : ℕ) → q < start / 256 → page_of ps q ≡ None → (i : ℕ) → i / 256 ≡ q → in_page (slice_get (tabulate (entry ps cur start) issued) i) ≡ None
   not_held q a w i e = ap in_page (read_none i (omega (arith, before, P.low, upto_length (entry ps cur start) issued)) before (ap (page_of ps) e ∙ w)) where
     before : i < start
     before = omega (arith, a, e, quot i, rem i, quot start)
@@ -455,7 +455,7 @@ each_living [] h = omega arith
 each_living (e ∷ es) h = omega (arith, each_living es (λ i q p g. h (suc i) q p g), h 0 e.0 e.1 refl, sum_by-cons living_count e.1 (values_of es))
 
 -- each earlier page has a living number
-pub pages_few : (ps : Pages) (cur : Page) (start issued : ℕ) → Paged ps cur start issued → ((i q : ℕ) (p : Page) → slice_get ps i ≡ Some (q, p) → page_of ps q ≡ Some p) → length ps ≤ living_count (upto (entry ps cur start) issued)
+pub pages_few : (ps : Pages) (cur : Page) (start issued : ℕ) → Paged ps cur start issued → ((i q : ℕ) (p : Page) → slice_get ps i ≡ Some (q, p) → page_of ps q ≡ Some p) → length ps ≤ living_count (tabulate (entry ps cur start) issued)
 pages_few ps cur start issued P found = omega (arith, P.total, each_living ps (λ i q p g. (P.pages q p (found i q p g)).1))
 
 pub paged_first : Paged [] (replicate 256 None) 0 0
@@ -471,7 +471,7 @@ paged_first = record {
 
 -- ## A number of an earlier page is let go of
 
-module _ (ps : Pages) (cur : Page) (start issued : ℕ) (P : Paged ps cur start issued) (i : ℕ) (p : Address) (g : slice_get (upto (entry ps cur start) issued) i ≡ Some (Some p)) (a : i < start) where
+module _ (ps : Pages) (cur : Page) (start issued : ℕ) (P : Paged ps cur start issued) (i : ℕ) (p : BlockPlace) (g : slice_get (tabulate (entry ps cur start) issued) i ≡ Some (Some p)) (a : i < start) where
   abbrev found : (pg : Page) × (page_of ps (i / 256) ≡ Some pg) × (length pg ≡ 256) × (slice_get pg (i % 256) ≡ Some (Some p))
   found = its_page ps cur start issued P i p g a
 
@@ -497,7 +497,7 @@ module _ (ps : Pages) (cur : Page) (start issued : ℕ) (P : Paged ps cur start 
           clash y = cc
         not_zero (suc n) z = omega arith
 
-      pub places_fewer : upto (entry ms cur start) issued ≡ slice_set (upto (entry ps cur start) issued) i None
+      pub places_fewer : tabulate (entry ms cur start) issued ≡ slice_set (tabulate (entry ps cur start) issued) i None
       places_fewer = places_dropped ps cur start issued P i p g a found.0 found.1 ms (Some left) has (λ k. refl) good sum_set
 
       pub paged_fewer : Paged ms cur start issued
@@ -522,20 +522,20 @@ module _ (ps : Pages) (cur : Page) (start issued : ℕ) (P : Paged ps cur start 
       sum_less : sum_by living_count (values_of es) + 1 ≡ sum_by living_count (values_of ps)
       sum_less = omega (arith, sum_set, zero_left, ap (λ (e : Pages). sum_by living_count (values_of e)) rest_is, sum_by-remove_entry living_count (is_at (nat_cmp (i / 256))) ms, ap (λ o. unwrap_or (option_map living_count o) 0) there)
 
-      pub places_given : upto (entry es cur start) issued ≡ slice_set (upto (entry ps cur start) issued) i None
+      pub places_given : tabulate (entry es cur start) issued ≡ slice_set (tabulate (entry ps cur start) issued) i None
       places_given = places_dropped ps cur start issued P i p g a found.0 found.1 es None drops (λ k. sym (none_living left k zero_left)) of_none sum_less
 
       pub paged_given : Paged es cur start issued
       paged_given = paged_dropped ps cur start issued P i p g a found.0 found.1 es None drops (λ k. sym (none_living left k zero_left)) of_none sum_less
 
-pub full_is : (ps : Pages) (cur : Page) (start issued : ℕ) → Paged ps cur start issued → nat_eq (issued - start) 256 ≡ nat_eq (length (upto (entry ps cur start) issued)) (start + 256)
+pub full_is : (ps : Pages) (cur : Page) (start issued : ℕ) → Paged ps cur start issued → nat_eq (issued - start) 256 ≡ nat_eq (length (tabulate (entry ps cur start) issued)) (start + 256)
 full_is ps cur start issued P = by_same (issued - start) 256
     (λ e q. e ∙ sym (ap (λ n. nat_eq n (start + 256)) (upto_length (entry ps cur start) issued ∙ full q) ∙ same (start + 256)))
-    (λ e n. e ∙ sym (differs (length (upto (entry ps cur start) issued)) (start + 256) (λ z. n (from z)))) where
+    (λ e n. e ∙ sym (differs (length (tabulate (entry ps cur start) issued)) (start + 256) (λ z. n (from z)))) where
       full : issued - start ≡ 256 → issued ≡ start + 256
       full q = omega (arith, q, P.low)
 
-      from : length (upto (entry ps cur start) issued) ≡ start + 256 → issued - start ≡ 256
+      from : length (tabulate (entry ps cur start) issued) ≡ start + 256 → issued - start ≡ 256
       from z = omega (arith, z, upto_length (entry ps cur start) issued)
 
 pub at_least_one : (n : ℕ) → nat_eq n 0 ≡ false → 1 ≤ n

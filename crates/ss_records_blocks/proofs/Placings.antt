@@ -1,9 +1,9 @@
 -- Blocks that are placed and given back together.
 use Rattle.std.proofs.Common.{◌≡◌, ℕ, zero, suc, ◌+◌, ◌<◌, ◌≤◌, List, [], ◌∷◌, ◌++◌, length, slice_get, slice_index_or, Some, ◌⊎◌, inl, inr, refl, sym, ap, subst, ◌∙◌, arith, length-append}
 use denote.RawPtr.{Ptr}
-use Rattle.ss_records_blocks.specs.declared.store.Address.{Address}
+use Rattle.ss_records_blocks.specs.declared.store.BlockPlace.{BlockPlace}
 use Rattle.ss_records_blocks.specs.Cells.{Cells, words_at, blanks, without_block}
-use Rattle.ss_records_blocks.specs.Writes.{NoneAt, Placed, Unchanged}
+use Rattle.ss_records_blocks.specs.Writes.{NoneAt, ArePlaced, Unchanged}
 use Rattle.ss_records_blocks.proofs.Puts.{words_new, words_old, words_without}
 use Rattle.ss_records_blocks.proofs.Count.{blocks_without}
 
@@ -13,19 +13,19 @@ place_at [] i q h = absurd (omega (arith, h))
 place_at (p ∷ ps) zero q h = refl
 place_at (p ∷ ps) (suc i) q h = place_at ps i q (omega (arith, h))
 
-abbrev pub AreApart : List Address → Type 0
-AreApart ps = (i j : ℕ) (p q : Address) → slice_get ps i ≡ Some p → slice_get ps j ≡ Some q → p.at ≡ q.at → i ≡ j
+abbrev pub AreApart : List BlockPlace → Type 0
+AreApart ps = (i j : ℕ) (p q : BlockPlace) → slice_get ps i ≡ Some p → slice_get ps j ≡ Some q → p.at ≡ q.at → i ≡ j
 
 -- the first n blocks at these places are given back
-pub record Backed (cs bs : Cells) (ps : List Address) (n : ℕ) : Type 0 where
-  pub rest : (j : ℕ) (p : Address) → n ≤ j → slice_get ps j ≡ Some p → words_at bs p.at ≡ words_at cs p.at
+pub record Backed (cs bs : Cells) (ps : List BlockPlace) (n : ℕ) : Type 0 where
+  pub rest : (j : ℕ) (p : BlockPlace) → n ≤ j → slice_get ps j ≡ Some p → words_at bs p.at ≡ words_at cs p.at
   pub others : (q : Ptr) → NoneAt ps q → words_at bs q ≡ words_at cs q
   pub count : length bs + n ≡ length cs
 
-pub backed_none : (cs : Cells) (ps : List Address) → Backed cs cs ps 0
+pub backed_none : (cs : Cells) (ps : List BlockPlace) → Backed cs cs ps 0
 backed_none cs ps = record { rest = λ j p h g. refl; others = λ q h. refl; count = omega arith }
 
-pub backed_more : (cs bs : Cells) (ps : List Address) (n : ℕ) (p : Address) → slice_get ps n ≡ Some p → AreApart ps → 0 < length (words_at cs p.at) → Backed cs bs ps n → Backed cs (without_block bs p.at) ps (n + 1)
+pub backed_more : (cs bs : Cells) (ps : List BlockPlace) (n : ℕ) (p : BlockPlace) → slice_get ps n ≡ Some p → AreApart ps → 0 < length (words_at cs p.at) → Backed cs bs ps n → Backed cs (without_block bs p.at) ps (n + 1)
 backed_more cs bs ps n p g apart some b = record {
   rest = λ j q h k. words_without bs p.at q.at (λ z. past n j h (apart n j p q g k z)) ∙ b.rest j q (omega (arith, h)) k;
   others = λ q h. words_without bs p.at q (λ z. h n p g z) ∙ b.others q h;
@@ -35,48 +35,48 @@ backed_more cs bs ps n p g apart some b = record {
   past x y h e = omega (arith, h, e)
 
 -- one more place
-get_last : (ps : List Address) (p q : Address) (i : ℕ) → slice_get (ps ++ p ∷ []) i ≡ Some q → ((i ≡ length ps) × (p ≡ q)) ⊎ (slice_get ps i ≡ Some q)
+get_last : (ps : List BlockPlace) (p q : BlockPlace) (i : ℕ) → slice_get (ps ++ p ∷ []) i ≡ Some q → ((i ≡ length ps) × (p ≡ q)) ⊎ (slice_get ps i ≡ Some q)
 get_last [] p q zero h = let e : p ≡ q = cc in inl (refl, e)
 get_last [] p q (suc i) h = cc
 get_last (r ∷ rs) p q zero h = inr h
 get_last (r ∷ rs) p q (suc i) h = elim (get_last rs p q i h) as (λ _. ((suc i ≡ length (r ∷ rs)) × (p ≡ q)) ⊎ (slice_get rs i ≡ Some q)) [ inl e ↦ inl (ap suc e.0, e.1) | inr k ↦ inr k ]
 
-get_before : (ps : List Address) (p : Address) (i : ℕ) (q : Address) → slice_get ps i ≡ Some q → slice_get (ps ++ p ∷ []) i ≡ Some q
+get_before : (ps : List BlockPlace) (p : BlockPlace) (i : ℕ) (q : BlockPlace) → slice_get ps i ≡ Some q → slice_get (ps ++ p ∷ []) i ≡ Some q
 get_before [] p i q h = cc
 get_before (r ∷ rs) p zero q h = h
 get_before (r ∷ rs) p (suc i) q h = get_before rs p i q h
 
-get_end : (ps : List Address) (p : Address) → slice_get (ps ++ p ∷ []) (length ps) ≡ Some p
+get_end : (ps : List BlockPlace) (p : BlockPlace) → slice_get (ps ++ p ∷ []) (length ps) ≡ Some p
 get_end [] p = refl
 get_end (r ∷ rs) p = get_end rs p
 
-pub placed_none : (cs : Cells) (w : ℕ) → Placed cs cs w []
+pub placed_none : (cs : Cells) (w : ℕ) → ArePlaced cs cs w []
 placed_none cs w = record { fresh = λ i p h. cc; blank = λ i p h. cc; apart = λ i j p q h k z. cc; others = λ q h. refl; count = omega arith }
 
 not_blank : (w : ℕ) → 0 < w → blanks w ≡ [] → ⊥
 not_blank zero h e = omega (arith, h)
 not_blank (suc n) h e = cc
 
-pub placed_more : (cs ds : Cells) (w : ℕ) (ps : List Address) (p : Address) → Placed cs ds w ps → words_at ds p.at ≡ [] → 0 < w → Placed cs ((p.at, blanks w) ∷ ds) w (ps ++ p ∷ [])
+pub placed_more : (cs ds : Cells) (w : ℕ) (ps : List BlockPlace) (p : BlockPlace) → ArePlaced cs ds w ps → words_at ds p.at ≡ [] → 0 < w → ArePlaced cs ((p.at, blanks w) ∷ ds) w (ps ++ p ∷ [])
 placed_more cs ds w ps p b free some = record {
-  fresh = λ i q h. by_place i q h (λ x y. subst (λ (r : Address). words_at cs r.at ≡ []) y (sym (b.others p.at off) ∙ free)) (λ x. b.fresh i q x);
+  fresh = λ i q h. by_place i q h (λ x y. subst (λ (r : BlockPlace). words_at cs r.at ≡ []) y (sym (b.others p.at off) ∙ free)) (λ x. b.fresh i q x);
   blank = λ i q h. by_place i q h
-      (λ x y. subst (λ (r : Address). words_at ((p.at, blanks w) ∷ ds) r.at ≡ blanks w) y (words_new ds p.at (blanks w)))
+      (λ x y. subst (λ (r : BlockPlace). words_at ((p.at, blanks w) ∷ ds) r.at ≡ blanks w) y (words_new ds p.at (blanks w)))
       (λ x. words_old ds p.at q.at (blanks w) (λ z. off i q x (sym z)) ∙ b.blank i q x);
   apart = λ i j q r h k z. by_place i q h
-      (λ x y. by_place j r k (λ x' y'. x ∙ sym x') (λ x'. absurd (off j r x' (sym z ∙ ap (λ (o : Address). o.at) (sym y)))))
-      (λ x. by_place j r k (λ x' y'. absurd (off i q x (z ∙ ap (λ (o : Address). o.at) (sym y')))) (λ x'. b.apart i j q r x x' z));
+      (λ x y. by_place j r k (λ x' y'. x ∙ sym x') (λ x'. absurd (off j r x' (sym z ∙ ap (λ (o : BlockPlace). o.at) (sym y)))))
+      (λ x. by_place j r k (λ x' y'. absurd (off i q x (z ∙ ap (λ (o : BlockPlace). o.at) (sym y')))) (λ x'. b.apart i j q r x x' z));
   others = λ q h. words_old ds p.at q (blanks w) (λ z. h (length ps) p (get_end ps p) z) ∙ b.others q (λ i r g. h i r (get_before ps p i r g));
   count = omega (arith, b.count, length-append ps (p ∷ []));
 } where
   off : NoneAt ps p.at
   off i q h z = not_blank w some (sym (b.blank i q h) ∙ ap (words_at ds) z ∙ free)
 
-  by_place : {P : Type 0} (i : ℕ) (q : Address) → slice_get (ps ++ p ∷ []) i ≡ Some q → ((i ≡ length ps) → (p ≡ q) → P) → (slice_get ps i ≡ Some q → P) → P
+  by_place : {P : Type 0} (i : ℕ) (q : BlockPlace) → slice_get (ps ++ p ∷ []) i ≡ Some q → ((i ≡ length ps) → (p ≡ q) → P) → (slice_get ps i ≡ Some q → P) → P
   by_place {P} i q h new was = elim (get_last ps p q i h) as (λ _. P) [ inl x ↦ new x.0 x.1 | inr x ↦ was x ]
 
 -- blank blocks that were given back
-pub unchanged_by : (cs ds es : Cells) (w : ℕ) (ps : List Address) → Placed cs ds w ps → ((q : Ptr) → NoneAt ps q → words_at es q ≡ words_at ds q) → length es + length ps ≡ length ds → Unchanged cs es
+pub unchanged_by : (cs ds es : Cells) (w : ℕ) (ps : List BlockPlace) → ArePlaced cs ds w ps → ((q : Ptr) → NoneAt ps q → words_at es q ≡ words_at ds q) → length es + length ps ≡ length ds → Unchanged cs es
 unchanged_by cs ds es w ps b others count = record {
   words = λ q n. let none : NoneAt ps q = λ i p g z. n (subst (λ r. words_at cs r ≡ []) z (b.fresh i p g)) in others q none ∙ b.others q none;
   count = omega (arith, count, b.count);

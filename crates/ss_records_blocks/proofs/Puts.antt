@@ -2,7 +2,7 @@
 use Rattle.std.proofs.Common.{◌≡◌, ℕ, zero, suc, ◌<◌, true, false, cond, ◌==◌, List, [], ◌∷◌, length, refl, sym, ap, subst, ◌∙◌, arith}
 use denote.RawPtr.{Ptr}
 use Rattle.ss_records_blocks.specs.Cells.{Word, blank, Cells, same_ptr, words_at, word_of, with_word, word_at, put_word, without_block, blanks}
-use Rattle.ss_records_blocks.specs.Writes.{Written}
+use Rattle.ss_records_blocks.specs.Writes.{IsWrittenAt}
 use Rattle.ss_records_blocks.proofs.Numbers.{same_ptr_eq, same_ptr_refl, length-with_word}
 use Rattle.ss_records_blocks.proofs.Same.{same, differs, by_same, false_is_not_true}
 use Rattle.ss_records_blocks.proofs.Count.{blocks_put}
@@ -49,10 +49,10 @@ pub put_other : (cs : Cells) (p : Ptr) (k : ℕ) (x : Word) (q : Ptr) (j : ℕ) 
 put_other cs p k x q j n = rw (words_put cs p k x q) (by_ptr p q (λ e i. rw e (word_other (words_at cs q) k x j (n i))) (λ e m. rw e refl))
 
 -- a write at p leaves the other blocks
-pub written_put : (cs : Cells) (p : Ptr) (k : ℕ) (w : Word) → Written cs (put_word cs p k w) p
+pub written_put : (cs : Cells) (p : Ptr) (k : ℕ) (w : Word) → IsWrittenAt cs (put_word cs p k w) p
 written_put cs p k w = record { others = λ q n. rw (words_put cs p k w q, ptr_differs p q n) refl; size = length_put cs p k w p; count = blocks_put cs p k w }
 
-pub written_twice : (cs ds es : Cells) (p : Ptr) → Written cs ds p → Written ds es p → Written cs es p
+pub written_twice : (cs ds es : Cells) (p : Ptr) → IsWrittenAt cs ds p → IsWrittenAt ds es p → IsWrittenAt cs es p
 written_twice cs ds es p a b = record { others = λ q n. b.others q n ∙ a.others q n; size = b.size ∙ a.size; count = b.count ∙ a.count }
 
 pub words_written : (cs : Cells) (p : Ptr) (k : ℕ) (w : Word) → words_at (put_word cs p k w) p ≡ with_word (words_at cs p) k w

@@ -25,7 +25,7 @@ use denote.Struct.Field.{RawPtr-field, u64-field}
 use denote.Struct.Laws.{RawPtr-copy, u64-copy}
 use denote.Struct.Lending.{Lends, lent_at_shr_laws, Lends-lies, Lends-both, Lends-nothing, Lends-said}
 use mir.Syntax.{w64, ty_int}
-use Rattle.ss_records_blocks.specs.Cells.{Word, blank, number, counter, link, Block, Cells, same_ptr, words_at, word_of, word_at}
+use Rattle.ss_records_blocks.specs.Cells.{Word, blank, number, counter, link, StoredBlock, Cells, same_ptr, words_at, word_of, word_at}
 use Rattle.ss_records_blocks.specs.Ownership.{block_type, word_owns, words_own, deed_owns, block_owns, store_owns, word_lent, words_lent, block_lent, store_lent}
 use Rattle.ss_records_blocks.proofs.Numbers.{same_ptr_eq}
 use Rattle.ss_records_blocks.proofs.Memory.{word_ptr, word_ptr-zero, word_ptr-suc}
@@ -40,7 +40,7 @@ words_laws : (p : Ptr) (ws : List Word) → ShrLaws (words_lent p ws)
 words_laws p [] = nothing_shr_laws
 words_laws p (w ∷ ws) = beside_shr_laws (word_lent p w) (words_lent (p +ₚ 8) ws) (word_laws p w) (words_laws (p +ₚ 8) ws)
 
-block_laws : (c : Block) → ShrLaws (block_lent c)
+block_laws : (c : StoredBlock) → ShrLaws (block_lent c)
 block_laws c = let F : Fml = flt (length c.1 * 8) (2 ^ 63) in
     beside_shr_laws (words_lent c.0 c.1) (beside nothing (said F)) (words_laws c.0 c.1) (beside_shr_laws nothing (said F) nothing_shr_laws (said_shr_laws F tt))
 

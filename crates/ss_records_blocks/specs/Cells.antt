@@ -10,12 +10,12 @@ pub data Word : Type 0 where
   link : Ptr → Word
 
 -- a block: where it lies, and its words
-abbrev pub Block : Type 0
-Block = Ptr × List Word
+abbrev pub StoredBlock : Type 0
+StoredBlock = Ptr × List Word
 
 -- the blocks that are placed
 abbrev pub Cells : Type 0
-Cells = List Block
+Cells = List StoredBlock
 
 -- whether two pointers are the same
 abbrev pub same_ptr : Ptr → Ptr → Bool

@@ -9,7 +9,7 @@ use denote.Builtin.{u64}
 use denote.RawPtr.{Ptr, RawPtr, lies_at, room_for, ◌+ₚ◌}
 use Rattle.std.specs.declared.alloc.Global.{Global}
 use Rattle.std.specs.contracts.impls.GlobalAllocator.TheImpl.{ghosts}
-use Rattle.ss_records_blocks.specs.Cells.{Word, blank, number, counter, link, Block, Cells}
+use Rattle.ss_records_blocks.specs.Cells.{Word, blank, number, counter, link, StoredBlock, Cells}
 
 -- the word at p
 abbrev pub word_owns : Ptr → Word → Fml
@@ -31,7 +31,7 @@ block_type n = ty_array (ty_int w64) n
 abbrev pub deed_owns : Ptr → ℕ → Fml
 deed_owns p n = fsep (fex Global (λ a. ghosts.dealloc_token a (block_type n) p)) (flt (n * 8) (2 ^ 63))
 
-abbrev pub block_owns : Block → Fml
+abbrev pub block_owns : StoredBlock → Fml
 block_owns c = fsep (words_own c.0 c.1) (deed_owns c.0 (length c.1))
 
 abbrev pub store_owns : Cells → Fml
@@ -49,7 +49,7 @@ abbrev pub words_lent : Ptr → List Word → Lft → Fml
 words_lent p [] = nothing
 words_lent p (w ∷ ws) = beside (word_lent p w) (words_lent (p +ₚ 8) ws)
 
-abbrev pub block_lent : Block → Lft → Fml
+abbrev pub block_lent : StoredBlock → Lft → Fml
 block_lent c = beside (words_lent c.0 c.1) (beside nothing (said (flt (length c.1 * 8) (2 ^ 63))))
 
 abbrev pub store_lent : Cells → Lft → Fml

@@ -5,28 +5,28 @@ use Rattle.std.specs.BTreeMap.{is_at}
 use Rattle.std.specs.List.Sorted.{IsStrictlySortedBy}
 use Rattle.std.specs.Map.{lookup, keys_of, values_of}
 use Rattle.std.specs.List.{sum_by}
-use Rattle.ss_records_blocks.specs.declared.store.Address.{Address}
+use Rattle.ss_records_blocks.specs.declared.store.BlockPlace.{BlockPlace}
 use Rattle.ss_records_blocks.specs.Places.{living_count}
 
 -- what a contract sees of the directory: the place of each number, none where it is destroyed; how many pages
 -- are held; where the page of the next number begins
 pub record Listed : Type 0 where
-  pub places : List (Option Address)
+  pub places : List (Option BlockPlace)
   pub pages : ℕ
   pub start : ℕ
 
 abbrev pub Page : Type 0
-Page = List (Option Address)
+Page = List (Option BlockPlace)
 
 abbrev pub Pages : Type 0
 Pages = List (ℕ × Page)
 
-abbrev pub in_page : Option (Option Address) → Option Address
+abbrev pub in_page : Option (Option BlockPlace) → Option BlockPlace
 in_page None = None
 in_page (Some p) = p
 
 -- the place of the number k of a page, none where there is no page
-abbrev pub slot : Option Page → ℕ → Option Address
+abbrev pub slot : Option Page → ℕ → Option BlockPlace
 slot None k = None
 slot (Some p) k = in_page (slice_get p k)
 
@@ -55,13 +55,13 @@ pages_held [] = []
 pages_held (s ∷ ss) = with_page s.0 s.1 (pages_held ss)
 
 -- the place of the number i, from 0 on. The current page begins at `start`
-abbrev pub entry : Pages → Page → ℕ → ℕ → Option Address
+abbrev pub entry : Pages → Page → ℕ → ℕ → Option BlockPlace
 entry ps cur start i = cond (nat_le start i) (slot (Some cur) (i - start)) (slot (page_of ps (i / 256)) (i % 256))
 
 -- f 0, f 1 .. up to f (n - 1)
-abbrev pub upto : {A : Type 0} → (ℕ → A) → ℕ → List A
-upto f zero = []
-upto f (suc n) = upto f n ++ f n ∷ []
+abbrev pub tabulate : {A : Type 0} → (ℕ → A) → ℕ → List A
+tabulate f zero = []
+tabulate f (suc n) = tabulate f n ++ f n ∷ []
 
 -- the pages of numbers before the current one have a living number each
 pub record Paged (ps : Pages) (cur : Page) (start issued : ℕ) : Type 0 where
@@ -71,4 +71,4 @@ pub record Paged (ps : Pages) (cur : Page) (start issued : ℕ) : Type 0 where
   pub low : start ≤ issued
   pub high : issued ≤ start + 256
   pub rest : (k : ℕ) → issued ≤ start + k → slot (Some cur) k ≡ None
-  pub total : sum_by living_count (values_of ps) + living_count cur ≡ living_count (upto (entry ps cur start) issued)
+  pub total : sum_by living_count (values_of ps) + living_count cur ≡ living_count (tabulate (entry ps cur start) issued)

@@ -1,18 +1,18 @@
 -- What writes leave: which blocks have changed, which words, and which blocks there are.
 use Rattle.std.specs.Prelude.{◌≡◌, ℕ, zero, suc, ◌+◌, ◌-◌, ◌<◌, ◌≤◌, List, [], length, Some, slice_get}
 use denote.RawPtr.{Ptr}
-use Rattle.ss_records_blocks.specs.declared.store.Address.{Address}
+use Rattle.ss_records_blocks.specs.declared.store.BlockPlace.{BlockPlace}
 use Rattle.ss_records_blocks.specs.Cells.{Word, number, counter, link, Cells, words_at, word_at, blanks}
 
 -- only the block at p has changed
-pub record Written (cs ds : Cells) (p : Ptr) : Type 0 where
+pub record IsWrittenAt (cs ds : Cells) (p : Ptr) : Type 0 where
   pub others : (q : Ptr) → (p ≡ q → ⊥) → words_at ds q ≡ words_at cs q
   pub size : length (words_at ds p) ≡ length (words_at cs p)
   pub count : length ds ≡ length cs
 
 -- only the words from one place to another of the block at p have changed: they are as f says
 pub record Filled (cs ds : Cells) (p : Ptr) (from to : ℕ) (f : ℕ → Word) : Type 0 where
-  pub written : Written cs ds p
+  pub written : IsWrittenAt cs ds p
   pub inside : (k : ℕ) → from ≤ k → k < to → word_at ds p k ≡ f k
   pub below : (k : ℕ) → k < from → word_at ds p k ≡ word_at cs p k
   pub above : (k : ℕ) → to ≤ k → word_at ds p k ≡ word_at cs p k
@@ -42,14 +42,14 @@ abbrev pub owned_from : Ptr → ℕ → ℕ → Word
 owned_from end from k = owned_word end (k - from)
 
 -- none of these places is q
-abbrev pub NoneAt : List Address → Ptr → Type 0
-NoneAt ps q = (i : ℕ) (p : Address) → slice_get ps i ≡ Some p → p.at ≡ q → ⊥
+abbrev pub NoneAt : List BlockPlace → Ptr → Type 0
+NoneAt ps q = (i : ℕ) (p : BlockPlace) → slice_get ps i ≡ Some p → p.at ≡ q → ⊥
 
 -- blank blocks of w words each are new at these places
-pub record Placed (cs ds : Cells) (w : ℕ) (ps : List Address) : Type 0 where
-  pub fresh : (i : ℕ) (p : Address) → slice_get ps i ≡ Some p → words_at cs p.at ≡ []
-  pub blank : (i : ℕ) (p : Address) → slice_get ps i ≡ Some p → words_at ds p.at ≡ blanks w
-  pub apart : (i j : ℕ) (p q : Address) → slice_get ps i ≡ Some p → slice_get ps j ≡ Some q → p.at ≡ q.at → i ≡ j
+pub record ArePlaced (cs ds : Cells) (w : ℕ) (ps : List BlockPlace) : Type 0 where
+  pub fresh : (i : ℕ) (p : BlockPlace) → slice_get ps i ≡ Some p → words_at cs p.at ≡ []
+  pub blank : (i : ℕ) (p : BlockPlace) → slice_get ps i ≡ Some p → words_at ds p.at ≡ blanks w
+  pub apart : (i j : ℕ) (p q : BlockPlace) → slice_get ps i ≡ Some p → slice_get ps j ≡ Some q → p.at ≡ q.at → i ≡ j
   pub others : (q : Ptr) → NoneAt ps q → words_at ds q ≡ words_at cs q
   pub count : length ds ≡ length cs + length ps
 

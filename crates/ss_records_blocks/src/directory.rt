@@ -1,11 +1,11 @@
 // Where the block of each creation number lies, and two numbers whose places are remembered.
 ghost use Rattle.std.specs.Prelude.{◌≡◌, ℕ, ◌+◌, ◌*◌, ◌/◌, ◌^◌, ◌<◌, ◌≤◌, ◌++◌, [], ◌∷◌, length, false, Some, None, IfSome, slice_get, slice_set, MatchResult, ⊤};
-ghost use Rattle.ss_records_blocks.specs.declared.store.Address.{Address};
+ghost use Rattle.ss_records_blocks.specs.declared.store.BlockPlace.{BlockPlace};
 ghost use Rattle.ss_records_blocks.specs.Places.{living_count};
 ghost use Rattle.ss_records_blocks.specs.Pages.{in_page};
 
 use crate::register::Register;
-use crate::store::Address;
+use crate::store::BlockPlace;
 use std::alloc::{AllocError, Global};
 use std::marker::Model;
 use std::ptr;
@@ -17,10 +17,10 @@ pub struct Directory {
     register: Register,
     recent: usize,
     is_met: bool,
-    place: Address,
+    place: BlockPlace,
     coming: usize,
     is_expected: bool,
-    next_place: Address,
+    next_place: BlockPlace,
 }
 
 impl Model for Directory {
@@ -44,12 +44,12 @@ impl Directory {
             register,
             recent: 0,
             is_met: false,
-            place: Address {
+            place: BlockPlace {
                 at: ptr::null_mut(),
             },
             coming: 0,
             is_expected: false,
-            next_place: Address {
+            next_place: BlockPlace {
                 at: ptr::null_mut(),
             },
         })
@@ -86,7 +86,7 @@ impl Directory {
     }
 
     /// The place of a number, none also where it was not issued.
-    pub fn place_of(&self, i: usize) -> Option<Address>
+    pub fn place_of(&self, i: usize) -> Option<BlockPlace>
         ensures { result ≡ in_page (slice_get self.now.places i) }
     {
         self.register.place_of(i)
@@ -94,7 +94,7 @@ impl Directory {
 
     /// The entry i, from 0 on.
     #[inline(always)]
-    pub fn get(&self, i: usize) -> Option<Address>
+    pub fn get(&self, i: usize) -> Option<BlockPlace>
         requires { i < length self.now.places }
         ensures { slice_get self.now.places i ≡ Some result }
     {
@@ -103,7 +103,7 @@ impl Directory {
 
     /// The entry i, from 0 on, where it is the one that was met last, and is not destroyed.
     #[inline(always)]
-    pub fn remembered(&self, i: usize) -> Option<Address>
+    pub fn remembered(&self, i: usize) -> Option<BlockPlace>
         ensures { IfSome result (λ p. slice_get self.now.places i ≡ Some (Some p)) }
     {
         if i == self.recent && self.is_met {
@@ -115,7 +115,7 @@ impl Directory {
 
     /// The entry i, from 0 on, where it is the one that is likely to come next, and is not destroyed.
     #[inline(always)]
-    pub fn expected(&self, i: usize) -> Option<Address>
+    pub fn expected(&self, i: usize) -> Option<BlockPlace>
         ensures { IfSome result (λ p. slice_get self.now.places i ≡ Some (Some p)) }
     {
         if i == self.coming && self.is_expected {
@@ -127,7 +127,7 @@ impl Directory {
 
     /// The entry i, from 0 on, where it is found without a search and is not destroyed.
     #[inline(always)]
-    pub fn near(&self, i: usize) -> Option<Address>
+    pub fn near(&self, i: usize) -> Option<BlockPlace>
         ensures { IfSome result (λ p. slice_get self.now.places i ≡ Some (Some p)) }
     {
         match self.remembered(i) {
@@ -138,7 +138,7 @@ impl Directory {
 
     /// Remembers the entry i, which is met.
     #[inline(always)]
-    pub fn remember(&mut self, i: usize, place: Address)
+    pub fn remember(&mut self, i: usize, place: BlockPlace)
         requires { slice_get self.old.places i ≡ Some (Some place) }
         ensures { self.new ≡ self.old }
     {
@@ -149,7 +149,7 @@ impl Directory {
 
     /// Remembers the entry i, which is likely to come next.
     #[inline(always)]
-    pub fn expect(&mut self, i: usize, place: Address)
+    pub fn expect(&mut self, i: usize, place: BlockPlace)
         requires { slice_get self.old.places i ≡ Some (Some place) }
         ensures { self.new ≡ self.old }
     {
@@ -171,7 +171,7 @@ impl Directory {
     /// The place of the next number, which is remembered. After the error, which comes where memory was refused, the
     /// places are as they were.
     #[inline(always)]
-    pub fn push(&mut self, place: Address) -> Result<(), AllocError>
+    pub fn push(&mut self, place: BlockPlace) -> Result<(), AllocError>
         requires room { length self.old.places < 2 ^ 62 }
         ensures { MatchResult result (λ _. self.new.places ≡ self.old.places ++ Some place ∷ []) (λ _. self.new.places ≡ self.old.places) }
     {
@@ -186,7 +186,7 @@ impl Directory {
     /// Removes the entry i. Its number still counts as issued.
     #[inline(always)]
     pub fn clear(&mut self, i: usize)
-        requires { (p : Address) × (slice_get self.old.places i ≡ Some (Some p)) }
+        requires { (p : BlockPlace) × (slice_get self.old.places i ≡ Some (Some p)) }
         ensures { self.new.places ≡ slice_set self.old.places i None }
     {
         self.register.clear(i);

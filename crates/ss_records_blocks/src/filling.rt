@@ -4,11 +4,11 @@ ghost use Rattle.ss_records_blocks.specs.Cells.{blank, word_at, words_at};
 ghost use Rattle.ss_records_blocks.specs.Writes.{Filled, head_word, zeros, links_to, owned_from};
 
 use crate::head::{CLASS, NUMBER};
-use crate::store::{Address, Blocks};
+use crate::store::{BlockPlace, Blocks};
 
 /// Zeros from one word up to another. The first few are written one by one, which takes less than a loop.
 #[inline(always)]
-pub fn fill_numbers(blocks: &mut Blocks, place: Address, from: usize, to: usize)
+pub fn fill_numbers(blocks: &mut Blocks, place: BlockPlace, from: usize, to: usize)
     requires order { from ≤ to }
     requires room { to ≤ length (words_at blocks.old.cells place.at) }
     requires blank { (k : ℕ) → from ≤ k → k < to → word_at blocks.old.cells place.at k ≡ blank }
@@ -23,7 +23,7 @@ pub fn fill_numbers(blocks: &mut Blocks, place: Address, from: usize, to: usize)
 
 // Writes the words from the second on.
 #[inline(always)]
-fn fill_second(blocks: &mut Blocks, place: Address, from: usize, to: usize)
+fn fill_second(blocks: &mut Blocks, place: BlockPlace, from: usize, to: usize)
     requires order { from ≤ to }
     requires room { to ≤ length (words_at blocks.old.cells place.at) }
     requires blank { (k : ℕ) → from ≤ k → k < to → word_at blocks.old.cells place.at k ≡ blank }
@@ -38,7 +38,7 @@ fn fill_second(blocks: &mut Blocks, place: Address, from: usize, to: usize)
 
 // Writes the words from the third on.
 #[inline(always)]
-fn fill_third(blocks: &mut Blocks, place: Address, from: usize, to: usize)
+fn fill_third(blocks: &mut Blocks, place: BlockPlace, from: usize, to: usize)
     requires order { from ≤ to }
     requires room { to ≤ length (words_at blocks.old.cells place.at) }
     requires blank { (k : ℕ) → from ≤ k → k < to → word_at blocks.old.cells place.at k ≡ blank }
@@ -53,7 +53,7 @@ fn fill_third(blocks: &mut Blocks, place: Address, from: usize, to: usize)
 
 // Writes the words from the fourth on.
 #[inline(always)]
-fn fill_fourth(blocks: &mut Blocks, place: Address, from: usize, to: usize)
+fn fill_fourth(blocks: &mut Blocks, place: BlockPlace, from: usize, to: usize)
     requires order { from ≤ to }
     requires room { to ≤ length (words_at blocks.old.cells place.at) }
     requires blank { (k : ℕ) → from ≤ k → k < to → word_at blocks.old.cells place.at k ≡ blank }
@@ -68,7 +68,7 @@ fn fill_fourth(blocks: &mut Blocks, place: Address, from: usize, to: usize)
 
 // Writes the words from the fifth on.
 #[inline(always)]
-fn fill_on(blocks: &mut Blocks, place: Address, from: usize, to: usize)
+fn fill_on(blocks: &mut Blocks, place: BlockPlace, from: usize, to: usize)
     requires order { from ≤ to }
     requires room { to ≤ length (words_at blocks.old.cells place.at) }
     requires blank { (k : ℕ) → from ≤ k → k < to → word_at blocks.old.cells place.at k ≡ blank }
@@ -82,7 +82,7 @@ fn fill_on(blocks: &mut Blocks, place: Address, from: usize, to: usize)
 
 // Writes many words.
 #[inline(never)]
-fn fill_rest(blocks: &mut Blocks, place: Address, from: usize, to: usize)
+fn fill_rest(blocks: &mut Blocks, place: BlockPlace, from: usize, to: usize)
     requires order { from ≤ to }
     requires room { to ≤ length (words_at blocks.old.cells place.at) }
     requires blank { (k : ℕ) → from ≤ k → k < to → word_at blocks.old.cells place.at k ≡ blank }
@@ -96,7 +96,13 @@ fn fill_rest(blocks: &mut Blocks, place: Address, from: usize, to: usize)
 
 /// Links of so many sets that lead to one place, three words each: three touches each, which the caller counts.
 #[inline(always)]
-pub fn fill_links(blocks: &mut Blocks, place: Address, from: usize, count: usize, target: Address)
+pub fn fill_links(
+    blocks: &mut Blocks,
+    place: BlockPlace,
+    from: usize,
+    count: usize,
+    target: BlockPlace,
+)
     requires room { from + 3 * count ≤ length (words_at blocks.old.cells place.at) }
     requires blank { (k : ℕ) → from ≤ k → k < from + 3 * count → word_at blocks.old.cells place.at k ≡ blank }
     requires small { from + 3 * count < 2 ^ 64 }
@@ -113,7 +119,13 @@ pub fn fill_links(blocks: &mut Blocks, place: Address, from: usize, count: usize
 
 /// Sets without a member, three words each: three touches each, which the caller counts.
 #[inline(always)]
-pub fn fill_owned(blocks: &mut Blocks, place: Address, from: usize, count: usize, end: Address)
+pub fn fill_owned(
+    blocks: &mut Blocks,
+    place: BlockPlace,
+    from: usize,
+    count: usize,
+    end: BlockPlace,
+)
     requires room { from + 3 * count ≤ length (words_at blocks.old.cells place.at) }
     requires blank { (k : ℕ) → from ≤ k → k < from + 3 * count → word_at blocks.old.cells place.at k ≡ blank }
     requires small { from + 3 * count < 2 ^ 64 }
@@ -130,7 +142,7 @@ pub fn fill_owned(blocks: &mut Blocks, place: Address, from: usize, count: usize
 
 /// Writes the class and the number, and nothing else.
 #[inline(always)]
-pub fn lay_head(blocks: &mut Blocks, place: Address, class: u64, number: u64)
+pub fn lay_head(blocks: &mut Blocks, place: BlockPlace, class: u64, number: u64)
     requires room { 2 ≤ length (words_at blocks.old.cells place.at) }
     requires blank { (k : ℕ) → word_at blocks.old.cells place.at k ≡ blank }
     ensures filled { Filled blocks.old.cells blocks.new.cells place.at 0 2 (head_word class number) }

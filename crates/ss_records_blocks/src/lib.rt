@@ -14,6 +14,6 @@ mod store;
 
 pub use directory::Directory;
 pub use head::{CLASS, NUMBER};
-pub use links::{Entry, LinkPosition};
+pub use links::{EntityBlock, LinkPosition};
 pub use page::PAGE;
-pub use store::{Address, Blocks};
+pub use store::{BlockPlace, Blocks};

@@ -5,13 +5,13 @@ ghost use Rattle.ss_records_blocks.specs.Cells.{IsLink, IsCounter, link, number,
 ghost use Rattle.ss_records_blocks.specs.Links.{Leads, hooked, linked_in, unlinked_in, slots_at};
 
 use crate::head::NUMBER;
-use crate::store::{Address, Blocks};
+use crate::store::{BlockPlace, Blocks};
 
 /// An entity by its block and its number. The system has the number 0.
 #[derive(Clone, Copy)]
-pub struct Entry {
+pub struct EntityBlock {
     /// Where its block lies.
-    pub place: Address,
+    pub place: BlockPlace,
     /// What the block names as its number.
     pub number: u64,
 }
@@ -20,13 +20,13 @@ pub struct Entry {
 #[derive(Clone, Copy)]
 pub struct LinkPosition {
     /// The owner of the set.
-    pub owner: Address,
+    pub owner: BlockPlace,
     /// The member before.
-    pub before: Address,
+    pub before: BlockPlace,
     /// Whether there is none before.
     pub is_first: bool,
     /// The member after.
-    pub after: Address,
+    pub after: BlockPlace,
     /// Whether there is none after.
     pub is_last: bool,
     /// How many members the set has.
@@ -35,11 +35,11 @@ pub struct LinkPosition {
 
 // A word that is a link: where its block lies, and which word of it.
 #[derive(Clone, Copy)]
-struct LinkWord(Address, usize);
+struct LinkWord(BlockPlace, usize);
 
 impl Blocks {
     /// The entity that a link leads to: a touch.
-    pub fn follow(&mut self, place: Address, k: usize) -> Entry
+    pub fn follow(&mut self, place: BlockPlace, k: usize) -> EntityBlock
         requires leads { Leads self.old.cells place.at k }
         requires room { self.old.touches + 1 < 2 ^ 64 }
         ensures word { word_at self.old.cells place.at k ≡ link result.place.at }
@@ -48,7 +48,7 @@ impl Blocks {
         ensures touches { (self.new.touches ≡ self.old.touches + 1) × (self.new.total ≡ self.old.total + 1) }
     {
         let to = self.link(place, k);
-        Entry {
+        EntityBlock {
             place: to,
             number: self.number(to, NUMBER),
         }
@@ -56,7 +56,7 @@ impl Blocks {
 
     /// As `follow`, but the caller counts the touch.
     #[inline(always)]
-    pub fn look(&mut self, place: Address, k: usize) -> Entry
+    pub fn look(&mut self, place: BlockPlace, k: usize) -> EntityBlock
         requires leads { Leads self.old.cells place.at k }
         ensures word { word_at self.old.cells place.at k ≡ link result.place.at }
         ensures there { word_at self.old.cells result.place.at 1 ≡ number result.number }
@@ -64,14 +64,14 @@ impl Blocks {
         ensures touches { (self.new.touches ≡ self.old.touches) × (self.new.total ≡ self.old.total + 1) }
     {
         let to = self.peek_link(place, k);
-        Entry {
+        EntityBlock {
             place: to,
             number: self.number(to, NUMBER),
         }
     }
 
     // Sets where a link leads: a touch, which the caller counts. Words keep their kinds.
-    fn relink(&mut self, place: Address, k: usize, to: Address)
+    fn relink(&mut self, place: BlockPlace, k: usize, to: BlockPlace)
         requires word { IsLink (word_at self.old.cells place.at k) }
         ensures cells { self.new.cells ≡ put_word self.old.cells place.at k (link to.at) }
         ensures links { (q : Ptr) (j : ℕ) → IsLink (word_at self.old.cells q j) → IsLink (word_at self.new.cells q j) }
@@ -83,7 +83,7 @@ impl Blocks {
 
     // Sets where the word of the owner leads, if the neighbour is the end, and else where that of the neighbour leads: a
     // touch, which the caller counts.
-    fn hook(&mut self, ends: bool, owner: LinkWord, neighbour: LinkWord, to: Address)
+    fn hook(&mut self, ends: bool, owner: LinkWord, neighbour: LinkWord, to: BlockPlace)
         requires owner { IsLink (word_at self.old.cells owner.0.at owner.1) }
         requires neighbour { ends ≡ false → IsLink (word_at self.old.cells neighbour.0.at neighbour.1) }
         ensures cells { self.new.cells ≡ hooked ends self.old.cells owner.0.at owner.1 neighbour.0.at neighbour.1 to.at }
@@ -100,7 +100,13 @@ impl Blocks {
 
     /// Links x in between two neighbours, of which each may be the end: six touches. The words of the set
     /// begin at `member` in a member's block and at `set` in the owner's.
-    pub fn link_between(&mut self, member: usize, set: usize, x: Address, position: &LinkPosition)
+    pub fn link_between(
+        &mut self,
+        member: usize,
+        set: usize,
+        x: BlockPlace,
+        position: &LinkPosition,
+    )
         requires member { IsLink (word_at self.old.cells x.at member) × IsLink (word_at self.old.cells x.at (member + 1)) × IsLink (word_at self.old.cells x.at (member + 2)) }
         requires owner { IsLink (word_at self.old.cells position.now.owner.at set) × IsLink (word_at self.old.cells position.now.owner.at (set + 1)) × IsCounter (word_at self.old.cells position.now.owner.at (set + 2)) }
         requires before { position.now.is_first ≡ false → IsLink (word_at self.old.cells position.now.before.at member) }
@@ -132,7 +138,7 @@ impl Blocks {
 
     /// Unlinks x from between its neighbours, of which each may be the end: six touches. Then its links
     /// lead to itself.
-    pub fn unlink(&mut self, member: usize, set: usize, x: Address, position: &LinkPosition)
+    pub fn unlink(&mut self, member: usize, set: usize, x: BlockPlace, position: &LinkPosition)
         requires member { IsLink (word_at self.old.cells x.at member) × IsLink (word_at self.old.cells x.at (member + 1)) × IsLink (word_at self.old.cells x.at (member + 2)) }
         requires owner { IsLink (word_at self.old.cells position.now.owner.at set) × IsLink (word_at self.old.cells position.now.owner.at (set + 1)) × IsCounter (word_at self.old.cells position.now.owner.at (set + 2)) }
         requires before { position.now.is_first ≡ false → IsLink (word_at self.old.cells position.now.before.at member) }

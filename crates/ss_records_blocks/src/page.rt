@@ -1,9 +1,9 @@
 // A page of the directory.
 ghost use Rattle.std.specs.Prelude.{◌≡◌, ◌<◌, List, length, replicate, slice_get, slice_set, nat_eq, Option, Some, None, MatchResult, ⊤};
-ghost use Rattle.ss_records_blocks.specs.declared.store.Address.{Address};
+ghost use Rattle.ss_records_blocks.specs.declared.store.BlockPlace.{BlockPlace};
 ghost use Rattle.ss_records_blocks.specs.Places.{living_count};
 
-use crate::store::Address;
+use crate::store::BlockPlace;
 use std::alloc::{AllocError, Global};
 use std::marker::Model;
 
@@ -14,16 +14,16 @@ pub const PAGE: usize = 256;
 /// a number was not issued or is destroyed.
 #[derive(Drop)]
 pub(crate) struct Page {
-    places: Vec<Option<Address>>,
+    places: Vec<Option<BlockPlace>>,
     count: usize,
 }
 
 impl Model for Page {
     ghost use Rattle.std.specs.Prelude.{◌≡◌, List, Option, length};
-    ghost use Rattle.ss_records_blocks.specs.declared.store.Address.{Address};
+    ghost use Rattle.ss_records_blocks.specs.declared.store.BlockPlace.{BlockPlace};
     ghost use Rattle.ss_records_blocks.specs.Places.{living_count};
 
-    ghost Value = { List (Option Address) };
+    ghost Value = { List (Option BlockPlace) };
 
     ghost view = { λ p. p.places.items };
 
@@ -41,7 +41,7 @@ impl Page {
 
     /// The place of the number k of the page.
     #[inline(always)]
-    pub(crate) fn get(&self, k: usize) -> Option<Address>
+    pub(crate) fn get(&self, k: usize) -> Option<BlockPlace>
         requires { k < 256 }
         ensures { slice_get self.now k ≡ Some result }
     {
@@ -49,7 +49,7 @@ impl Page {
     }
 
     /// Notes the place of a number that had none.
-    pub(crate) fn set(&mut self, k: usize, place: Address)
+    pub(crate) fn set(&mut self, k: usize, place: BlockPlace)
         requires { slice_get self.old k ≡ Some None }
         ensures { self.new ≡ slice_set self.old k (Some place) }
     {
@@ -59,7 +59,7 @@ impl Page {
 
     /// Removes the place of a number.
     pub(crate) fn clear(&mut self, k: usize)
-        requires { (p : Address) × (slice_get self.old k ≡ Some (Some p)) }
+        requires { (p : BlockPlace) × (slice_get self.old k ≡ Some (Some p)) }
         ensures { self.new ≡ slice_set self.old k None }
     {
         self.places[k] = None;

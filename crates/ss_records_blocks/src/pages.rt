@@ -4,7 +4,7 @@ ghost use Rattle.std.specs.Ordering.{nat_cmp};
 ghost use Rattle.std.specs.BTreeMap.{is_at};
 ghost use Rattle.std.specs.Map.{set_value, remove_entry};
 ghost use Rattle.ss_records_blocks.specs.Pages.{page_of, under, pages_held, Rises};
-ghost use Rattle.ss_records_blocks.specs.declared.store.Address.{Address};
+ghost use Rattle.ss_records_blocks.specs.declared.store.BlockPlace.{BlockPlace};
 ghost use Rattle.ss_records_blocks.specs.Places.{living_count};
 
 use crate::page::Page;
@@ -49,7 +49,7 @@ impl PageMap {
     pub(crate) fn len(&self) -> usize
         ensures value { result ≡ length self.now }
         ensures small { result < 2 ^ 63 }
-        ensures found { (k q : ℕ) (page : List (Option Address)) → slice_get self.now k ≡ Some (q, page) → page_of self.now q ≡ Some page }
+        ensures found { (k q : ℕ) (page : List (Option BlockPlace)) → slice_get self.now k ≡ Some (q, page) → page_of self.now q ≡ Some page }
     {
         self.spots.len() - self.empty
     }
@@ -84,7 +84,7 @@ impl PageMap {
         page: &mut Page,
         next: Page,
     ) -> Result<(), AllocError>
-        requires above { (q : ℕ) (p : List (Option Address)) → page_of self.old q ≡ Some p → q < number }
+        requires above { (q : ℕ) (p : List (Option BlockPlace)) → page_of self.old q ≡ Some p → q < number }
         ensures { MatchResult result (λ _. (self.new ≡ self.old ++ (number, page.old) ∷ []) × (page.new ≡ next)) (λ _. (self.new ≡ self.old) × (page.new ≡ page.old)) }
     {
         self.empty = tidy(&mut self.spots, self.empty, number);
@@ -98,9 +98,9 @@ impl PageMap {
     /// Removes the entry k of a page, and says whether the page is empty then.
     #[inline(always)]
     pub(crate) fn clear(&mut self, number: usize, k: usize) -> bool
-        requires there { (page : List (Option Address)) × (p : Address) × (page_of self.old number ≡ Some page) × (slice_get page k ≡ Some (Some p)) }
-        ensures cleared { (page : List (Option Address)) → page_of self.old number ≡ Some page → (self.new ≡ set_value (is_at (nat_cmp number)) self.old (slice_set page k None)) × ((q : ℕ) → page_of self.new q ≡ cond (is_at (nat_cmp number) q) (Some (slice_set page k None)) (page_of self.old q)) }
-        ensures empty { (page : List (Option Address)) → page_of self.old number ≡ Some page → result ≡ nat_eq (living_count (slice_set page k None)) 0 }
+        requires there { (page : List (Option BlockPlace)) × (p : BlockPlace) × (page_of self.old number ≡ Some page) × (slice_get page k ≡ Some (Some p)) }
+        ensures cleared { (page : List (Option BlockPlace)) → page_of self.old number ≡ Some page → (self.new ≡ set_value (is_at (nat_cmp number)) self.old (slice_set page k None)) × ((q : ℕ) → page_of self.new q ≡ cond (is_at (nat_cmp number) q) (Some (slice_set page k None)) (page_of self.old q)) }
+        ensures empty { (page : List (Option BlockPlace)) → page_of self.old number ≡ Some page → result ≡ nat_eq (living_count (slice_set page k None)) 0 }
     {
         match spot(&self.spots, self.missing, number) {
             Some(at) => clear_in(&mut self.spots[at].1, k),
@@ -125,9 +125,9 @@ impl PageMap {
 // Removes the entry k of the page of a spot, and says whether the page is empty then.
 #[inline(always)]
 fn clear_in(page: &mut Option<Page>, k: usize) -> bool
-    requires { (p : List (Option Address)) × (a : Address) × (page.old ≡ Some p) × (slice_get p k ≡ Some (Some a)) }
-    ensures cleared { (p : List (Option Address)) → page.old ≡ Some p → page.new ≡ Some (slice_set p k None) }
-    ensures empty { (p : List (Option Address)) → page.old ≡ Some p → result ≡ nat_eq (living_count (slice_set p k None)) 0 }
+    requires { (p : List (Option BlockPlace)) × (a : BlockPlace) × (page.old ≡ Some p) × (slice_get p k ≡ Some (Some a)) }
+    ensures cleared { (p : List (Option BlockPlace)) → page.old ≡ Some p → page.new ≡ Some (slice_set p k None) }
+    ensures empty { (p : List (Option BlockPlace)) → page.old ≡ Some p → result ≡ nat_eq (living_count (slice_set p k None)) 0 }
 {
     match page {
         Some(page) => {
@@ -143,7 +143,7 @@ fn clear_in(page: &mut Option<Page>, k: usize) -> bool
 #[inline(always)]
 fn spot(spots: &[(usize, Option<Page>)], missing: usize, number: usize) -> Option<usize>
     requires { Rises spots.now }
-    ensures { MatchOption result (under spots.now number ≡ None) (λ k. (page : Option (List (Option Address))) × (slice_get spots.now k ≡ Some (number, page))) }
+    ensures { MatchOption result (under spots.now number ≡ None) (λ k. (page : Option (List (Option BlockPlace))) × (slice_get spots.now k ≡ Some (number, page))) }
 {
     match guessed(spots, missing, number) {
         Some(k) => Some(k),
@@ -155,7 +155,7 @@ fn spot(spots: &[(usize, Option<Page>)], missing: usize, number: usize) -> Optio
 // the last.
 #[inline(always)]
 fn guessed(spots: &[(usize, Option<Page>)], missing: usize, number: usize) -> Option<usize>
-    ensures { IfSome result (λ k. (page : Option (List (Option Address))) × (slice_get spots.now k ≡ Some (number, page))) }
+    ensures { IfSome result (λ k. (page : Option (List (Option BlockPlace))) × (slice_get spots.now k ≡ Some (number, page))) }
 {
     let k = number.wrapping_sub(missing);
     if has(spots, k, number) {
@@ -180,7 +180,7 @@ fn from_first(spots: &[(usize, Option<Page>)], number: usize) -> usize {
 // Whether the spot k is that of a number.
 #[inline(always)]
 fn has(spots: &[(usize, Option<Page>)], k: usize, number: usize) -> bool
-    ensures { result ≡ true → (page : Option (List (Option Address))) × (slice_get spots.now k ≡ Some (number, page)) }
+    ensures { result ≡ true → (page : Option (List (Option BlockPlace))) × (slice_get spots.now k ≡ Some (number, page)) }
 {
     match spots.get(k) {
         Some(spot) => spot.0 == number,
@@ -192,7 +192,7 @@ fn has(spots: &[(usize, Option<Page>)], k: usize, number: usize) -> bool
 #[inline(never)]
 fn searched(spots: &[(usize, Option<Page>)], number: usize) -> Option<usize>
     requires { Rises spots.now }
-    ensures { MatchOption result (under spots.now number ≡ None) (λ k. (page : Option (List (Option Address))) × (slice_get spots.now k ≡ Some (number, page))) }
+    ensures { MatchOption result (under spots.now number ≡ None) (λ k. (page : Option (List (Option BlockPlace))) × (slice_get spots.now k ≡ Some (number, page))) }
 {
     match spots.binary_search_by_key(&number, |spot| spot.0) {
         Ok(k) => Some(k),
@@ -205,11 +205,11 @@ fn searched(spots: &[(usize, Option<Page>)], number: usize) -> Option<usize>
 fn tidy(spots: &mut Vec<(usize, Option<Page>)>, empty: usize, number: usize) -> usize
     requires rises { Rises spots.old.items }
     requires count { empty + length (pages_held spots.old.items) ≡ length spots.old.items }
-    requires above { (q : ℕ) (p : List (Option Address)) → page_of (pages_held spots.old.items) q ≡ Some p → q < number }
+    requires above { (q : ℕ) (p : List (Option BlockPlace)) → page_of (pages_held spots.old.items) q ≡ Some p → q < number }
     ensures rises { Rises spots.new.items }
     ensures count { result + length (pages_held spots.new.items) ≡ length spots.new.items }
     ensures pages_held { pages_held spots.new.items ≡ pages_held spots.old.items }
-    ensures above { (k q : ℕ) (page : Option (List (Option Address))) → slice_get spots.new.items k ≡ Some (q, page) → q < number }
+    ensures above { (k q : ℕ) (page : Option (List (Option BlockPlace))) → slice_get spots.new.items k ≡ Some (q, page) → q < number }
 {
     if empty <= spots.len() / 2 && are_below(spots, number) {
         return empty;
@@ -222,7 +222,7 @@ fn tidy(spots: &mut Vec<(usize, Option<Page>)>, empty: usize, number: usize) -> 
 // Whether all numbers are below one.
 fn are_below(spots: &[(usize, Option<Page>)], number: usize) -> bool
     requires { Rises spots.now }
-    ensures { result ≡ true → (k q : ℕ) (page : Option (List (Option Address))) → slice_get spots.now k ≡ Some (q, page) → q < number }
+    ensures { result ≡ true → (k q : ℕ) (page : Option (List (Option BlockPlace))) → slice_get spots.now k ≡ Some (q, page) → q < number }
 {
     match spots.last() {
         Some(last) => last.0 < number,

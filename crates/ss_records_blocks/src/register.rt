@@ -1,12 +1,12 @@
 // Where the block of each creation number lies, in pages.
 ghost use Rattle.std.specs.Prelude.{◌≡◌, ℕ, ◌+◌, ◌*◌, ◌/◌, ◌^◌, ◌<◌, ◌≤◌, ◌++◌, [], ◌∷◌, length, nat_eq, false, Some, None, IfSome, slice_get, slice_set, MatchResult, ⊤};
-ghost use Rattle.ss_records_blocks.specs.declared.store.Address.{Address};
+ghost use Rattle.ss_records_blocks.specs.declared.store.BlockPlace.{BlockPlace};
 ghost use Rattle.ss_records_blocks.specs.Places.{living_count};
 ghost use Rattle.ss_records_blocks.specs.Pages.{in_page};
 
 use crate::page::{PAGE, Page};
 use crate::pages::PageMap;
-use crate::store::Address;
+use crate::store::BlockPlace;
 use std::alloc::{AllocError, Global};
 use std::marker::Model;
 
@@ -23,11 +23,11 @@ pub(crate) struct Register {
 
 impl Model for Register {
     ghost use Rattle.std.specs.Prelude.{◌+◌, length};
-    ghost use Rattle.ss_records_blocks.specs.Pages.{Listed, Paged, entry, upto};
+    ghost use Rattle.ss_records_blocks.specs.Pages.{Listed, Paged, entry, tabulate};
 
     ghost Value = { Listed };
 
-    ghost view = { λ d. record { places = upto (entry d.earlier d.current d.start) d.issued; pages = length d.earlier + 1; start = d.start } };
+    ghost view = { λ d. record { places = tabulate (entry d.earlier d.current d.start) d.issued; pages = length d.earlier + 1; start = d.start } };
 
     ghost invariant = { λ d. Paged d.earlier d.current d.start d.issued };
 }
@@ -85,7 +85,7 @@ impl Register {
     }
 
     /// The place of a number, none also where it was not issued.
-    pub(crate) fn place_of(&self, i: usize) -> Option<Address>
+    pub(crate) fn place_of(&self, i: usize) -> Option<BlockPlace>
         ensures { result ≡ in_page (slice_get self.now.places i) }
     {
         if i >= self.issued {
@@ -96,7 +96,7 @@ impl Register {
 
     /// The entry i, from 0 on.
     #[inline(always)]
-    pub(crate) fn get(&self, i: usize) -> Option<Address>
+    pub(crate) fn get(&self, i: usize) -> Option<BlockPlace>
         requires { i < length self.now.places }
         ensures { slice_get self.now.places i ≡ Some result }
     {
@@ -111,7 +111,7 @@ impl Register {
 
     /// The entry i, from 0 on, where it is found without a search and is not destroyed.
     #[inline(always)]
-    pub(crate) fn near(&self, i: usize) -> Option<Address>
+    pub(crate) fn near(&self, i: usize) -> Option<BlockPlace>
         ensures { IfSome result (λ p. slice_get self.now.places i ≡ Some (Some p)) }
     {
         let k = i.wrapping_sub(self.start);
@@ -126,7 +126,7 @@ impl Register {
 
     /// The place of the next number.
     #[inline(always)]
-    pub(crate) fn push(&mut self, place: Address) -> Result<(), AllocError>
+    pub(crate) fn push(&mut self, place: BlockPlace) -> Result<(), AllocError>
         requires room { length self.old.places < 2 ^ 62 }
         ensures { MatchResult result (λ _. self.new.places ≡ self.old.places ++ Some place ∷ []) (λ _. self.new.places ≡ self.old.places) }
     {
@@ -146,7 +146,7 @@ impl Register {
     }
 
     // Notes the place of the next number, where the current page has room.
-    fn note(&mut self, place: Address)
+    fn note(&mut self, place: BlockPlace)
         requires free { length self.old.places < self.old.start + 256 }
         requires room { length self.old.places < 2 ^ 62 }
         ensures { self.new.places ≡ self.old.places ++ Some place ∷ [] }
@@ -177,7 +177,7 @@ impl Register {
     /// Removes the entry i.
     #[inline(always)]
     pub(crate) fn clear(&mut self, i: usize)
-        requires { (p : Address) × (slice_get self.old.places i ≡ Some (Some p)) }
+        requires { (p : BlockPlace) × (slice_get self.old.places i ≡ Some (Some p)) }
         ensures { self.new.places ≡ slice_set self.old.places i None }
     {
         if i >= self.start {
@@ -190,7 +190,7 @@ impl Register {
     // Removes an entry of the current page.
     #[inline(always)]
     fn clear_current(&mut self, i: usize)
-        requires there { (p : Address) × (slice_get self.old.places i ≡ Some (Some p)) }
+        requires there { (p : BlockPlace) × (slice_get self.old.places i ≡ Some (Some p)) }
         requires current { self.old.start ≤ i }
         ensures { self.new.places ≡ slice_set self.old.places i None }
     {
@@ -201,7 +201,7 @@ impl Register {
     // Removes an entry of an earlier page, and gives the page back where none of its numbers is living.
     #[inline(always)]
     fn clear_earlier(&mut self, i: usize)
-        requires there { (p : Address) × (slice_get self.old.places i ≡ Some (Some p)) }
+        requires there { (p : BlockPlace) × (slice_get self.old.places i ≡ Some (Some p)) }
         requires earlier { i < self.old.start }
         ensures { self.new.places ≡ slice_set self.old.places i None }
     {

@@ -2,7 +2,7 @@
 ghost use Rattle.std.specs.Prelude.{◌≡◌, replicate, is_some, Some, None, MatchResult, ⊤};
 ghost use Rattle.ss_records_blocks.specs.Places.{row_in};
 
-use crate::store::Address;
+use crate::store::BlockPlace;
 use std::alloc::{AllocError, Global};
 use std::marker::Model;
 
@@ -10,15 +10,15 @@ use std::marker::Model;
 /// they are made.
 #[derive(Drop)]
 pub struct Row {
-    places: Vec<Address>,
+    places: Vec<BlockPlace>,
     made: bool,
 }
 
 impl Model for Row {
     ghost use Rattle.std.specs.Prelude.{◌≡◌, List, [], Option, Some, None, cond, false};
-    ghost use Rattle.ss_records_blocks.specs.declared.store.Address.{Address};
+    ghost use Rattle.ss_records_blocks.specs.declared.store.BlockPlace.{BlockPlace};
 
-    ghost Value = { Option (List Address) };
+    ghost Value = { Option (List BlockPlace) };
 
     ghost view = { λ r. cond r.made (Some r.places.items) None };
 
@@ -37,7 +37,7 @@ impl Row {
     }
 
     /// The row of the entities at these places.
-    pub fn of(places: Vec<Address>) -> Row
+    pub fn of(places: Vec<BlockPlace>) -> Row
         ensures { result ≡ Some places.items }
     {
         Row { places, made: true }
@@ -51,7 +51,7 @@ impl Row {
     }
 
     /// The places of the entities.
-    pub fn places(&self) -> &[Address]
+    pub fn places(&self) -> &[BlockPlace]
         ensures { result.now ≡ row_in (Some self.now) }
     {
         &self.places

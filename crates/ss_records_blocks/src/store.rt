@@ -7,22 +7,22 @@ use std::alloc::{AllocError, Allocator, Global};
 use std::marker::Model;
 
 /// Where a block lies. It owns nothing: the words there are read and written by the calls of `Blocks` alone.
-pub struct Address {
+pub struct BlockPlace {
     /// The first word of the block.
     pub at: *mut u64,
 }
 
-impl Clone for Address {
+impl Clone for BlockPlace {
     ghost is_clone = { λ x y. y ≡ x };
 
     ghost is_infallible = { λ _. Rattle.std.specs.Prelude.⊤ };
 
-    fn clone(&self) -> Result<Address, AllocError> {
+    fn clone(&self) -> Result<BlockPlace, AllocError> {
         Ok(*self)
     }
 }
 
-impl Copy for Address {}
+impl Copy for BlockPlace {}
 
 /// The owner of the blocks in `cells`, and of nothing else. It takes no space. It has no `Drop`: `close` alone lets go of it, once no
 /// block is left.
@@ -50,19 +50,19 @@ impl Store {
         let Store {} = self;
     }
 
-    fn place(&mut self, alloc: &Global, words: usize) -> Result<Address, AllocError>
+    fn place(&mut self, alloc: &Global, words: usize) -> Result<BlockPlace, AllocError>
         requires { (0 < words) × (words * 8 < 2 ^ 63) }
         ensures { MatchResult result (λ p. (words_at self.old.cells p.at ≡ []) × (self.new.cells ≡ (p.at, blanks words) ∷ self.old.cells) × (self.new.total ≡ self.old.total)) (λ _. self.new ≡ self.old) }
     {
         match alloc.allocate(words * 8, 8) {
-            Ok(block) => Ok(Address {
+            Ok(block) => Ok(BlockPlace {
                 at: block as *mut u64,
             }),
             Err(error) => Err(error),
         }
     }
 
-    fn give_back(&mut self, alloc: &Global, place: Address, words: usize)
+    fn give_back(&mut self, alloc: &Global, place: BlockPlace, words: usize)
         requires { (length (words_at self.old.cells place.at) ≡ words) × (0 < words) }
         ensures { (self.new.cells ≡ without_block self.old.cells place.at) × (self.new.total ≡ self.old.total) }
     {
@@ -73,7 +73,7 @@ impl Store {
     }
 
     /// A number, or one that counts as a touch.
-    fn set_value(&mut self, place: Address, k: usize, value: u64)
+    fn set_value(&mut self, place: BlockPlace, k: usize, value: u64)
         ghost counts: { Bool }
         requires { k < length (words_at self.old.cells place.at) }
         ensures { (self.new.cells ≡ put_word self.old.cells place.at k (cond counts (counter value) (number value))) × (self.new.total ≡ cond counts (self.old.total + 1) self.old.total) }
@@ -84,7 +84,7 @@ impl Store {
         }
     }
 
-    fn number(&self, place: Address, k: usize) -> u64
+    fn number(&self, place: BlockPlace, k: usize) -> u64
         requires { IsNumber (word_at self.now.cells place.at k) }
         ensures { word_at self.now.cells place.at k ≡ number result }
     {
@@ -92,7 +92,7 @@ impl Store {
         unsafe { *at.add(k) }
     }
 
-    fn count(&mut self, place: Address, k: usize) -> u64
+    fn count(&mut self, place: BlockPlace, k: usize) -> u64
         requires { IsCounter (word_at self.old.cells place.at k) }
         ensures { (word_at self.old.cells place.at k ≡ counter result) × (self.new.cells ≡ self.old.cells) × (self.new.total ≡ self.old.total + 1) }
     {
@@ -100,7 +100,7 @@ impl Store {
         unsafe { *at.add(k) }
     }
 
-    fn set_link(&mut self, place: Address, k: usize, to: Address)
+    fn set_link(&mut self, place: BlockPlace, k: usize, to: BlockPlace)
         requires { (k < length (words_at self.old.cells place.at)) × MayBeLink (word_at self.old.cells place.at k) }
         ensures { (self.new.cells ≡ put_word self.old.cells place.at k (link to.at)) × (self.new.total ≡ self.old.total + 1) }
     {
@@ -112,7 +112,7 @@ impl Store {
         }
     }
 
-    fn link(&mut self, place: Address, k: usize) -> Address
+    fn link(&mut self, place: BlockPlace, k: usize) -> BlockPlace
         requires { IsLink (word_at self.old.cells place.at k) }
         ensures { (word_at self.old.cells place.at k ≡ link result.at) × (self.new.cells ≡ self.old.cells) × (self.new.total ≡ self.old.total + 1) }
     {
@@ -121,7 +121,7 @@ impl Store {
             let word = at.add(k) as *mut *mut u64;
             *word
         };
-        Address { at: target }
+        BlockPlace { at: target }
     }
 }
 
@@ -159,7 +159,7 @@ impl Blocks {
     }
 
     /// One new block of so many words, and no other. The error comes where memory was refused.
-    pub fn with_one(alloc: &Global, words: usize) -> Result<(Blocks, Address), AllocError>
+    pub fn with_one(alloc: &Global, words: usize) -> Result<(Blocks, BlockPlace), AllocError>
         requires size { (0 < words) × (words * 8 < 2 ^ 63) }
         ensures { IfOk result (λ b. (b.0.cells ≡ (b.1.at, blanks words) ∷ []) × (b.0.touches ≡ 0) × (b.0.total ≡ 0)) }
     {
@@ -227,7 +227,7 @@ impl Blocks {
     /// A new block of so many words, which are blank. After the error, which comes where memory was refused, all is as it
     /// was.
     #[inline(always)]
-    pub fn place(&mut self, alloc: &Global, words: usize) -> Result<Address, AllocError>
+    pub fn place(&mut self, alloc: &Global, words: usize) -> Result<BlockPlace, AllocError>
         requires size { (0 < words) × (words * 8 < 2 ^ 63) }
         requires room { length self.old.cells + 1 < 2 ^ 64 }
         ensures placed { MatchResult result (λ p. (words_at self.old.cells p.at ≡ []) × (self.new.cells ≡ (p.at, blanks words) ∷ self.old.cells)) (λ _. self.new.cells ≡ self.old.cells) }
@@ -241,7 +241,7 @@ impl Blocks {
     /// Gives a block of so many words back to the allocator. The others stay as they are.
     #[inline(always)]
     #[tactic(auto, using(crate::proofs::Count::blocks_without))]
-    pub fn give_back(&mut self, alloc: &Global, place: Address, words: usize)
+    pub fn give_back(&mut self, alloc: &Global, place: BlockPlace, words: usize)
         requires size { (length (words_at self.old.cells place.at) ≡ words) × (0 < words) }
         ensures cells { self.new.cells ≡ without_block self.old.cells place.at }
         ensures touches { (self.new.touches ≡ self.old.touches) × (self.new.total ≡ self.old.total) }
@@ -251,7 +251,7 @@ impl Blocks {
     }
 
     /// The number in the word k of a block. It is no touch.
-    pub fn number(&self, place: Address, k: usize) -> u64
+    pub fn number(&self, place: BlockPlace, k: usize) -> u64
         requires { IsNumber (word_at self.now.cells place.at k) }
         ensures { word_at self.now.cells place.at k ≡ number result }
     {
@@ -260,7 +260,7 @@ impl Blocks {
 
     /// Writes a number into the word k of a block. It is no touch.
     #[tactic(auto, using(crate::proofs::Count::blocks_put))]
-    pub fn set_number(&mut self, place: Address, k: usize, value: u64)
+    pub fn set_number(&mut self, place: BlockPlace, k: usize, value: u64)
         requires { (k < length (words_at self.old.cells place.at)) × MayBeNumber (word_at self.old.cells place.at k) }
         ensures cells { self.new.cells ≡ put_word self.old.cells place.at k (number value) }
         ensures touches { (self.new.touches ≡ self.old.touches) × (self.new.total ≡ self.old.total) }
@@ -269,7 +269,7 @@ impl Blocks {
     }
 
     /// The count of members in the word k of a block: one touch.
-    pub fn count(&mut self, place: Address, k: usize) -> u64
+    pub fn count(&mut self, place: BlockPlace, k: usize) -> u64
         requires word { IsCounter (word_at self.old.cells place.at k) }
         requires room { self.old.touches + 1 < 2 ^ 64 }
         ensures word { word_at self.old.cells place.at k ≡ counter result }
@@ -282,7 +282,7 @@ impl Blocks {
 
     /// Writes a count of members: one touch, which the caller counts.
     #[tactic(auto, using(crate::proofs::Count::blocks_put))]
-    pub(crate) fn set_count(&mut self, place: Address, k: usize, value: u64)
+    pub(crate) fn set_count(&mut self, place: BlockPlace, k: usize, value: u64)
         requires { (k < length (words_at self.old.cells place.at)) × MayBeCounter (word_at self.old.cells place.at k) }
         ensures cells { self.new.cells ≡ put_word self.old.cells place.at k (counter value) }
         ensures touches { (self.new.touches ≡ self.old.touches) × (self.new.total ≡ self.old.total + 1) }
@@ -291,7 +291,7 @@ impl Blocks {
     }
 
     /// Where the link in the word k of a block leads: one touch.
-    pub fn link(&mut self, place: Address, k: usize) -> Address
+    pub fn link(&mut self, place: BlockPlace, k: usize) -> BlockPlace
         requires word { IsLink (word_at self.old.cells place.at k) }
         requires room { self.old.touches + 1 < 2 ^ 64 }
         ensures word { word_at self.old.cells place.at k ≡ link result.at }
@@ -303,7 +303,7 @@ impl Blocks {
     }
 
     /// Where a link leads: one touch, which the caller counts.
-    pub(crate) fn peek_link(&mut self, place: Address, k: usize) -> Address
+    pub(crate) fn peek_link(&mut self, place: BlockPlace, k: usize) -> BlockPlace
         requires word { IsLink (word_at self.old.cells place.at k) }
         ensures word { word_at self.old.cells place.at k ≡ link result.at }
         ensures cells { self.new.cells ≡ self.old.cells }
@@ -314,7 +314,7 @@ impl Blocks {
     }
 
     /// The count of members in the word k of a block: one touch, which the caller counts.
-    pub fn peek_count(&mut self, place: Address, k: usize) -> u64
+    pub fn peek_count(&mut self, place: BlockPlace, k: usize) -> u64
         requires word { IsCounter (word_at self.old.cells place.at k) }
         ensures word { word_at self.old.cells place.at k ≡ counter result }
         ensures cells { self.new.cells ≡ self.old.cells }
@@ -325,7 +325,7 @@ impl Blocks {
 
     /// Sets where a link leads: one touch, which the caller counts.
     #[tactic(auto, using(crate::proofs::Count::blocks_put))]
-    pub(crate) fn set_link(&mut self, place: Address, k: usize, to: Address)
+    pub(crate) fn set_link(&mut self, place: BlockPlace, k: usize, to: BlockPlace)
         requires { (k < length (words_at self.old.cells place.at)) × MayBeLink (word_at self.old.cells place.at k) }
         ensures cells { self.new.cells ≡ put_word self.old.cells place.at k (link to.at) }
         ensures touches { (self.new.touches ≡ self.old.touches) × (self.new.total ≡ self.old.total + 1) }

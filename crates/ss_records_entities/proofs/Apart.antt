@@ -5,14 +5,14 @@ use denote.RawPtr.{Ptr}
 use Rattle.ss_base.specs.declared.layout.ClassKind.{ClassKind}
 use Rattle.ss_base.specs.declared.layout.ClassKind.TheVariants.{Permanent, Temporary, Notice}
 use Rattle.ss_base.specs.declared.layout.Layout.{Layout}
-use Rattle.ss_records_blocks.specs.declared.store.Address.{Address}
+use Rattle.ss_records_blocks.specs.declared.store.BlockPlace.{BlockPlace}
 use Rattle.ss_records_blocks.specs.Cells.{Cells, words_at}
-use Rattle.ss_world.specs.State.{State, Members, and_then, of_class, entity_in, entity_of_kind, kind_of, numbered, indexed, number_in, members_of, owner_of}
+use Rattle.ss_world.specs.State.{State, Members, and_then, of_class, entity_in, entity_of_kind, kind_of, numbered_record, indexed, number_in, members_of, owner_of}
 use Rattle.ss_world.specs.Sets.{member_in, member_class, Apart}
 use Rattle.ss_records_words.specs.Reading.{record_of}
 use Rattle.ss_records_words.specs.Places.{Directory, Lists, class_at_place}
 use Rattle.ss_records_words.specs.Kept.{Kept, IsPermanent, state_of, issued_place, numbered_place}
-use Rattle.ss_records_words.specs.Slotted.{IsOf}
+use Rattle.ss_records_words.specs.Slotted.{IsEntityOf}
 use Rattle.ss_records_blocks.proofs.Same.{same}
 use Rattle.ss_records_words.proofs.Splice.{not_and_in}
 use Rattle.ss_records_words.proofs.Disjoint.{entry_of}
@@ -22,7 +22,7 @@ use Rattle.ss_records_words.proofs.Listing.{listed}
 use Rattle.ss_records_entities.proofs.Keeps.{read_place, numbered_is}
 use Rattle.ss_records_entities.proofs.Indexing.{indexed_there, of_permanent}
 
-of_kind : (st : State) (k : ClassKind) (c n : ℕ) → (IsPermanent k → ⊥) → entity_of_kind st k c (pos n) ≡ and_then (numbered st (pos n)) (of_class c)
+of_kind : (st : State) (k : ClassKind) (c n : ℕ) → (IsPermanent k → ⊥) → entity_of_kind st k c (pos n) ≡ and_then (numbered_record st (pos n)) (of_class c)
 of_kind st Permanent c n h = absurd (h tt)
 of_kind st Temporary c n h = refl
 of_kind st Notice c n h = refl
@@ -32,11 +32,11 @@ module _ (l : Layout) (cs : Cells) (sys : Ptr) (d : Directory) (ms : List Member
   st = state_of l cs d ms
 
   -- what an entity of a class is
-  pub entity_is : (c n i : ℕ) (p : Address) → n ≡ suc i → class_at_place cs p ≡ c → Lists d i p → entity_in st c (pos n) ≡ Ok (record_of l (words_at cs p.at))
+  pub entity_is : (c n i : ℕ) (p : BlockPlace) → n ≡ suc i → class_at_place cs p ≡ c → Lists d i p → entity_in st c (pos n) ≡ Ok (record_of l (words_at cs p.at))
   entity_is c n i p e k (inl m) =
       let kind = subst (λ b. IsPermanent (kind_of l b) → ⊥) k (K.kinds i p m) in
       let place : numbered_place d.numbers (pos n) ≡ Ok p = ap (λ z. numbered_place d.numbers (pos z)) e ∙ ap issued_place m in
-      let read : numbered st (pos n) ≡ Ok (record_of l (words_at cs p.at)) = numbered_is l cs d ms (pos n) ∙ ap (read_place l cs) place in
+      let read : numbered_record st (pos n) ≡ Ok (record_of l (words_at cs p.at)) = numbered_is l cs d ms (pos n) ∙ ap (read_place l cs) place in
       let class : of_class c (record_of l (words_at cs p.at)) ≡ Ok (record_of l (words_at cs p.at)) = rw (k, same c) refl in
       of_kind st (kind_of l c) c n kind ∙ ap (λ z. and_then z (of_class c)) read ∙ class
   entity_is c n i p e k (inr (b, ps, m, h)) =
@@ -44,14 +44,14 @@ module _ (l : Layout) (cs : Cells) (sys : Ptr) (d : Directory) (ms : List Member
       of_permanent st (kind_of l c) c (pos n) (subst (λ a. IsPermanent (kind_of l a)) q y.permanent) ∙ ap (λ z. indexed st c (pos z)) e ∙ indexed_there l cs d ms c ps i p (subst (λ a. slice_get d.classes a ≡ Some (Some ps)) q m) h
 
   -- an entity of a class is what its number means
-  pub is_entity : (c n : ℕ) → IsOf cs d c n → and_then (entity_in st c (pos n)) (λ r. Ok (number_in (pos n))) ≡ Ok n
+  pub is_entity : (c n : ℕ) → IsEntityOf cs d c n → and_then (entity_in st c (pos n)) (λ r. Ok (number_in (pos n))) ≡ Ok n
   is_entity c n h = let a = entry_of cs d c n h in ap (λ z. and_then z (λ r. Ok (number_in (pos n)))) (entity_is c n a.0 a.1 a.2 a.4 (listed d c a.0 a.1 a.3))
 
   pub sets_apart : Apart st
   sets_apart = record {
     distinct = λ s o h. let y = get_there l.sets s h in (K.names s y.0 y.1).distinct o;
     members = λ s o x h i. let y = get_there l.sets s h in let m = (K.names s y.0 y.1).members o x i in
-        (m.1, is_entity (member_class l s) x (subst (λ b. IsOf cs d b x) (sym (ap member_in y.1)) m.0));
+        (m.1, is_entity (member_class l s) x (subst (λ b. IsEntityOf cs d b x) (sym (ap member_in y.1)) m.0));
     sole = λ s o x h i. let y = get_there l.sets s h in elim (filed_or_not ms s x) as (λ _. owner_of ms s x ≡ Some o) [
       | inl a ↦ a.1 ∙ ap Some ((K.names s y.0 y.1).sole a.0 o x a.2 i)
       | inr a ↦ absurd (not_and_in x (members_of ms s o) (a.1 o) i)

@@ -14,12 +14,12 @@ use Rattle.ss_base.specs.declared.layout.Mode.{Mode}
 use Rattle.ss_base.specs.declared.layout.ClassLayout.{ClassLayout}
 use Rattle.ss_base.specs.declared.layout.Layout.{Layout}
 use Rattle.ss_base.specs.Layout.{mode_of}
-use Rattle.ss_records_blocks.specs.declared.store.Address.{Address}
+use Rattle.ss_records_blocks.specs.declared.store.BlockPlace.{BlockPlace}
 use Rattle.ss_records_blocks.specs.Cells.{Word, number, Cells, IsNumber, MayBeNumber, words_at, word_of, word_at, with_word, put_word}
-use Rattle.ss_world.specs.State.{Record, State, Members, and_then, entity_in, numbered, of_notice, notice, value_in, time_in, number_in, kind_in, kind_of, modes_of, is_notice, with_value, with_time, with_indexed, with_entity, with_entity_of_kind, assigned, timed}
+use Rattle.ss_world.specs.State.{Record, State, Members, and_then, entity_in, numbered_record, of_notice, notice, value_in, time_in, number_in, kind_in, kind_of, modes_of, is_notice, record_with_value, with_time, with_indexed, with_entity, with_entity_of_kind, assigned, timed}
 use Rattle.ss_records_words.specs.Shape.{values_end, links_start}
 use Rattle.ss_records_words.specs.Reading.{plain, value_of_words, class_in_words, record_of, record_at, records_at, value_at, put_two, PutsValue}
-use Rattle.ss_records_blocks.specs.Writes.{Written}
+use Rattle.ss_records_blocks.specs.Writes.{IsWrittenAt}
 use Rattle.ss_records_words.specs.Kept.{Kept, Formed, IsPermanent, state_of}
 use Rattle.ss_records_words.specs.Places.{Made, Directory, Lists, class_at_place}
 use Rattle.ss_records_blocks.proofs.Numbers.{length-with_word}
@@ -41,7 +41,7 @@ with_permanent s Permanent c n r h = refl
 with_permanent s Temporary c n r h = absurd h
 with_permanent s Notice c n r h = absurd h
 
-pub get_row : (l : Layout) (cs : Cells) (ms : Made) (c : ℕ) (ps : List Address) → slice_get ms c ≡ Some (Some ps) → slice_get (map (records_at l cs) ms) c ≡ Some (Some (map (λ (q : Address). record_of l (words_at cs q.at)) ps))
+pub get_row : (l : Layout) (cs : Cells) (ms : Made) (c : ℕ) (ps : List BlockPlace) → slice_get ms c ≡ Some (Some ps) → slice_get (map (records_at l cs) ms) c ≡ Some (Some (map (λ (q : BlockPlace). record_of l (words_at cs q.at)) ps))
 get_row l cs [] c ps h = cc
 get_row l cs (m ∷ ms) zero ps h = let e : m ≡ Some ps = cc in ap (λ o. Some (records_at l cs o)) e
 get_row l cs (m ∷ ms) (suc c) ps h = get_row l cs ms c ps h
@@ -68,14 +68,14 @@ notice_inside (k ∷ ks) zero h = omega arith
 notice_inside (k ∷ ks) (suc c) h = omega (arith, notice_inside ks c h)
 
 -- the head of the block of the entity n at p has changed: the words of the block are us
-record Headed (l : Layout) (cs ds : Cells) (p : Address) (n : ℕ) (us : List Word) : Type 0 where
+record Headed (l : Layout) (cs ds : Cells) (p : BlockPlace) (n : ℕ) (us : List Word) : Type 0 where
   pub words : words_at ds p.at ≡ us
-  pub written : Written cs ds p.at
+  pub written : IsWrittenAt cs ds p.at
   pub its_class : word_of us 0 ≡ word_at cs p.at 0
   pub formed : Formed l (class_at_place cs p) n us
   pub links : (j : ℕ) → links_start l (class_at_place cs p) ≤ j → word_of us j ≡ word_at cs p.at j
 
-module _ (l : Layout) (cs : Cells) (sys : Ptr) (d : Directory) (ms : List Members) (K : Kept l cs sys d ms) (i : ℕ) (p : Address) (g : Lists d i p) where
+module _ (l : Layout) (cs : Cells) (sys : Ptr) (d : Directory) (ms : List Members) (K : Kept l cs sys d ms) (i : ℕ) (p : BlockPlace) (g : Lists d i p) where
   module _ (ds : Cells) (us : List Word) (h : Headed l cs ds p (suc i) us) where
     class_put : class_at_place ds p ≡ class_at_place cs p
     class_put = ap class_in_words h.words ∙ ap plain h.its_class
@@ -99,8 +99,8 @@ module _ (l : Layout) (cs : Cells) (sys : Ptr) (d : Directory) (ms : List Member
           let two = permanents_same l cs sys d ms K ds i p g h.written class_put form_put links_put m in
           λ t. record (state_of l cs d ms) { records = one t; permanents = two t }
 
-      state_made : (c : ℕ) (ps : List Address) → slice_get d.classes c ≡ Some (Some ps) → slice_get ps i ≡ Some p
-          → state_of l ds d ms ≡ record (state_of l cs d ms) { permanents = slice_set (map (records_at l cs) d.classes) c (Some (slice_set (map (λ (q : Address). record_of l (words_at cs q.at)) ps) i r)) }
+      state_made : (c : ℕ) (ps : List BlockPlace) → slice_get d.classes c ≡ Some (Some ps) → slice_get ps i ≡ Some p
+          → state_of l ds d ms ≡ record (state_of l cs d ms) { permanents = slice_set (map (records_at l cs) d.classes) c (Some (slice_set (map (λ (q : BlockPlace). record_of l (words_at cs q.at)) ps) i r)) }
       state_made c ps m x =
           let one = records_same l cs sys d ms K ds i p g h.written class_put form_put links_put c ps m x in
           let two = permanents_written l cs sys d ms K ds i p g h.written class_put form_put links_put c ps m x r read_put in
@@ -150,7 +150,7 @@ module _ (l : Layout) (cs : Cells) (sys : Ptr) (d : Directory) (ms : List Member
 
     module _ (v : Value) (mode : slice_get (modes_of l c) f ≡ Some (mode_of v)) (ds : Cells) (w : PutsValue cs ds p.at k v) where
       abbrev new : Record
-      new = with_value (record_of l (words_at cs p.at)) f v
+      new = record_with_value (record_of l (words_at cs p.at)) f v
 
       abbrev us : List Word
       us = with_two (words_at cs p.at) k w.first w.second
@@ -171,7 +171,7 @@ module _ (l : Layout) (cs : Cells) (sys : Ptr) (d : Directory) (ms : List Member
           let value : read_as l (class_at_place cs p) us ≡ new =
           record_value l (class_at_place cs p) ws f k w.first w.second (mode_of v) v start (subst (λ b. slice_get (modes_of l b) f ≡ Some (mode_of v)) (sym is) mode) w.value room (subst (λ b. f < length (modes_of l b)) (sym is) (get_inside (modes_of l c) f (mode_of v) mode)) in
           let n : number_in x - 1 ≡ i = ap (λ y. number_in y - 1) at ∙ omega arith in
-          ap (λ r. and_then r (λ r. Ok (with_entity (state_of l cs d ms) c (number_in x) (with_value r f v)))) found ∙ ap Ok (by_entry value n g) where
+          ap (λ r. and_then r (λ r. Ok (with_entity (state_of l cs d ms) c (number_in x) (record_with_value r f v)))) found ∙ ap Ok (by_entry value n g) where
             by_entry : read_as l (class_at_place cs p) us ≡ new → number_in x - 1 ≡ i → Lists d i p → with_entity (state_of l cs d ms) c (number_in x) new ≡ state_of l ds d ms
             by_entry value n (inl m) =
                 with_numbered (state_of l cs d ms) (kind_of l c) c (number_in x) new (subst (λ b. IsPermanent (kind_of l b) → ⊥) is (K.kinds i p m))
@@ -182,7 +182,7 @@ module _ (l : Layout) (cs : Cells) (sys : Ptr) (d : Directory) (ms : List Member
                 let row = get_row l cs d.classes c ps (subst (λ a. slice_get d.classes a ≡ Some (Some ps)) same m) in
                 with_permanent (state_of l cs d ms) (kind_of l c) c (number_in x) new (subst (λ a. IsPermanent (kind_of l a)) same y.permanent)
                 ∙ ap (λ o. record (state_of l cs d ms) { permanents = slice_set (map (records_at l cs) d.classes) c (with_indexed o (number_in x) new) }) row
-                ∙ ap (λ j. record (state_of l cs d ms) { permanents = slice_set (map (records_at l cs) d.classes) c (Some (slice_set (map (λ (q : Address). record_of l (words_at cs q.at)) ps) j new)) }) n
+                ∙ ap (λ j. record (state_of l cs d ms) { permanents = slice_set (map (records_at l cs) d.classes) c (Some (slice_set (map (λ (q : BlockPlace). record_of l (words_at cs q.at)) ps) j new)) }) n
                 ∙ sym (state_made ds us value_put new value c ps (subst (λ a. slice_get d.classes a ≡ Some (Some ps)) same m) h)
 
       -- it is the value then
@@ -201,7 +201,7 @@ module _ (l : Layout) (cs : Cells) (sys : Ptr) (d : Directory) (ms : List Member
   -- the time of a notice
   module _ (x : ℤ) (at : x ≡ pos (suc i)) (found : notice (state_of l cs d ms) x ≡ Ok (record_of l (words_at cs p.at))) where
     pub is_timed : is_notice (kind_of l (class_at_place cs p)) ≡ true
-    is_timed = notice_kind (numbered (state_of l cs d ms) x) (record_of l (words_at cs p.at)) found where
+    is_timed = notice_kind (numbered_record (state_of l cs d ms) x) (record_of l (words_at cs p.at)) found where
       notice_kind : (r : Result Record FaultKind) (t : Record) → and_then r (of_notice l) ≡ Ok t → is_notice (kind_of l t.class) ≡ true
       notice_kind (Err e) t h = cc
       notice_kind (Ok r) t h = by_kind (is_notice (kind_of l r.class)) refl where

@@ -6,7 +6,7 @@ use mir.Syntax.{w64}
 use Rattle.ss_base.specs.declared.value.Value.{Value}
 use Rattle.ss_base.specs.declared.layout.Mode.{Mode}
 use Rattle.ss_base.specs.Layout.{mode_of}
-use Rattle.ss_records_blocks.specs.declared.store.Address.{Address}
+use Rattle.ss_records_blocks.specs.declared.store.BlockPlace.{BlockPlace}
 use Rattle.ss_records_blocks.specs.Cells.{Cells, number, IsNumber, MayBeNumber, words_at, word_at, put_word}
 use Rattle.ss_world.specs.State.{modes_of, value_in, assigned, timed}
 use Rattle.ss_records_words.specs.Shape.{values_end}
@@ -18,7 +18,7 @@ use Rattle.ss_records_entities.specs.Parts.{IsKept, state, places, Found, FoundN
 use Rattle.ss_records_entities.proofs.Assigns.{first_number, second_number, is_value, kept_assigned, length_assigned, is_assigned, reads_back, may_time, kept_timed, length_timed, is_set}
 
 -- the attribute f of what was found at p, whose words begin at k
-module _ (r : Records) (K : IsKept r) (c : ℕ) (x : ℤ) (p : Address) (g : Found r c x p) (f k : ℕ) (start : k ≡ 2 + 2 * f) where
+module _ (r : Records) (K : IsKept r) (c : ℕ) (x : ℤ) (p : BlockPlace) (g : Found r c x p) (f k : ℕ) (start : k ≡ 2 + 2 * f) where
   module _ (m : Mode) (mode : slice_get (modes_of r.layout c) f ≡ Some m) where
     pub found_first : IsNumber (word_at r.blocks.cells p.at k)
     found_first = first_number r.layout r.blocks.cells r.system.at (places r) r.notes.lists K g.index p g.entry c g.class x g.is g.entity f k start m mode
@@ -44,7 +44,7 @@ module _ (r : Records) (K : IsKept r) (c : ℕ) (x : ℤ) (p : Address) (g : Fou
     found_reads = reads_back r.layout r.blocks.cells r.system.at (places r) r.notes.lists K g.index p g.entry c g.class x g.is g.entity f k start v mode ds w
 
 -- the time t is written of the notice that was found at p
-module _ (r : Records) (K : IsKept r) (x : ℤ) (p : Address) (g : FoundNotice r x p) (w : ℕ) (t : ℤ) (val : cast_signed w64 w ≡ t) where
+module _ (r : Records) (K : IsKept r) (x : ℤ) (p : BlockPlace) (g : FoundNotice r x p) (w : ℕ) (t : ℤ) (val : cast_signed w64 w ≡ t) where
   abbrev timed_cells : Cells
   timed_cells = put_word r.blocks.cells p.at (values_end r.layout (class_at_place r.blocks.cells p)) (number w)
 

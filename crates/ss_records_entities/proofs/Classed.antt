@@ -3,9 +3,9 @@ use Rattle.std.proofs.Common.{◌≡◌, ℕ, ◌<◌, length, Ok, inl, refl, ap
 use Rattle.std.specs.Prelude.{ℤ}
 use Rattle.ss_base.specs.declared.layout.ClassKind.{ClassKind}
 use Rattle.ss_base.specs.declared.layout.ClassKind.TheVariants.{Permanent, Temporary, Notice}
-use Rattle.ss_world.specs.State.{State, numbered, and_then, of_class, no_value, kind_of, entity_of_kind, known_in}
+use Rattle.ss_world.specs.State.{State, numbered_record, and_then, of_class, no_value, kind_of, entity_of_kind, known_in}
 use Rattle.ss_records_entities.specs.declared.records.Records.{Records}
-use Rattle.ss_records_blocks.specs.declared.store.Address.{Address}
+use Rattle.ss_records_blocks.specs.declared.store.BlockPlace.{BlockPlace}
 use Rattle.ss_records_blocks.specs.Cells.{number, words_at, word_at}
 use Rattle.ss_records_words.specs.Reading.{plain, record_of}
 use Rattle.ss_records_words.specs.Places.{class_at_place}
@@ -15,7 +15,7 @@ use Rattle.ss_records_entities.specs.Classed.{HasClass}
 use Rattle.ss_records_entities.proofs.Keeps.{read_place, numbered_is, there}
 
 -- the class is the one that the block at the place of the number says
-pub class_there : (r : Records) (K : IsKept r) (x : ℤ) (p : Address) (c : ℕ) → numbered_place r.directory.places x ≡ Ok p → word_at r.blocks.cells p.at 0 ≡ number c → HasClass (state r) x c
+pub class_there : (r : Records) (K : IsKept r) (x : ℤ) (p : BlockPlace) (c : ℕ) → numbered_place r.directory.places x ≡ Ok p → word_at r.blocks.cells p.at 0 ≡ number c → HasClass (state r) x c
 class_there r K x p c h w =
     let t = there r.directory.places x p h in
     let is : class_at_place r.blocks.cells p ≡ c = ap plain w in
@@ -30,7 +30,7 @@ class_there r K x p c h w =
 -- ## What is known of such an entity
 
 module _ (s : State) (x : ℤ) (c : ℕ) (h : HasClass s x c) where
-  by_kind : (k : ClassKind) → (IsPermanent k → ⊥) → (d : ℕ) → entity_of_kind s k d x ≡ and_then (numbered s x) (of_class d)
+  by_kind : (k : ClassKind) → (IsPermanent k → ⊥) → (d : ℕ) → entity_of_kind s k d x ≡ and_then (numbered_record s x) (of_class d)
   by_kind Permanent n d = absurd (n tt)
   by_kind Temporary n d = refl
   by_kind Notice n d = refl

@@ -10,7 +10,7 @@ use Rattle.ss_base.specs.declared.layout.Mode.TheVariants.{Integer, Alpha}
 use Rattle.ss_base.specs.declared.layout.Layout.{Layout}
 use Rattle.ss_base.specs.declared.layout.Owner.TheVariants.{System, Class}
 use Rattle.ss_base.specs.Layout.{first_value}
-use Rattle.ss_records_blocks.specs.declared.store.Address.{Address}
+use Rattle.ss_records_blocks.specs.declared.store.BlockPlace.{BlockPlace}
 use Rattle.ss_records_blocks.specs.Cells.{Word, number, Cells, IsNumber, words_at, word_of, word_at, blanks}
 use Rattle.ss_world.specs.State.{Record, Members, kind_of, modes_of, is_notice, first_record, created, LAST_NUMBER}
 use Rattle.ss_records_words.specs.Shape.{values_end, links_start, block_words}
@@ -21,7 +21,7 @@ use Rattle.ss_records_words.specs.Places.{Made, Directory, lying, own_or, listin
 use Rattle.ss_records_words.specs.Laid.{Laid, Born}
 use Rattle.ss_records_blocks.proofs.Same.{by_same}
 use Rattle.ss_records_blocks.proofs.Puts.{words_new, words_old, length-blanks}
-use Rattle.ss_records_words.specs.Slotted.{IsOf}
+use Rattle.ss_records_words.specs.Slotted.{IsEntityOf}
 use Rattle.ss_records_words.proofs.Listing.{listed}
 use Rattle.ss_records_words.proofs.Disjoint.{entry_of}
 use Rattle.ss_records_entities.proofs.ReadWords.{read_as}
@@ -51,37 +51,37 @@ record_first l c ws e h =
     let time = time_first (is_notice (kind_of l c)) ws (values_end l c) (omega arith) h in
     ap (λ b. read_as l b ws) e ∙ (λ i. record { class = c; values = values i; time = time i })
 
-pub get_cases : (d : Numbers) (q p : Address) (i : ℕ) → slice_get (d ++ Some q ∷ []) i ≡ Some (Some p) → ((i ≡ length d) × (q ≡ p)) ⊎ (slice_get d i ≡ Some (Some p))
+pub get_cases : (d : Numbers) (q p : BlockPlace) (i : ℕ) → slice_get (d ++ Some q ∷ []) i ≡ Some (Some p) → ((i ≡ length d) × (q ≡ p)) ⊎ (slice_get d i ≡ Some (Some p))
 get_cases [] q p zero h = inl (refl, entry_is h)
 get_cases [] q p (suc i) h = cc
 get_cases (z ∷ zs) q p zero h = inr h
 get_cases (z ∷ zs) q p (suc i) h = elim (get_cases zs q p i h) as (λ _. ((suc i ≡ length (z ∷ zs)) × (q ≡ p)) ⊎ (slice_get zs i ≡ Some (Some p))) [ inl e ↦ inl (ap suc e.0, e.1) | inr k ↦ inr k ]
 
-pub get_on : (d : Numbers) (q : Address) (i : ℕ) (p : Address) → slice_get d i ≡ Some (Some p) → slice_get (d ++ Some q ∷ []) i ≡ Some (Some p)
+pub get_on : (d : Numbers) (q : BlockPlace) (i : ℕ) (p : BlockPlace) → slice_get d i ≡ Some (Some p) → slice_get (d ++ Some q ∷ []) i ≡ Some (Some p)
 get_on [] q i p h = cc
 get_on (z ∷ zs) q zero p h = h
 get_on (z ∷ zs) q (suc i) p h = get_on zs q i p h
 
 -- what is listed once a number is pushed
-pushed : (d : Directory) (q : Address) (b i : ℕ) (p : Address) → slice_get (listing (lying (d.numbers ++ Some q ∷ []) d.classes) b) i ≡ Some (Some p) → ((i ≡ length d.numbers) × (q ≡ p)) ⊎ (slice_get (listing d b) i ≡ Some (Some p))
+pushed : (d : Directory) (q : BlockPlace) (b i : ℕ) (p : BlockPlace) → slice_get (listing (lying (d.numbers ++ Some q ∷ []) d.classes) b) i ≡ Some (Some p) → ((i ≡ length d.numbers) × (q ≡ p)) ⊎ (slice_get (listing d b) i ≡ Some (Some p))
 pushed d q b i p h = by_class (slice_get d.classes b) h where
-  by_class : (o : Option (Option (List Address))) → slice_get (own_or (d.numbers ++ Some q ∷ []) o) i ≡ Some (Some p) → ((i ≡ length d.numbers) × (q ≡ p)) ⊎ (slice_get (own_or d.numbers o) i ≡ Some (Some p))
+  by_class : (o : Option (Option (List BlockPlace))) → slice_get (own_or (d.numbers ++ Some q ∷ []) o) i ≡ Some (Some p) → ((i ≡ length d.numbers) × (q ≡ p)) ⊎ (slice_get (own_or d.numbers o) i ≡ Some (Some p))
   by_class None k = get_cases d.numbers q p i k
   by_class (Some None) k = get_cases d.numbers q p i k
   by_class (Some (Some ps)) k = inr k
 
-push_on : (d : Directory) (q : Address) (b i : ℕ) (p : Address) → slice_get (listing d b) i ≡ Some (Some p) → slice_get (listing (lying (d.numbers ++ Some q ∷ []) d.classes) b) i ≡ Some (Some p)
+push_on : (d : Directory) (q : BlockPlace) (b i : ℕ) (p : BlockPlace) → slice_get (listing d b) i ≡ Some (Some p) → slice_get (listing (lying (d.numbers ++ Some q ∷ []) d.classes) b) i ≡ Some (Some p)
 push_on d q b i p h = by_class (slice_get d.classes b) h where
-  by_class : (o : Option (Option (List Address))) → slice_get (own_or d.numbers o) i ≡ Some (Some p) → slice_get (own_or (d.numbers ++ Some q ∷ []) o) i ≡ Some (Some p)
+  by_class : (o : Option (Option (List BlockPlace))) → slice_get (own_or d.numbers o) i ≡ Some (Some p) → slice_get (own_or (d.numbers ++ Some q ∷ []) o) i ≡ Some (Some p)
   by_class None k = get_on d.numbers q i p k
   by_class (Some None) k = get_on d.numbers q i p k
   by_class (Some (Some ps)) k = k
 
-length_push : (d : Numbers) (q : Address) → length (d ++ Some q ∷ []) ≡ length d + 1
+length_push : (d : Numbers) (q : BlockPlace) → length (d ++ Some q ∷ []) ≡ length d + 1
 length_push [] q = omega arith
 length_push (z ∷ zs) q = omega (arith, length_push zs q)
 
-map_push : (f : Option Address → Option Record) (d : Numbers) (e : Option Address) → map f (d ++ e ∷ []) ≡ map f d ++ f e ∷ []
+map_push : (f : Option BlockPlace → Option Record) (d : Numbers) (e : Option BlockPlace) → map f (d ++ e ∷ []) ≡ map f d ++ f e ∷ []
 map_push f [] e = refl
 map_push f (z ∷ zs) e = ap (λ l. f z ∷ l) (map_push f zs e)
 
@@ -102,7 +102,7 @@ born_formed l ds end p c n b = record {
 }
 
 -- how many permanent entities there may be
-made_bound : (ms : Made) → ((c : ℕ) (ps : List Address) → slice_get ms c ≡ Some (Some ps) → length ps ≤ 2 ^ 20) → permanent_count ms ≤ length ms * 1048576
+made_bound : (ms : Made) → ((c : ℕ) (ps : List BlockPlace) → slice_get ms c ≡ Some (Some ps) → length ps ≤ 2 ^ 20) → permanent_count ms ≤ length ms * 1048576
 made_bound [] h = omega arith
 made_bound (None ∷ ms) h = omega (arith, made_bound ms (λ c ps e. h (suc c) ps e))
 made_bound (Some ps ∷ ms) h = omega (arith, made_bound ms (λ c qs e. h (suc c) qs e), h zero ps refl)
@@ -119,23 +119,23 @@ module _ (l : Layout) (cs : Cells) (sys : Ptr) (d : Directory) (ms : List Member
     apart_from : (p : Ptr) (n : ℕ) → length (words_at cs p) ≡ n → 2 ≤ n → q ≡ p → ⊥
     apart_from p n h low i = no_words (sym (ap length fresh) ∙ ap (λ r. length (words_at cs r)) i) h low
 
-    pub off_entry : (i : ℕ) (p : Address) → Lists d i p → q ≡ p.at → ⊥
+    pub off_entry : (i : ℕ) (p : BlockPlace) → Lists d i p → q ≡ p.at → ⊥
     off_entry i p h = apart_from p.at (block_words l (Class (class_at_place cs p))) (K.formed i p h).size (omega arith)
 
     pub off_sys : q ≡ sys → ⊥
     off_sys = apart_from sys (block_words l System) K.system (omega arith)
 
   -- no entity of a class of numbers has a number that is not issued
-  pub not_yet : (c : ℕ) → (IsPermanent (kind_of l c) → ⊥) → IsOf cs d c (suc (length d.numbers)) → ⊥
+  pub not_yet : (c : ℕ) → (IsPermanent (kind_of l c) → ⊥) → IsEntityOf cs d c (suc (length d.numbers)) → ⊥
   not_yet c kind h = let a = entry_of cs d c (suc (length d.numbers)) h in by_entry a.0 a.1 a.2 a.4 (listed d c a.0 a.1 a.3) where
     less_self : {m k : ℕ} → suc m ≡ suc k → k < m → ⊥
     less_self x y = omega (arith, x, y)
 
-    by_entry : (i : ℕ) (p : Address) → suc (length d.numbers) ≡ suc i → class_at_place cs p ≡ c → Lists d i p → ⊥
+    by_entry : (i : ℕ) (p : BlockPlace) → suc (length d.numbers) ≡ suc i → class_at_place cs p ≡ c → Lists d i p → ⊥
     by_entry i p e k (inl m) = less_self e (get_inside d.numbers i (Some p) m)
     by_entry i p e k (inr (b, ps, m, x)) = let y = K.made b ps m in kind (subst (λ a. IsPermanent (kind_of l a)) (sym (y.class i p x) ∙ k) y.permanent)
 
-  module _ (q : Address) (fresh : words_at cs q.at ≡ []) (w c : ℕ) (size : w ≡ block_words l (Class c)) (ds : Cells) (laid : Laid l ((q.at, blanks w) ∷ cs) ds sys q.at c (length d.numbers + 1)) (kind : IsPermanent (kind_of l c) → ⊥) (inside : c < length l.classes) (room : length d.numbers < LAST_NUMBER) where
+  module _ (q : BlockPlace) (fresh : words_at cs q.at ≡ []) (w c : ℕ) (size : w ≡ block_words l (Class c)) (ds : Cells) (laid : Laid l ((q.at, blanks w) ∷ cs) ds sys q.at c (length d.numbers + 1)) (kind : IsPermanent (kind_of l c) → ⊥) (inside : c < length l.classes) (room : length d.numbers < LAST_NUMBER) where
     abbrev bs : Cells
     bs = (q.at, blanks w) ∷ cs
 
@@ -145,7 +145,7 @@ module _ (l : Layout) (cs : Cells) (sys : Ptr) (d : Directory) (ms : List Member
     kept_words : (p : Ptr) → (q.at ≡ p → ⊥) → words_at ds p ≡ words_at cs p
     kept_words p n = laid.written.others p n ∙ words_old cs q.at p (blanks w) n
 
-    old : (i : ℕ) (p : Address) → Lists d i p → words_at ds p.at ≡ words_at cs p.at
+    old : (i : ℕ) (p : BlockPlace) → Lists d i p → words_at ds p.at ≡ words_at cs p.at
     old i p h = kept_words p.at (off_entry q.at fresh i p h)
 
     born : Born l ds sys q.at c (suc (length d.numbers))
@@ -161,15 +161,15 @@ module _ (l : Layout) (cs : Cells) (sys : Ptr) (d : Directory) (ms : List Member
     new_class : class_at_place ds q ≡ c
     new_class = ap plain laid.its_class
 
-    by_entry : {P : Type 0} (i : ℕ) (p : Address) → Lists e i p → ((i ≡ length d.numbers) → (q ≡ p) → P) → (Lists d i p → P) → P
+    by_entry : {P : Type 0} (i : ℕ) (p : BlockPlace) → Lists e i p → ((i ≡ length d.numbers) → (q ≡ p) → P) → (Lists d i p → P) → P
     by_entry {P} i p (inl h) new was = elim (get_cases d.numbers q p i h) as (λ _. P) [ inl x ↦ new x.0 x.1 | inr x ↦ was (inl x) ]
     by_entry {P} i p (inr m) new was = was (inr m)
 
-    new_of : (b i : ℕ) (p : Address) → i ≡ length d.numbers → q ≡ p → class_at_place ds p ≡ b → Born l ds sys p.at b (suc i) × (IsOf cs d b (suc i) → ⊥)
+    new_of : (b i : ℕ) (p : BlockPlace) → i ≡ length d.numbers → q ≡ p → class_at_place ds p ≡ b → Born l ds sys p.at b (suc i) × (IsEntityOf cs d b (suc i) → ⊥)
     new_of b i p x y k =
         let same : c ≡ b = sym new_class ∙ ap (class_at_place ds) y ∙ k in
-        let at : Born l ds sys p.at c (suc (length d.numbers)) = subst (λ (r : Address). Born l ds sys r.at c (suc (length d.numbers))) y born in
-        subst (λ j. Born l ds sys p.at b (suc j) × (IsOf cs d b (suc j) → ⊥)) (sym x) (subst (λ a. Born l ds sys p.at a (suc (length d.numbers))) same at, not_yet b (subst (λ a. IsPermanent (kind_of l a) → ⊥) same kind))
+        let at : Born l ds sys p.at c (suc (length d.numbers)) = subst (λ (r : BlockPlace). Born l ds sys r.at c (suc (length d.numbers))) y born in
+        subst (λ j. Born l ds sys p.at b (suc j) × (IsEntityOf cs d b (suc j) → ⊥)) (sym x) (subst (λ a. Born l ds sys p.at a (suc (length d.numbers))) same at, not_yet b (subst (λ a. IsPermanent (kind_of l a) → ⊥) same kind))
 
     pub kept_created : Kept l ds sys e ms
     kept_created = record {
@@ -179,30 +179,30 @@ module _ (l : Layout) (cs : Cells) (sys : Ptr) (d : Directory) (ms : List Member
       system = ap length (kept_words sys (off_sys q.at fresh)) ∙ K.system;
       end = ap (λ us. word_of us 1) (kept_words sys (off_sys q.at fresh)) ∙ K.end;
       kinds = λ i p h. elim (get_cases d.numbers q p i h) as (λ _. IsPermanent (kind_of l (class_at_place ds p)) → ⊥) [
-        | inl x ↦ subst (λ (r : Address). IsPermanent (kind_of l (class_at_place ds r)) → ⊥) x.1 (subst (λ b. IsPermanent (kind_of l b) → ⊥) (sym new_class) kind)
+        | inl x ↦ subst (λ (r : BlockPlace). IsPermanent (kind_of l (class_at_place ds r)) → ⊥) x.1 (subst (λ b. IsPermanent (kind_of l b) → ⊥) (sym new_class) kind)
         | inr x ↦ subst (λ us. IsPermanent (kind_of l (class_in_words us)) → ⊥) (sym (old i p (inl x))) (K.kinds i p x)
       ];
       made = λ b ps h. let m = K.made b ps h in record { permanent = m.permanent; class = λ i p x. ap class_in_words (old i p (inr (b, ps, h, x))) ∙ m.class i p x; few = m.few };
       classes = λ i p h. by_entry i p h
-          (λ x y. subst (λ (r : Address). class_at_place ds r < length l.classes) y (subst (λ b. b < length l.classes) (sym new_class) inside))
+          (λ x y. subst (λ (r : BlockPlace). class_at_place ds r < length l.classes) y (subst (λ b. b < length l.classes) (sym new_class) inside))
           (λ x. subst (λ us. class_in_words us < length l.classes) (sym (old i p x)) (K.classes i p x));
       formed = λ i p h. by_entry i p h
-          (λ x y. subst (λ (r : Address). Formed l (class_at_place ds r) (suc i) (words_at ds r.at)) y (subst (λ b. Formed l b (suc i) (words_at ds q.at)) (sym new_class) (subst (λ j. Formed l c (suc j) (words_at ds q.at)) (sym x) (born_formed l ds sys q.at c (suc (length d.numbers)) born))))
+          (λ x y. subst (λ (r : BlockPlace). Formed l (class_at_place ds r) (suc i) (words_at ds r.at)) y (subst (λ b. Formed l b (suc i) (words_at ds q.at)) (sym new_class) (subst (λ j. Formed l c (suc j) (words_at ds q.at)) (sym x) (born_formed l ds sys q.at c (suc (length d.numbers)) born))))
           (λ x. subst (λ us. Formed l (class_in_words us) (suc i) us) (sym (old i p x)) (K.formed i p x));
       apart = λ i j p r h k z. by_entry i p h
-          (λ x y. by_entry j r k (λ x' y'. x ∙ sym x') (λ x'. absurd (off_entry q.at fresh j r x' (ap (λ (o : Address). o.at) y ∙ z))))
-          (λ x. by_entry j r k (λ x' y'. absurd (off_entry q.at fresh i p x (ap (λ (o : Address). o.at) y' ∙ sym z))) (λ x'. K.apart i j p r x x' z));
-      off_system = λ i p h. by_entry i p h (λ x y z. off_sys q.at fresh (ap (λ (o : Address). o.at) y ∙ z)) (λ x. K.off_system i p x);
+          (λ x y. by_entry j r k (λ x' y'. x ∙ sym x') (λ x'. absurd (off_entry q.at fresh j r x' (ap (λ (o : BlockPlace). o.at) y ∙ z))))
+          (λ x. by_entry j r k (λ x' y'. absurd (off_entry q.at fresh i p x (ap (λ (o : BlockPlace). o.at) y' ∙ sym z))) (λ x'. K.apart i j p r x x' z));
+      off_system = λ i p h. by_entry i p h (λ x y z. off_sys q.at fresh (ap (λ (o : BlockPlace). o.at) y ∙ z)) (λ x. K.off_system i p x);
       counted = omega (arith, laid.written.count, K.counted, living_push d.numbers q);
       names = λ s t g. name_born l cs sys d ms K s t g e ds (kept_words sys (off_sys q.at fresh))
-          (λ b i p h k. elim (pushed d q b i p h) as (λ _. (Born l ds sys p.at b (suc i) × (IsOf cs d b (suc i) → ⊥)) ⊎ ((slice_get (listing d b) i ≡ Some (Some p)) × (words_at ds p.at ≡ words_at cs p.at))) [
+          (λ b i p h k. elim (pushed d q b i p h) as (λ _. (Born l ds sys p.at b (suc i) × (IsEntityOf cs d b (suc i) → ⊥)) ⊎ ((slice_get (listing d b) i ≡ Some (Some p)) × (words_at ds p.at ≡ words_at cs p.at))) [
             | inl x ↦ inl (new_of b i p x.0 x.1 k)
             | inr x ↦ inr (x, old i p (listed d b i p x))
           ])
           (λ b i p h k. (push_on d q b i p h, ap class_in_words (old i p (listed d b i p h)) ∙ k));
     }
 
-    records_same : (i : ℕ) (o : Option Address) → slice_get d.numbers i ≡ Some o → record_at l ds o ≡ record_at l cs o
+    records_same : (i : ℕ) (o : Option BlockPlace) → slice_get d.numbers i ≡ Some o → record_at l ds o ≡ record_at l cs o
     records_same i None h = refl
     records_same i (Some p) h = ap (λ us. Some (record_of l us)) (old i p (inl h))
 
@@ -213,7 +213,7 @@ module _ (l : Layout) (cs : Cells) (sys : Ptr) (d : Directory) (ms : List Member
     permanents_kept : map (records_at l ds) d.classes ≡ map (records_at l cs) d.classes
     permanents_kept = made_same l cs ds d.classes (λ i p h. ap (record_of l) (old i p (inr h)))
 
-    length_map : (f : Option Address → Option Record) (xs : Numbers) → length (map f xs) ≡ length xs
+    length_map : (f : Option BlockPlace → Option Record) (xs : Numbers) → length (map f xs) ≡ length xs
     length_map f [] = refl
     length_map f (z ∷ zs) = ap suc (length_map f zs)
 

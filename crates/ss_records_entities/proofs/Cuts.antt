@@ -6,7 +6,7 @@ use Rattle.ss_base.specs.declared.fault.FaultKind.{FaultKind}
 use Rattle.ss_base.specs.declared.fault.FaultKind.TheVariants.{FiledTwice, NotFiled}
 use Rattle.ss_base.specs.declared.layout.SetLayout.{SetLayout}
 use Rattle.ss_records_entities.specs.declared.records.Records.{Records}
-use Rattle.ss_records_blocks.specs.declared.links.Entry.{Entry}
+use Rattle.ss_records_blocks.specs.declared.links.EntityBlock.{EntityBlock}
 use Rattle.ss_records_blocks.specs.Cells.{number, link, word_at}
 use Rattle.ss_world.specs.State.{State, and_then, members_of, contains, is_filed}
 use Rattle.ss_world.specs.Sets.{joiner, owner, put_before, put_after, less, with_list_of, put_in, put_beside, filed_before, filed_after, taken_out}
@@ -14,7 +14,7 @@ use Rattle.ss_world.specs.Lists.{head0, last_or, succ, pred_from, In, NotIn, Dis
 use Rattle.ss_records_words.specs.Places.{entity_at}
 use Rattle.ss_records_blocks.specs.Links.{Leads}
 use Rattle.ss_records_words.specs.Slotted.{member_base, owner_base}
-use Rattle.ss_records_entities.specs.Parts.{IsKept, places, Lies, Owns, Joins, Between, Around}
+use Rattle.ss_records_entities.specs.Parts.{IsKept, places, Lies, Owns, Joins, Between, HasNeighbours}
 use Rattle.ss_records_words.proofs.Splice.{cut, succ_cut, pred_cut, distinct_less, last_splice}
 use Rattle.ss_records_blocks.proofs.Entries.{get_there}
 use Rattle.ss_records_words.proofs.Filed.{contains_in}
@@ -33,14 +33,14 @@ module _ (r : Records) (K : IsKept r) (s : ℕ) (inside : s < length r.layout.se
   abbrev f : ℕ → List ℕ
   f = members_of r.notes.lists s
 
-  abbrev end : Entry
+  abbrev end : EntityBlock
   end = record { place = r.system; number = 0 }
 
-  pub lies_there : (p : Ptr) (k n : ℕ) → To r.blocks.cells at p k n → (q : Entry) → word_at r.blocks.cells p k ≡ link q.place.at → word_at r.blocks.cells q.place.at 1 ≡ number q.number → (Lies r s q) × (q.number ≡ n)
+  pub lies_there : (p : Ptr) (k n : ℕ) → To r.blocks.cells at p k n → (q : EntityBlock) → word_at r.blocks.cells p k ≡ link q.place.at → word_at r.blocks.cells q.place.at 1 ≡ number q.number → (Lies r s q) × (q.number ≡ n)
   lies_there p k n h q w v = let e = its_number r.blocks.cells at p k n h q.place.at w q.number v in (at_target r.blocks.cells at p k n h q.place.at w ∙ ap at (sym e) ∙ ap (λ c. entity_at r.system.at (places r) c q.number) (sym (its_members r.layout r.blocks.cells r.system.at (places r) r.notes.lists K s inside)), e)
 
   -- at the ends of a set
-  module _ (e : Entry) (h : Owns r s e) (b : ℕ) (base : (u : SetLayout) → slice_get r.layout.sets s ≡ Some u → b ≡ owner_base r.layout s u) (q : Entry) where
+  module _ (e : EntityBlock) (h : Owns r s e) (b : ℕ) (base : (u : SetLayout) → slice_get r.layout.sets s ≡ Some u → b ≡ owner_base r.layout s u) (q : EntityBlock) where
     pub at_first : word_at r.blocks.cells e.place.at b ≡ link q.place.at → word_at r.blocks.cells q.place.at 1 ≡ number q.number → Between r s e.number end q [] (f e.number)
     at_first w v =
         let l = lies_there e.place.at b _ (first_to r.layout r.blocks.cells r.system.at (places r) r.notes.lists K s inside e.place.at e.number h.lies h.may b base) q w v in
@@ -52,7 +52,7 @@ module _ (r : Records) (K : IsKept r) (s : ℕ) (inside : s < length r.layout.se
         record { list = sym (append-nil (f e.number)); before = l.0; last = l.1; after = refl; first = refl }
 
   -- beside a member y
-  module _ (y : Entry) (j : Joins r s y) (b : ℕ) (base : (u : SetLayout) → slice_get r.layout.sets s ≡ Some u → b ≡ member_base r.layout s u) (o : ℕ) (there : contains (f o) y.number ≡ true) where
+  module _ (y : EntityBlock) (j : Joins r s y) (b : ℕ) (base : (u : SetLayout) → slice_get r.layout.sets s ≡ Some u → b ≡ member_base r.layout s u) (o : ℕ) (there : contains (f o) y.number ≡ true) where
     here : In y.number (f o)
     here = contains_in (f o) y.number there
 
@@ -86,21 +86,21 @@ module _ (r : Records) (K : IsKept r) (s : ℕ) (inside : s < length r.layout.se
     pub prev_found : Leads r.blocks.cells y.place.at (b + 1)
     prev_found = leads r.blocks.cells at y.place.at (b + 1) _ prev_there
 
-    module _ (q : Entry) (w : word_at r.blocks.cells y.place.at b ≡ link q.place.at) (v : word_at r.blocks.cells q.place.at 1 ≡ number q.number) where
+    module _ (q : EntityBlock) (w : word_at r.blocks.cells y.place.at b ≡ link q.place.at) (v : word_at r.blocks.cells q.place.at 1 ≡ number q.number) where
       next_is : (Lies r s q) × (q.number ≡ head0 ys)
       next_is = let l = lies_there y.place.at b _ next_there q w v in (l.0, l.1 ∙ ap (succ y.number) parts.2 ∙ succ_cut xs y.number ys some apart)
 
       after_it : Between r s o y q (xs ++ y.number ∷ []) ys
       after_it = record { list = parts.2 ∙ sym (append_assoc xs (y.number ∷ []) ys); before = j.lies; last = sym (last_splice 0 xs y.number []); after = next_is.0; first = next_is.1 }
 
-    module _ (q : Entry) (w : word_at r.blocks.cells y.place.at (b + 1) ≡ link q.place.at) (v : word_at r.blocks.cells q.place.at 1 ≡ number q.number) where
+    module _ (q : EntityBlock) (w : word_at r.blocks.cells y.place.at (b + 1) ≡ link q.place.at) (v : word_at r.blocks.cells q.place.at 1 ≡ number q.number) where
       prev_is : (Lies r s q) × (q.number ≡ last_or 0 xs)
       prev_is = let l = lies_there y.place.at (b + 1) _ prev_there q w v in (l.0, l.1 ∙ ap (pred_from 0 y.number) parts.2 ∙ pred_cut xs y.number ys some apart)
 
       before_it : Between r s o q y xs (y.number ∷ ys)
       before_it = record { list = parts.2; before = prev_is.0; last = prev_is.1; after = j.lies; first = refl }
 
-      pub around_it : (z : Entry) → word_at r.blocks.cells y.place.at b ≡ link z.place.at → word_at r.blocks.cells z.place.at 1 ≡ number z.number → Around r s o y.number q z xs ys
+      pub around_it : (z : EntityBlock) → word_at r.blocks.cells y.place.at b ≡ link z.place.at → word_at r.blocks.cells z.place.at 1 ≡ number z.number → HasNeighbours r s o y.number q z xs ys
       around_it z wz vz = let n = next_is z wz vz in record { list = parts.2; before = prev_is.0; last = prev_is.1; after = n.0; first = n.1 }
 
     list_before : (x : ℕ) → xs ++ x ∷ y.number ∷ ys ≡ put_before y.number x (f o)
@@ -122,7 +122,7 @@ module _ (r : Records) (K : IsKept r) (s : ℕ) (inside : s < length r.layout.se
     back true = y.number ∷ ys
     back false = ys
 
-    pub beside_it : (before : Bool) (q : Entry) → word_at r.blocks.cells y.place.at (if before then b + 1 else b) ≡ link q.place.at → word_at r.blocks.cells q.place.at 1 ≡ number q.number → Between r s o (if before then q else y) (if before then y else q) (front before) (back before)
+    pub beside_it : (before : Bool) (q : EntityBlock) → word_at r.blocks.cells y.place.at (if before then b + 1 else b) ≡ link q.place.at → word_at r.blocks.cells q.place.at 1 ≡ number q.number → Between r s o (if before then q else y) (if before then y else q) (front before) (back before)
     beside_it true q w v = before_it q w v
     beside_it false q w v = after_it q w v
 

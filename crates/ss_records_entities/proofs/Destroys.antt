@@ -5,7 +5,7 @@ use denote.RawPtr.{Ptr}
 use Rattle.ss_base.specs.declared.layout.Layout.{Layout}
 use Rattle.ss_base.specs.declared.layout.SetLayout.{SetLayout}
 use Rattle.ss_base.specs.declared.layout.Owner.TheVariants.{Class}
-use Rattle.ss_records_blocks.specs.declared.store.Address.{Address}
+use Rattle.ss_records_blocks.specs.declared.store.BlockPlace.{BlockPlace}
 use Rattle.ss_records_blocks.specs.Cells.{Cells, words_at, word_of, without_block}
 use Rattle.ss_world.specs.State.{Members, members_of, kind_of, and_then, entity_in, number_in, in_a_set, owns_members, let_go, destroyed}
 use Rattle.ss_records_words.specs.Shape.{block_words}
@@ -23,40 +23,40 @@ use Rattle.ss_base.specs.declared.fault.FaultKind.TheVariants.{InASet, OwnsMembe
 use Rattle.ss_records_blocks.proofs.Count.{blocks_without}
 use Rattle.ss_records_blocks.proofs.Entries.{living_gone, length_set}
 
-get_other : (d : Numbers) (i : ℕ) (v : Option Address) (j : ℕ) → (i ≡ j → ⊥) → slice_get (slice_set d i v) j ≡ slice_get d j
+get_other : (d : Numbers) (i : ℕ) (v : Option BlockPlace) (j : ℕ) → (i ≡ j → ⊥) → slice_get (slice_set d i v) j ≡ slice_get d j
 get_other [] i v j n = refl
 get_other (z ∷ zs) zero v zero n = absurd (n refl)
 get_other (z ∷ zs) zero v (suc j) n = refl
 get_other (z ∷ zs) (suc i) v zero n = refl
 get_other (z ∷ zs) (suc i) v (suc j) n = get_other zs i v j (λ e. n (ap suc e))
 
-get_gone : (d : Numbers) (i : ℕ) (p : Address) → slice_get (slice_set d i None) i ≡ Some (Some p) → ⊥
+get_gone : (d : Numbers) (i : ℕ) (p : BlockPlace) → slice_get (slice_set d i None) i ≡ Some (Some p) → ⊥
 get_gone [] i p h = cc
 get_gone (z ∷ zs) zero p h = cc
 get_gone (z ∷ zs) (suc i) p h = get_gone zs i p h
 
 -- what is listed once a number is gone
-dropped : (d : Directory) (i b j : ℕ) (q : Address) → slice_get (listing (lying (slice_set d.numbers i None) d.classes) b) j ≡ Some (Some q) → slice_get (listing d b) j ≡ Some (Some q)
+dropped : (d : Directory) (i b j : ℕ) (q : BlockPlace) → slice_get (listing (lying (slice_set d.numbers i None) d.classes) b) j ≡ Some (Some q) → slice_get (listing d b) j ≡ Some (Some q)
 dropped d i b j q h = by_class (slice_get d.classes b) h where
   in_numbers : slice_get (slice_set d.numbers i None) j ≡ Some (Some q) → slice_get d.numbers j ≡ Some (Some q)
   in_numbers k = by_same i j (λ t n. absurd (get_gone d.numbers i q (ap (slice_get (slice_set d.numbers i None)) n ∙ k))) (λ t n. sym (get_other d.numbers i None j n) ∙ k)
 
-  by_class : (o : Option (Option (List Address))) → slice_get (own_or (slice_set d.numbers i None) o) j ≡ Some (Some q) → slice_get (own_or d.numbers o) j ≡ Some (Some q)
+  by_class : (o : Option (Option (List BlockPlace))) → slice_get (own_or (slice_set d.numbers i None) o) j ≡ Some (Some q) → slice_get (own_or d.numbers o) j ≡ Some (Some q)
   by_class None k = in_numbers k
   by_class (Some None) k = in_numbers k
   by_class (Some (Some ps)) k = k
 
-not_dropped : (d : Directory) (i b j : ℕ) (q : Address) → slice_get (listing d b) j ≡ Some (Some q) → ((i ≡ j) → slice_get d.numbers j ≡ Some (Some q) → ⊥) → slice_get (listing (lying (slice_set d.numbers i None) d.classes) b) j ≡ Some (Some q)
+not_dropped : (d : Directory) (i b j : ℕ) (q : BlockPlace) → slice_get (listing d b) j ≡ Some (Some q) → ((i ≡ j) → slice_get d.numbers j ≡ Some (Some q) → ⊥) → slice_get (listing (lying (slice_set d.numbers i None) d.classes) b) j ≡ Some (Some q)
 not_dropped d i b j q h other = by_class (slice_get d.classes b) h where
   in_numbers : slice_get d.numbers j ≡ Some (Some q) → slice_get (slice_set d.numbers i None) j ≡ Some (Some q)
   in_numbers k = by_same i j (λ t n. absurd (other n k)) (λ t n. get_other d.numbers i None j n ∙ k)
 
-  by_class : (o : Option (Option (List Address))) → slice_get (own_or d.numbers o) j ≡ Some (Some q) → slice_get (own_or (slice_set d.numbers i None) o) j ≡ Some (Some q)
+  by_class : (o : Option (Option (List BlockPlace))) → slice_get (own_or d.numbers o) j ≡ Some (Some q) → slice_get (own_or (slice_set d.numbers i None) o) j ≡ Some (Some q)
   by_class None k = in_numbers k
   by_class (Some None) k = in_numbers k
   by_class (Some (Some ps)) k = k
 
-module _ (l : Layout) (cs : Cells) (sys : Ptr) (d : Directory) (ms : List Members) (K : Kept l cs sys d ms) (i : ℕ) (p : Address) (g : slice_get d.numbers i ≡ Some (Some p)) where
+module _ (l : Layout) (cs : Cells) (sys : Ptr) (d : Directory) (ms : List Members) (K : Kept l cs sys d ms) (i : ℕ) (p : BlockPlace) (g : slice_get d.numbers i ≡ Some (Some p)) where
   abbrev e : Directory
   e = lying (slice_set d.numbers i None) d.classes
 
@@ -66,10 +66,10 @@ module _ (l : Layout) (cs : Cells) (sys : Ptr) (d : Directory) (ms : List Member
   pub its_size : (c : ℕ) → class_at_place cs p ≡ c → length (words_at cs p.at) ≡ block_words l (Class c)
   its_size c h = (K.formed i p (inl g)).size ∙ ap (λ b. block_words l (Class b)) h
 
-  pub not_made : (j : ℕ) (q : Address) → IsMade d.classes j q → p.at ≡ q.at → ⊥
+  pub not_made : (j : ℕ) (q : BlockPlace) → IsMade d.classes j q → p.at ≡ q.at → ⊥
   not_made j q h k = let y = K.made h.0 h.1 h.2 in K.kinds i p g (subst (λ c. IsPermanent (kind_of l c)) (sym (ap (λ (r : Ptr). class_in_words (words_at cs r)) k ∙ y.class j q h.3)) y.permanent)
 
-  entry : {P : Type 0} (j : ℕ) (q : Address) → Lists e j q → ((p.at ≡ q.at → ⊥) → Lists d j q → words_at ds q.at ≡ words_at cs q.at → P) → P
+  entry : {P : Type 0} (j : ℕ) (q : BlockPlace) → Lists e j q → ((p.at ≡ q.at → ⊥) → Lists d j q → words_at ds q.at ≡ words_at cs q.at → P) → P
   entry {P} j q (inl h) k = by_same i j
       (λ t n. absurd (get_gone d.numbers i q (ap (slice_get e.numbers) n ∙ h)))
       (λ t n. let was = sym (get_other d.numbers i None j n) ∙ h in let off : p.at ≡ q.at → ⊥ = λ z. n (K.apart i j p q (inl g) (inl was) z) in k off (inl was) (words_without cs p.at q.at off))
@@ -103,12 +103,12 @@ module _ (l : Layout) (cs : Cells) (sys : Ptr) (d : Directory) (ms : List Member
 
   pub records_destroyed : map (record_at l ds) e.numbers ≡ slice_set (map (record_at l cs) d.numbers) i None
   records_destroyed = map_gone d.numbers i (λ j q h n. ap (λ us. Some (record_of l us)) (words_without cs p.at q.at (λ z. n (K.apart i j p q (inl g) (inl h) z)))) where
-    map_others : (xs : Numbers) → ((j : ℕ) (q : Address) → slice_get xs j ≡ Some (Some q) → record_at l ds (Some q) ≡ record_at l cs (Some q)) → map (record_at l ds) xs ≡ map (record_at l cs) xs
+    map_others : (xs : Numbers) → ((j : ℕ) (q : BlockPlace) → slice_get xs j ≡ Some (Some q) → record_at l ds (Some q) ≡ record_at l cs (Some q)) → map (record_at l ds) xs ≡ map (record_at l cs) xs
     map_others [] o = refl
     map_others (None ∷ zs) o = ap (λ rs. None ∷ rs) (map_others zs (λ j q h. o (suc j) q h))
     map_others (Some q ∷ zs) o = λ t. o zero q refl t ∷ map_others zs (λ j q h. o (suc j) q h) t
 
-    map_gone : (xs : Numbers) (k : ℕ) → ((j : ℕ) (q : Address) → slice_get xs j ≡ Some (Some q) → (k ≡ j → ⊥) → record_at l ds (Some q) ≡ record_at l cs (Some q)) → map (record_at l ds) (slice_set xs k None) ≡ slice_set (map (record_at l cs) xs) k None
+    map_gone : (xs : Numbers) (k : ℕ) → ((j : ℕ) (q : BlockPlace) → slice_get xs j ≡ Some (Some q) → (k ≡ j → ⊥) → record_at l ds (Some q) ≡ record_at l cs (Some q)) → map (record_at l ds) (slice_set xs k None) ≡ slice_set (map (record_at l cs) xs) k None
     map_gone [] k o = refl
     map_gone (z ∷ zs) zero o = ap (λ rs. None ∷ rs) (map_others zs (λ j q h. o (suc j) q h (λ n. absurd (omega (arith, n)))))
     map_gone (None ∷ zs) (suc k) o = ap (λ rs. None ∷ rs) (map_gone zs k (λ j q h n. o (suc j) q h (λ m. n (omega (arith, m)))))

@@ -2,13 +2,13 @@
 use Rattle.std.proofs.Common.{◌≡◌, ℕ, ◌<◌, List, [], ◌∷◌, length, slice_get, Some, refl, sym, ap, subst, ◌∙◌}
 use Rattle.ss_base.specs.declared.layout.SetLayout.{SetLayout}
 use Rattle.ss_records_entities.specs.declared.records.Records.{Records}
-use Rattle.ss_records_blocks.specs.declared.links.Entry.{Entry}
+use Rattle.ss_records_blocks.specs.declared.links.EntityBlock.{EntityBlock}
 use Rattle.ss_records_blocks.specs.Cells.{number, link, word_at}
 use Rattle.ss_world.specs.State.{members_of}
 use Rattle.ss_world.specs.Sets.{less}
 use Rattle.ss_world.specs.Lists.{head0, succ, In, Distinct}
 use Rattle.ss_records_words.specs.Slotted.{member_base}
-use Rattle.ss_records_entities.specs.Parts.{IsKept, places, Joins, Around}
+use Rattle.ss_records_entities.specs.Parts.{IsKept, places, Joins, HasNeighbours}
 use Rattle.ss_records_words.proofs.Splice.{succ_cut}
 use Rattle.ss_records_blocks.proofs.Entries.{get_there}
 use Rattle.ss_records_entities.proofs.Listed.{less_cut}
@@ -19,7 +19,7 @@ after_head : (n : ℕ) (l : List ℕ) → n ≡ head0 l → In n l → (ys : Lis
 after_head n [] e i = absurd i
 after_head n (y ∷ ys) e i = (ys, ap (λ m. m ∷ ys) (sym e))
 
-module _ (r : Records) (K : IsKept r) (s : ℕ) (inside : s < length r.layout.sets) (o : ℕ) (q : Entry) (j : Joins r s q) (inn : In q.number (members_of r.notes.lists s o)) (first : q.number ≡ head0 (members_of r.notes.lists s o)) where
+module _ (r : Records) (K : IsKept r) (s : ℕ) (inside : s < length r.layout.sets) (o : ℕ) (q : EntityBlock) (j : Joins r s q) (inn : In q.number (members_of r.notes.lists s o)) (first : q.number ≡ head0 (members_of r.notes.lists s o)) where
   pub following : (ys : List ℕ) × (members_of r.notes.lists s o ≡ q.number ∷ ys)
   following = after_head q.number (members_of r.notes.lists s o) first inn
 
@@ -32,7 +32,7 @@ module _ (r : Records) (K : IsKept r) (s : ℕ) (inside : s < length r.layout.se
   pub less_is : following.0 ≡ less q.number (members_of r.notes.lists s o)
   less_is = sym (ap (less q.number) following.1 ∙ less_cut [] q.number following.0 tt)
 
-  pub around_first : (b : ℕ) → ((u : SetLayout) → slice_get r.layout.sets s ≡ Some u → b ≡ member_base r.layout s u) → (z : Entry) → word_at r.blocks.cells q.place.at b ≡ link z.place.at → word_at r.blocks.cells z.place.at 1 ≡ number z.number → Around r s o q.number (record { place = r.system; number = 0 }) z [] following.0
+  pub around_first : (b : ℕ) → ((u : SetLayout) → slice_get r.layout.sets s ≡ Some u → b ≡ member_base r.layout s u) → (z : EntityBlock) → word_at r.blocks.cells q.place.at b ≡ link z.place.at → word_at r.blocks.cells z.place.at 1 ≡ number z.number → HasNeighbours r s o q.number (record { place = r.system; number = 0 }) z [] following.0
   around_first b base z w v =
       let l = lies_there r K s inside q.place.at b _ (next_to r.layout r.blocks.cells r.system.at (places r) r.notes.lists K s inside q.place.at q.number j.lies j.is b base o inn) z w v in
       record { list = following.1; before = refl; last = refl; after = l.0; first = l.1 ∙ ap (succ q.number) following.1 ∙ succ_cut [] q.number following.0 some apart }

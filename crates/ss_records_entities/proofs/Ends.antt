@@ -4,12 +4,12 @@ use Rattle.std.specs.Prelude.{ℤ, pos, Result, MatchResult}
 use Rattle.ss_base.specs.declared.fault.FaultKind.{FaultKind}
 use Rattle.ss_base.specs.declared.fault.FaultKind.TheVariants.{EmptySet}
 use Rattle.ss_records_entities.specs.declared.records.Records.{Records}
-use Rattle.ss_records_blocks.specs.declared.links.Entry.{Entry}
+use Rattle.ss_records_blocks.specs.declared.links.EntityBlock.{EntityBlock}
 use Rattle.ss_world.specs.State.{State, and_then, members_of, contains}
 use Rattle.ss_world.specs.Sets.{joiner, owner, member_in, less, with_list_of, removed}
 use Rattle.ss_world.specs.Disciplines.{take, first_removed, last_removed, member_test}
 use Rattle.ss_world.specs.Lists.{head0, last_or, In}
-use Rattle.ss_records_words.specs.Slotted.{IsOf}
+use Rattle.ss_records_words.specs.Slotted.{IsEntityOf}
 use Rattle.ss_records_entities.specs.Parts.{IsKept, state, places, Lies, Joins, Between}
 use Rattle.ss_records_words.proofs.Splice.{before_in, after_in}
 use Rattle.ss_records_blocks.proofs.Entries.{get_there}
@@ -18,11 +18,11 @@ use Rattle.ss_records_entities.proofs.Cuts.{out_done}
 use Rattle.ss_records_entities.proofs.Apart.{sets_apart}
 
 -- a member that was found at an end
-module _ (r : Records) (K : IsKept r) (s : ℕ) (inside : s < length r.layout.sets) (o : ℕ) (q : Entry) (lies : Lies r s q) (inn : In q.number (members_of r.notes.lists s o)) where
+module _ (r : Records) (K : IsKept r) (s : ℕ) (inside : s < length r.layout.sets) (o : ℕ) (q : EntityBlock) (lies : Lies r s q) (inn : In q.number (members_of r.notes.lists s o)) where
   pub joins_it : Joins r s q
   joins_it =
       let y = get_there r.layout.sets s inside in
-      record { lies = lies; is = subst (λ c. IsOf r.blocks.cells (places r) c q.number) (sym (ap member_in y.1)) ((K.names s y.0 y.1).members o q.number inn).0 }
+      record { lies = lies; is = subst (λ c. IsEntityOf r.blocks.cells (places r) c q.number) (sym (ap member_in y.1)) ((K.names s y.0 y.1).members o q.number inn).0 }
 
   pub has_it : contains (members_of r.notes.lists s o) q.number ≡ true
   has_it = in_contains (members_of r.notes.lists s o) q.number inn
@@ -44,7 +44,7 @@ module _ (r : Records) (K : IsKept r) (s : ℕ) (inside : s < length r.layout.se
       ∙ ap (λ z. Ok (z, new)) (sym is)
 
 -- at the ends
-module _ (r : Records) (s o : ℕ) (a z : Entry) where
+module _ (r : Records) (s o : ℕ) (a z : EntityBlock) where
   pub first_in_it : (ys : List ℕ) → Between r s o a z [] ys → (z.number ≡ 0 → ⊥) → In z.number (members_of r.notes.lists s o)
   first_in_it ys w n = subst (In z.number) (sym w.list) (after_in z.number [] ys (sym w.first) (λ i. n (sym i)))
 

@@ -4,7 +4,7 @@ use Rattle.std.specs.Prelude.{nat_eq}
 use denote.RawPtr.{Ptr}
 use Rattle.ss_base.specs.declared.layout.SetLayout.{SetLayout}
 use Rattle.ss_records_entities.specs.declared.records.Records.{Records}
-use Rattle.ss_records_blocks.specs.declared.links.Entry.{Entry}
+use Rattle.ss_records_blocks.specs.declared.links.EntityBlock.{EntityBlock}
 use Rattle.ss_records_blocks.specs.Cells.{Cells, Memory, IsLink, IsCounter, word_at}
 use Rattle.ss_world.specs.State.{Members, members_of, contains, is_filed, with_members}
 use Rattle.ss_world.specs.Sets.{member_in, owner_in, put_before, less, with_list_of}
@@ -12,8 +12,8 @@ use Rattle.ss_world.specs.Lists.{head0, last_or, In, NotIn, Distinct}
 use Rattle.ss_records_words.specs.Places.{entity_at, owner_at}
 use Rattle.ss_records_words.specs.Kept.{Kept, state_of}
 use Rattle.ss_records_blocks.specs.Links.{linked_in, unlinked_in, slots_at}
-use Rattle.ss_records_words.specs.Slotted.{slots_of, member_base, owner_base, IsOf, MayOwn}
-use Rattle.ss_records_entities.specs.Parts.{IsKept, state, places, uncounted, Lies, Owns, Joins, Between, Around}
+use Rattle.ss_records_words.specs.Slotted.{slots_of, member_base, owner_base, IsEntityOf, MayOwn}
+use Rattle.ss_records_entities.specs.Parts.{IsKept, state, places, uncounted, Lies, Owns, Joins, Between, HasNeighbours}
 use Rattle.ss_records_blocks.proofs.Same.{by_same, false_is_not_true}
 use Rattle.ss_records_words.proofs.Splice.{not_in, not_and_in, before_in, after_in, in_left, in_mid, distinct_less}
 use Rattle.ss_records_blocks.proofs.Entries.{get_there}
@@ -28,16 +28,16 @@ pub looked : (r p : Records) (b : Memory) → p ≡ record r { blocks = p.blocks
 looked r p b h e k = reads_only p b k ∙ unmoved r p h e
 
 -- what lies between two neighbours, and around a member, still does
-pub still_between : (r q : Records) (s o : ℕ) (a b : Entry) (xs ys : List ℕ) → uncounted q ≡ uncounted r → Between r s o a b xs ys → Between q s o a b xs ys
+pub still_between : (r q : Records) (s o : ℕ) (a b : EntityBlock) (xs ys : List ℕ) → uncounted q ≡ uncounted r → Between r s o a b xs ys → Between q s o a b xs ys
 still_between r q s o a b xs ys h w =
     let v : Between (uncounted r) s o a b xs ys = record { list = w.list; before = w.before; last = w.last; after = w.after; first = w.first } in
     let u : Between (uncounted q) s o a b xs ys = subst (λ (z : Records). Between z s o a b xs ys) (sym h) v in
     record { list = u.list; before = u.before; last = u.last; after = u.after; first = u.first }
 
-pub still_around : (r q : Records) (s o x : ℕ) (a b : Entry) (xs ys : List ℕ) → uncounted q ≡ uncounted r → Around r s o x a b xs ys → Around q s o x a b xs ys
+pub still_around : (r q : Records) (s o x : ℕ) (a b : EntityBlock) (xs ys : List ℕ) → uncounted q ≡ uncounted r → HasNeighbours r s o x a b xs ys → HasNeighbours q s o x a b xs ys
 still_around r q s o x a b xs ys h w =
-    let v : Around (uncounted r) s o x a b xs ys = record { list = w.list; before = w.before; last = w.last; after = w.after; first = w.first } in
-    let u : Around (uncounted q) s o x a b xs ys = subst (λ (z : Records). Around z s o x a b xs ys) (sym h) v in
+    let v : HasNeighbours (uncounted r) s o x a b xs ys = record { list = w.list; before = w.before; last = w.last; after = w.after; first = w.first } in
+    let u : HasNeighbours (uncounted q) s o x a b xs ys = subst (λ (z : Records). HasNeighbours z s o x a b xs ys) (sym h) v in
     record { list = u.list; before = u.before; last = u.last; after = u.after; first = u.first }
 
 pub is_not_zero : (n : ℕ) → (n == 0) ≡ false → n ≡ 0 → ⊥
@@ -58,7 +58,7 @@ among_by r K s inside o x p h = by_same p o
       by_case n false e = e
       by_case n true e = let y = get_there r.layout.sets s inside in absurd (n ((K.names s y.0 y.1).sole p o x h (contains_in (members_of r.notes.lists s o) x e)))
 
-module _ (r : Records) (K : IsKept r) (s : ℕ) (inside : s < length r.layout.sets) (e x : Entry) (h : Owns r s e) (m b : ℕ)
+module _ (r : Records) (K : IsKept r) (s : ℕ) (inside : s < length r.layout.sets) (e x : EntityBlock) (h : Owns r s e) (m b : ℕ)
     (mb : (u : SetLayout) → slice_get r.layout.sets s ≡ Some u → m ≡ member_base r.layout s u) (ob : (u : SetLayout) → slice_get r.layout.sets s ≡ Some u → b ≡ owner_base r.layout s u) where
   abbrev cs : Cells
   cs = r.blocks.cells
@@ -87,7 +87,7 @@ module _ (r : Records) (K : IsKept r) (s : ℕ) (inside : s < length r.layout.se
   its_home : e.place.at ≡ home o
   its_home = h.lies ∙ ap (λ u. owner_at r.system.at (places r) u o) (ap owner_in g)
 
-  its_place : (z : Entry) → Lies r s z → z.place.at ≡ at z.number
+  its_place : (z : EntityBlock) → Lies r s z → z.place.at ≡ at z.number
   its_place z lies = lies ∙ ap (λ c. entity_at r.system.at (places r) c z.number) (ap member_in g)
 
   pub owner_words : IsLink (word_at cs e.place.at b) × IsLink (word_at cs e.place.at (b + 1)) × IsCounter (word_at cs e.place.at (b + 2))
@@ -98,12 +98,12 @@ module _ (r : Records) (K : IsKept r) (s : ℕ) (inside : s < length r.layout.se
   )
 
   -- a member of the set has links
-  module _ (z : Entry) (lies : Lies r s z) (inn : In z.number (f o)) where
-    of_it : IsOf cs (places r) t.member z.number
+  module _ (z : EntityBlock) (lies : Lies r s z) (inn : In z.number (f o)) where
+    of_it : IsEntityOf cs (places r) t.member z.number
     of_it = ((K.names s t g).members o z.number inn).0
 
-    its : IsOf cs (places r) (member_in (slice_get r.layout.sets s)) z.number
-    its = subst (λ c. IsOf cs (places r) c z.number) (sym (ap member_in g)) of_it
+    its : IsEntityOf cs (places r) (member_in (slice_get r.layout.sets s)) z.number
+    its = subst (λ c. IsEntityOf cs (places r) c z.number) (sym (ap member_in g)) of_it
 
     pub next_link : IsLink (word_at cs z.place.at m)
     next_link = is_link cs at z.place.at m _ (next_to r.layout cs r.system.at (places r) r.notes.lists K s inside z.place.at z.number lies its m mb o inn)
@@ -115,8 +115,8 @@ module _ (r : Records) (K : IsKept r) (s : ℕ) (inside : s < length r.layout.se
     owner_link = is_link cs home z.place.at (m + 2) _ (owner_to r.layout cs r.system.at (places r) r.notes.lists K s inside z.place.at z.number lies its m mb o inn)
 
   module _ (j : Joins r s x) where
-    lx : IsOf cs (places r) t.member x.number
-    lx = subst (λ c. IsOf cs (places r) c x.number) (ap member_in g) j.is
+    lx : IsEntityOf cs (places r) t.member x.number
+    lx = subst (λ c. IsEntityOf cs (places r) c x.number) (ap member_in g) j.is
 
     some : 0 ≡ x.number → ⊥
     some = above_zero r.layout cs r.system.at (places r) r.notes.lists K s t g x.number lx
@@ -136,7 +136,7 @@ module _ (r : Records) (K : IsKept r) (s : ℕ) (inside : s < length r.layout.se
         is_link cs at x.place.at (m + 2) _ (owner_self r.layout cs r.system.at (places r) r.notes.lists K s inside x.place.at x.number j.lies j.is m mb out),
       )
 
-      module _ (a z : Entry) (xs ys : List ℕ) (w : Between r s o a z xs ys) where
+      module _ (a z : EntityBlock) (xs ys : List ℕ) (w : Between r s o a z xs ys) where
         inner : (y : ℕ) → In y (xs ++ ys) → In y (f o)
         inner y i = subst (In y) (sym w.list) i
 
@@ -163,7 +163,7 @@ module _ (r : Records) (K : IsKept r) (s : ℕ) (inside : s < length r.layout.se
           state_in = rw (cells_are, list_is) (state_linked r.layout cs r.system.at (places r) r.notes.lists K s t g o x.number xs ys lo lx some w.list out)
 
     -- out of the set
-    module _ (a z : Entry) (xs ys : List ℕ) (w : Around r s o x.number a z xs ys) where
+    module _ (a z : EntityBlock) (xs ys : List ℕ) (w : HasNeighbours r s o x.number a z xs ys) where
       inner' : (y : ℕ) → In y (xs ++ x.number ∷ ys) → In y (f o)
       inner' y i = subst (In y) (sym w.list) i
 

@@ -5,7 +5,7 @@ use Rattle.std.proofs.lemmas.Bool.{lt-ltb, le-leb}
 use Rattle.std.proofs.lemmas.Int.{ints}
 use lib.Signed.{lt_z}
 use Rattle.ss_base.specs.declared.fault.FaultKind.TheVariants.{CreatedTwice}
-use Rattle.ss_records_blocks.specs.declared.store.Address.{Address}
+use Rattle.ss_records_blocks.specs.declared.store.BlockPlace.{BlockPlace}
 use Rattle.ss_base.specs.declared.layout.Layout.{Layout}
 use Rattle.ss_records_blocks.specs.Cells.{Cells}
 use Rattle.ss_world.specs.State.{State, Members, LAST_NUMBER, MOST_ENTITIES, created, created_all, made_many, with_made, is_made_in}
@@ -40,7 +40,7 @@ pub none_is : {A : Type 0} (o : Option A) → is_some o ≡ false → o ≡ None
 none_is None h = refl
 none_is (Some a) h = cc
 
-made_is : (l : Layout) (cs : Cells) (xs : Made) (c : ℕ) (o : Option (List Address)) → slice_get xs c ≡ Some o → is_made_in (slice_get (map (records_at l cs) xs) c) ≡ is_some o
+made_is : (l : Layout) (cs : Cells) (xs : Made) (c : ℕ) (o : Option (List BlockPlace)) → slice_get xs c ≡ Some o → is_made_in (slice_get (map (records_at l cs) xs) c) ≡ is_some o
 made_is l cs [] c o h = cc
 made_is l cs (None ∷ xs) zero o h = let e : None ≡ o = cc in ap is_some e
 made_is l cs (Some ps ∷ xs) zero o h = let e : Some ps ≡ o = cc in ap is_some e
@@ -53,7 +53,7 @@ made_few st c (pos n) least most =
     rw may refl
 made_few st c (negsuc n) least most = cc
 
-module _ (l : Layout) (cs : Cells) (d : Directory) (ms : List Members) (c : ℕ) (o : Option (List Address)) (there : slice_get d.classes c ≡ Some o) where
+module _ (l : Layout) (cs : Cells) (d : Directory) (ms : List Members) (c : ℕ) (o : Option (List BlockPlace)) (there : slice_get d.classes c ≡ Some o) where
   abbrev st : State
   st = state_of l cs d ms
 

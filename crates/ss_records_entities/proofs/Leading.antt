@@ -14,7 +14,7 @@ use Rattle.ss_records_words.specs.Places.{Directory, listing, entity_at, owner_a
 use Rattle.ss_records_words.specs.Kept.{Kept}
 use Rattle.ss_world.specs.Lists.{head0, last_or, succ, pred_from, In, NotIn}
 use Rattle.ss_records_blocks.specs.Links.{Leads}
-use Rattle.ss_records_words.specs.Slotted.{member_base, owner_base, IsOf, MayOwn}
+use Rattle.ss_records_words.specs.Slotted.{member_base, owner_base, IsEntityOf, MayOwn}
 use Rattle.ss_records_blocks.proofs.Same.{by_same}
 use Rattle.ss_records_blocks.proofs.Entries.{get_inside, get_there}
 use Rattle.ss_records_words.proofs.Listing.{not_many}
@@ -84,14 +84,14 @@ module _ (l : Layout) (cs : Cells) (sys : Ptr) (d : Directory) (ms : List Member
   abbrev InOwner : ℕ → Type 0
   InOwner b = (u : SetLayout) → slice_get l.sets s ≡ Some u → b ≡ owner_base l s u
 
-  pub small_of : (c n : ℕ) → (n ≡ 0) ⊎ IsOf cs d c n → n < 2 ^ 62
+  pub small_of : (c n : ℕ) → (n ≡ 0) ⊎ IsEntityOf cs d c n → n < 2 ^ 62
   small_of c n (inl e) = omega (arith, e)
   small_of c n (inr h) = let a = entry_of cs d c n h in let i = get_inside (listing d c) a.0 (Some a.1) a.3 in omega (arith, i, a.2, not_many l cs sys d ms K c)
 
-  pub zero_or : (o n : ℕ) → (n ≡ 0) ⊎ In n (f o) → (n ≡ 0) ⊎ IsOf cs d t.member n
-  zero_or o n h = elim h as (λ _. (n ≡ 0) ⊎ IsOf cs d t.member n) [ inl e ↦ inl e | inr i ↦ inr ((K.names s t g).members o n i).0 ]
+  pub zero_or : (o n : ℕ) → (n ≡ 0) ⊎ In n (f o) → (n ≡ 0) ⊎ IsEntityOf cs d t.member n
+  zero_or o n h = elim h as (λ _. (n ≡ 0) ⊎ IsEntityOf cs d t.member n) [ inl e ↦ inl e | inr i ↦ inr ((K.names s t g).members o n i).0 ]
 
-  to_member : (p : Ptr) (k n : ℕ) → word_at cs p k ≡ link (at n) → (n ≡ 0) ⊎ IsOf cs d t.member n → To cs at p k n
+  to_member : (p : Ptr) (k n : ℕ) → word_at cs p k ≡ link (at n) → (n ≡ 0) ⊎ IsEntityOf cs d t.member n → To cs at p k n
   to_member p k n w h = record { word = w; there = number_at l cs sys d ms K t.member n h; small = small_of t.member n h }
 
   small_owner : (u : Owner) (n : ℕ) → MayOwn cs d u n → n < 2 ^ 62
@@ -124,16 +124,16 @@ module _ (l : Layout) (cs : Cells) (sys : Ptr) (d : Directory) (ms : List Member
   -- different members have different numbers
   pub count_small : (n : ℕ) → length (f n) < 2 ^ 62
   count_small n = let k = few (length (listing d t.member)) (f n) ((K.names s t g).distinct n) (λ y h. let e = (K.names s t g).members n y h in (e.1, issued y e.0)) in omega (arith, k, not_many l cs sys d ms K t.member) where
-    issued : (y : ℕ) → IsOf cs d t.member y → y ≤ length (listing d t.member)
+    issued : (y : ℕ) → IsEntityOf cs d t.member y → y ≤ length (listing d t.member)
     issued y h = let a = entry_of cs d t.member y h in let i = get_inside (listing d t.member) a.0 (Some a.1) a.3 in omega (arith, i, a.2)
 
   -- the words of a member
-  module _ (p : Ptr) (x : ℕ) (lies : p ≡ entity_at sys d (member_class l s) x) (may : IsOf cs d (member_class l s) x) (b : ℕ) (base : InMember b) where
+  module _ (p : Ptr) (x : ℕ) (lies : p ≡ entity_at sys d (member_class l s) x) (may : IsEntityOf cs d (member_class l s) x) (b : ℕ) (base : InMember b) where
     its_block : p ≡ at x
     its_block = lies ∙ ap (λ c. entity_at sys d c x) its_members
 
-    pub is : IsOf cs d t.member x
-    is = subst (λ c. IsOf cs d c x) its_members may
+    pub is : IsEntityOf cs d t.member x
+    is = subst (λ c. IsEntityOf cs d c x) its_members may
 
     pub positive : 0 ≡ x → ⊥
     positive = above_zero l cs sys d ms K s t g x is

@@ -5,7 +5,7 @@ use denote.RawPtr.{Ptr}
 use Rattle.ss_base.specs.declared.layout.ClassLayout.{ClassLayout}
 use Rattle.ss_base.specs.declared.layout.Layout.{Layout}
 use Rattle.ss_base.specs.declared.layout.Owner.TheVariants.{System, Class}
-use Rattle.ss_records_blocks.specs.declared.store.Address.{Address}
+use Rattle.ss_records_blocks.specs.declared.store.BlockPlace.{BlockPlace}
 use Rattle.ss_records_blocks.specs.Cells.{Cells, words_at, blanks, without_block}
 use Rattle.ss_world.specs.State.{Members, not_made as unmade, living_numbers, made_entities, living_records}
 use Rattle.ss_records_words.specs.Shape.{block_words}
@@ -26,7 +26,7 @@ numbers_are l cs [] = refl
 numbers_are l cs (None ∷ ps) = numbers_are l cs ps
 numbers_are l cs (Some p ∷ ps) = ap suc (numbers_are l cs ps)
 
-length_row : (l : Layout) (cs : Cells) (ps : List Address) → length (map (λ (p : Address). record_of l (words_at cs p.at)) ps) ≡ length ps
+length_row : (l : Layout) (cs : Cells) (ps : List BlockPlace) → length (map (λ (p : BlockPlace). record_of l (words_at cs p.at)) ps) ≡ length ps
 length_row l cs [] = refl
 length_row l cs (p ∷ ps) = ap suc (length_row l cs ps)
 
@@ -39,7 +39,7 @@ pub living_is : (l : Layout) (cs : Cells) (d : Directory) (ms : List Members) �
 living_is l cs d ms = omega (arith, numbers_are l cs d.numbers, made_are l cs d.classes)
 
 -- nothing is listed at first
-nothing_made : (n c : ℕ) (ps : List Address) → slice_get (replicate n None) c ≡ Some (Some ps) → ⊥
+nothing_made : (n c : ℕ) (ps : List BlockPlace) → slice_get (replicate n None) c ≡ Some (Some ps) → ⊥
 nothing_made zero c ps h = cc
 nothing_made (suc n) zero ps h = cc
 nothing_made (suc n) (suc c) ps h = nothing_made n c ps h
@@ -48,11 +48,11 @@ none_counted : (n : ℕ) → permanent_count (replicate n None) ≡ 0
 none_counted zero = refl
 none_counted (suc n) = none_counted n
 
-length_none : (n : ℕ) → length (replicate {A = Option (List Address)} n None) ≡ n
+length_none : (n : ℕ) → length (replicate {A = Option (List BlockPlace)} n None) ≡ n
 length_none zero = refl
 length_none (suc n) = ap suc (length_none n)
 
-none_listed : (n i : ℕ) (p : Address) → Lists (lying [] (replicate n None)) i p → ⊥
+none_listed : (n i : ℕ) (p : BlockPlace) → Lists (lying [] (replicate n None)) i p → ⊥
 none_listed n i p (inl h) = cc
 none_listed n i p (inr h) = nothing_made n h.0 h.1 h.2
 
@@ -61,7 +61,7 @@ pub none_made : (l : Layout) (cs : Cells) (cl : List ClassLayout) → map (recor
 none_made l cs [] = refl
 none_made l cs (k ∷ ks) = ap (λ rs. None ∷ rs) (none_made l cs ks)
 
-pub kept_first : (l : Layout) (ds : Cells) (q : Address) (w : ℕ) → Small l → w ≡ block_words l System → LaidSystem l ((q.at, blanks w) ∷ []) ds q.at → Kept l ds q.at (lying [] (replicate (length l.classes) None)) []
+pub kept_first : (l : Layout) (ds : Cells) (q : BlockPlace) (w : ℕ) → Small l → w ≡ block_words l System → LaidSystem l ((q.at, blanks w) ∷ []) ds q.at → Kept l ds q.at (lying [] (replicate (length l.classes) None)) []
 kept_first l ds q w small size laid = record {
   small = small;
   issued = omega arith;
@@ -84,7 +84,7 @@ living_drop [] (suc i) h = refl
 living_drop (z ∷ zs) zero h = absurd (omega (arith, h))
 living_drop (z ∷ zs) (suc i) h = living_drop zs i (omega (arith, h))
 
-pub living_step : (d : Numbers) (i : ℕ) (p : Address) → slice_get d i ≡ Some (Some p) → living_count (drop i d) ≡ living_count (drop (i + 1) d) + 1
+pub living_step : (d : Numbers) (i : ℕ) (p : BlockPlace) → slice_get d i ≡ Some (Some p) → living_count (drop i d) ≡ living_count (drop (i + 1) d) + 1
 living_step [] i p h = cc
 living_step (None ∷ zs) zero p h = cc
 living_step (Some q ∷ zs) zero p h = omega arith
@@ -96,7 +96,7 @@ made_drop [] (suc c) h = refl
 made_drop (m ∷ ms) zero h = absurd (omega (arith, h))
 made_drop (m ∷ ms) (suc c) h = made_drop ms c (omega (arith, h))
 
-pub made_step : (ms : Made) (c : ℕ) (o : Option (List Address)) → slice_get ms c ≡ Some o → permanent_count (drop c ms) ≡ length (row_in (Some o)) + permanent_count (drop (c + 1) ms)
+pub made_step : (ms : Made) (c : ℕ) (o : Option (List BlockPlace)) → slice_get ms c ≡ Some o → permanent_count (drop c ms) ≡ length (row_in (Some o)) + permanent_count (drop (c + 1) ms)
 made_step [] c o h = cc
 made_step (None ∷ ms) zero None h = omega arith
 made_step (None ∷ ms) zero (Some ps) h = cc
@@ -112,7 +112,7 @@ pub nothing_left : (cs : Cells) (p : Ptr) → length cs ≡ 1 → 0 < length (wo
 nothing_left cs p h k = nothing (without_block cs p) (omega (arith, blocks_without cs p k, h))
 
 -- the blocks of the permanent entities, where the others were given back
-pub rows_held : (l : Layout) (cs bs : Cells) (sys : Ptr) (d : Directory) (ms : List Members) → Kept l cs sys d ms → ((i : ℕ) (p : Address) → IsMade d.classes i p → words_at bs p.at ≡ words_at cs p.at) → length bs ≡ permanent_count d.classes + 1 → RowsHeld l bs sys d.classes
+pub rows_held : (l : Layout) (cs bs : Cells) (sys : Ptr) (d : Directory) (ms : List Members) → Kept l cs sys d ms → ((i : ℕ) (p : BlockPlace) → IsMade d.classes i p → words_at bs p.at ≡ words_at cs p.at) → length bs ≡ permanent_count d.classes + 1 → RowsHeld l bs sys d.classes
 rows_held l cs bs sys d ms K same count = record {
   width = K.width;
   size = λ c i ps p m h. let x : IsMade d.classes i p = (c, ps, m, h) in ap length (same i p x) ∙ (K.formed i p (inr x)).size ∙ ap (λ b. block_words l (Class b)) ((K.made c ps m).class i p h);
@@ -126,8 +126,8 @@ rows_held l cs bs sys d ms K same count = record {
 
 -- what is left where the blocks of the numbers below i were given back
 pub record Left (cs bs : Cells) (sys : Ptr) (d : Directory) (i : ℕ) : Type 0 where
-  pub kept : (j : ℕ) (p : Address) → i ≤ j → slice_get d.numbers j ≡ Some (Some p) → words_at bs p.at ≡ words_at cs p.at
-  pub made : (j : ℕ) (p : Address) → IsMade d.classes j p → words_at bs p.at ≡ words_at cs p.at
+  pub kept : (j : ℕ) (p : BlockPlace) → i ≤ j → slice_get d.numbers j ≡ Some (Some p) → words_at bs p.at ≡ words_at cs p.at
+  pub made : (j : ℕ) (p : BlockPlace) → IsMade d.classes j p → words_at bs p.at ≡ words_at cs p.at
   pub system : words_at bs sys ≡ words_at cs sys
   pub count : length bs ≡ living_count (drop i d.numbers) + permanent_count d.classes + 1
 
@@ -144,7 +144,7 @@ living_past d (suc n) i h =
       one (Some p ∷ zs) zero z = cc
       one (y ∷ zs) (suc k) z = let q : suc k + 1 ≡ suc (k + 1) = omega arith in rw q (one zs k z)
 
-pub is_there : (o : Option (Option Address)) (p : Address) → Some p ≡ in_page o → o ≡ Some (Some p)
+pub is_there : (o : Option (Option BlockPlace)) (p : BlockPlace) → Some p ≡ in_page o → o ≡ Some (Some p)
 is_there None p e = cc
 is_there (Some q) p e = ap Some (sym e)
 
@@ -157,11 +157,11 @@ left_past cs bs sys d i n m e none h = record {
 }
 
 -- one more block of a number is given back
-module _ (l : Layout) (cs bs : Cells) (sys : Ptr) (d : Directory) (ms : List Members) (K : Kept l cs sys d ms) (i : ℕ) (p : Address) (g : slice_get d.numbers i ≡ Some (Some p)) (kept : (j : ℕ) (q : Address) → i ≤ j → slice_get d.numbers j ≡ Some (Some q) → words_at bs q.at ≡ words_at cs q.at) where
+module _ (l : Layout) (cs bs : Cells) (sys : Ptr) (d : Directory) (ms : List Members) (K : Kept l cs sys d ms) (i : ℕ) (p : BlockPlace) (g : slice_get d.numbers i ≡ Some (Some p)) (kept : (j : ℕ) (q : BlockPlace) → i ≤ j → slice_get d.numbers j ≡ Some (Some q) → words_at bs q.at ≡ words_at cs q.at) where
   pub still_here : words_at bs p.at ≡ words_at cs p.at
   still_here = kept i p (omega arith) g
 
-  pub kept_rest : (j : ℕ) (q : Address) → i + 1 ≤ j → slice_get d.numbers j ≡ Some (Some q) → words_at (without_block bs p.at) q.at ≡ words_at cs q.at
+  pub kept_rest : (j : ℕ) (q : BlockPlace) → i + 1 ≤ j → slice_get d.numbers j ≡ Some (Some q) → words_at (without_block bs p.at) q.at ≡ words_at cs q.at
   kept_rest j q h k = words_without bs p.at q.at (λ z. absurd (less_is_not i j h (K.apart i j p q (inl g) (inl k) z))) ∙ kept j q (omega (arith, h)) k where
     less_is_not : (a b : ℕ) → a + 1 ≤ b → a ≡ b → ⊥
     less_is_not a b x y = omega (arith, x, y)
@@ -169,7 +169,7 @@ module _ (l : Layout) (cs bs : Cells) (sys : Ptr) (d : Directory) (ms : List Mem
   pub kept_system : words_at bs sys ≡ words_at cs sys → words_at (without_block bs p.at) sys ≡ words_at cs sys
   kept_system h = words_without bs p.at sys (K.off_system i p (inl g)) ∙ h
 
-  pub kept_made : ((j : ℕ) (q : Address) → IsMade d.classes j q → words_at bs q.at ≡ words_at cs q.at) → (j : ℕ) (q : Address) → IsMade d.classes j q → words_at (without_block bs p.at) q.at ≡ words_at cs q.at
+  pub kept_made : ((j : ℕ) (q : BlockPlace) → IsMade d.classes j q → words_at bs q.at ≡ words_at cs q.at) → (j : ℕ) (q : BlockPlace) → IsMade d.classes j q → words_at (without_block bs p.at) q.at ≡ words_at cs q.at
   kept_made h j q m = words_without bs p.at q.at (not_made l cs sys d ms K i p g j q m) ∙ h j q m
 
   pub count_rest : length bs ≡ living_count (drop i d.numbers) + permanent_count d.classes + 1 → length (without_block bs p.at) ≡ living_count (drop (i + 1) d.numbers) + permanent_count d.classes + 1

@@ -8,7 +8,7 @@ use denote.RawPtr.{Ptr}
 use Rattle.ss_base.specs.declared.fault.FaultKind.{FaultKind}
 use Rattle.ss_base.specs.declared.layout.SetLayout.{SetLayout}
 use Rattle.ss_records_entities.specs.declared.records.Records.{Records}
-use Rattle.ss_records_blocks.specs.declared.links.Entry.{Entry}
+use Rattle.ss_records_blocks.specs.declared.links.EntityBlock.{EntityBlock}
 use Rattle.ss_records_blocks.specs.Cells.{number, counter, link, IsCounter, word_at}
 use Rattle.ss_world.specs.State.{State, and_then, members_of, owner_of, is_filed}
 use Rattle.ss_world.specs.Sets.{joiner, owner, as_number, companions, follower, precursor, first_in, last_in, count_in, next_in, previous_in, owner_of_member}
@@ -42,7 +42,7 @@ module _ (r : Records) (K : IsKept r) (s : ℕ) (inside : s < length r.layout.se
   home = owner_at r.system.at (places r) (get_there r.layout.sets s inside).0.owner
 
   -- the words of an owner
-  module _ (e : Entry) (h : Owns r s e) (b : ℕ) (base : (u : SetLayout) → slice_get r.layout.sets s ≡ Some u → b ≡ owner_base r.layout s u) where
+  module _ (e : EntityBlock) (h : Owns r s e) (b : ℕ) (base : (u : SetLayout) → slice_get r.layout.sets s ≡ Some u → b ≡ owner_base r.layout s u) where
     first_there : To r.blocks.cells at e.place.at b (head0 (members_of r.notes.lists s e.number))
     first_there = first_to r.layout r.blocks.cells r.system.at (places r) r.notes.lists K s inside e.place.at e.number h.lies h.may b base
 
@@ -58,7 +58,7 @@ module _ (r : Records) (K : IsKept r) (s : ℕ) (inside : s < length r.layout.se
     pub counts : IsCounter (word_at r.blocks.cells e.place.at (b + 2))
     counts = is_counter r.layout r.blocks.cells r.system.at (places r) r.notes.lists K s inside e.place.at e.number h.lies h.may b base
 
-    module _ (q : Entry) (w : word_at r.blocks.cells e.place.at b ≡ link q.place.at) (v : word_at r.blocks.cells q.place.at 1 ≡ number q.number) where
+    module _ (q : EntityBlock) (w : word_at r.blocks.cells e.place.at b ≡ link q.place.at) (v : word_at r.blocks.cells q.place.at 1 ≡ number q.number) where
       pub first_number : q.number ≡ head0 (members_of r.notes.lists s e.number)
       first_number = its_number r.blocks.cells at e.place.at b _ first_there q.place.at w q.number v
 
@@ -68,7 +68,7 @@ module _ (r : Records) (K : IsKept r) (s : ℕ) (inside : s < length r.layout.se
       pub first_value : (x : ℤ) → owner (state r) s x ≡ Ok e.number → Ok (cast_signed w64 q.number) ≡ first_in (state r) s x
       first_value x o = ap Ok (as_whole q.number _ first_number first_there.small) ∙ sym (ap (λ z. and_then z (λ n. Ok (pos (head0 (members_of r.notes.lists s n))))) o)
 
-    module _ (q : Entry) (w : word_at r.blocks.cells e.place.at (b + 1) ≡ link q.place.at) (v : word_at r.blocks.cells q.place.at 1 ≡ number q.number) where
+    module _ (q : EntityBlock) (w : word_at r.blocks.cells e.place.at (b + 1) ≡ link q.place.at) (v : word_at r.blocks.cells q.place.at 1 ≡ number q.number) where
       pub last_number : q.number ≡ last_or 0 (members_of r.notes.lists s e.number)
       last_number = its_number r.blocks.cells at e.place.at (b + 1) _ last_there q.place.at w q.number v
 
@@ -83,7 +83,7 @@ module _ (r : Records) (K : IsKept r) (s : ℕ) (inside : s < length r.layout.se
     end_leads false = first_leads
     end_leads true = last_leads
 
-    module _ (q : Entry) (v : word_at r.blocks.cells q.place.at 1 ≡ number q.number) where
+    module _ (q : EntityBlock) (v : word_at r.blocks.cells q.place.at 1 ≡ number q.number) where
       pub end_small : (last : Bool) → word_at r.blocks.cells e.place.at (if last then b + 1 else b) ≡ link q.place.at → q.number < 2 ^ 62
       end_small false w = first_small q w v
       end_small true w = last_small q w v
@@ -107,7 +107,7 @@ module _ (r : Records) (K : IsKept r) (s : ℕ) (inside : s < length r.layout.se
       how_many_value x o = ap Ok (as_whole v _ how_many few_enough) ∙ sym (ap (λ z. and_then z (λ n. Ok (pos (length (members_of r.notes.lists s n))))) o)
 
   -- the words of a member
-  module _ (e : Entry) (h : Joins r s e) (b : ℕ) (base : (u : SetLayout) → slice_get r.layout.sets s ≡ Some u → b ≡ member_base r.layout s u) where
+  module _ (e : EntityBlock) (h : Joins r s e) (b : ℕ) (base : (u : SetLayout) → slice_get r.layout.sets s ≡ Some u → b ≡ member_base r.layout s u) where
     abbrev Near : ℕ → (List ℕ → ℕ) → Type 0
     Near k of = Beside r.layout r.blocks.cells r.system.at (places r) r.notes.lists K s inside e.place.at e.number h.lies h.is b base k of
 
@@ -123,7 +123,7 @@ module _ (r : Records) (K : IsKept r) (s : ℕ) (inside : s < length r.layout.se
     pub prev_leads : Leads r.blocks.cells e.place.at (b + 1)
     prev_leads = leads r.blocks.cells at e.place.at (b + 1) _ prev_near.leads_to
 
-    module _ (q : Entry) (w : word_at r.blocks.cells e.place.at b ≡ link q.place.at) (v : word_at r.blocks.cells q.place.at 1 ≡ number q.number) where
+    module _ (q : EntityBlock) (w : word_at r.blocks.cells e.place.at b ≡ link q.place.at) (v : word_at r.blocks.cells q.place.at 1 ≡ number q.number) where
       next_number : q.number ≡ next_near.to
       next_number = its_number r.blocks.cells at e.place.at b _ next_near.leads_to q.place.at w q.number v
 
@@ -143,7 +143,7 @@ module _ (r : Records) (K : IsKept r) (s : ℕ) (inside : s < length r.layout.se
           let f = next_value r.layout r.blocks.cells r.system.at (places r) r.notes.lists K s inside e.place.at e.number h.lies h.is b base next_near q.number next_number in
           ap Ok (as_whole y y refl (next_fits y same other) ∙ ap pos (by_same q.number e.number (λ z i. same i ∙ sym (f.0 i)) (λ z i. other i ∙ sym (f.1 i)))) ∙ sym (ap (λ z. and_then z (λ n. Ok (pos (follower n (companions r.notes.lists s n))))) o)
 
-    module _ (q : Entry) (w : word_at r.blocks.cells e.place.at (b + 1) ≡ link q.place.at) (v : word_at r.blocks.cells q.place.at 1 ≡ number q.number) where
+    module _ (q : EntityBlock) (w : word_at r.blocks.cells e.place.at (b + 1) ≡ link q.place.at) (v : word_at r.blocks.cells q.place.at 1 ≡ number q.number) where
       prev_number : q.number ≡ prev_near.to
       prev_number = its_number r.blocks.cells at e.place.at (b + 1) _ prev_near.leads_to q.place.at w q.number v
 
@@ -172,7 +172,7 @@ module _ (r : Records) (K : IsKept r) (s : ℕ) (inside : s < length r.layout.se
       pub owner_leads : Leads r.blocks.cells e.place.at (b + 2)
       owner_leads = leads r.blocks.cells home e.place.at (b + 2) _ owner_there
 
-      module _ (q : Entry) (w : word_at r.blocks.cells e.place.at (b + 2) ≡ link q.place.at) (v : word_at r.blocks.cells q.place.at 1 ≡ number q.number) where
+      module _ (q : EntityBlock) (w : word_at r.blocks.cells e.place.at (b + 2) ≡ link q.place.at) (v : word_at r.blocks.cells q.place.at 1 ≡ number q.number) where
         owner_number : q.number ≡ in_it.0
         owner_number = its_number r.blocks.cells home e.place.at (b + 2) _ owner_there q.place.at w q.number v
 

@@ -4,16 +4,16 @@ use Rattle.std.specs.Prelude.{replicate}
 use denote.RawPtr.{Ptr}
 use Rattle.ss_base.specs.declared.layout.Layout.{Layout}
 use Rattle.ss_base.specs.declared.layout.Owner.TheVariants.{System, Class}
-use Rattle.ss_records_blocks.specs.declared.store.Address.{Address}
+use Rattle.ss_records_blocks.specs.declared.store.BlockPlace.{BlockPlace}
 use Rattle.ss_records_blocks.specs.Cells.{Cells, words_at, word_of}
 use Rattle.ss_world.specs.State.{Record, Members, kind_of, first_record, with_made}
 use Rattle.ss_records_words.specs.Shape.{block_words}
 use Rattle.ss_records_words.specs.Reading.{plain, class_in_words, record_of, record_at, records_at}
 use Rattle.ss_records_words.specs.Places.{Made, Directory, lying, own_or, listing, IsMade, Lists, class_at_place, permanent_count}
 use Rattle.ss_records_words.specs.Kept.{Kept, Formed, MadeOf, IsPermanent, state_of}
-use Rattle.ss_records_blocks.specs.Writes.{NoneAt, Placed, Unchanged}
+use Rattle.ss_records_blocks.specs.Writes.{NoneAt, ArePlaced, Unchanged}
 use Rattle.ss_records_words.specs.Laid.{Born, LaidTo}
-use Rattle.ss_records_words.specs.Slotted.{IsOf}
+use Rattle.ss_records_words.specs.Slotted.{IsEntityOf}
 use Rattle.ss_records_blocks.proofs.Same.{by_same}
 use Rattle.ss_records_words.proofs.Listing.{unmapped, listed}
 use Rattle.ss_records_words.proofs.Disjoint.{entry_of, is_of}
@@ -23,47 +23,47 @@ use Rattle.ss_records_blocks.proofs.Entries.{living_bound}
 use Rattle.ss_records_entities.proofs.Creates.{off_entry, off_sys, born_formed, record_first, few_made}
 
 -- a row that is set
-get_row_set : (ms : Made) (c : ℕ) (v : Option (List Address)) (o : Option (List Address)) → slice_get ms c ≡ Some o → slice_get (slice_set ms c v) c ≡ Some v
+get_row_set : (ms : Made) (c : ℕ) (v : Option (List BlockPlace)) (o : Option (List BlockPlace)) → slice_get ms c ≡ Some o → slice_get (slice_set ms c v) c ≡ Some v
 get_row_set [] c v o h = cc
 get_row_set (m ∷ ms) zero v o h = refl
 get_row_set (m ∷ ms) (suc c) v o h = get_row_set ms c v o h
 
-get_other_row : (ms : Made) (c : ℕ) (v : Option (List Address)) (b : ℕ) → (c ≡ b → ⊥) → slice_get (slice_set ms c v) b ≡ slice_get ms b
+get_other_row : (ms : Made) (c : ℕ) (v : Option (List BlockPlace)) (b : ℕ) → (c ≡ b → ⊥) → slice_get (slice_set ms c v) b ≡ slice_get ms b
 get_other_row [] c v b n = refl
 get_other_row (m ∷ ms) zero v zero n = absurd (n refl)
 get_other_row (m ∷ ms) zero v (suc b) n = refl
 get_other_row (m ∷ ms) (suc c) v zero n = refl
 get_other_row (m ∷ ms) (suc c) v (suc b) n = get_other_row ms c v b (λ e. n (ap suc e))
 
-length_row_set : (ms : Made) (c : ℕ) (v : Option (List Address)) → length (slice_set ms c v) ≡ length ms
+length_row_set : (ms : Made) (c : ℕ) (v : Option (List BlockPlace)) → length (slice_set ms c v) ≡ length ms
 length_row_set [] c v = refl
 length_row_set (m ∷ ms) zero v = refl
 length_row_set (m ∷ ms) (suc c) v = ap suc (length_row_set ms c v)
 
-count_row_set : (ms : Made) (c : ℕ) (ps : List Address) → slice_get ms c ≡ Some None → permanent_count (slice_set ms c (Some ps)) ≡ permanent_count ms + length ps
+count_row_set : (ms : Made) (c : ℕ) (ps : List BlockPlace) → slice_get ms c ≡ Some None → permanent_count (slice_set ms c (Some ps)) ≡ permanent_count ms + length ps
 count_row_set [] c ps h = cc
 count_row_set (None ∷ ms) zero ps h = omega arith
 count_row_set (Some qs ∷ ms) zero ps h = cc
 count_row_set (None ∷ ms) (suc c) ps h = count_row_set ms c ps h
 count_row_set (Some qs ∷ ms) (suc c) ps h = omega (arith, count_row_set ms c ps h)
 
-some_row : {ps qs : List Address} → Some (Some ps) ≡ Some (Some qs) → ps ≡ qs
+some_row : {ps qs : List BlockPlace} → Some (Some ps) ≡ Some (Some qs) → ps ≡ qs
 some_row e = cc
 
-no_row : {ps : List Address} → Some None ≡ Some (Some ps) → ⊥
+no_row : {ps : List BlockPlace} → Some None ≡ Some (Some ps) → ⊥
 no_row e = cc
 
 -- the records of a row that is new
-row_first : (l : Layout) (cs : Cells) (c : ℕ) (ps : List Address) → ((i : ℕ) (p : Address) → slice_get ps i ≡ Some p → record_of l (words_at cs p.at) ≡ first_record l c) → map (λ (p : Address). record_of l (words_at cs p.at)) ps ≡ replicate (length ps) (first_record l c)
+row_first : (l : Layout) (cs : Cells) (c : ℕ) (ps : List BlockPlace) → ((i : ℕ) (p : BlockPlace) → slice_get ps i ≡ Some p → record_of l (words_at cs p.at) ≡ first_record l c) → map (λ (p : BlockPlace). record_of l (words_at cs p.at)) ps ≡ replicate (length ps) (first_record l c)
 row_first l cs c [] h = refl
 row_first l cs c (p ∷ ps) h = λ t. h zero p refl t ∷ row_first l cs c ps (λ i q g. h (suc i) q g) t
 
-rows_set : (l : Layout) (cs ds : Cells) (ms : Made) (c : ℕ) (ps : List Address) (rs : List Record) → slice_get ms c ≡ Some None → map (λ (p : Address). record_of l (words_at ds p.at)) ps ≡ rs
-    → ((i : ℕ) (p : Address) → IsMade ms i p → record_of l (words_at ds p.at) ≡ record_of l (words_at cs p.at)) → map (records_at l ds) (slice_set ms c (Some ps)) ≡ slice_set (map (records_at l cs) ms) c (Some rs)
+rows_set : (l : Layout) (cs ds : Cells) (ms : Made) (c : ℕ) (ps : List BlockPlace) (rs : List Record) → slice_get ms c ≡ Some None → map (λ (p : BlockPlace). record_of l (words_at ds p.at)) ps ≡ rs
+    → ((i : ℕ) (p : BlockPlace) → IsMade ms i p → record_of l (words_at ds p.at) ≡ record_of l (words_at cs p.at)) → map (records_at l ds) (slice_set ms c (Some ps)) ≡ slice_set (map (records_at l cs) ms) c (Some rs)
 rows_set l cs ds [] c ps rs h e o = cc
 rows_set l cs ds (m ∷ ms) zero ps rs h e o = λ t. Some (e t) ∷ made_same l cs ds ms (λ i p x. o i p (suc x.0, x.1, x.2, x.3)) t
 rows_set l cs ds (m ∷ ms) (suc c) ps rs h e o = λ t. made_same l cs ds (m ∷ []) (λ i p x. o i p (first_made x)) t ++ rows_set l cs ds ms c ps rs h e (λ i p x. o i p (suc x.0, x.1, x.2, x.3)) t where
-  first_made : {i : ℕ} {p : Address} → IsMade (m ∷ []) i p → IsMade (m ∷ ms) i p
+  first_made : {i : ℕ} {p : BlockPlace} → IsMade (m ∷ []) i p → IsMade (m ∷ ms) i p
   first_made (zero, qs, g, k) = (zero, qs, g, k)
   first_made (suc b, qs, g, k) = cc
 
@@ -73,7 +73,7 @@ module _ (l : Layout) (cs : Cells) (sys : Ptr) (d : Directory) (ms : List Member
     some_words : (p : Ptr) (n : ℕ) → length (words_at cs p) ≡ n → 2 ≤ n → words_at cs p ≡ [] → ⊥
     some_words p n h low e = omega (arith, ap length e, h, low)
 
-    same_words : (i : ℕ) (p : Address) → Lists d i p → words_at ds p.at ≡ words_at cs p.at
+    same_words : (i : ℕ) (p : BlockPlace) → Lists d i p → words_at ds p.at ≡ words_at cs p.at
     same_words i p h = u.words p.at (some_words p.at (block_words l (Class (class_at_place cs p))) (K.formed i p h).size (omega arith))
 
     same_system : words_at ds sys ≡ words_at cs sys
@@ -102,50 +102,50 @@ module _ (l : Layout) (cs : Cells) (sys : Ptr) (d : Directory) (ms : List Member
     state_unchanged =
         let one = map_same (record_at l cs) (record_at l ds) d.numbers entry in let two = made_same l cs ds d.classes (λ i p h. ap (record_of l) (same_words i p (inr h))) in
         λ t. record (state_of l cs d ms) { records = one t; permanents = two t } where
-          entry : (j : ℕ) (q : Option Address) → slice_get d.numbers j ≡ Some q → record_at l ds q ≡ record_at l cs q
+          entry : (j : ℕ) (q : Option BlockPlace) → slice_get d.numbers j ≡ Some q → record_at l ds q ≡ record_at l cs q
           entry j None h = refl
           entry j (Some q) h = ap (λ us. Some (record_of l us)) (same_words j q (inl h))
 
   pub room_for_all : (n : ℕ) → n ≤ 2 ^ 20 → length cs + n < 2 ^ 64
   room_for_all n h = omega (arith, K.counted, K.issued, living_bound d.numbers, few_made l cs sys d ms K, h)
 
-  module _ (c : ℕ) (kind : IsPermanent (kind_of l c)) (inside : c < length l.classes) (free : slice_get d.classes c ≡ Some None) (bs ds : Cells) (w : ℕ) (ps : List Address) (placed : Placed cs bs w ps) (laid : LaidTo l bs ds sys ps c (length ps)) (few : length ps ≤ 2 ^ 20) where
+  module _ (c : ℕ) (kind : IsPermanent (kind_of l c)) (inside : c < length l.classes) (free : slice_get d.classes c ≡ Some None) (bs ds : Cells) (w : ℕ) (ps : List BlockPlace) (placed : ArePlaced cs bs w ps) (laid : LaidTo l bs ds sys ps c (length ps)) (few : length ps ≤ 2 ^ 20) where
     abbrev e : Directory
     e = lying d.numbers (slice_set d.classes c (Some ps))
 
     fresh_words : (q : Ptr) → NoneAt ps q → words_at ds q ≡ words_at cs q
     fresh_words q n = laid.others q n ∙ placed.others q n
 
-    old : (i : ℕ) (p : Address) → Lists d i p → words_at ds p.at ≡ words_at cs p.at
+    old : (i : ℕ) (p : BlockPlace) → Lists d i p → words_at ds p.at ≡ words_at cs p.at
     old i p h = fresh_words p.at (λ j q g z. off_entry l cs sys d ms K q.at (placed.fresh j q g) i p h z)
 
     old_system : words_at ds sys ≡ words_at cs sys
     old_system = fresh_words sys (λ j q g. off_sys l cs sys d ms K q.at (placed.fresh j q g))
 
-    inside_row : (qs : List Address) (i : ℕ) (p : Address) → slice_get qs i ≡ Some p → i < length qs
+    inside_row : (qs : List BlockPlace) (i : ℕ) (p : BlockPlace) → slice_get qs i ≡ Some p → i < length qs
     inside_row [] i p h = cc
     inside_row (q ∷ qs) zero p h = omega arith
     inside_row (q ∷ qs) (suc i) p h = omega (arith, inside_row qs i p h)
 
-    born : (i : ℕ) (p : Address) → slice_get ps i ≡ Some p → Born l ds sys p.at c (suc i)
+    born : (i : ℕ) (p : BlockPlace) → slice_get ps i ≡ Some p → Born l ds sys p.at c (suc i)
     born i p h = laid.laid i p h (inside_row ps i p h)
 
-    new_class : (i : ℕ) (p : Address) → slice_get ps i ≡ Some p → class_at_place ds p ≡ c
+    new_class : (i : ℕ) (p : BlockPlace) → slice_get ps i ≡ Some p → class_at_place ds p ≡ c
     new_class i p h = ap plain (born i p h).its_class
 
     -- no entity is of the class yet
-    none_yet : (n : ℕ) → IsOf cs d c n → ⊥
+    none_yet : (n : ℕ) → IsEntityOf cs d c n → ⊥
     none_yet n h = let a = entry_of cs d c n h in by_entry a.0 a.1 a.4 (listed d c a.0 a.1 a.3) where
-      by_entry : (i : ℕ) (p : Address) → class_at_place cs p ≡ c → Lists d i p → ⊥
+      by_entry : (i : ℕ) (p : BlockPlace) → class_at_place cs p ≡ c → Lists d i p → ⊥
       by_entry i p k (inl m) = K.kinds i p m (subst (λ b. IsPermanent (kind_of l b)) (sym k) kind)
       by_entry i p k (inr (b, qs, m, x)) = no_row (sym free ∙ subst (λ a. slice_get d.classes a ≡ Some (Some qs)) (sym ((K.made b qs m).class i p x) ∙ k) m)
 
-    by_row : {P : Type 0} (b : ℕ) (qs : List Address) → slice_get e.classes b ≡ Some (Some qs) → ((c ≡ b) → (ps ≡ qs) → P) → (slice_get d.classes b ≡ Some (Some qs) → P) → P
+    by_row : {P : Type 0} (b : ℕ) (qs : List BlockPlace) → slice_get e.classes b ≡ Some (Some qs) → ((c ≡ b) → (ps ≡ qs) → P) → (slice_get d.classes b ≡ Some (Some qs) → P) → P
     by_row {P} b qs h new was = by_same c b
         (λ t z. new z (some_row (sym (get_row_set d.classes c (Some ps) None free) ∙ ap (slice_get e.classes) z ∙ h)))
         (λ t n. was (sym (get_other_row d.classes c (Some ps) b n) ∙ h))
 
-    by_listed : {P : Type 0} (i : ℕ) (p : Address) → Lists e i p → (slice_get ps i ≡ Some p → P) → (Lists d i p → P) → P
+    by_listed : {P : Type 0} (i : ℕ) (p : BlockPlace) → Lists e i p → (slice_get ps i ≡ Some p → P) → (Lists d i p → P) → P
     by_listed {P} i p (inl h) new was = was (inl h)
     by_listed {P} i p (inr (b, qs, m, h)) new was = by_row b qs m (λ z y. new (subst (λ us. slice_get us i ≡ Some p) (sym y) h)) (λ x. was (inr (b, qs, x, h)))
 
@@ -156,15 +156,15 @@ module _ (l : Layout) (cs : Cells) (sys : Ptr) (d : Directory) (ms : List Member
     its_listing : listing e c ≡ map Some ps
     its_listing = ap (own_or d.numbers) (get_row_set d.classes c (Some ps) None free)
 
-    which : (b i : ℕ) (p : Address) → slice_get (listing e b) i ≡ Some (Some p) → class_at_place ds p ≡ b → (Born l ds sys p.at b (suc i) × (IsOf cs d b (suc i) → ⊥)) ⊎ ((slice_get (listing d b) i ≡ Some (Some p)) × (words_at ds p.at ≡ words_at cs p.at))
+    which : (b i : ℕ) (p : BlockPlace) → slice_get (listing e b) i ≡ Some (Some p) → class_at_place ds p ≡ b → (Born l ds sys p.at b (suc i) × (IsEntityOf cs d b (suc i) → ⊥)) ⊎ ((slice_get (listing d b) i ≡ Some (Some p)) × (words_at ds p.at ≡ words_at cs p.at))
     which b i p h k = by_same c b
         (λ t z. let g = unmapped ps i p (ap (λ us. slice_get us i) (sym its_listing ∙ ap (listing e) z) ∙ h) in
-        inl (subst (λ a. Born l ds sys p.at a (suc i) × (IsOf cs d a (suc i) → ⊥)) z (born i p g, none_yet (suc i))))
+        inl (subst (λ a. Born l ds sys p.at a (suc i) × (IsEntityOf cs d a (suc i) → ⊥)) z (born i p g, none_yet (suc i))))
         (λ t n. let was = sym (ap (λ us. slice_get us i) (other_listing b n)) ∙ h in inr (was, old i p (listed d b i p was)))
 
-    still : (b i : ℕ) (p : Address) → slice_get (listing d b) i ≡ Some (Some p) → class_at_place cs p ≡ b → (slice_get (listing e b) i ≡ Some (Some p)) × (class_at_place ds p ≡ b)
+    still : (b i : ℕ) (p : BlockPlace) → slice_get (listing d b) i ≡ Some (Some p) → class_at_place cs p ≡ b → (slice_get (listing e b) i ≡ Some (Some p)) × (class_at_place ds p ≡ b)
     still b i p h k = by_same c b
-        (λ t z. absurd (none_yet (suc i) (subst (λ a. IsOf cs d a (suc i)) (sym z) (is_of cs d b i p h k))))
+        (λ t z. absurd (none_yet (suc i) (subst (λ a. IsEntityOf cs d a (suc i)) (sym z) (is_of cs d b i p h k))))
         (λ t n. (ap (λ us. slice_get us i) (other_listing b n) ∙ h, ap class_in_words (old i p (listed d b i p h)) ∙ k))
 
     pub kept_made : Kept l ds sys e ms
@@ -198,6 +198,6 @@ module _ (l : Layout) (cs : Cells) (sys : Ptr) (d : Directory) (ms : List Member
         let first = row_first l ds c ps (λ i p h. record_first l c (words_at ds p.at) (new_class i p h) (born i p h).values) ∙ ap (λ k. replicate k (first_record l c)) many in
         let two = rows_set l cs ds d.classes c ps (replicate n (first_record l c)) free first (λ i p h. ap (record_of l) (old i p (inr h))) in
         λ t. record (state_of l cs d ms) { records = one t; permanents = two t } where
-          entry : (j : ℕ) (q : Option Address) → slice_get d.numbers j ≡ Some q → record_at l ds q ≡ record_at l cs q
+          entry : (j : ℕ) (q : Option BlockPlace) → slice_get d.numbers j ≡ Some q → record_at l ds q ≡ record_at l cs q
           entry j None h = refl
           entry j (Some q) h = ap (λ us. Some (record_of l us)) (old j q (inl h))

@@ -5,7 +5,7 @@ use Rattle.ss_base.specs.declared.layout.Owner.{Owner}
 use Rattle.ss_base.specs.declared.layout.Owner.TheVariants.{System, Class}
 use Rattle.ss_base.specs.declared.layout.SetLayout.{SetLayout}
 use Rattle.ss_base.specs.declared.layout.Layout.{Layout}
-use Rattle.ss_records_blocks.specs.declared.store.Address.{Address}
+use Rattle.ss_records_blocks.specs.declared.store.BlockPlace.{BlockPlace}
 use Rattle.ss_records_blocks.specs.Cells.{Cells, words_at, word_of, word_at, link, counter}
 use Rattle.ss_world.specs.State.{Members, members_of}
 use Rattle.ss_records_words.specs.Shape.{owned_start, block_words, count_before, owned_by}
@@ -17,7 +17,7 @@ use Rattle.ss_records_words.specs.Laid.{Born}
 use Rattle.ss_world.specs.Lists.{In}
 use Rattle.ss_records_blocks.specs.Links.{Slots}
 use Rattle.ss_records_words.specs.Links.{Words, words_of, OfMember, OfOwner}
-use Rattle.ss_records_words.specs.Slotted.{slots_of, IsOf, MayOwn, NameKept}
+use Rattle.ss_records_words.specs.Slotted.{slots_of, IsEntityOf, MayOwn, NameKept}
 use Rattle.ss_records_words.proofs.Splice.{not_in}
 use Rattle.ss_records_blocks.proofs.Fills.{owned_first, owned_last, owned_count}
 use Rattle.ss_records_entities.proofs.Moved.{OldMember, NewMember, OldOwner, NewOwner, shows_moved}
@@ -39,11 +39,11 @@ module _ (l : Layout) (cs : Cells) (sys : Ptr) (d : Directory) (ms : List Member
 
   -- the entity n of the class b is a new one
   abbrev pub Newborn : Cells → ℕ → ℕ → Ptr → Type 0
-  Newborn ds b n p = Born l ds sys p b n × (IsOf cs d b n → ⊥)
+  Newborn ds b n p = Born l ds sys p b n × (IsEntityOf cs d b n → ⊥)
 
   module _ (e : Directory) (ds : Cells) (words_sys : words_at ds sys ≡ words_at cs sys)
-      (which : (b i : ℕ) (p : Address) → slice_get (listing e b) i ≡ Some (Some p) → class_at_place ds p ≡ b → Newborn ds b (suc i) p.at ⊎ ((slice_get (listing d b) i ≡ Some (Some p)) × (words_at ds p.at ≡ words_at cs p.at)))
-      (still : (b i : ℕ) (p : Address) → slice_get (listing d b) i ≡ Some (Some p) → class_at_place cs p ≡ b → (slice_get (listing e b) i ≡ Some (Some p)) × (class_at_place ds p ≡ b)) where
+      (which : (b i : ℕ) (p : BlockPlace) → slice_get (listing e b) i ≡ Some (Some p) → class_at_place ds p ≡ b → Newborn ds b (suc i) p.at ⊎ ((slice_get (listing d b) i ≡ Some (Some p)) × (words_at ds p.at ≡ words_at cs p.at)))
+      (still : (b i : ℕ) (p : BlockPlace) → slice_get (listing d b) i ≡ Some (Some p) → class_at_place cs p ≡ b → (slice_get (listing e b) i ≡ Some (Some p)) × (class_at_place ds p ≡ b)) where
     abbrev at : ℕ → Ptr
     at = entity_at sys d t.member
 
@@ -69,21 +69,21 @@ module _ (l : Layout) (cs : Cells) (sys : Ptr) (d : Directory) (ms : List Member
     Old lay lay' n = (lay' n ≡ lay n) × ((k : ℕ) → word_at ds (lay' n) k ≡ word_at cs (lay n) k)
 
     -- an entity of a class is a new one or an old one
-    entity : (b n : ℕ) → IsOf ds e b n → Newborn ds b n (entity_at sys e b n) ⊎ ((IsOf cs d b n) × Old (entity_at sys d b) (entity_at sys e b) n)
+    entity : (b n : ℕ) → IsEntityOf ds e b n → Newborn ds b n (entity_at sys e b n) ⊎ ((IsEntityOf cs d b n) × Old (entity_at sys d b) (entity_at sys e b) n)
     entity b n h = by_entry (entry_of ds e b n h) where
-      by_entry : (i : ℕ) × (p : Address) × (n ≡ suc i) × (slice_get (listing e b) i ≡ Some (Some p)) × (class_at_place ds p ≡ b) → Newborn ds b n (entity_at sys e b n) ⊎ ((IsOf cs d b n) × Old (entity_at sys d b) (entity_at sys e b) n)
-      by_entry (i, p, q, r, c) = elim (which b i p r c) as (λ _. Newborn ds b n (entity_at sys e b n) ⊎ ((IsOf cs d b n) × Old (entity_at sys d b) (entity_at sys e b) n)) [
+      by_entry : (i : ℕ) × (p : BlockPlace) × (n ≡ suc i) × (slice_get (listing e b) i ≡ Some (Some p)) × (class_at_place ds p ≡ b) → Newborn ds b n (entity_at sys e b n) ⊎ ((IsEntityOf cs d b n) × Old (entity_at sys d b) (entity_at sys e b) n)
+      by_entry (i, p, q, r, c) = elim (which b i p r c) as (λ _. Newborn ds b n (entity_at sys e b n) ⊎ ((IsEntityOf cs d b n) × Old (entity_at sys d b) (entity_at sys e b) n)) [
         | inl x ↦ inl (subst (λ v. Newborn ds b v (entity_at sys e b v)) (sym q) (subst (λ v. Newborn ds b (suc i) v) (sym (ap place_in_record r)) x))
         | inr x ↦
             let new : entity_at sys e b n ≡ p.at = ap (entity_at sys e b) q ∙ ap place_in_record r in let old : entity_at sys d b n ≡ p.at = ap (entity_at sys d b) q ∙ ap place_in_record x.0 in
-            inr (subst (IsOf cs d b) (sym q) (is_of cs d b i p x.0 (sym (ap class_in_words x.1) ∙ c)), (new ∙ sym old, (λ k. (λ z. word_at ds (new z) k) ∙ ap (λ us. word_of us k) x.1 ∙ (λ z. word_at cs (sym old z) k))))
+            inr (subst (IsEntityOf cs d b) (sym q) (is_of cs d b i p x.0 (sym (ap class_in_words x.1) ∙ c)), (new ∙ sym old, (λ k. (λ z. word_at ds (new z) k) ∙ ap (λ us. word_of us k) x.1 ∙ (λ z. word_at cs (sym old z) k))))
       ]
 
-    still_of : (b n : ℕ) → IsOf cs d b n → IsOf ds e b n
-    still_of b n h = let a = entry_of cs d b n h in let x = still b a.0 a.1 a.3 a.4 in subst (IsOf ds e b) (sym a.2) (is_of ds e b a.0 a.1 x.0 x.1)
+    still_of : (b n : ℕ) → IsEntityOf cs d b n → IsEntityOf ds e b n
+    still_of b n h = let a = entry_of cs d b n h in let x = still b a.0 a.1 a.3 a.4 in subst (IsEntityOf ds e b) (sym a.2) (is_of ds e b a.0 a.1 x.0 x.1)
 
-    member : (y : ℕ) → IsOf ds e t.member y → OldMember m m' at at' home home' (IsOf cs d t.member) (IsOf ds e t.member) (MayOwn cs d t.owner) (MayOwn ds e t.owner) f y ⊎ NewMember m m' at at' home home' (IsOf cs d t.member) (IsOf ds e t.member) (MayOwn cs d t.owner) (MayOwn ds e t.owner) f y
-    member y h = elim (entity t.member y h) as (λ _. OldMember m m' at at' home home' (IsOf cs d t.member) (IsOf ds e t.member) (MayOwn cs d t.owner) (MayOwn ds e t.owner) f y ⊎ NewMember m m' at at' home home' (IsOf cs d t.member) (IsOf ds e t.member) (MayOwn cs d t.owner) (MayOwn ds e t.owner) f y) [
+    member : (y : ℕ) → IsEntityOf ds e t.member y → OldMember m m' at at' home home' (IsEntityOf cs d t.member) (IsEntityOf ds e t.member) (MayOwn cs d t.owner) (MayOwn ds e t.owner) f y ⊎ NewMember m m' at at' home home' (IsEntityOf cs d t.member) (IsEntityOf ds e t.member) (MayOwn cs d t.owner) (MayOwn ds e t.owner) f y
+    member y h = elim (entity t.member y h) as (λ _. OldMember m m' at at' home home' (IsEntityOf cs d t.member) (IsEntityOf ds e t.member) (MayOwn cs d t.owner) (MayOwn ds e t.owner) f y ⊎ NewMember m m' at at' home home' (IsEntityOf cs d t.member) (IsEntityOf ds e t.member) (MayOwn cs d t.owner) (MayOwn ds e t.owner) f y) [
       | inl x ↦ inr ((λ o. not_in y (f o) (λ j. x.1 ((K.names s t g).members o y j).0)), self x.0 w.next (inl refl), self x.0 w.prev (inr (inl refl)), self x.0 w.owner (inr (inr refl)))
       | inr x ↦ inl (x.0, x.1.0, x.1.1 w.next, x.1.1 w.prev, x.1.1 w.owner)
     ] where
@@ -103,8 +103,8 @@ module _ (l : Layout) (cs : Cells) (sys : Ptr) (d : Directory) (ms : List Member
         let r = owner_inside l s t k g o in
         x.owned k (subst (λ v. owned_start l v ≤ k) b r.0) (subst (λ v. k < block_words l v) b r.1) ∙ ap (λ v. owned_from sys (owned_start l v) k) (sym b)
 
-    owner : (n : ℕ) → MayOwn ds e t.owner n → OldOwner m m' at at' home home' (IsOf cs d t.member) (IsOf ds e t.member) (MayOwn cs d t.owner) (MayOwn ds e t.owner) f n ⊎ NewOwner m m' at at' home home' (IsOf cs d t.member) (IsOf ds e t.member) (MayOwn cs d t.owner) (MayOwn ds e t.owner) f n
-    owner n h = elim (owners t.owner refl n h) as (λ _. OldOwner m m' at at' home home' (IsOf cs d t.member) (IsOf ds e t.member) (MayOwn cs d t.owner) (MayOwn ds e t.owner) f n ⊎ NewOwner m m' at at' home home' (IsOf cs d t.member) (IsOf ds e t.member) (MayOwn cs d t.owner) (MayOwn ds e t.owner) f n) [
+    owner : (n : ℕ) → MayOwn ds e t.owner n → OldOwner m m' at at' home home' (IsEntityOf cs d t.member) (IsEntityOf ds e t.member) (MayOwn cs d t.owner) (MayOwn ds e t.owner) f n ⊎ NewOwner m m' at at' home home' (IsEntityOf cs d t.member) (IsEntityOf ds e t.member) (MayOwn cs d t.owner) (MayOwn ds e t.owner) f n
+    owner n h = elim (owners t.owner refl n h) as (λ _. OldOwner m m' at at' home home' (IsEntityOf cs d t.member) (IsEntityOf ds e t.member) (MayOwn cs d t.owner) (MayOwn ds e t.owner) f n ⊎ NewOwner m m' at at' home home' (IsEntityOf cs d t.member) (IsEntityOf ds e t.member) (MayOwn cs d t.owner) (MayOwn ds e t.owner) f n) [
       | inl x ↦ inl (x.0, x.1.0, x.1.1 w.first, x.1.1 w.last, x.1.1 w.count)
       | inr x ↦ let v = owned_words sys (owned_start l t.owner) (count_before (owned_by t.owner) l.sets s) in
           let none : f n ≡ [] = empty (f n) (λ y j. x.2.1 (subst (λ u. MayOwn cs d u n) x.1 ((K.names s t g).members n y j).2)) in
@@ -116,5 +116,5 @@ module _ (l : Layout) (cs : Cells) (sys : Ptr) (d : Directory) (ms : List Member
     owner_still (Class b) n h = still_of b n h
 
     pub name_born : NameKept l ds sys e ms s t
-    name_born = shows_moved m m' at at' home home' (IsOf cs d t.member) (IsOf ds e t.member) (MayOwn cs d t.owner) (MayOwn ds e t.owner) f (K.names s t g) refl member owner
+    name_born = shows_moved m m' at at' home home' (IsEntityOf cs d t.member) (IsEntityOf ds e t.member) (MayOwn cs d t.owner) (MayOwn ds e t.owner) f (K.names s t g) refl member owner
         (λ o y h. let k = (K.names s t g).members o y h in (still_of t.member y k.0, owner_still t.owner o k.2))

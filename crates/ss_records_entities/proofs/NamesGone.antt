@@ -5,7 +5,7 @@ use Rattle.ss_base.specs.declared.layout.Owner.{Owner}
 use Rattle.ss_base.specs.declared.layout.Owner.TheVariants.{System, Class}
 use Rattle.ss_base.specs.declared.layout.SetLayout.{SetLayout}
 use Rattle.ss_base.specs.declared.layout.Layout.{Layout}
-use Rattle.ss_records_blocks.specs.declared.store.Address.{Address}
+use Rattle.ss_records_blocks.specs.declared.store.BlockPlace.{BlockPlace}
 use Rattle.ss_records_blocks.specs.Cells.{Cells, words_at, word_of, word_at, link, counter}
 use Rattle.ss_world.specs.State.{Members, members_of}
 use Rattle.ss_records_words.specs.Shape.{owned_start, block_words, count_before, owned_by}
@@ -17,14 +17,14 @@ use Rattle.ss_records_words.specs.Laid.{LaidSystem}
 use Rattle.ss_world.specs.Lists.{In, NotIn}
 use Rattle.ss_records_blocks.specs.Links.{Slots}
 use Rattle.ss_records_words.specs.Links.{Words, words_of, OfOwner}
-use Rattle.ss_records_words.specs.Slotted.{owner_base, slots_of, IsOf, MayOwn, NameKept}
+use Rattle.ss_records_words.specs.Slotted.{owner_base, slots_of, IsEntityOf, MayOwn, NameKept}
 use Rattle.ss_records_words.proofs.Splice.{not_and_in}
 use Rattle.ss_records_entities.proofs.Moved.{shows_moved}
 use Rattle.ss_records_words.proofs.Disjoint.{owner_inside, entry_of, is_of}
 use Rattle.ss_records_entities.proofs.NamesCreated.{owned_words}
 
-module _ (l : Layout) (ds : Cells) (sys : Ptr) (bs : Cells) (laid : LaidSystem l bs ds sys) (d : Directory) (none : (c i : ℕ) (p : Address) → slice_get (listing d c) i ≡ Some (Some p) → ⊥) (s : ℕ) (t : SetLayout) (g : slice_get l.sets s ≡ Some t) where
-  none_of : (b n : ℕ) → IsOf ds d b n → ⊥
+module _ (l : Layout) (ds : Cells) (sys : Ptr) (bs : Cells) (laid : LaidSystem l bs ds sys) (d : Directory) (none : (c i : ℕ) (p : BlockPlace) → slice_get (listing d c) i ≡ Some (Some p) → ⊥) (s : ℕ) (t : SetLayout) (g : slice_get l.sets s ≡ Some t) where
+  none_of : (b n : ℕ) → IsEntityOf ds d b n → ⊥
   none_of b n h = let a = entry_of ds d b n h in none b a.0 a.1 a.3
 
   abbrev w0 : Slots
@@ -57,10 +57,10 @@ module _ (l : Layout) (ds : Cells) (sys : Ptr) (bs : Cells) (laid : LaidSystem l
   }
 
 module _ (l : Layout) (cs : Cells) (sys : Ptr) (d : Directory) (ms : List Members) (K : Kept l cs sys d ms) (s : ℕ) (t : SetLayout) (g : slice_get l.sets s ≡ Some t)
-    (ds : Cells) (e : Directory) (i : ℕ) (p : Address) (words_sys : words_at ds sys ≡ words_at cs sys)
+    (ds : Cells) (e : Directory) (i : ℕ) (p : BlockPlace) (words_sys : words_at ds sys ≡ words_at cs sys)
     (free : t.member ≡ class_at_place cs p → (o : ℕ) → NotIn (suc i) (members_of ms s o)) (owns : t.owner ≡ Class (class_at_place cs p) → members_of ms s (suc i) ≡ [])
-    (entry : (b j : ℕ) (q : Address) → slice_get (listing e b) j ≡ Some (Some q) → (slice_get (listing d b) j ≡ Some (Some q)) × (words_at ds q.at ≡ words_at cs q.at))
-    (other : (b j : ℕ) (q : Address) → slice_get (listing d b) j ≡ Some (Some q) → class_at_place cs q ≡ b → (j ≡ i → b ≡ class_at_place cs p → ⊥) → slice_get (listing e b) j ≡ Some (Some q)) where
+    (entry : (b j : ℕ) (q : BlockPlace) → slice_get (listing e b) j ≡ Some (Some q) → (slice_get (listing d b) j ≡ Some (Some q)) × (words_at ds q.at ≡ words_at cs q.at))
+    (other : (b j : ℕ) (q : BlockPlace) → slice_get (listing d b) j ≡ Some (Some q) → class_at_place cs q ≡ b → (j ≡ i → b ≡ class_at_place cs p → ⊥) → slice_get (listing e b) j ≡ Some (Some q)) where
   abbrev at : ℕ → Ptr
   at = entity_at sys d t.member
 
@@ -85,17 +85,17 @@ module _ (l : Layout) (cs : Cells) (sys : Ptr) (d : Directory) (ms : List Member
   abbrev m' : Words
   m' = words_of w ds at' home'
 
-  was : (b n : ℕ) → IsOf ds e b n → (IsOf cs d b n) × (entity_at sys e b n ≡ entity_at sys d b n) × ((k : ℕ) → word_at ds (entity_at sys e b n) k ≡ word_at cs (entity_at sys d b n) k)
+  was : (b n : ℕ) → IsEntityOf ds e b n → (IsEntityOf cs d b n) × (entity_at sys e b n ≡ entity_at sys d b n) × ((k : ℕ) → word_at ds (entity_at sys e b n) k ≡ word_at cs (entity_at sys d b n) k)
   was b n h =
       let a = entry_of ds e b n h in let x = entry b a.0 a.1 a.3 in
       let new : entity_at sys e b n ≡ a.1.at = ap (entity_at sys e b) a.2 ∙ ap place_in_record a.3 in let old : entity_at sys d b n ≡ a.1.at = ap (entity_at sys d b) a.2 ∙ ap place_in_record x.0 in
-      (subst (IsOf cs d b) (sym a.2) (is_of cs d b a.0 a.1 x.0 (sym (ap class_in_words x.1) ∙ a.4)), new ∙ sym old, (λ k. (λ z. word_at ds (new z) k) ∙ ap (λ us. word_of us k) x.1 ∙ (λ z. word_at cs (sym old z) k)))
+      (subst (IsEntityOf cs d b) (sym a.2) (is_of cs d b a.0 a.1 x.0 (sym (ap class_in_words x.1) ∙ a.4)), new ∙ sym old, (λ k. (λ z. word_at ds (new z) k) ∙ ap (λ us. word_of us k) x.1 ∙ (λ z. word_at cs (sym old z) k)))
 
-  stays_entity : (b n : ℕ) → IsOf cs d b n → ((n ≡ suc i) → (b ≡ class_at_place cs p) → ⊥) → IsOf ds e b n
+  stays_entity : (b n : ℕ) → IsEntityOf cs d b n → ((n ≡ suc i) → (b ≡ class_at_place cs p) → ⊥) → IsEntityOf ds e b n
   stays_entity b n h not_it =
       let a = entry_of cs d b n h in
       let y = other b a.0 a.1 a.3 a.4 (λ x. not_it (a.2 ∙ ap suc x)) in
-      subst (IsOf ds e b) (sym a.2) (is_of ds e b a.0 a.1 y (ap class_in_words (entry b a.0 a.1 y).1 ∙ a.4))
+      subst (IsEntityOf ds e b) (sym a.2) (is_of ds e b a.0 a.1 y (ap class_in_words (entry b a.0 a.1 y).1 ∙ a.4))
 
   owner_was : (o : Owner) (n : ℕ) → MayOwn ds e o n → (MayOwn cs d o n) × (owner_at sys e o n ≡ owner_at sys d o n) × ((k : ℕ) → word_at ds (owner_at sys e o n) k ≡ word_at cs (owner_at sys d o n) k)
   owner_was System n h = (h, refl, (λ k. ap (λ us. word_of us k) words_sys))
@@ -106,7 +106,7 @@ module _ (l : Layout) (cs : Cells) (sys : Ptr) (d : Directory) (ms : List Member
   owner_stays (Class b) n h not_it = stays_entity b n h (λ x y. not_it x (ap Class y))
 
   pub name_gone : NameKept l ds sys e ms s t
-  name_gone = shows_moved m m' at at' home home' (IsOf cs d t.member) (IsOf ds e t.member) (MayOwn cs d t.owner) (MayOwn ds e t.owner) f (K.names s t g) refl
+  name_gone = shows_moved m m' at at' home home' (IsEntityOf cs d t.member) (IsEntityOf ds e t.member) (MayOwn cs d t.owner) (MayOwn ds e t.owner) f (K.names s t g) refl
       (λ y h. let x = was t.member y h in inl (x.0, x.1, x.2 w.next, x.2 w.prev, x.2 w.owner))
       (λ o h. let x = owner_was t.owner o h in inl (x.0, x.1, x.2 w.first, x.2 w.last, x.2 w.count))
       (λ o y h. let k = (K.names s t g).members o y h in (

@@ -10,7 +10,7 @@ use Rattle.ss_base.specs.declared.layout.Owner.{Owner}
 use Rattle.ss_base.specs.declared.layout.Owner.TheVariants.{System, Class}
 use Rattle.ss_base.specs.declared.layout.SetLayout.{SetLayout}
 use Rattle.ss_records_entities.specs.declared.records.Records.{Records}
-use Rattle.ss_records_blocks.specs.declared.links.Entry.{Entry}
+use Rattle.ss_records_blocks.specs.declared.links.EntityBlock.{EntityBlock}
 use Rattle.ss_records_blocks.specs.Cells.{number, link, word_at}
 use Rattle.ss_world.specs.State.{State, Record, and_then, entity_of_kind, kind_of, number_in, members_of, contains, owner_of, is_filed}
 use Rattle.ss_world.specs.Sets.{joiner, owner, owner_in, owner_kind, owner_by, next_in, previous_in}
@@ -87,7 +87,7 @@ module _ (r : Records) (K : IsKept r) (s : ℕ) (inside : s < length r.layout.se
   pub in_none : (o x : ℤ) (n : ℕ) → is_filed r.notes.lists s n ≡ false → joiner (state r) s x ≡ Ok n → member_test (state r) s o x ≡ Ok true → ⊥
   in_none o x n free j t = let a = sole_owner o x n j t in false_is_not_true (sym free ∙ ap is_some a.2)
 
-  module _ (e : Entry) (h : Joins r s e) (b : ℕ) (base : (u : SetLayout) → slice_get r.layout.sets s ≡ Some u → b ≡ member_base r.layout s u) where
+  module _ (e : EntityBlock) (h : Joins r s e) (b : ℕ) (base : (u : SetLayout) → slice_get r.layout.sets s ≡ Some u → b ≡ member_base r.layout s u) where
     pub beside_leads : (reverse : Bool) → Leads r.blocks.cells e.place.at (if reverse then b + 1 else b)
     beside_leads false = next_leads r K s inside e h b base
     beside_leads true = prev_leads r K s inside e h b base
@@ -96,7 +96,7 @@ module _ (r : Records) (K : IsKept r) (s : ℕ) (inside : s < length r.layout.se
     free_by to out n i same = ap is_some (out (sym i ∙ same))
 
     -- the neighbour that was read
-    module _ (q : Entry) (v : word_at r.blocks.cells q.place.at 1 ≡ number q.number) where
+    module _ (q : EntityBlock) (v : word_at r.blocks.cells q.place.at 1 ≡ number q.number) where
       pub beside_small : (reverse : Bool) → word_at r.blocks.cells e.place.at (if reverse then b + 1 else b) ≡ link q.place.at → q.number < 2 ^ 62
       beside_small false w = next_small r K s inside e h b base q w v
       beside_small true w = prev_small r K s inside e h b base q w v
@@ -132,7 +132,7 @@ module _ (r : Records) (K : IsKept r) (s : ℕ) (inside : s < length r.layout.se
         beside_value reverse w x j = sym (beside_is reverse w x q.number j (λ i. absurd (n i)) (λ _. refl))
 
     -- the owner that was read, where it is in a set
-    module _ (filed : is_filed r.notes.lists s e.number ≡ true) (q : Entry) (w : word_at r.blocks.cells e.place.at (b + 2) ≡ link q.place.at) (v : word_at r.blocks.cells q.place.at 1 ≡ number q.number) where
+    module _ (filed : is_filed r.notes.lists s e.number ≡ true) (q : EntityBlock) (w : word_at r.blocks.cells e.place.at (b + 2) ≡ link q.place.at) (v : word_at r.blocks.cells q.place.at 1 ≡ number q.number) where
       pub in_its : (o x : ℤ) → joiner (state r) s x ≡ Ok e.number → cast_signed w64 q.number ≡ o → member_test (state r) s o x ≡ Ok true
       in_its o x j is =
           let i = (owner_has r K s inside e h b base filed q w v).1 in

@@ -2,8 +2,8 @@
 use Rattle.std.proofs.Common.{◌≡◌, ℕ, suc, inl, true, false, slice_get, Some, ap, sym, subst, ◌∙◌}
 use Rattle.std.specs.Prelude.{not, nat_eq}
 use Rattle.ss_base.specs.declared.layout.SetLayout.{SetLayout}
-use Rattle.ss_records_blocks.specs.declared.store.Address.{Address}
-use Rattle.ss_records_blocks.specs.declared.links.Entry.{Entry}
+use Rattle.ss_records_blocks.specs.declared.store.BlockPlace.{BlockPlace}
+use Rattle.ss_records_blocks.specs.declared.links.EntityBlock.{EntityBlock}
 use Rattle.ss_records_entities.specs.declared.records.Records.{Records}
 use Rattle.ss_records_blocks.specs.Cells.{number, link, word_at}
 use Rattle.ss_records_blocks.specs.Links.{Leads}
@@ -15,7 +15,7 @@ use Rattle.ss_records_blocks.proofs.Same.{differs, by_same}
 use Rattle.ss_records_words.proofs.Tied.{its_next, next_word, filed_value}
 
 -- where its links of a set begin at the word k
-module _ (r : Records) (K : IsKept r) (s : ℕ) (t : SetLayout) (g : slice_get r.layout.sets s ≡ Some t) (i : ℕ) (p : Address) (e : slice_get r.directory.places i ≡ Some (Some p)) (class : class_at_place r.blocks.cells p ≡ t.member) (k : ℕ) (base : k ≡ member_base r.layout s t) where
+module _ (r : Records) (K : IsKept r) (s : ℕ) (t : SetLayout) (g : slice_get r.layout.sets s ≡ Some t) (i : ℕ) (p : BlockPlace) (e : slice_get r.directory.places i ≡ Some (Some p)) (class : class_at_place r.blocks.cells p ≡ t.member) (k : ℕ) (base : k ≡ member_base r.layout s t) where
   pub leads_on : Leads r.blocks.cells p.at k
   leads_on =
       let n = its_next r.layout r.blocks.cells r.system.at (places r) r.notes.lists K s t g i p (inl e) class in
@@ -27,7 +27,7 @@ module _ (r : Records) (K : IsKept r) (s : ℕ) (t : SetLayout) (g : slice_get r
       }
 
   -- and the next is q
-  module _ (x : ℕ) (is : x ≡ suc i) (q : Entry) (w : word_at r.blocks.cells p.at k ≡ link q.place.at) (v : word_at r.blocks.cells q.place.at 1 ≡ number q.number) where
+  module _ (x : ℕ) (is : x ≡ suc i) (q : EntityBlock) (w : word_at r.blocks.cells p.at k ≡ link q.place.at) (v : word_at r.blocks.cells q.place.at 1 ≡ number q.number) where
     filed_by : not (nat_eq q.number x) ≡ is_filed r.notes.lists s x
     filed_by = subst (λ n. not (nat_eq q.number n) ≡ is_filed r.notes.lists s n) (sym is)
         (filed_value r.layout r.blocks.cells r.system.at (places r) r.notes.lists K s t g i p (inl e) class q.place.at q.number (ap (λ j. word_at r.blocks.cells p.at j) (sym base) ∙ w) v)

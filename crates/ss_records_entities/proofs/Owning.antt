@@ -7,20 +7,20 @@ use Rattle.ss_base.specs.declared.layout.Owner.TheVariants.{System, Class}
 use Rattle.ss_base.specs.declared.layout.SetLayout.{SetLayout}
 use Rattle.ss_base.specs.declared.layout.Layout.{Layout}
 use Rattle.ss_records_entities.specs.declared.records.Records.{Records}
-use Rattle.ss_records_blocks.specs.declared.store.Address.{Address}
+use Rattle.ss_records_blocks.specs.declared.store.BlockPlace.{BlockPlace}
 use Rattle.ss_records_blocks.specs.Cells.{number, IsNumber, word_at}
 use Rattle.ss_world.specs.State.{State, and_then, entity_in, number_in}
 use Rattle.ss_world.specs.Sets.{member_class, owner_kind, joiner, owner_by, owner}
 use Rattle.ss_records_words.specs.Reading.{plain}
 use Rattle.ss_records_words.specs.Places.{listing, place_in_record, entity_at, owner_at}
-use Rattle.ss_records_words.specs.Slotted.{IsOf, MayOwn}
+use Rattle.ss_records_words.specs.Slotted.{IsEntityOf, MayOwn}
 use Rattle.ss_records_words.specs.Plans.{is_system}
 use Rattle.ss_records_entities.specs.Parts.{IsKept, state, places, Found, Owns, Joins}
 use Rattle.ss_records_words.proofs.Listing.{lists_place}
 use Rattle.ss_records_words.proofs.Disjoint.{is_of}
 use Rattle.ss_records_blocks.proofs.Entries.{get_there}
 
-module _ (r : Records) (K : IsKept r) (c : ℕ) (x : ℤ) (p : Address) (f : Found r c x p) where
+module _ (r : Records) (K : IsKept r) (c : ℕ) (x : ℤ) (p : BlockPlace) (f : Found r c x p) where
   pub has_number : IsNumber (word_at r.blocks.cells p.at 1)
   has_number = subst IsNumber (sym (K.formed f.index p f.entry).number) tt
 
@@ -34,8 +34,8 @@ module _ (r : Records) (K : IsKept r) (c : ℕ) (x : ℤ) (p : Address) (f : Fou
     lies_at : p.at ≡ entity_at r.system.at (places r) c n
     lies_at = sym (ap (entity_at r.system.at (places r) c) number_of ∙ ap place_in_record its_place)
 
-    is_it : IsOf r.blocks.cells (places r) c n
-    is_it = subst (IsOf r.blocks.cells (places r) c) (sym number_of) (is_of r.blocks.cells (places r) c f.index p its_place f.class)
+    is_it : IsEntityOf r.blocks.cells (places r) c n
+    is_it = subst (IsEntityOf r.blocks.cells (places r) c) (sym number_of) (is_of r.blocks.cells (places r) c f.index p its_place f.class)
 
     named : number_in x ≡ n
     named = ap number_in f.is ∙ sym number_of
@@ -43,7 +43,7 @@ module _ (r : Records) (K : IsKept r) (c : ℕ) (x : ℤ) (p : Address) (f : Fou
     module _ (s : ℕ) where
       pub joins_found : member_class r.layout s ≡ c → Joins r s (record { place = p; number = n }) × (joiner (state r) s x ≡ Ok n)
       joins_found e = (
-        record { lies = subst (λ b. p.at ≡ entity_at r.system.at (places r) b n) (sym e) lies_at; is = subst (λ b. IsOf r.blocks.cells (places r) b n) (sym e) is_it },
+        record { lies = subst (λ b. p.at ≡ entity_at r.system.at (places r) b n) (sym e) lies_at; is = subst (λ b. IsEntityOf r.blocks.cells (places r) b n) (sym e) is_it },
         ap (λ b. and_then (entity_in (state r) b x) (λ q. Ok (number_in x))) e ∙ ap (λ z. and_then z (λ q. Ok (number_in x))) f.entity ∙ ap Ok named,
       )
 

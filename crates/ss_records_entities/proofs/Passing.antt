@@ -9,9 +9,9 @@ use Rattle.ss_base.specs.declared.value.Value.TheVariants.{Whole}
 use Rattle.ss_base.specs.declared.layout.Mode.{Mode}
 use Rattle.ss_base.specs.declared.layout.Mode.TheVariants.{Integer}
 use Rattle.ss_base.specs.declared.layout.SetLayout.{SetLayout}
-use Rattle.ss_records_blocks.specs.declared.store.Address.{Address}
+use Rattle.ss_records_blocks.specs.declared.store.BlockPlace.{BlockPlace}
 use Rattle.ss_records_entities.specs.declared.records.Records.{Records}
-use Rattle.ss_records_blocks.specs.declared.links.Entry.{Entry}
+use Rattle.ss_records_blocks.specs.declared.links.EntityBlock.{EntityBlock}
 use Rattle.ss_records_blocks.specs.Cells.{number, link, IsNumber, words_at, word_at}
 use Rattle.ss_world.specs.State.{members_of, modes_of, entity_in, value_in}
 use Rattle.ss_world.specs.Sets.{member_class}
@@ -50,11 +50,11 @@ none_first t [] n e h some = refl
 none_first t (z ∷ zs) n e h some = absurd (some z (inl refl) (sym h ∙ e))
 
 -- the value of an attribute of a member
-module _ (r : Records) (K : IsKept r) (s : ℕ) (q : Entry) (j : Joins r s q) (f k : ℕ) (start : k ≡ 2 + 2 * f) (m : Mode) (mode : slice_get (modes_of r.layout (member_class r.layout s)) f ≡ Some m) where
+module _ (r : Records) (K : IsKept r) (s : ℕ) (q : EntityBlock) (j : Joins r s q) (f k : ℕ) (start : k ≡ 2 + 2 * f) (m : Mode) (mode : slice_get (modes_of r.layout (member_class r.layout s)) f ≡ Some m) where
   abbrev class : ℕ
   class = member_class r.layout s
 
-  place : (i : ℕ) × (p : Address) × (q.number ≡ suc i) × (Lists (places r) i p) × (class_at_place r.blocks.cells p ≡ class) × (q.place.at ≡ p.at)
+  place : (i : ℕ) × (p : BlockPlace) × (q.number ≡ suc i) × (Lists (places r) i p) × (class_at_place r.blocks.cells p ≡ class) × (q.place.at ≡ p.at)
   place = let a = entry_of r.blocks.cells (places r) class q.number j.is in
       (a.0, a.1, a.2, listed (places r) class a.0 a.1 a.3, a.4, j.lies ∙ ap (entity_at r.system.at (places r) class) a.2 ∙ ap place_in_record a.3)
 
@@ -73,12 +73,12 @@ module _ (r : Records) (K : IsKept r) (s : ℕ) (q : Entry) (j : Joins r s q) (f
   its_value = is_value r.layout r.blocks.cells r.system.at (places r) r.notes.lists K place.0 place.1 place.3 class place.4 (pos q.number) (ap pos place.2) its_entity f k start m mode
       ∙ ap (λ z. Ok (value_at m r.blocks.cells z k)) (sym place.5)
 
-module _ (r : Records) (K : IsKept r) (s : ℕ) (q : Entry) (j : Joins r s q) (f k : ℕ) (start : k ≡ 2 + 2 * f) (mode : slice_get (modes_of r.layout (member_class r.layout s)) f ≡ Some Integer) where
+module _ (r : Records) (K : IsKept r) (s : ℕ) (q : EntityBlock) (j : Joins r s q) (f k : ℕ) (start : k ≡ 2 + 2 * f) (mode : slice_get (modes_of r.layout (member_class r.layout s)) f ≡ Some Integer) where
   pub test_is : (its own : ℤ) (high : Bool) → Whole its ≡ value_at Integer r.blocks.cells q.place.at k → match_ordering (int_cmp its own) high false (not high) ≡ ranks_past (state r) (member_class r.layout s) f high (Whole own) q.number
   test_is its own high h = ap (λ (w : Value). match_ordering (value_cmp w (Whole own)) high false (not high)) (h ∙ sym (ap value_or_zero (its_value r K s q j f k start Integer mode)))
 
 -- how far a walk along the set s of o has come: it has passed the members xs, and is at the first of ys, or at the end
-pub record WalkState (r : Records) (s o : ℕ) (t : ℕ → Bool) (q : Entry) (touches : ℕ) : Type 0 where
+pub record WalkState (r : Records) (s o : ℕ) (t : ℕ → Bool) (q : EntityBlock) (touches : ℕ) : Type 0 where
   pub xs : List ℕ
   pub ys : List ℕ
   pub list : members_of r.notes.lists s o ≡ xs ++ ys
@@ -89,10 +89,10 @@ pub record WalkState (r : Records) (s o : ℕ) (t : ℕ → Bool) (q : Entry) (t
   pub passed : length xs + before_where t ys ≡ before_where t (members_of r.notes.lists s o)
   pub touched : touches ≡ length xs + 1
 
-pub at_start : (r : Records) (s o : ℕ) (t : ℕ → Bool) (a q : Entry) (touches : ℕ) → Between r s o a q [] (members_of r.notes.lists s o) → touches ≡ 1 → WalkState r s o t q touches
+pub at_start : (r : Records) (s o : ℕ) (t : ℕ → Bool) (a q : EntityBlock) (touches : ℕ) → Between r s o a q [] (members_of r.notes.lists s o) → touches ≡ 1 → WalkState r s o t q touches
 at_start r s o t a q touches w e = record { xs = []; ys = members_of r.notes.lists s o; list = refl; size = omega arith; lies = w.after; first = w.first; found = refl; passed = omega arith; touched = omega (arith, e) }
 
-module _ (r : Records) (K : IsKept r) (s : ℕ) (inside : s < length r.layout.sets) (o : ℕ) (t : ℕ → Bool) (q : Entry) (touches : ℕ) (S : WalkState r s o t q touches) where
+module _ (r : Records) (K : IsKept r) (s : ℕ) (inside : s < length r.layout.sets) (o : ℕ) (t : ℕ → Bool) (q : EntityBlock) (touches : ℕ) (S : WalkState r s o t q touches) where
   abbrev f : List ℕ
   f = members_of r.notes.lists s o
 
@@ -155,7 +155,7 @@ module _ (r : Records) (K : IsKept r) (s : ℕ) (inside : s < length r.layout.se
       pub next_leads : Leads r.blocks.cells q.place.at b
       next_leads = leads r.blocks.cells at q.place.at b _ next_there
 
-      pub next_walk : (e : t q.number ≡ false) (z : Entry) (more : ℕ) → word_at r.blocks.cells q.place.at b ≡ link z.place.at → word_at r.blocks.cells z.place.at 1 ≡ number z.number → more ≡ touches + 1 → WalkState r s o t z more
+      pub next_walk : (e : t q.number ≡ false) (z : EntityBlock) (more : ℕ) → word_at r.blocks.cells q.place.at b ≡ link z.place.at → word_at r.blocks.cells z.place.at 1 ≡ number z.number → more ≡ touches + 1 → WalkState r s o t z more
       next_walk e z more w v m =
           let l = lies_there r K s inside q.place.at b _ next_there z w v in
           let y = get_there r.layout.sets s inside in

@@ -7,7 +7,7 @@ use Rattle.ss_base.specs.declared.value.Value.{Value}
 use Rattle.ss_base.specs.declared.layout.Mode.{Mode}
 use Rattle.ss_base.specs.declared.layout.Layout.{Layout}
 use Rattle.ss_records_blocks.specs.Cells.{Word, number, word_of, with_word}
-use Rattle.ss_world.specs.State.{Record, kind_of, modes_of, is_notice, with_value, with_time}
+use Rattle.ss_world.specs.State.{Record, kind_of, modes_of, is_notice, record_with_value, with_time}
 use Rattle.ss_records_words.specs.Shape.{values_end, links_start}
 use Rattle.ss_records_words.specs.Reading.{plain, value_of_words, values_from, class_in_words, record_of}
 use Rattle.ss_records_blocks.proofs.Numbers.{length-with_word}
@@ -75,7 +75,7 @@ two_other ws k a b j x y = word_other (with_word ws k (number a)) (k + 1) (numbe
 
 -- one value is written
 pub record_value : (l : Layout) (c : ℕ) (ws : List Word) (f k a b : ℕ) (m : Mode) (v : Value) → k ≡ 2 + 2 * f → slice_get (modes_of l c) f ≡ Some m → value_of_words m a b ≡ v → k + 1 < length ws → f < length (modes_of l c)
-    → read_as l c (with_two ws k a b) ≡ with_value (read_as l c ws) f v
+    → read_as l c (with_two ws k a b) ≡ record_with_value (read_as l c ws) f v
 record_value l c ws f k a b m v s g e h inside =
     let us : List Word = with_two ws k a b in
     let x : word_of us k ≡ number a = two_first ws k a b h in

@@ -11,7 +11,7 @@ use Rattle.ss_records_words.specs.Kept.{Kept, state_of}
 use Rattle.ss_world.specs.Lists.{head0, last_or, In, NotIn, with_list}
 use Rattle.ss_records_blocks.specs.Links.{Slots, hooked, linked_in, unlinked_in}
 use Rattle.ss_records_words.specs.Links.{Shows, words_of}
-use Rattle.ss_records_words.specs.Slotted.{slots_of, IsOf, MayOwn, OfName, Spares}
+use Rattle.ss_records_words.specs.Slotted.{slots_of, IsEntityOf, MayOwn, OfName, Spares}
 use Rattle.ss_records_blocks.proofs.Same.{by_same}
 use Rattle.ss_records_words.proofs.Splice.{in_mid, before_in, after_in, in_left}
 use Rattle.ss_records_entities.proofs.Listed.{members_with, members_other}
@@ -44,7 +44,7 @@ module _ (l : Layout) (cs : Cells) (sys : Ptr) (d : Directory) (ms : List Member
   Of = OfName l cs sys d s t
 
   -- the writes of the name
-  at_member : (y k : ℕ) → IsOf cs d t.member y → (k ≡ w.next) ⊎ ((k ≡ w.prev) ⊎ (k ≡ w.owner)) → Of (at y) k
+  at_member : (y k : ℕ) → IsEntityOf cs d t.member y → (k ≡ w.next) ⊎ ((k ≡ w.prev) ⊎ (k ≡ w.owner)) → Of (at y) k
   at_member y k h m = inl (y, h, refl, m)
 
   at_owner : (k : ℕ) → (k ≡ w.first) ⊎ ((k ≡ w.last) ⊎ (k ≡ w.count)) → Of (home o) k
@@ -55,11 +55,11 @@ module _ (l : Layout) (cs : Cells) (sys : Ptr) (d : Directory) (ms : List Member
       (λ i q. rw i (spares_put Of cs ds (home o) k (link z) h own))
       (λ i n. rw i (spares_put Of cs ds (at e) j (link z) h (near n)))
 
-  shown : (ds : Cells) (us : List ℕ) → Spares Of cs ds → Shows (words_of w ds at home) at home (IsOf cs d t.member) (MayOwn cs d t.owner) (with_list f o us) → Kept l ds sys d (with_members ms s o us)
+  shown : (ds : Cells) (us : List ℕ) → Spares Of cs ds → Shows (words_of w ds at home) at home (IsEntityOf cs d t.member) (MayOwn cs d t.owner) (with_list f o us) → Kept l ds sys d (with_members ms s o us)
   shown ds us h n =
       let e : members_of (with_members ms s o us) s ≡ with_list f o us = λ i p. members_with ms s o us p i in
       kept_spared l cs sys d ms K s t g ds h (with_members ms s o us)
-      (subst (λ z. Shows (words_of w ds at home) at home (IsOf ds d t.member) (MayOwn ds d t.owner) z) (sym e) (with_classes l cs sys d ms K s t g ds h s t (words_of w ds at home) (with_list f o us) n))
+      (subst (λ z. Shows (words_of w ds at home) at home (IsEntityOf ds d t.member) (MayOwn ds d t.owner) z) (sym e) (with_classes l cs sys d ms K s t g ds h s t (words_of w ds at home) (with_list f o us) n))
       (λ r p n. members_other ms s o us r p n)
 
   relisted : (ds : Cells) (us : List ℕ) → Spares Of cs ds → state_of l ds d (with_members ms s o us) ≡ with_list_of (state_of l cs d ms) s o us
@@ -68,17 +68,17 @@ module _ (l : Layout) (cs : Cells) (sys : Ptr) (d : Directory) (ms : List Member
       λ i. record (state_of l cs d ms) { records = one i; permanents = two i; lists = with_members ms s o us }
 
   -- linked in between xs and ys
-  module _ (lx : IsOf cs d t.member x) (some : 0 ≡ x → ⊥) (was : f o ≡ xs ++ ys) (free : (p : ℕ) → NotIn x (f p)) where
+  module _ (lx : IsEntityOf cs d t.member x) (some : 0 ≡ x → ⊥) (was : f o ≡ xs ++ ys) (free : (p : ℕ) → NotIn x (f p)) where
     abbrev ds : Cells
     ds = linked_in w cs (home o) (at a) (a == 0) (at x) (at b) (b == 0) (length (f o))
 
-    near : (y : ℕ) → (y ≡ 0 → ⊥) → In y (xs ++ ys) → IsOf cs d t.member y
+    near : (y : ℕ) → (y ≡ 0 → ⊥) → In y (xs ++ ys) → IsEntityOf cs d t.member y
     near y n h = ((K.names s t g).members o y (subst (In y) (sym was) h)).0
 
-    pub la : (a ≡ 0 → ⊥) → IsOf cs d t.member a
+    pub la : (a ≡ 0 → ⊥) → IsEntityOf cs d t.member a
     la n = near a n (before_in a xs ys refl (λ e. n (sym e)))
 
-    pub lb : (b ≡ 0 → ⊥) → IsOf cs d t.member b
+    pub lb : (b ≡ 0 → ⊥) → IsEntityOf cs d t.member b
     lb n = near b n (after_in b xs ys refl (λ e. n (sym e)))
 
     spares : Spares Of cs ds
@@ -97,8 +97,8 @@ module _ (l : Layout) (cs : Cells) (sys : Ptr) (d : Directory) (ms : List Member
 
     pub kept_linked : Kept l ds sys d (with_members ms s o (xs ++ x ∷ ys))
     kept_linked = shown ds (xs ++ x ∷ ys) spares
-        (any_linked (words_of w cs at home) (words_of w ds at home) at home (IsOf cs d t.member) (MayOwn cs d t.owner) f o x xs ys (K.names s t g) was lx some lo free
-        (any_linked_is w cs at home (IsOf cs d t.member) (MayOwn cs d t.owner) (grounds l cs sys d ms K s t g) o a x b (length (f o)) lo lx la lb))
+        (any_linked (words_of w cs at home) (words_of w ds at home) at home (IsEntityOf cs d t.member) (MayOwn cs d t.owner) f o x xs ys (K.names s t g) was lx some lo free
+        (any_linked_is w cs at home (IsEntityOf cs d t.member) (MayOwn cs d t.owner) (grounds l cs sys d ms K s t g) o a x b (length (f o)) lo lx la lb))
 
     pub state_linked : state_of l ds d (with_members ms s o (xs ++ x ∷ ys)) ≡ with_list_of (state_of l cs d ms) s o (xs ++ x ∷ ys)
     state_linked = relisted ds (xs ++ x ∷ ys) spares
@@ -108,16 +108,16 @@ module _ (l : Layout) (cs : Cells) (sys : Ptr) (d : Directory) (ms : List Member
     abbrev es : Cells
     es = unlinked_in w cs (home o) (at a) (a == 0) (at x) (at b) (b == 0) (length (f o))
 
-    its : (y : ℕ) → In y (xs ++ x ∷ ys) → IsOf cs d t.member y
+    its : (y : ℕ) → In y (xs ++ x ∷ ys) → IsEntityOf cs d t.member y
     its y h = ((K.names s t g).members o y (subst (In y) (sym was) h)).0
 
-    pub lx' : IsOf cs d t.member x
+    pub lx' : IsEntityOf cs d t.member x
     lx' = its x (in_mid xs x ys)
 
-    pub la' : (a ≡ 0 → ⊥) → IsOf cs d t.member a
+    pub la' : (a ≡ 0 → ⊥) → IsEntityOf cs d t.member a
     la' n = its a (in_left a xs x ys (before_in a xs ys refl (λ e. n (sym e))))
 
-    pub lb' : (b ≡ 0 → ⊥) → IsOf cs d t.member b
+    pub lb' : (b ≡ 0 → ⊥) → IsEntityOf cs d t.member b
     lb' n = its b (in_left b xs x ys (after_in b xs ys refl (λ e. n (sym e))))
 
     spares' : Spares Of cs es
@@ -136,8 +136,8 @@ module _ (l : Layout) (cs : Cells) (sys : Ptr) (d : Directory) (ms : List Member
 
     pub kept_unlinked : Kept l es sys d (with_members ms s o (xs ++ ys))
     kept_unlinked = shown es (xs ++ ys) spares'
-        (any_unlinked (words_of w cs at home) (words_of w es at home) at home (IsOf cs d t.member) (MayOwn cs d t.owner) f o x xs ys (K.names s t g) was
-        (any_unlinked_is w cs at home (IsOf cs d t.member) (MayOwn cs d t.owner) (grounds l cs sys d ms K s t g) o a x b (length (f o)) lo lx' la' lb'))
+        (any_unlinked (words_of w cs at home) (words_of w es at home) at home (IsEntityOf cs d t.member) (MayOwn cs d t.owner) f o x xs ys (K.names s t g) was
+        (any_unlinked_is w cs at home (IsEntityOf cs d t.member) (MayOwn cs d t.owner) (grounds l cs sys d ms K s t g) o a x b (length (f o)) lo lx' la' lb'))
 
     pub state_unlinked : state_of l es d (with_members ms s o (xs ++ ys)) ≡ with_list_of (state_of l cs d ms) s o (xs ++ ys)
     state_unlinked = relisted es (xs ++ ys) spares'

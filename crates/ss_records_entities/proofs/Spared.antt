@@ -4,7 +4,7 @@ use Rattle.std.specs.Prelude.{Option}
 use denote.RawPtr.{Ptr}
 use Rattle.ss_base.specs.declared.layout.SetLayout.{SetLayout}
 use Rattle.ss_base.specs.declared.layout.Layout.{Layout}
-use Rattle.ss_records_blocks.specs.declared.store.Address.{Address}
+use Rattle.ss_records_blocks.specs.declared.store.BlockPlace.{BlockPlace}
 use Rattle.ss_records_blocks.specs.Cells.{Cells, IsNumber, words_at, word_at}
 use Rattle.ss_world.specs.State.{Members, kind_of, members_of}
 use Rattle.ss_records_words.specs.Shape.{links_start}
@@ -12,7 +12,7 @@ use Rattle.ss_records_words.specs.Reading.{plain, record_of, record_at, records_
 use Rattle.ss_records_words.specs.Places.{Directory, Lists, entity_at, owner_at, class_at_place}
 use Rattle.ss_records_words.specs.Kept.{Kept, Formed, MadeOf, IsPermanent}
 use Rattle.ss_records_words.specs.Links.{Words, Shows, words_of}
-use Rattle.ss_records_words.specs.Slotted.{slots_of, NameKept, IsOf, MayOwn, OfName, Spares}
+use Rattle.ss_records_words.specs.Slotted.{slots_of, NameKept, IsEntityOf, MayOwn, OfName, Spares}
 use Rattle.ss_records_blocks.proofs.Same.{by_same}
 use Rattle.ss_records_entities.proofs.ReadWords.{record_same}
 use Rattle.ss_records_entities.proofs.Keeps.{map_same, made_same}
@@ -21,13 +21,13 @@ use Rattle.ss_records_entities.proofs.NamesKept.{of_back, of_on, own_back, own_o
 use Rattle.ss_records_words.proofs.Disjoint.{above_head, above_end, names_apart}
 
 module _ (l : Layout) (cs : Cells) (sys : Ptr) (d : Directory) (ms : List Members) (K : Kept l cs sys d ms) (s : ℕ) (t : SetLayout) (g : slice_get l.sets s ≡ Some t) (ds : Cells) (h : Spares (OfName l cs sys d s t) cs ds) where
-  head_same : (j : ℕ) (q : Address) → Lists d j q → (k : ℕ) → k < links_start l (class_at_place cs q) → word_at ds q.at k ≡ word_at cs q.at k
+  head_same : (j : ℕ) (q : BlockPlace) → Lists d j q → (k : ℕ) → k < links_start l (class_at_place cs q) → word_at ds q.at k ≡ word_at cs q.at k
   head_same j q e k low = h.word q.at k (λ o. above_head l cs sys d ms K s t g j q k e low o)
 
-  pub class_spared : (j : ℕ) (q : Address) → Lists d j q → class_at_place ds q ≡ class_at_place cs q
+  pub class_spared : (j : ℕ) (q : BlockPlace) → Lists d j q → class_at_place ds q ≡ class_at_place cs q
   class_spared j q e = ap plain (head_same j q e 0 (omega arith))
 
-  formed_spared : (j : ℕ) (q : Address) → Lists d j q → Formed l (class_at_place cs q) (suc j) (words_at ds q.at)
+  formed_spared : (j : ℕ) (q : BlockPlace) → Lists d j q → Formed l (class_at_place cs q) (suc j) (words_at ds q.at)
   formed_spared j q e = let f = K.formed j q e in record {
     size = h.size q.at ∙ f.size;
     class = head_same j q e 0 (omega arith) ∙ f.class;
@@ -36,14 +36,14 @@ module _ (l : Layout) (cs : Cells) (sys : Ptr) (d : Directory) (ms : List Member
   }
 
   -- the links of a name show its lists with the classes read from the new words
-  pub with_classes : (r : ℕ) (u : SetLayout) (m : Words) (f : ℕ → List ℕ) → Shows m (entity_at sys d u.member) (owner_at sys d u.owner) (IsOf cs d u.member) (MayOwn cs d u.owner) f → Shows m (entity_at sys d u.member) (owner_at sys d u.owner) (IsOf ds d u.member) (MayOwn ds d u.owner) f
+  pub with_classes : (r : ℕ) (u : SetLayout) (m : Words) (f : ℕ → List ℕ) → Shows m (entity_at sys d u.member) (owner_at sys d u.owner) (IsEntityOf cs d u.member) (MayOwn cs d u.owner) f → Shows m (entity_at sys d u.member) (owner_at sys d u.owner) (IsEntityOf ds d u.member) (MayOwn ds d u.owner) f
   with_classes r u m f n =
-      shows_moved m m (entity_at sys d u.member) (entity_at sys d u.member) (owner_at sys d u.owner) (owner_at sys d u.owner) (IsOf cs d u.member) (IsOf ds d u.member) (MayOwn cs d u.owner) (MayOwn ds d u.owner) f n refl
+      shows_moved m m (entity_at sys d u.member) (entity_at sys d u.member) (owner_at sys d u.owner) (owner_at sys d u.owner) (IsEntityOf cs d u.member) (IsEntityOf ds d u.member) (MayOwn cs d u.owner) (MayOwn ds d u.owner) f n refl
       (λ y k. inl (of_back cs ds d class_spared u.member y k, refl, refl, refl, refl))
       (λ o k. inl (own_back cs ds d class_spared u.owner o k, refl, refl, refl, refl))
       (λ o y k. let e = n.members o y k in (of_on cs ds d class_spared u.member y e.0, own_on cs ds d class_spared u.owner o e.2))
 
-  made_spared : (c : ℕ) (ps : List Address) → slice_get d.classes c ≡ Some (Some ps) → MadeOf l ds c ps
+  made_spared : (c : ℕ) (ps : List BlockPlace) → slice_get d.classes c ≡ Some (Some ps) → MadeOf l ds c ps
   made_spared c ps e = let m = K.made c ps e in record { permanent = m.permanent; class = λ j q h. class_spared j q (inr (c, ps, e, h)) ∙ m.class j q h; few = m.few }
 
   pub kept_spared : (ns : List Members) → NameKept l ds sys d ns s t → ((r p : ℕ) → (s ≡ r → ⊥) → members_of ns r p ≡ members_of ms r p) → Kept l ds sys d ns
@@ -63,18 +63,18 @@ module _ (l : Layout) (cs : Cells) (sys : Ptr) (d : Directory) (ms : List Member
     names = λ r u e. by_same s r
         (λ z q. subst (λ k. NameKept l ds sys d ns k u) q (subst (λ v. NameKept l ds sys d ns s v) (same_set (sym g ∙ ap (slice_get l.sets) q ∙ e)) here))
         (λ z n. let f : members_of ns r ≡ members_of ms r = λ i p. others r p n i in
-        subst (λ a. Shows (words_of (slots_of l r u) ds (entity_at sys d u.member) (owner_at sys d u.owner)) (entity_at sys d u.member) (owner_at sys d u.owner) (IsOf ds d u.member) (MayOwn ds d u.owner) a) (sym f)
+        subst (λ a. Shows (words_of (slots_of l r u) ds (entity_at sys d u.member) (owner_at sys d u.owner)) (entity_at sys d u.member) (owner_at sys d u.owner) (IsEntityOf ds d u.member) (MayOwn ds d u.owner) a) (sym f)
         (names_same l cs sys d ms K ds class_spared r u e (λ q k o. h.word q k (λ here. names_apart l cs sys d ms K s t g r u q k e n here o))));
   } where
     same_set : {v w : SetLayout} → Some v ≡ Some w → v ≡ w
     same_set e = cc
 
-  read_spared : (j : ℕ) (q : Address) → Lists d j q → record_of l (words_at ds q.at) ≡ record_of l (words_at cs q.at)
+  read_spared : (j : ℕ) (q : BlockPlace) → Lists d j q → record_of l (words_at ds q.at) ≡ record_of l (words_at cs q.at)
   read_spared j q e = record_same l (words_at cs q.at) (words_at ds q.at) (λ k low. head_same j q e k low)
 
   pub records_spared : map (record_at l ds) d.numbers ≡ map (record_at l cs) d.numbers
   records_spared = map_same (record_at l cs) (record_at l ds) d.numbers entry where
-    entry : (j : ℕ) (q : Option Address) → slice_get d.numbers j ≡ Some q → record_at l ds q ≡ record_at l cs q
+    entry : (j : ℕ) (q : Option BlockPlace) → slice_get d.numbers j ≡ Some q → record_at l ds q ≡ record_at l cs q
     entry j None e = refl
     entry j (Some q) e = ap Some (read_spared j q (inl e))
 

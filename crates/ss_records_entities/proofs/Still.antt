@@ -4,7 +4,7 @@ use Rattle.std.proofs.lemmas.Option.{slice_get_within}
 use Rattle.ss_base.specs.declared.layout.Layout.{Layout}
 use Rattle.ss_base.specs.declared.layout.Mode.{Mode}
 use Rattle.ss_records_entities.specs.declared.records.Records.{Records}
-use Rattle.ss_records_blocks.specs.declared.links.Entry.{Entry}
+use Rattle.ss_records_blocks.specs.declared.links.EntityBlock.{EntityBlock}
 use Rattle.ss_records_blocks.specs.Cells.{Memory}
 use Rattle.ss_world.specs.State.{modes_of, is_filed, members_of, contains}
 use Rattle.ss_records_words.specs.Kept.{Small}
@@ -26,13 +26,13 @@ module _ (r q : Records) (h : uncounted q ≡ uncounted r) where
   pub set_still : (s : ℕ) → s < length r.layout.sets → s < length q.layout.sets
   set_still s inside = subst (λ (z : Records). s < length z.layout.sets) (sym h) inside
 
-  pub owns_still : (s : ℕ) (e : Entry) → Owns r s e → Owns q s e
+  pub owns_still : (s : ℕ) (e : EntityBlock) → Owns r s e → Owns q s e
   owns_still s e w =
       let v : Owns (uncounted r) s e = record { lies = w.lies; may = w.may } in
       let u : Owns (uncounted q) s e = subst (λ (z : Records). Owns z s e) (sym h) v in
       record { lies = u.lies; may = u.may }
 
-  pub joins_still : (s : ℕ) (e : Entry) → Joins r s e → Joins q s e
+  pub joins_still : (s : ℕ) (e : EntityBlock) → Joins r s e → Joins q s e
   joins_still s e w =
       let v : Joins (uncounted r) s e = record { lies = w.lies; is = w.is } in
       let u : Joins (uncounted q) s e = subst (λ (z : Records). Joins z s e) (sym h) v in

@@ -1,8 +1,8 @@
 -- The parts of a heap, and what its contracts see of them.
 use Rattle.std.specs.Prelude.{◌≡◌, ℕ, suc, ℤ, pos, List, ◌∷◌, ◌++◌, length, slice_get, Some, Ok}
-use Rattle.ss_records_blocks.specs.declared.store.Address.{Address}
+use Rattle.ss_records_blocks.specs.declared.store.BlockPlace.{BlockPlace}
 use Rattle.ss_records_entities.specs.declared.records.Records.{Records}
-use Rattle.ss_records_blocks.specs.declared.links.Entry.{Entry}
+use Rattle.ss_records_blocks.specs.declared.links.EntityBlock.{EntityBlock}
 use Rattle.ss_world.specs.State.{State, Heaped, entity_in, notice, members_of}
 use Rattle.ss_world.specs.Sets.{member_class, owner_kind}
 use Rattle.ss_world.specs.Lists.{head0, last_or}
@@ -10,7 +10,7 @@ use Rattle.ss_records_blocks.specs.Cells.{words_at}
 use Rattle.ss_records_words.specs.Reading.{record_of}
 use Rattle.ss_records_words.specs.Kept.{Kept, state_of}
 use Rattle.ss_records_words.specs.Places.{Directory, lying, Lists, class_at_place, entity_at, owner_at}
-use Rattle.ss_records_words.specs.Slotted.{IsOf, MayOwn}
+use Rattle.ss_records_words.specs.Slotted.{IsEntityOf, MayOwn}
 
 -- where the entities lie
 abbrev pub places : Records → Directory
@@ -26,7 +26,7 @@ abbrev pub heaped : Records → Heaped
 heaped r = record { state = state r; touches = r.blocks.touches; total = r.blocks.total; pages = r.directory.pages; blocks = length r.blocks.cells }
 
 -- p is the place of the entity x of the class c
-pub record Found (r : Records) (c : ℕ) (x : ℤ) (p : Address) : Type 0 where
+pub record Found (r : Records) (c : ℕ) (x : ℤ) (p : BlockPlace) : Type 0 where
   pub index : ℕ
   pub is : x ≡ pos (suc index)
   pub entry : Lists (places r) index p
@@ -34,28 +34,28 @@ pub record Found (r : Records) (c : ℕ) (x : ℤ) (p : Address) : Type 0 where
   pub entity : entity_in (state r) c x ≡ Ok (record_of r.layout (words_at r.blocks.cells p.at))
 
 -- p is the place of the notice x
-pub record FoundNotice (r : Records) (x : ℤ) (p : Address) : Type 0 where
+pub record FoundNotice (r : Records) (x : ℤ) (p : BlockPlace) : Type 0 where
   pub index : ℕ
   pub is : x ≡ pos (suc index)
   pub entry : slice_get r.directory.places index ≡ Some (Some p)
   pub notice : notice (state r) x ≡ Ok (record_of r.layout (words_at r.blocks.cells p.at))
 
 -- e is where the block of its number lies, as an entity of the class of the members of the set s; 0 is the end
-abbrev pub Lies : Records → ℕ → Entry → Type 0
+abbrev pub Lies : Records → ℕ → EntityBlock → Type 0
 Lies r s e = e.place.at ≡ entity_at r.system.at (places r) (member_class r.layout s) e.number
 
 -- e is an owner of the set s
-pub record Owns (r : Records) (s : ℕ) (e : Entry) : Type 0 where
+pub record Owns (r : Records) (s : ℕ) (e : EntityBlock) : Type 0 where
   pub lies : e.place.at ≡ owner_at r.system.at (places r) (owner_kind r.layout s) e.number
   pub may : MayOwn r.blocks.cells (places r) (owner_kind r.layout s) e.number
 
 -- e is of the class of the members of the set s
-pub record Joins (r : Records) (s : ℕ) (e : Entry) : Type 0 where
+pub record Joins (r : Records) (s : ℕ) (e : EntityBlock) : Type 0 where
   pub lies : Lies r s e
-  pub is : IsOf r.blocks.cells (places r) (member_class r.layout s) e.number
+  pub is : IsEntityOf r.blocks.cells (places r) (member_class r.layout s) e.number
 
 -- the set s of o has the members xs and then ys, of which a is the last and b the first
-pub record Between (r : Records) (s o : ℕ) (a b : Entry) (xs ys : List ℕ) : Type 0 where
+pub record Between (r : Records) (s o : ℕ) (a b : EntityBlock) (xs ys : List ℕ) : Type 0 where
   pub list : members_of r.notes.lists s o ≡ xs ++ ys
   pub before : Lies r s a
   pub last : a.number ≡ last_or 0 xs
@@ -63,7 +63,7 @@ pub record Between (r : Records) (s o : ℕ) (a b : Entry) (xs ys : List ℕ) : 
   pub first : b.number ≡ head0 ys
 
 -- the set s of o has the members xs, then x, then ys
-pub record Around (r : Records) (s o x : ℕ) (a b : Entry) (xs ys : List ℕ) : Type 0 where
+pub record HasNeighbours (r : Records) (s o x : ℕ) (a b : EntityBlock) (xs ys : List ℕ) : Type 0 where
   pub list : members_of r.notes.lists s o ≡ xs ++ x ∷ ys
   pub before : Lies r s a
   pub last : a.number ≡ last_or 0 xs

@@ -3,38 +3,38 @@ ghost use Rattle.std.specs.Prelude.{◌≡◌, ℕ, ◌+◌, ◌<◌, ◌≤◌,
 ghost use Rattle.ss_world.specs.State.{State, and_then, is_filed, contains, members_of};
 ghost use Rattle.ss_world.specs.Disciplines.{first_removed, last_removed, member_test};
 ghost use Rattle.ss_world.specs.Sets.{joiner, owner, less, with_list_of, put_in, put_beside, taken_out, filed_first, filed_last, filed_before, filed_after, removed};
-ghost use Rattle.ss_records_entities.specs.Parts.{IsKept, state, uncounted, Owns, Joins, Between, Around};
+ghost use Rattle.ss_records_entities.specs.Parts.{IsKept, state, uncounted, Owns, Joins, Between, HasNeighbours};
 
 use crate::records::Records;
 use crate::sets;
 use ss_base::FaultKind;
-use ss_records_blocks::{Entry, LinkPosition};
+use ss_records_blocks::{EntityBlock, LinkPosition};
 
 // An owner of a set, and one that may be in the set.
 #[derive(Clone, Copy)]
 struct Pair {
-    owner: Entry,
-    x: Entry,
+    owner: EntityBlock,
+    x: EntityBlock,
 }
 
 // An owner of a set, and two that may be in the set.
 #[derive(Clone, Copy)]
 struct Triple {
-    owner: Entry,
-    x: Entry,
-    y: Entry,
+    owner: EntityBlock,
+    x: EntityBlock,
+    y: EntityBlock,
 }
 
 // Two neighbours in a set between which there is a place for one more.
 #[derive(Clone, Copy)]
 struct Gap {
-    before: Entry,
-    after: Entry,
+    before: EntityBlock,
+    after: EntityBlock,
 }
 
 // The gap before a member, or after it, by the neighbour on that side.
 #[inline(always)]
-fn gap_beside(member: Entry, neighbour: Entry, is_before: bool) -> Gap
+fn gap_beside(member: EntityBlock, neighbour: EntityBlock, is_before: bool) -> Gap
     ensures before { result.before ≡ (if is_before then neighbour else member) }
     ensures after { result.after ≡ (if is_before then member else neighbour) }
 {
@@ -87,7 +87,7 @@ impl Records {
     }
 
     // Whether x is in the set of this owner: at most two touches.
-    fn is_in(&mut self, s: usize, owner: Entry, x: Entry) -> bool
+    fn is_in(&mut self, s: usize, owner: EntityBlock, x: EntityBlock) -> bool
         requires kept { IsKept self.old }
         requires set { s < length self.old.layout.sets }
         requires owns { Owns self.old s owner }
@@ -107,7 +107,14 @@ impl Records {
     }
 
     // Links x into the set of an owner between two neighbours: seven touches.
-    fn link_in(&mut self, s: usize, owner: Entry, before: Entry, x: Entry, after: Entry)
+    fn link_in(
+        &mut self,
+        s: usize,
+        owner: EntityBlock,
+        before: EntityBlock,
+        x: EntityBlock,
+        after: EntityBlock,
+    )
         requires kept { IsKept self.old }
         requires set { s < length self.old.layout.sets }
         requires owns { Owns self.old s owner }
@@ -136,15 +143,22 @@ impl Records {
     }
 
     // Unlinks x from the set of an owner, from between its neighbours: seven touches.
-    fn link_out(&mut self, s: usize, owner: Entry, before: Entry, x: Entry, after: Entry)
+    fn link_out(
+        &mut self,
+        s: usize,
+        owner: EntityBlock,
+        before: EntityBlock,
+        x: EntityBlock,
+        after: EntityBlock,
+    )
         requires kept { IsKept self.old }
         requires set { s < length self.old.layout.sets }
         requires owns { Owns self.old s owner }
         requires joins { Joins self.old s x }
-        requires around { (xs : List ℕ) × (ys : List ℕ) × Around self.old s owner.number x.number before after xs ys }
+        requires around { (xs : List ℕ) × (ys : List ℕ) × HasNeighbours self.old s owner.number x.number before after xs ys }
         requires touches { self.old.blocks.touches ≤ 16 }
         ensures kept { IsKept self.new }
-        ensures done { (xs : List ℕ) (ys : List ℕ) → Around self.old s owner.number x.number before after xs ys → state self.new ≡ with_list_of (state self.old) s owner.number (xs ++ ys) }
+        ensures done { (xs : List ℕ) (ys : List ℕ) → HasNeighbours self.old s owner.number x.number before after xs ys → state self.new ≡ with_list_of (state self.old) s owner.number (xs ++ ys) }
         ensures touches { (self.new.blocks.touches ≡ self.old.blocks.touches + 7) × (self.new.blocks.total ≡ self.old.blocks.total + 7) }
     {
         let member = self.layout.member_base(s);
@@ -174,7 +188,7 @@ impl Records {
         match self.pair(s, o, x) {
             Ok(pair) => {
                 let base = self.layout.owner_base(s);
-                let end = Entry {
+                let end = EntityBlock {
                     place: self.system,
                     number: 0,
                 };
@@ -264,7 +278,7 @@ impl Records {
     }
 
     // Takes a member out of the set that it is in: nine touches.
-    fn cut_out(&mut self, s: usize, owner: Entry, x: Entry)
+    fn cut_out(&mut self, s: usize, owner: EntityBlock, x: EntityBlock)
         requires kept { IsKept self.old }
         requires set { s < length self.old.layout.sets }
         requires owns { Owns self.old s owner }
@@ -326,7 +340,7 @@ impl Records {
     // Links x in after the last member of the set of an owner. Faults: 6 where it is in some set of the name.
     // The touches are counted at once.
     #[inline(always)]
-    fn put_last(&mut self, s: usize, owner: Entry, x: Entry) -> Result<(), FaultKind>
+    fn put_last(&mut self, s: usize, owner: EntityBlock, x: EntityBlock) -> Result<(), FaultKind>
         requires kept { IsKept self.old }
         requires set { s < length self.old.layout.sets }
         requires owns { Owns self.old s owner }
@@ -361,7 +375,7 @@ impl Records {
     // Takes the first member out of the set of an owner, remembers it and answers it. Faults: 8 where there is none. The touches are
     // counted at once.
     #[inline(always)]
-    fn draw_first(&mut self, s: usize, home: Entry) -> Result<i64, FaultKind>
+    fn draw_first(&mut self, s: usize, home: EntityBlock) -> Result<i64, FaultKind>
         requires kept { IsKept self.old }
         requires set { s < length self.old.layout.sets }
         requires owns { Owns self.old s home }

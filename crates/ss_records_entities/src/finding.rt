@@ -1,7 +1,7 @@
 // Where the block of an entity lies, by its number.
 ghost use Rattle.std.specs.Prelude.{◌≡◌, ℕ, suc, ◌+◌, ◌^◌, ◌<◌, ◌≤◌, length, MatchResult, MatchOption, IfSome, IsErr, Ok, Err, Some, None, false, slice_get};
 ghost use Rattle.ss_base.specs.declared.fault.FaultKind.{FaultKind as FaultSeen};
-ghost use Rattle.ss_world.specs.State.{entity_in, notice, numbered, and_then, of_class, kind_of, is_notice, in_a_set, owns_members, destroyed};
+ghost use Rattle.ss_world.specs.State.{entity_in, notice, numbered_record, and_then, of_class, kind_of, is_notice, in_a_set, owns_members, destroyed};
 ghost use Rattle.ss_records_blocks.specs.Cells.{words_at};
 ghost use Rattle.ss_records_words.specs.Reading.{record_of};
 ghost use Rattle.ss_records_words.specs.Shape.{count_sets, joins, owned_by, set_places};
@@ -13,7 +13,7 @@ ghost use Rattle.ss_records_entities.specs.Classed.{HasClass};
 
 use crate::records::Records;
 use ss_base::{ClassKind, FaultKind, Owner};
-use ss_records_blocks::{Address, CLASS};
+use ss_records_blocks::{BlockPlace, CLASS};
 
 /// Where the block of an entity is looked for without a search.
 #[derive(Clone, Copy)]
@@ -29,7 +29,7 @@ pub enum Hint {
 impl Records {
     // The block of a creation number.
     #[inline(always)]
-    fn numbered(&self, r: i64) -> Result<Address, FaultKind>
+    fn numbered(&self, r: i64) -> Result<BlockPlace, FaultKind>
         requires kept { IsKept self.now }
         ensures { result ≡ numbered_place self.now.directory.places r }
     {
@@ -42,7 +42,7 @@ impl Records {
     // Does the work of `numbered` where it may take a search, or there is a fault.
     #[cold]
     #[inline(never)]
-    fn numbered_apart(&self, r: i64) -> Result<Address, FaultKind>
+    fn numbered_apart(&self, r: i64) -> Result<BlockPlace, FaultKind>
         ensures { result ≡ numbered_place self.now.directory.places r }
     {
         if r == 0 {
@@ -63,7 +63,7 @@ impl Records {
 
     /// The block of an entity of a class. What is out of line answers one word: the block that a search finds, or the fault.
     #[inline(always)]
-    pub fn find(&self, class: usize, r: i64) -> Result<Address, FaultKind>
+    pub fn find(&self, class: usize, r: i64) -> Result<BlockPlace, FaultKind>
         requires kept { IsKept self.now }
         requires class { class < length self.now.layout.classes }
         ensures found { MatchResult result (λ p. Found self.now class r p) (λ e. entity_in (state self.now) class r ≡ Err e) }
@@ -82,9 +82,9 @@ impl Records {
 
     // The block of an entity of a class whose entities come and go one by one, if there is one.
     #[inline(never)]
-    fn search(&self, class: usize, r: i64) -> Option<Address>
+    fn search(&self, class: usize, r: i64) -> Option<BlockPlace>
         requires kept { IsKept self.now }
-        ensures { MatchOption result (IsErr (and_then (numbered (state self.now) r) (of_class class))) (λ p. Found self.now class r p) }
+        ensures { MatchOption result (IsErr (and_then (numbered_record (state self.now) r) (of_class class))) (λ p. Found self.now class r p) }
     {
         match self.of_class(class, r) {
             Ok(place) => Some(place),
@@ -97,8 +97,8 @@ impl Records {
     #[inline(never)]
     fn missing(&self, class: usize, r: i64) -> FaultKind
         requires kept { IsKept self.now }
-        requires none { IsErr (and_then (numbered (state self.now) r) (of_class class)) }
-        ensures { and_then (numbered (state self.now) r) (of_class class) ≡ Err result }
+        requires none { IsErr (and_then (numbered_record (state self.now) r) (of_class class)) }
+        ensures { and_then (numbered_record (state self.now) r) (of_class class) ≡ Err result }
     {
         match self.of_class(class, r) {
             Ok(_) => FaultKind::NoEntity,
@@ -108,7 +108,7 @@ impl Records {
 
     // Whether an entity is in a set.
     #[inline(always)]
-    fn in_a_set(&mut self, class: usize, place: Address, number: u64) -> bool
+    fn in_a_set(&mut self, class: usize, place: BlockPlace, number: u64) -> bool
         requires kept { IsKept self.old }
         requires entry { (i : ℕ) × (slice_get self.old.directory.places i ≡ Some (Some place)) × (number ≡ suc i) }
         requires class { class_at_place self.old.blocks.cells place ≡ class }
@@ -133,7 +133,7 @@ impl Records {
 
     // Whether an entity has members in a set.
     #[inline(always)]
-    fn owns_members(&mut self, class: usize, place: Address, number: u64) -> bool
+    fn owns_members(&mut self, class: usize, place: BlockPlace, number: u64) -> bool
         requires kept { IsKept self.old }
         requires entry { (i : ℕ) × (slice_get self.old.directory.places i ≡ Some (Some place)) × (number ≡ suc i) }
         requires class { class_at_place self.old.blocks.cells place ≡ class }
@@ -164,7 +164,7 @@ impl Records {
 
     // The block of an entity that is in no set and has no members, of a class whose entities come and go one by one.
     #[inline(always)]
-    pub(crate) fn find_free(&mut self, class: usize, r: i64) -> Result<Address, FaultKind>
+    pub(crate) fn find_free(&mut self, class: usize, r: i64) -> Result<BlockPlace, FaultKind>
         requires kept { IsKept self.old }
         requires class { class < length self.old.layout.classes }
         requires kind { IsPermanent (kind_of self.old.layout class) → ⊥ }
@@ -192,7 +192,7 @@ impl Records {
 
     // The block of an index of a permanent class.
     #[inline(always)]
-    fn indexed(&self, class: usize, r: i64) -> Result<Address, FaultKind>
+    fn indexed(&self, class: usize, r: i64) -> Result<BlockPlace, FaultKind>
         requires class { class < length self.now.permanents.items }
         ensures { result ≡ indexed_place (row_in (slice_get self.now.permanents.items class)) r }
     {
@@ -208,9 +208,9 @@ impl Records {
 
     // The block of a creation number of a class.
     #[inline(always)]
-    fn of_class(&self, class: usize, r: i64) -> Result<Address, FaultKind>
+    fn of_class(&self, class: usize, r: i64) -> Result<BlockPlace, FaultKind>
         requires kept { IsKept self.now }
-        ensures found { MatchResult result (λ p. (numbered_place self.now.directory.places r ≡ Ok p) × (class_at_place self.now.blocks.cells p ≡ class) × (and_then (numbered (state self.now) r) (of_class class) ≡ Ok (record_of self.now.layout (words_at self.now.blocks.cells p.at)))) (λ e. and_then (numbered (state self.now) r) (of_class class) ≡ Err e) }
+        ensures found { MatchResult result (λ p. (numbered_place self.now.directory.places r ≡ Ok p) × (class_at_place self.now.blocks.cells p ≡ class) × (and_then (numbered_record (state self.now) r) (of_class class) ≡ Ok (record_of self.now.layout (words_at self.now.blocks.cells p.at)))) (λ e. and_then (numbered_record (state self.now) r) (of_class class) ≡ Err e) }
     {
         match self.numbered(r) {
             Ok(place) => {
@@ -229,7 +229,7 @@ impl Records {
     pub fn class_of(&self, r: i64) -> Option<usize>
         requires kept { IsKept self.now }
         ensures found { IfSome result (λ c. HasClass (state self.now) r c) }
-        ensures none { result ≡ None → (kind : FaultSeen) × (numbered (state self.now) r ≡ Err kind) }
+        ensures none { result ≡ None → (kind : FaultSeen) × (numbered_record (state self.now) r ≡ Err kind) }
     {
         match self.hinted(r, Hint::Last) {
             Some(place) => Some(self.blocks.number(place, CLASS) as usize),
@@ -243,7 +243,7 @@ impl Records {
     fn class_apart(&self, r: i64) -> Option<usize>
         requires kept { IsKept self.now }
         ensures found { IfSome result (λ c. HasClass (state self.now) r c) }
-        ensures none { result ≡ None → (kind : FaultSeen) × (numbered (state self.now) r ≡ Err kind) }
+        ensures none { result ≡ None → (kind : FaultSeen) × (numbered_record (state self.now) r ≡ Err kind) }
     {
         match self.numbered(r) {
             Ok(place) => Some(self.blocks.number(place, CLASS) as usize),
@@ -253,7 +253,7 @@ impl Records {
 
     /// The block of a creation number of a class, where a hint leads to it.
     #[inline(always)]
-    pub fn hinted_of_class(&self, class: usize, r: i64, hint: Hint) -> Option<Address>
+    pub fn hinted_of_class(&self, class: usize, r: i64, hint: Hint) -> Option<BlockPlace>
         requires kept { IsKept self.now }
         requires class { class < length self.now.layout.classes }
         ensures { IfSome result (λ p. Found self.now class r p) }
@@ -272,7 +272,7 @@ impl Records {
 
     // The block of a creation number, where a hint leads to it.
     #[inline(always)]
-    fn hinted(&self, r: i64, hint: Hint) -> Option<Address>
+    fn hinted(&self, r: i64, hint: Hint) -> Option<BlockPlace>
         requires kept { IsKept self.now }
         ensures { IfSome result (λ p. numbered_place self.now.directory.places r ≡ Ok p) }
     {
@@ -294,7 +294,7 @@ impl Records {
     }
 
     /// The block of a notice of any class.
-    pub fn find_notice(&self, r: i64) -> Result<Address, FaultKind>
+    pub fn find_notice(&self, r: i64) -> Result<BlockPlace, FaultKind>
         requires kept { IsKept self.now }
         ensures found { MatchResult result (λ p. FoundNotice self.now r p) (λ e. notice (state self.now) r ≡ Err e) }
     {
@@ -312,7 +312,7 @@ impl Records {
 
     /// The block of a notice of any class, where it is found without a search.
     #[inline(always)]
-    pub fn near_notice(&self, r: i64) -> Option<Address>
+    pub fn near_notice(&self, r: i64) -> Option<BlockPlace>
         requires kept { IsKept self.now }
         ensures { IfSome result (λ p. FoundNotice self.now r p) }
     {

@@ -15,7 +15,7 @@ ghost use Rattle.ss_records_entities.specs.Attributes.{IsAssigned, IsChanged, ch
 use ss_base::{Alpha, FaultKind, Layout, Mode, Owner, Refused, Value, minus, plus};
 use ss_records_blocks::placing::{give_places_back, place_all};
 use ss_records_blocks::row::{self, Row};
-use ss_records_blocks::{Address, Blocks, CLASS, Directory, PAGE};
+use ss_records_blocks::{BlockPlace, Blocks, CLASS, Directory, PAGE};
 use ss_records_words::notes::Notes;
 use ss_records_words::plan::LayoutPlan;
 use ss_records_words::shape::value_start;
@@ -32,7 +32,7 @@ pub struct Records {
     pub layout: LayoutPlan,
     pub blocks: Blocks,
     pub notes: Notes,
-    pub system: Address,
+    pub system: BlockPlace,
     pub directory: Directory,
     pub permanents: Vec<Row>,
 }
@@ -256,7 +256,7 @@ impl Records {
     }
 
     // The word of a notice's block that has its time.
-    fn time_word(&self, place: Address) -> usize
+    fn time_word(&self, place: BlockPlace) -> usize
         requires kept { IsKept self.now }
         requires entry { (i : ℕ) × (slice_get self.now.directory.places i ≡ Some (Some place)) }
         requires notice { is_notice (kind_of self.now.layout (class_at_place self.now.blocks.cells place)) ≡ true }
@@ -493,7 +493,7 @@ fn give_all_back(
     layout: &LayoutPlan,
     directory: &Directory,
     permanents: &[Row],
-    system: Address,
+    system: BlockPlace,
 )
     requires kept { (ms : List Members) × Kept layout.now blocks.old.cells system.at (lying directory.now.places permanents.now) ms }
     ensures system { words_at blocks.new.cells system.at ≡ words_at blocks.old.cells system.at }
@@ -532,7 +532,7 @@ fn give_rows_back(
     alloc: &Global,
     layout: &LayoutPlan,
     permanents: &[Row],
-    system: Address,
+    system: BlockPlace,
 )
     requires small { Small layout.now }
     requires held { RowsHeld layout.now blocks.old.cells system.at permanents.now }

@@ -12,7 +12,7 @@ ghost use Rattle.ss_records_entities.specs.Passing.{ranks_past, first_where, bef
 use crate::finding::Hint;
 use crate::records::Records;
 use ss_base::{FaultKind, Mode, Owner, Value};
-use ss_records_blocks::{Directory, Entry, NUMBER};
+use ss_records_blocks::{Directory, EntityBlock, NUMBER};
 use ss_records_words::attributes;
 use ss_records_words::plan::LayoutPlan;
 use ss_records_words::shape::value_start;
@@ -38,7 +38,7 @@ pub struct WholeMember {
 // One that may be in a set, and the member that comes next to it.
 #[derive(Clone, Copy)]
 struct FoundMember {
-    member: Entry,
+    member: EntityBlock,
     // 0 where there is none.
     next: i64,
 }
@@ -52,13 +52,13 @@ impl Records {
 
     /// The owner of a set that o refers to: the system where the set is one of its own.
     #[inline(always)]
-    pub fn owner(&self, s: usize, o: i64) -> Result<Entry, FaultKind>
+    pub fn owner(&self, s: usize, o: i64) -> Result<EntityBlock, FaultKind>
         requires kept { IsKept self.now }
         requires set { s < length self.now.layout.sets }
         ensures found { MatchResult result (λ e. Owns self.now s e × (owner (state self.now) s o ≡ Ok e.number)) (λ f. owner (state self.now) s o ≡ Err f) }
     {
         if self.layout.is_of_system(s) {
-            return Ok(Entry {
+            return Ok(EntityBlock {
                 place: self.system,
                 number: 0,
             });
@@ -66,7 +66,7 @@ impl Records {
         match self.layout.owner_class(s) {
             Owner::System => Err(FaultKind::NoEntity),
             Owner::Class(class) => match self.find(class, o) {
-                Ok(place) => Ok(Entry {
+                Ok(place) => Ok(EntityBlock {
                     place,
                     number: self.blocks.number(place, NUMBER),
                 }),
@@ -77,13 +77,13 @@ impl Records {
 
     /// The entity that x refers to, which may be in a set.
     #[inline(always)]
-    pub fn joiner(&self, s: usize, x: i64) -> Result<Entry, FaultKind>
+    pub fn joiner(&self, s: usize, x: i64) -> Result<EntityBlock, FaultKind>
         requires kept { IsKept self.now }
         requires set { s < length self.now.layout.sets }
         ensures found { MatchResult result (λ e. Joins self.now s e × (joiner (state self.now) s x ≡ Ok e.number)) (λ f. joiner (state self.now) s x ≡ Err f) }
     {
         match self.find(self.layout.member_class(s), x) {
-            Ok(place) => Ok(Entry {
+            Ok(place) => Ok(EntityBlock {
                 place,
                 number: self.blocks.number(place, NUMBER),
             }),
@@ -92,7 +92,7 @@ impl Records {
     }
 
     /// Whether an entity is in a set of the name: a touch.
-    pub fn is_filed(&mut self, s: usize, x: Entry) -> bool
+    pub fn is_filed(&mut self, s: usize, x: EntityBlock) -> bool
         requires kept { IsKept self.old }
         requires set { s < length self.old.layout.sets }
         requires joins { Joins self.old s x }
@@ -267,7 +267,7 @@ impl Records {
     }
 
     // Does the work of `first_past` for an owner that is there.
-    fn past(&mut self, s: usize, owner: Entry, field: usize, own: i64, high: bool) -> u64
+    fn past(&mut self, s: usize, owner: EntityBlock, field: usize, own: i64, high: bool) -> u64
         requires kept { IsKept self.old }
         requires set { s < length self.old.layout.sets }
         requires owns { Owns self.old s owner }
@@ -293,7 +293,7 @@ impl Records {
 
     // Whether a member ranks strictly after a number by an attribute of whole numbers.
     #[inline(always)]
-    fn is_past(&self, s: usize, member: Entry, field: usize, own: i64, high: bool) -> bool
+    fn is_past(&self, s: usize, member: EntityBlock, field: usize, own: i64, high: bool) -> bool
         requires kept { IsKept self.now }
         requires set { s < length self.now.layout.sets }
         requires joins { Joins self.now s member }
@@ -343,13 +343,13 @@ impl Records {
 
     // The entity that x refers to, which may be in a set, where it is likely to come next.
     #[inline(always)]
-    pub fn expected_joiner(&self, s: usize, x: i64) -> Option<Entry>
+    pub fn expected_joiner(&self, s: usize, x: i64) -> Option<EntityBlock>
         requires kept { IsKept self.now }
         requires set { s < length self.now.layout.sets }
         ensures { IfSome result (λ e. Joins self.now s e × (joiner (state self.now) s x ≡ Ok e.number)) }
     {
         match self.hinted_of_class(self.layout.member_class(s), x, Hint::Next) {
-            Some(place) => Some(Entry {
+            Some(place) => Some(EntityBlock {
                 place,
                 number: self.blocks.number(place, NUMBER),
             }),
@@ -386,7 +386,7 @@ impl Records {
     // The member that comes next to one in the set of an owner, 0 where there is none: at most two touches. None where it is
     // not in that set.
     #[inline(always)]
-    fn neighbour(&mut self, s: usize, o: i64, member: Entry, reverse: bool) -> Option<i64>
+    fn neighbour(&mut self, s: usize, o: i64, member: EntityBlock, reverse: bool) -> Option<i64>
         requires kept { IsKept self.old }
         requires set { s < length self.old.layout.sets }
         requires joins { Joins self.old s member }
@@ -413,7 +413,7 @@ impl Records {
     // Remembers a member of a set, and that the one that follows it, if there is one, is likely to come next: where their class
     // is not permanent.
     #[inline(always)]
-    pub fn pass(&mut self, s: usize, member: Entry, next: Entry)
+    pub fn pass(&mut self, s: usize, member: EntityBlock, next: EntityBlock)
         requires kept { IsKept self.old }
         requires set { s < length self.old.layout.sets }
         requires joins { Joins self.old s member }
@@ -432,7 +432,7 @@ impl Records {
 
     /// Remembers a member of a set, where its class is not permanent.
     #[inline(always)]
-    pub fn remember(&mut self, s: usize, member: Entry)
+    pub fn remember(&mut self, s: usize, member: EntityBlock)
         requires kept { IsKept self.old }
         requires set { s < length self.old.layout.sets }
         requires joins { Joins self.old s member }
@@ -498,7 +498,7 @@ fn other_than(number: u64, member: u64) -> u64
 
 /// Remembers a member of a set, where its class is not permanent.
 #[inline(always)]
-pub fn keep(directory: &mut Directory, layout: &LayoutPlan, s: usize, member: Entry)
+pub fn keep(directory: &mut Directory, layout: &LayoutPlan, s: usize, member: EntityBlock)
     requires set { s < length layout.now.sets }
     requires number { member.number ≡ 0 → ⊥ }
     requires entry { (IsPermanent (kind_of layout.now (member_class layout.now s)) → ⊥) → slice_get directory.old.places (member.number - 1) ≡ Some (Some member.place) }

@@ -7,11 +7,11 @@ ghost use Rattle.ss_records_entities.specs.Parts.{IsKept};
 
 use crate::records::Records;
 use ss_base::Owner;
-use ss_records_blocks::Address;
+use ss_records_blocks::BlockPlace;
 
 impl Records {
     /// Whether the entity has members in its set of the name s: a touch.
-    pub fn owns_in(&mut self, s: usize, place: Address, number: u64) -> bool
+    pub fn owns_in(&mut self, s: usize, place: BlockPlace, number: u64) -> bool
         requires kept { IsKept self.old }
         requires set { s < length self.old.layout.sets }
         requires entry { (i : ℕ) × (slice_get self.old.directory.places i ≡ Some (Some place)) × (number ≡ suc i) }

@@ -8,7 +8,7 @@ use Rattle.ss_base.specs.declared.layout.Owner.{Owner}
 use Rattle.ss_base.specs.declared.layout.Owner.TheVariants.{System, Class}
 use Rattle.ss_base.specs.declared.layout.SetLayout.{SetLayout}
 use Rattle.ss_base.specs.declared.layout.Layout.{Layout}
-use Rattle.ss_records_blocks.specs.declared.store.Address.{Address}
+use Rattle.ss_records_blocks.specs.declared.store.BlockPlace.{BlockPlace}
 use Rattle.ss_records_blocks.specs.Cells.{Word, Cells, words_at, put_word}
 use Rattle.ss_world.specs.State.{Members}
 use Rattle.ss_base.specs.Layout.{same_owner}
@@ -16,7 +16,7 @@ use Rattle.ss_records_words.specs.Shape.{links_start, owned_start, block_words, 
 use Rattle.ss_records_words.specs.Places.{Directory, listing, Lists, place_in_record, entity_at, owner_at, class_at_place}
 use Rattle.ss_records_words.specs.Kept.{Kept}
 use Rattle.ss_records_words.specs.Links.{Grounds, OfMember, OfOwner}
-use Rattle.ss_records_words.specs.Slotted.{member_base, owner_base, slots_of, is_entry, IsOf, MayOwn, OfName, Spares}
+use Rattle.ss_records_words.specs.Slotted.{member_base, owner_base, slots_of, is_entry, IsEntityOf, MayOwn, OfName, Spares}
 use Rattle.ss_records_words.specs.Reading.{class_in_words}
 use Rattle.ss_records_blocks.proofs.Same.{same}
 use Rattle.ss_records_words.proofs.Listing.{listed, lists_place}
@@ -83,15 +83,15 @@ lower s r n a b = by_less (ltb s r) refl where
   by_less true e = a (ltb-true s r e)
   by_less false e = b (omega (arith, n, ltb-false s r e))
 
-pub entry_of : (cs : Cells) (d : Directory) (c n : ℕ) → IsOf cs d c n → (i : ℕ) × (p : Address) × (n ≡ suc i) × (slice_get (listing d c) i ≡ Some (Some p)) × (class_at_place cs p ≡ c)
+pub entry_of : (cs : Cells) (d : Directory) (c n : ℕ) → IsEntityOf cs d c n → (i : ℕ) × (p : BlockPlace) × (n ≡ suc i) × (slice_get (listing d c) i ≡ Some (Some p)) × (class_at_place cs p ≡ c)
 entry_of cs d c zero h = absurd h
 entry_of cs d c (suc i) h = cases (slice_get (listing d c) i) refl h where
-  cases : (o : Option (Option Address)) → slice_get (listing d c) i ≡ o → is_entry cs c o → (j : ℕ) × (p : Address) × (suc i ≡ suc j) × (slice_get (listing d c) j ≡ Some (Some p)) × (class_at_place cs p ≡ c)
+  cases : (o : Option (Option BlockPlace)) → slice_get (listing d c) i ≡ o → is_entry cs c o → (j : ℕ) × (p : BlockPlace) × (suc i ≡ suc j) × (slice_get (listing d c) j ≡ Some (Some p)) × (class_at_place cs p ≡ c)
   cases None e h = absurd h
   cases (Some None) e h = absurd h
   cases (Some (Some p)) e h = (i, p, refl, e, h)
 
-pub is_of : (cs : Cells) (d : Directory) (c i : ℕ) (p : Address) → slice_get (listing d c) i ≡ Some (Some p) → class_at_place cs p ≡ c → IsOf cs d c (suc i)
+pub is_of : (cs : Cells) (d : Directory) (c i : ℕ) (p : BlockPlace) → slice_get (listing d c) i ≡ Some (Some p) → class_at_place cs p ≡ c → IsEntityOf cs d c (suc i)
 is_of cs d c i p g e = subst (is_entry cs c) (sym g) e
 
 module _ (l : Layout) (cs : Cells) (sys : Ptr) (d : Directory) (ms : List Members) (K : Kept l cs sys d ms) where
@@ -101,20 +101,20 @@ module _ (l : Layout) (cs : Cells) (sys : Ptr) (d : Directory) (ms : List Member
   abbrev home : Owner → ℕ → Ptr
   home = owner_at sys d
 
-  pub at_entry : (c n i : ℕ) (p : Address) → n ≡ suc i → slice_get (listing d c) i ≡ Some (Some p) → at c n ≡ p.at
+  pub at_entry : (c n i : ℕ) (p : BlockPlace) → n ≡ suc i → slice_get (listing d c) i ≡ Some (Some p) → at c n ≡ p.at
   at_entry c n i p e g = ap (at c) e ∙ ap place_in_record g
 
-  pub apart_of : (c b x y : ℕ) → IsOf cs d c x → IsOf cs d b y → at c x ≡ at b y → (x ≡ y) × (c ≡ b)
+  pub apart_of : (c b x y : ℕ) → IsEntityOf cs d c x → IsEntityOf cs d b y → at c x ≡ at b y → (x ≡ y) × (c ≡ b)
   apart_of c b x y h k z =
       let a = entry_of cs d c x h in let e = entry_of cs d b y k in
       let q = sym (at_entry c x a.0 a.1 a.2 a.3) ∙ z ∙ at_entry b y e.0 e.1 e.2 e.3 in
       let i : a.0 ≡ e.0 = K.apart a.0 e.0 a.1 e.1 (listed d c a.0 a.1 a.3) (listed d b e.0 e.1 e.3) q in
       (a.2 ∙ ap suc i ∙ sym e.2, sym a.4 ∙ ap (λ (r : Ptr). class_in_words (words_at cs r)) q ∙ e.4)
 
-  pub off_end : (c x : ℕ) → IsOf cs d c x → at c x ≡ sys → ⊥
+  pub off_end : (c x : ℕ) → IsEntityOf cs d c x → at c x ≡ sys → ⊥
   off_end c x h z = let a = entry_of cs d c x h in K.off_system a.0 a.1 (listed d c a.0 a.1 a.3) (sym (at_entry c x a.0 a.1 a.2 a.3) ∙ z)
 
-  pub size_of : (c x : ℕ) → IsOf cs d c x → length (words_at cs (at c x)) ≡ block_words l (Class c)
+  pub size_of : (c x : ℕ) → IsEntityOf cs d c x → length (words_at cs (at c x)) ≡ block_words l (Class c)
   size_of c x h = let a = entry_of cs d c x h in ap (λ q. length (words_at cs q)) (at_entry c x a.0 a.1 a.2 a.3) ∙ (K.formed a.0 a.1 (listed d c a.0 a.1 a.3)).size ∙ ap (λ b. block_words l (Class b)) a.4
 
   own_size : (o : Owner) (x : ℕ) → MayOwn cs d o x → length (words_at cs (home o x)) ≡ block_words l o
@@ -126,7 +126,7 @@ module _ (l : Layout) (cs : Cells) (sys : Ptr) (d : Directory) (ms : List Member
   own_apart (Class c) x y h k z = (apart_of c c x y h k z).0
 
   -- a member's word is no owner's word
-  crossed_by : (c k j x y : ℕ) (o : Owner) → k < owned_start l (Class c) → owned_start l o ≤ j → IsOf cs d c x → MayOwn cs d o y → at c x ≡ home o y → k ≡ j → ⊥
+  crossed_by : (c k j x y : ℕ) (o : Owner) → k < owned_start l (Class c) → owned_start l o ≤ j → IsEntityOf cs d c x → MayOwn cs d o y → at c x ≡ home o y → k ≡ j → ⊥
   crossed_by c k j x y System a b h m z e = off_end c x h z
   crossed_by c k j x y (Class f) a b h m z e = let q = (apart_of c f x y h m z).1 in omega (arith, a, subst (λ n. owned_start l (Class n) ≤ j) (sym q) b, e)
 
@@ -137,7 +137,7 @@ module _ (l : Layout) (cs : Cells) (sys : Ptr) (d : Directory) (ms : List Member
   owners_same (Class c) (Class e) x y h k z = ap Class (apart_of c e x y h k z).1
 
   module _ (s : ℕ) (t : SetLayout) (g : slice_get l.sets s ≡ Some t) where
-    pub grounds : Grounds (slots_of l s t) cs (at t.member) (home t.owner) (IsOf cs d t.member) (MayOwn cs d t.owner)
+    pub grounds : Grounds (slots_of l s t) cs (at t.member) (home t.owner) (IsEntityOf cs d t.member) (MayOwn cs d t.owner)
     grounds = record {
       members_apart = λ x y h k z. (apart_of t.member t.member x y h k z).0;
       owners_apart = λ x y h k z. own_apart t.owner x y h k z;
@@ -153,7 +153,7 @@ module _ (l : Layout) (cs : Cells) (sys : Ptr) (d : Directory) (ms : List Member
     }
 
     -- no word of the name is in a block's head
-    pub above_head : (i : ℕ) (p : Address) (k : ℕ) → Lists d i p → k < links_start l (class_at_place cs p) → OfName l cs sys d s t p.at k → ⊥
+    pub above_head : (i : ℕ) (p : BlockPlace) (k : ℕ) → Lists d i p → k < links_start l (class_at_place cs p) → OfName l cs sys d s t p.at k → ⊥
     above_head i p k h small (inl m) =
         let q = (apart_of (class_at_place cs p) t.member (suc i) m.0 (is_of cs d (class_at_place cs p) i p (lists_place l cs sys d ms K i p h) refl) m.1 (ap place_in_record (lists_place l cs sys d ms K i p h) ∙ m.2)).1 in
         omega (arith, small, subst (λ c. links_start l c ≤ k) (sym q) (member_inside l s t k g m.3).0)

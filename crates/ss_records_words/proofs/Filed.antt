@@ -11,7 +11,7 @@ use Rattle.ss_world.specs.State.{Members, members_of, contains, owner_among, own
 use Rattle.ss_records_words.specs.Places.{Directory, place_in_record, entity_at, owner_at}
 use Rattle.ss_records_words.specs.Kept.{Kept}
 use Rattle.ss_world.specs.Lists.{succ, In, NotIn}
-use Rattle.ss_records_words.specs.Slotted.{slots_of, IsOf, MayOwn}
+use Rattle.ss_records_words.specs.Slotted.{slots_of, IsEntityOf, MayOwn}
 use Rattle.ss_records_blocks.proofs.Same.{same, differs, by_same}
 use Rattle.ss_records_words.proofs.Splice.{not_and_in, succ_is, succ_differs}
 use Rattle.ss_records_words.proofs.Listing.{listed}
@@ -78,7 +78,7 @@ filed_or_not ms s x = by_case (owner_of ms s x) refl where
 
 module _ (l : Layout) (cs : Cells) (sys : Ptr) (d : Directory) (ms : List Members) (K : Kept l cs sys d ms) where
   -- the number in the block of an entity, or of the end
-  pub number_at : (c n : ℕ) → (n ≡ 0) ⊎ IsOf cs d c n → word_at cs (entity_at sys d c n) 1 ≡ number n
+  pub number_at : (c n : ℕ) → (n ≡ 0) ⊎ IsEntityOf cs d c n → word_at cs (entity_at sys d c n) 1 ≡ number n
   number_at c n (inl e) = (λ z. word_at cs (entity_at sys d c (e z)) 1) ∙ K.end ∙ ap number (sym e)
   number_at c n (inr h) = let a = entry_of cs d c n h in let q : entity_at sys d c n ≡ a.1.at = ap (entity_at sys d c) a.2 ∙ ap place_in_record a.3 in
       (λ z. word_at cs (q z) 1) ∙ (K.formed a.0 a.1 (listed d c a.0 a.1 a.3)).number ∙ ap number (sym a.2)
@@ -88,7 +88,7 @@ module _ (l : Layout) (cs : Cells) (sys : Ptr) (d : Directory) (ms : List Member
   owner_number_at System n h = K.end ∙ ap number (sym h)
   owner_number_at (Class c) n h = number_at c n (inr h)
 
-  module _ (s : ℕ) (t : SetLayout) (g : slice_get l.sets s ≡ Some t) (x : ℕ) (h : IsOf cs d t.member x) where
+  module _ (s : ℕ) (t : SetLayout) (g : slice_get l.sets s ≡ Some t) (x : ℕ) (h : IsEntityOf cs d t.member x) where
     abbrev at : ℕ → Ptr
     at = entity_at sys d t.member
 
@@ -115,7 +115,7 @@ module _ (l : Layout) (cs : Cells) (sys : Ptr) (d : Directory) (ms : List Member
           record {
             to = succ x (f a.0);
             word = (K.names s t g).next a.0 x a.2;
-            there = number_at t.member (succ x (f a.0)) (elim k as (λ _. (succ x (f a.0) ≡ 0) ⊎ IsOf cs d t.member (succ x (f a.0))) [ inl e ↦ inl e | inr i ↦ inr ((K.names s t g).members a.0 (succ x (f a.0)) i).0 ]);
+            there = number_at t.member (succ x (f a.0)) (elim k as (λ _. (succ x (f a.0) ≡ 0) ⊎ IsEntityOf cs d t.member (succ x (f a.0))) [ inl e ↦ inl e | inr i ↦ inr ((K.names s t g).members a.0 (succ x (f a.0)) i).0 ]);
             out = λ e. absurd (succ_differs x (f a.0) a.2 ((K.names s t g).distinct a.0) above_zero e);
             in_one = λ n. (a.0, a.1, a.2, refl);
           }

@@ -2,38 +2,38 @@
 use Rattle.std.proofs.Common.{◌≡◌, ℕ, zero, suc, ◌^◌, ◌<◌, List, [], ◌∷◌, map, length, slice_get, Option, Some, None, inl, inr, refl, sym, ap, subst, ◌∙◌, arith}
 use denote.RawPtr.{Ptr}
 use Rattle.ss_base.specs.declared.layout.Layout.{Layout}
-use Rattle.ss_records_blocks.specs.declared.store.Address.{Address}
+use Rattle.ss_records_blocks.specs.declared.store.BlockPlace.{BlockPlace}
 use Rattle.ss_records_blocks.specs.Cells.{Cells}
 use Rattle.ss_world.specs.State.{Members}
 use Rattle.ss_records_words.specs.Places.{Directory, own_or, listing, Lists, class_at_place}
 use Rattle.ss_records_words.specs.Kept.{Kept}
 
-pub unmapped : (ps : List Address) (i : ℕ) (p : Address) → slice_get (map Some ps) i ≡ Some (Some p) → slice_get ps i ≡ Some p
+pub unmapped : (ps : List BlockPlace) (i : ℕ) (p : BlockPlace) → slice_get (map Some ps) i ≡ Some (Some p) → slice_get ps i ≡ Some p
 unmapped [] i p h = cc
 unmapped (q ∷ qs) zero p h = cc
 unmapped (q ∷ qs) (suc i) p h = unmapped qs i p h
 
-pub mapped : (ps : List Address) (i : ℕ) (p : Address) → slice_get ps i ≡ Some p → slice_get (map Some ps) i ≡ Some (Some p)
+pub mapped : (ps : List BlockPlace) (i : ℕ) (p : BlockPlace) → slice_get ps i ≡ Some p → slice_get (map Some ps) i ≡ Some (Some p)
 mapped [] i p h = cc
 mapped (q ∷ qs) zero p h = cc
 mapped (q ∷ qs) (suc i) p h = mapped qs i p h
 
-pub length_mapped : (ps : List Address) → length (map Some ps) ≡ length ps
+pub length_mapped : (ps : List BlockPlace) → length (map Some ps) ≡ length ps
 length_mapped [] = refl
 length_mapped (p ∷ ps) = ap suc (length_mapped ps)
 
-pub listed : (d : Directory) (c i : ℕ) (p : Address) → slice_get (listing d c) i ≡ Some (Some p) → Lists d i p
+pub listed : (d : Directory) (c i : ℕ) (p : BlockPlace) → slice_get (listing d c) i ≡ Some (Some p) → Lists d i p
 listed d c i p h = by_class (slice_get d.classes c) refl h where
-  by_class : (o : Option (Option (List Address))) → slice_get d.classes c ≡ o → slice_get (own_or d.numbers o) i ≡ Some (Some p) → Lists d i p
+  by_class : (o : Option (Option (List BlockPlace))) → slice_get d.classes c ≡ o → slice_get (own_or d.numbers o) i ≡ Some (Some p) → Lists d i p
   by_class None e k = inl k
   by_class (Some None) e k = inl k
   by_class (Some (Some ps)) e k = inr (c, ps, e, unmapped ps i p k)
 
 module _ (l : Layout) (cs : Cells) (sys : Ptr) (d : Directory) (ms : List Members) (K : Kept l cs sys d ms) where
   -- an entity is listed under its class
-  pub lists_place : (i : ℕ) (p : Address) → Lists d i p → slice_get (listing d (class_at_place cs p)) i ≡ Some (Some p)
+  pub lists_place : (i : ℕ) (p : BlockPlace) → Lists d i p → slice_get (listing d (class_at_place cs p)) i ≡ Some (Some p)
   lists_place i p (inl g) = by_class (slice_get d.classes (class_at_place cs p)) refl where
-    by_class : (o : Option (Option (List Address))) → slice_get d.classes (class_at_place cs p) ≡ o → slice_get (listing d (class_at_place cs p)) i ≡ Some (Some p)
+    by_class : (o : Option (Option (List BlockPlace))) → slice_get d.classes (class_at_place cs p) ≡ o → slice_get (listing d (class_at_place cs p)) i ≡ Some (Some p)
     by_class None e = ap (λ o. slice_get (own_or d.numbers o) i) e ∙ g
     by_class (Some None) e = ap (λ o. slice_get (own_or d.numbers o) i) e ∙ g
     by_class (Some (Some ps)) e = absurd (K.kinds i p g (K.made (class_at_place cs p) ps e).permanent)
@@ -42,7 +42,7 @@ module _ (l : Layout) (cs : Cells) (sys : Ptr) (d : Directory) (ms : List Member
   -- there are not too many of a class
   pub not_many : (c : ℕ) → length (listing d c) < 2 ^ 62
   not_many c = by_class (slice_get d.classes c) refl where
-    by_class : (o : Option (Option (List Address))) → slice_get d.classes c ≡ o → length (listing d c) < 4611686018427387904
+    by_class : (o : Option (Option (List BlockPlace))) → slice_get d.classes c ≡ o → length (listing d c) < 4611686018427387904
     by_class None e = subst (λ o. length (own_or d.numbers o) < 4611686018427387904) (sym e) K.issued
     by_class (Some None) e = subst (λ o. length (own_or d.numbers o) < 4611686018427387904) (sym e) K.issued
     by_class (Some (Some ps)) e = subst (λ o. length (own_or d.numbers o) < 4611686018427387904) (sym e) (omega (arith, length_mapped ps, (K.made c ps e).few))

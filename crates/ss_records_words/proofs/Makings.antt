@@ -3,7 +3,7 @@ use Rattle.std.proofs.Common.{◌≡◌, ℕ, suc, ◌+◌, ◌≤◌, List, len
 use denote.RawPtr.{Ptr}
 use Rattle.ss_base.specs.declared.layout.Layout.{Layout}
 use Rattle.ss_base.specs.declared.layout.Owner.TheVariants.{Class}
-use Rattle.ss_records_blocks.specs.declared.store.Address.{Address}
+use Rattle.ss_records_blocks.specs.declared.store.BlockPlace.{BlockPlace}
 use Rattle.ss_records_blocks.specs.Cells.{Cells, words_at, word_of}
 use Rattle.ss_records_words.specs.Shape.{block_words}
 use Rattle.ss_records_words.specs.Laid.{Laid, Born, LaidTo}
@@ -23,13 +23,13 @@ born_same l ds es end p c n e b = record {
   same : (k : ℕ) → word_of (words_at es p) k ≡ word_of (words_at ds p) k
   same k = ap (λ us. word_of us k) e
 
-pub laid_none : (l : Layout) (cs : Cells) (end : Ptr) (ps : List Address) (c : ℕ) → LaidTo l cs cs end ps c 0
+pub laid_none : (l : Layout) (cs : Cells) (end : Ptr) (ps : List BlockPlace) (c : ℕ) → LaidTo l cs cs end ps c 0
 laid_none l cs end ps c = record { laid = λ i p g h. absurd (omega (arith, h)); rest = λ i p g h. refl; others = λ q h. refl; count = refl }
 
-pub laid_more : (l : Layout) (cs ds es : Cells) (end : Ptr) (ps : List Address) (c n : ℕ) (p : Address) → slice_get ps n ≡ Some p → AreApart ps → length (words_at ds p.at) ≡ block_words l (Class c) → LaidTo l cs ds end ps c n → Laid l ds es end p.at c (n + 1) → LaidTo l cs es end ps c (n + 1)
+pub laid_more : (l : Layout) (cs ds es : Cells) (end : Ptr) (ps : List BlockPlace) (c n : ℕ) (p : BlockPlace) → slice_get ps n ≡ Some p → AreApart ps → length (words_at ds p.at) ≡ block_words l (Class c) → LaidTo l cs ds end ps c n → Laid l ds es end p.at c (n + 1) → LaidTo l cs es end ps c (n + 1)
 laid_more l cs ds es end ps c n p g apart size b laid = record {
   laid = λ i q h k. by_same i n
-      (λ t z. let same : q ≡ p = cc_place i q h z in subst (λ (r : Address). Born l es end r.at c (suc i)) (sym same) (subst (λ j. Born l es end p.at c j) (next i z) born))
+      (λ t z. let same : q ≡ p = cc_place i q h z in subst (λ (r : BlockPlace). Born l es end r.at c (suc i)) (sym same) (subst (λ j. Born l es end p.at c j) (next i z) born))
       (λ t z. born_same l ds es end q.at c (suc i) (laid.written.others q.at (λ y. z (sym (apart n i p q g h y)))) (b.laid i q h (omega (arith, k, z))));
   rest = λ i q h k. laid.written.others q.at (λ y. past n i k (apart n i p q g h y)) ∙ b.rest i q h (omega (arith, k));
   others = λ q h. laid.written.others q (λ z. h n p g z) ∙ b.others q h;
@@ -41,9 +41,9 @@ laid_more l cs ds es end ps c n p g apart size b laid = record {
   next : (i : ℕ) → i ≡ n → n + 1 ≡ suc i
   next i z = omega (arith, z)
 
-  cc_place : (i : ℕ) (q : Address) → slice_get ps i ≡ Some q → i ≡ n → q ≡ p
+  cc_place : (i : ℕ) (q : BlockPlace) → slice_get ps i ≡ Some q → i ≡ n → q ≡ p
   cc_place i q h z = some_same (sym h ∙ ap (slice_get ps) z ∙ g) where
-    some_same : {x y : Address} → Some x ≡ Some y → x ≡ y
+    some_same : {x y : BlockPlace} → Some x ≡ Some y → x ≡ y
     some_same e = cc
 
   born : Born l es end p.at c (n + 1)

@@ -5,14 +5,14 @@ use denote.RawPtr.{Ptr}
 use Rattle.ss_base.specs.declared.layout.Owner.TheVariants.{Class}
 use Rattle.ss_base.specs.declared.layout.SetLayout.{SetLayout}
 use Rattle.ss_base.specs.declared.layout.Layout.{Layout}
-use Rattle.ss_records_blocks.specs.declared.store.Address.{Address}
+use Rattle.ss_records_blocks.specs.declared.store.BlockPlace.{BlockPlace}
 use Rattle.ss_records_blocks.specs.Cells.{Word, number, counter, link, Cells, IsLink, IsCounter, word_at}
 use Rattle.ss_world.specs.State.{Members, members_of, is_filed, has_members}
 use Rattle.ss_records_words.specs.Shape.{count_before, count_sets}
 use Rattle.ss_records_words.specs.Reading.{plain}
 use Rattle.ss_records_words.specs.Places.{Directory, Lists, listing, place_in_record, entity_at, owner_at, class_at_place}
 use Rattle.ss_records_words.specs.Kept.{Kept}
-use Rattle.ss_records_words.specs.Slotted.{member_base, owner_base, IsOf, MayOwn}
+use Rattle.ss_records_words.specs.Slotted.{member_base, owner_base, IsEntityOf, MayOwn}
 use Rattle.ss_records_blocks.proofs.Same.{differs, by_same}
 use Rattle.ss_records_words.proofs.Listing.{lists_place}
 use Rattle.ss_records_words.proofs.Disjoint.{is_of}
@@ -36,7 +36,7 @@ counter_is {m} {n} e = ap (λ w. counted w) e where
   counted (counter k) = k
   counted w = 0
 
-module _ (l : Layout) (cs : Cells) (sys : Ptr) (d : Directory) (ms : List Members) (K : Kept l cs sys d ms) (s : ℕ) (t : SetLayout) (g : slice_get l.sets s ≡ Some t) (i : ℕ) (p : Address) (e : Lists d i p) where
+module _ (l : Layout) (cs : Cells) (sys : Ptr) (d : Directory) (ms : List Members) (K : Kept l cs sys d ms) (s : ℕ) (t : SetLayout) (g : slice_get l.sets s ≡ Some t) (i : ℕ) (p : BlockPlace) (e : Lists d i p) where
   abbrev at : ℕ → Ptr
   at = entity_at sys d t.member
 
@@ -47,7 +47,7 @@ module _ (l : Layout) (cs : Cells) (sys : Ptr) (d : Directory) (ms : List Member
     here : at (suc i) ≡ p.at
     here = ap place_in_record its_place
 
-    pub it : IsOf cs d t.member (suc i)
+    pub it : IsEntityOf cs d t.member (suc i)
     it = is_of cs d t.member i p its_place class
 
     abbrev pub its_next : Next l cs sys d ms K s t g (suc i) it

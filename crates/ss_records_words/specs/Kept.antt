@@ -8,7 +8,7 @@ use Rattle.ss_base.specs.declared.layout.ClassKind.TheVariants.{Permanent, Tempo
 use Rattle.ss_base.specs.declared.layout.Layout.{Layout}
 use Rattle.ss_base.specs.declared.layout.Owner.TheVariants.{System, Class}
 use Rattle.ss_base.specs.Layout.{is_sound}
-use Rattle.ss_records_blocks.specs.declared.store.Address.{Address}
+use Rattle.ss_records_blocks.specs.declared.store.BlockPlace.{BlockPlace}
 use Rattle.ss_records_blocks.specs.Cells.{Word, number, Cells, IsNumber, words_at, word_of}
 use Rattle.ss_world.specs.State.{Record, State, Members, entity_in, kind_of, modes_of}
 use Rattle.ss_records_words.specs.Shape.{links_start, block_words}
@@ -50,9 +50,9 @@ abbrev pub state_of : Layout → Cells → Directory → List Members → State
 state_of l cs d ms = record { layout = l; records = map (record_at l cs) d.numbers; permanents = map (records_at l cs) d.classes; lists = ms }
 
 -- the permanent entities of a class are of it
-pub record MadeOf (l : Layout) (cs : Cells) (c : ℕ) (ps : List Address) : Type 0 where
+pub record MadeOf (l : Layout) (cs : Cells) (c : ℕ) (ps : List BlockPlace) : Type 0 where
   pub permanent : IsPermanent (kind_of l c)
-  pub class : (i : ℕ) (p : Address) → slice_get ps i ≡ Some p → class_at_place cs p ≡ c
+  pub class : (i : ℕ) (p : BlockPlace) → slice_get ps i ≡ Some p → class_at_place cs p ≡ c
   pub few : length ps ≤ 2 ^ 20
 
 pub record Kept (l : Layout) (cs : Cells) (sys : Ptr) (d : Directory) (ms : List Members) : Type 0 where
@@ -61,40 +61,40 @@ pub record Kept (l : Layout) (cs : Cells) (sys : Ptr) (d : Directory) (ms : List
   pub width : length d.classes ≡ length l.classes
   pub system : length (words_at cs sys) ≡ block_words l System
   pub end : word_of (words_at cs sys) 1 ≡ number 0
-  pub kinds : (i : ℕ) (p : Address) → slice_get d.numbers i ≡ Some (Some p) → IsPermanent (kind_of l (class_at_place cs p)) → ⊥
-  pub made : (c : ℕ) (ps : List Address) → slice_get d.classes c ≡ Some (Some ps) → MadeOf l cs c ps
-  pub classes : (i : ℕ) (p : Address) → Lists d i p → class_at_place cs p < length l.classes
-  pub formed : (i : ℕ) (p : Address) → Lists d i p → Formed l (class_at_place cs p) (suc i) (words_at cs p.at)
-  pub apart : (i j : ℕ) (p q : Address) → Lists d i p → Lists d j q → p.at ≡ q.at → i ≡ j
-  pub off_system : (i : ℕ) (p : Address) → Lists d i p → p.at ≡ sys → ⊥
+  pub kinds : (i : ℕ) (p : BlockPlace) → slice_get d.numbers i ≡ Some (Some p) → IsPermanent (kind_of l (class_at_place cs p)) → ⊥
+  pub made : (c : ℕ) (ps : List BlockPlace) → slice_get d.classes c ≡ Some (Some ps) → MadeOf l cs c ps
+  pub classes : (i : ℕ) (p : BlockPlace) → Lists d i p → class_at_place cs p < length l.classes
+  pub formed : (i : ℕ) (p : BlockPlace) → Lists d i p → Formed l (class_at_place cs p) (suc i) (words_at cs p.at)
+  pub apart : (i j : ℕ) (p q : BlockPlace) → Lists d i p → Lists d j q → p.at ≡ q.at → i ≡ j
+  pub off_system : (i : ℕ) (p : BlockPlace) → Lists d i p → p.at ≡ sys → ⊥
   pub counted : length cs ≡ living_count d.numbers + permanent_count d.classes + 1
   pub names : (s : ℕ) (t : SetLayout) → slice_get l.sets s ≡ Some t → NameKept l cs sys d ms s t
 
 -- the blocks of the permanent entities are apart from one another and from that of the system, and no other is left
 pub record RowsHeld (l : Layout) (cs : Cells) (sys : Ptr) (ms : Made) : Type 0 where
   pub width : length ms ≡ length l.classes
-  pub size : (c i : ℕ) (ps : List Address) (p : Address) → slice_get ms c ≡ Some (Some ps) → slice_get ps i ≡ Some p → length (words_at cs p.at) ≡ block_words l (Class c)
-  pub apart : (c b i j : ℕ) (ps qs : List Address) (p q : Address) → slice_get ms c ≡ Some (Some ps) → slice_get ms b ≡ Some (Some qs) → slice_get ps i ≡ Some p → slice_get qs j ≡ Some q → p.at ≡ q.at → (i ≡ j) × (c ≡ b)
-  pub off_system : (i : ℕ) (p : Address) → IsMade ms i p → p.at ≡ sys → ⊥
+  pub size : (c i : ℕ) (ps : List BlockPlace) (p : BlockPlace) → slice_get ms c ≡ Some (Some ps) → slice_get ps i ≡ Some p → length (words_at cs p.at) ≡ block_words l (Class c)
+  pub apart : (c b i j : ℕ) (ps qs : List BlockPlace) (p q : BlockPlace) → slice_get ms c ≡ Some (Some ps) → slice_get ms b ≡ Some (Some qs) → slice_get ps i ≡ Some p → slice_get qs j ≡ Some q → p.at ≡ q.at → (i ≡ j) × (c ≡ b)
+  pub off_system : (i : ℕ) (p : BlockPlace) → IsMade ms i p → p.at ≡ sys → ⊥
   pub counted : length cs ≡ permanent_count ms + 1
 
-abbrev pub place_or : Option Address → Result Address FaultKind
+abbrev pub place_or : Option BlockPlace → Result BlockPlace FaultKind
 place_or None = Err Index
 place_or (Some p) = Ok p
 
 -- where the block of an index lies, or why there is none
-abbrev pub indexed_place : List Address → ℤ → Result Address FaultKind
+abbrev pub indexed_place : List BlockPlace → ℤ → Result BlockPlace FaultKind
 indexed_place ps (pos zero) = Err Index
 indexed_place ps (pos (suc i)) = place_or (slice_get ps i)
 indexed_place ps (negsuc k) = Err Index
 
-abbrev pub issued_place : Option (Option Address) → Result Address FaultKind
+abbrev pub issued_place : Option (Option BlockPlace) → Result BlockPlace FaultKind
 issued_place None = Err NeverCreated
 issued_place (Some None) = Err DestroyedEntity
 issued_place (Some (Some p)) = Ok p
 
 -- where the block of a creation number lies, or why there is none
-abbrev pub numbered_place : Numbers → ℤ → Result Address FaultKind
+abbrev pub numbered_place : Numbers → ℤ → Result BlockPlace FaultKind
 numbered_place d (pos zero) = Err NoEntity
 numbered_place d (pos (suc i)) = issued_place (slice_get d i)
 numbered_place d (negsuc k) = Err NeverCreated

@@ -3,14 +3,14 @@ use Rattle.std.specs.Prelude.{◌≡◌, ℕ, zero, suc, ◌+◌, List, [], ◌�
 use denote.RawPtr.{Ptr, null_ptr}
 use Rattle.ss_base.specs.declared.layout.Owner.{Owner}
 use Rattle.ss_base.specs.declared.layout.Owner.TheVariants.{System, Class}
-use Rattle.ss_records_blocks.specs.declared.store.Address.{Address}
+use Rattle.ss_records_blocks.specs.declared.store.BlockPlace.{BlockPlace}
 use Rattle.ss_records_blocks.specs.Cells.{Cells, words_at}
 use Rattle.ss_records_words.specs.Reading.{class_in_words}
 use Rattle.ss_records_blocks.specs.Places.{Numbers}
 
 -- the permanent entities of each class by index, none until they are made
 abbrev pub Made : Type 0
-Made = List (Option (List Address))
+Made = List (Option (List BlockPlace))
 
 -- the places of the creation numbers, none where one is destroyed, and those of the permanent entities
 pub record Directory : Type 0 where
@@ -20,7 +20,7 @@ pub record Directory : Type 0 where
 abbrev pub lying : Numbers → Made → Directory
 lying ns ms = record { numbers = ns; classes = ms }
 
-abbrev pub own_or : Numbers → Option (Option (List Address)) → Numbers
+abbrev pub own_or : Numbers → Option (Option (List BlockPlace)) → Numbers
 own_or ns None = ns
 own_or ns (Some None) = ns
 own_or ns (Some (Some ps)) = map Some ps
@@ -30,14 +30,14 @@ abbrev pub listing : Directory → ℕ → Numbers
 listing d c = own_or d.numbers (slice_get d.classes c)
 
 -- p is the place of the permanent entity i + 1 of some class
-abbrev pub IsMade : Made → ℕ → Address → Type 0
-IsMade ms i p = (c : ℕ) × (ps : List Address) × (slice_get ms c ≡ Some (Some ps)) × (slice_get ps i ≡ Some p)
+abbrev pub IsMade : Made → ℕ → BlockPlace → Type 0
+IsMade ms i p = (c : ℕ) × (ps : List BlockPlace) × (slice_get ms c ≡ Some (Some ps)) × (slice_get ps i ≡ Some p)
 
 -- p is the place of some entity of the number i + 1
-abbrev pub Lists : Directory → ℕ → Address → Type 0
+abbrev pub Lists : Directory → ℕ → BlockPlace → Type 0
 Lists d i p = (slice_get d.numbers i ≡ Some (Some p)) ⊎ IsMade d.classes i p
 
-abbrev pub place_in_record : Option (Option Address) → Ptr
+abbrev pub place_in_record : Option (Option BlockPlace) → Ptr
 place_in_record None = null_ptr
 place_in_record (Some None) = null_ptr
 place_in_record (Some (Some p)) = p.at
@@ -57,7 +57,7 @@ owner_at sys d System n = sys
 owner_at sys d (Class c) n = entity_at sys d c n
 
 -- the class that the words of a block give
-abbrev pub class_at_place : Cells → Address → ℕ
+abbrev pub class_at_place : Cells → BlockPlace → ℕ
 class_at_place cs p = class_in_words (words_at cs p.at)
 
 -- how many permanent entities there are

@@ -12,7 +12,7 @@ use Rattle.ss_base.specs.declared.layout.Mode.{Mode}
 use Rattle.ss_base.specs.declared.layout.Mode.TheVariants.{Integer, Alpha}
 use Rattle.ss_base.specs.declared.layout.Layout.{Layout}
 use Rattle.ss_base.specs.Layout.{mode_of}
-use Rattle.ss_records_blocks.specs.declared.store.Address.{Address}
+use Rattle.ss_records_blocks.specs.declared.store.BlockPlace.{BlockPlace}
 use Rattle.ss_records_blocks.specs.Cells.{Word, blank, number, counter, link, Cells, words_at, word_of, word_at, put_word}
 use Rattle.ss_world.specs.State.{Record, kind_of, modes_of, is_notice}
 use Rattle.ss_records_words.specs.Shape.{values_end}
@@ -60,11 +60,11 @@ record_of l ws = record {
 }
 
 -- the record at an entry of the directory
-abbrev pub record_at : Layout → Cells → Option Address → Option Record
+abbrev pub record_at : Layout → Cells → Option BlockPlace → Option Record
 record_at l cs None = None
 record_at l cs (Some p) = Some (record_of l (words_at cs p.at))
 
 -- the records at the entries of a permanent class
-abbrev pub records_at : Layout → Cells → Option (List Address) → Option (List Record)
+abbrev pub records_at : Layout → Cells → Option (List BlockPlace) → Option (List Record)
 records_at l cs None = None
 records_at l cs (Some ps) = Some (map (λ p. record_of l (words_at cs p.at)) ps)

@@ -5,7 +5,7 @@ use Rattle.ss_base.specs.declared.layout.Owner.{Owner}
 use Rattle.ss_base.specs.declared.layout.Owner.TheVariants.{System, Class}
 use Rattle.ss_base.specs.declared.layout.SetLayout.{SetLayout}
 use Rattle.ss_base.specs.declared.layout.Layout.{Layout}
-use Rattle.ss_records_blocks.specs.declared.store.Address.{Address}
+use Rattle.ss_records_blocks.specs.declared.store.BlockPlace.{BlockPlace}
 use Rattle.ss_records_blocks.specs.Cells.{Cells, words_at, word_at}
 use Rattle.ss_world.specs.State.{Members, members_of}
 use Rattle.ss_records_words.specs.Shape.{links_start, owned_start, joins, owned_by, count_before}
@@ -30,28 +30,28 @@ slots_of l s t = record {
   count = owner_base l s t + 2;
 }
 
-abbrev pub is_entry : Cells → ℕ → Option (Option Address) → Type 0
+abbrev pub is_entry : Cells → ℕ → Option (Option BlockPlace) → Type 0
 is_entry cs c None = ⊥
 is_entry cs c (Some None) = ⊥
 is_entry cs c (Some (Some p)) = class_at_place cs p ≡ c
 
 -- n is an entity of the class c
-abbrev pub IsOf : Cells → Directory → ℕ → ℕ → Type 0
-IsOf cs d c zero = ⊥
-IsOf cs d c (suc i) = is_entry cs c (slice_get (listing d c) i)
+abbrev pub IsEntityOf : Cells → Directory → ℕ → ℕ → Type 0
+IsEntityOf cs d c zero = ⊥
+IsEntityOf cs d c (suc i) = is_entry cs c (slice_get (listing d c) i)
 
 -- n may own sets of this owner: 0 is the system
 abbrev pub MayOwn : Cells → Directory → Owner → ℕ → Type 0
 MayOwn cs d System n = n ≡ 0
-MayOwn cs d (Class c) n = IsOf cs d c n
+MayOwn cs d (Class c) n = IsEntityOf cs d c n
 
 -- the links of the name s show its lists
 abbrev pub NameKept : Layout → Cells → Ptr → Directory → List Members → ℕ → SetLayout → Type 0
-NameKept l cs sys d ms s t = Shows (words_of (slots_of l s t) cs (entity_at sys d t.member) (owner_at sys d t.owner)) (entity_at sys d t.member) (owner_at sys d t.owner) (IsOf cs d t.member) (MayOwn cs d t.owner) (members_of ms s)
+NameKept l cs sys d ms s t = Shows (words_of (slots_of l s t) cs (entity_at sys d t.member) (owner_at sys d t.owner)) (entity_at sys d t.member) (owner_at sys d t.owner) (IsEntityOf cs d t.member) (MayOwn cs d t.owner) (members_of ms s)
 
 -- a word of the name s, in the block of a member or of an owner
 abbrev pub OfName : Layout → Cells → Ptr → Directory → ℕ → SetLayout → Ptr → ℕ → Type 0
-OfName l cs sys d s t p k = ((x : ℕ) × (IsOf cs d t.member x) × (p ≡ entity_at sys d t.member x) × (OfMember (slots_of l s t) k)) ⊎ ((o : ℕ) × (MayOwn cs d t.owner o) × (p ≡ owner_at sys d t.owner o) × (OfOwner (slots_of l s t) k))
+OfName l cs sys d s t p k = ((x : ℕ) × (IsEntityOf cs d t.member x) × (p ≡ entity_at sys d t.member x) × (OfMember (slots_of l s t) k)) ⊎ ((o : ℕ) × (MayOwn cs d t.owner o) × (p ≡ owner_at sys d t.owner o) × (OfOwner (slots_of l s t) k))
 
 -- the blocks but for words of one kind are as they were
 pub record Spares (Of : Ptr → ℕ → Type 0) (cs ds : Cells) : Type 0 where

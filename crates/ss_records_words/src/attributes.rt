@@ -6,11 +6,11 @@ ghost use Rattle.ss_records_words.specs.Reading.{value_at, PutsValue};
 
 use crate::words;
 use ss_base::{Alpha, Mode, Value};
-use ss_records_blocks::{Address, Blocks};
+use ss_records_blocks::{BlockPlace, Blocks};
 
 /// The value in a word and the next.
 #[inline(always)]
-pub fn value(blocks: &Blocks, place: Address, k: usize, mode: Mode) -> Value
+pub fn value(blocks: &Blocks, place: BlockPlace, k: usize, mode: Mode) -> Value
     requires first { IsNumber (word_at blocks.now.cells place.at k) }
     requires second { IsNumber (word_at blocks.now.cells place.at (k + 1)) }
     requires room { k + 1 < 2 ^ 64 }
@@ -24,7 +24,7 @@ pub fn value(blocks: &Blocks, place: Address, k: usize, mode: Mode) -> Value
 
 /// The whole number in a word.
 #[inline(always)]
-pub fn whole(blocks: &Blocks, place: Address, k: usize) -> i64
+pub fn whole(blocks: &Blocks, place: BlockPlace, k: usize) -> i64
     requires { IsNumber (word_at blocks.now.cells place.at k) }
     ensures { Value.Whole result ≡ value_at Mode.Integer blocks.now.cells place.at k }
 {
@@ -33,7 +33,7 @@ pub fn whole(blocks: &Blocks, place: Address, k: usize) -> i64
 
 /// The text in a word and the next.
 #[inline(never)]
-pub fn text(blocks: &Blocks, place: Address, k: usize) -> Alpha
+pub fn text(blocks: &Blocks, place: BlockPlace, k: usize) -> Alpha
     requires first { IsNumber (word_at blocks.now.cells place.at k) }
     requires second { IsNumber (word_at blocks.now.cells place.at (k + 1)) }
     requires room { k + 1 < 2 ^ 64 }
@@ -46,7 +46,7 @@ pub fn text(blocks: &Blocks, place: Address, k: usize) -> Alpha
 
 /// Writes a value into a word and the next.
 #[inline(always)]
-pub fn set_value(blocks: &mut Blocks, place: Address, k: usize, value: Value)
+pub fn set_value(blocks: &mut Blocks, place: BlockPlace, k: usize, value: Value)
     requires first { IsNumber (word_at blocks.old.cells place.at k) }
     requires second { IsNumber (word_at blocks.old.cells place.at (k + 1)) }
     requires room { k + 1 < 2 ^ 64 }
@@ -61,7 +61,7 @@ pub fn set_value(blocks: &mut Blocks, place: Address, k: usize, value: Value)
 
 /// Writes a whole number into a word.
 #[inline(always)]
-pub fn set_whole(blocks: &mut Blocks, place: Address, k: usize, number: i64)
+pub fn set_whole(blocks: &mut Blocks, place: BlockPlace, k: usize, number: i64)
     requires first { IsNumber (word_at blocks.old.cells place.at k) }
     requires second { IsNumber (word_at blocks.old.cells place.at (k + 1)) }
     ensures written { PutsValue blocks.old.cells blocks.new.cells place.at k (Value.Whole number) }
@@ -72,7 +72,7 @@ pub fn set_whole(blocks: &mut Blocks, place: Address, k: usize, number: i64)
 
 // Writes a text into a word and the next.
 #[inline(never)]
-fn set_text(blocks: &mut Blocks, place: Address, k: usize, text: Alpha)
+fn set_text(blocks: &mut Blocks, place: BlockPlace, k: usize, text: Alpha)
     requires first { IsNumber (word_at blocks.old.cells place.at k) }
     requires second { IsNumber (word_at blocks.old.cells place.at (k + 1)) }
     requires room { k + 1 < 2 ^ 64 }

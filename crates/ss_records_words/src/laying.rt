@@ -9,17 +9,17 @@ use crate::plan::LayoutPlan;
 use crate::shape::VALUES;
 use ss_base::Owner;
 use ss_records_blocks::filling::{fill_links, fill_numbers, fill_owned, lay_head};
-use ss_records_blocks::{Address, Blocks};
+use ss_records_blocks::{BlockPlace, Blocks};
 
 /// Makes a blank block that of a new entity, in no set and without members.
 #[inline(always)]
 pub fn lay(
     blocks: &mut Blocks,
     layout: &LayoutPlan,
-    place: Address,
+    place: BlockPlace,
     class: usize,
     number: u64,
-    end: Address,
+    end: BlockPlace,
 )
     requires small { Small layout.now }
     requires class { class < length layout.now.classes }
@@ -44,7 +44,7 @@ pub fn lay(
 }
 
 /// Makes a blank block that of the system, without members.
-pub fn lay_system(blocks: &mut Blocks, layout: &LayoutPlan, place: Address)
+pub fn lay_system(blocks: &mut Blocks, layout: &LayoutPlan, place: BlockPlace)
     requires small { Small layout.now }
     requires room { length (words_at blocks.old.cells place.at) ≡ block_words layout.now Owner.System }
     requires blank { (k : ℕ) → word_at blocks.old.cells place.at k ≡ blank }

@@ -1,7 +1,7 @@
 // The blocks of the permanent entities of a class, which lie together.
 ghost use Rattle.std.specs.Prelude.{◌≡◌, ℕ, ◌+◌, ◌*◌, ◌^◌, ◌<◌, ◌≤◌, length, Some, slice_get};
 ghost use Rattle.ss_base.specs.declared.layout.Owner.TheVariants.{Class};
-ghost use Rattle.ss_records_blocks.specs.declared.store.Address.{Address};
+ghost use Rattle.ss_records_blocks.specs.declared.store.BlockPlace.{BlockPlace};
 ghost use Rattle.ss_records_blocks.specs.Cells.{words_at, blanks};
 ghost use Rattle.ss_records_words.specs.Laid.{LaidTo};
 ghost use Rattle.ss_records_words.specs.Shape.{block_words, set_places};
@@ -9,20 +9,20 @@ ghost use Rattle.ss_records_words.specs.Kept.{Small};
 
 use crate::laying;
 use crate::plan::LayoutPlan;
-use ss_records_blocks::{Address, Blocks};
+use ss_records_blocks::{BlockPlace, Blocks};
 
 /// Makes the blank blocks at these places those of the entities of a class.
 pub fn lay_all(
     blocks: &mut Blocks,
     layout: &LayoutPlan,
-    places: &[Address],
+    places: &[BlockPlace],
     class: usize,
-    end: Address,
+    end: BlockPlace,
 )
     requires small { Small layout.now }
     requires class { class < length layout.now.classes }
-    requires blank { (i : ℕ) (p : Address) → slice_get places.now i ≡ Some p → words_at blocks.old.cells p.at ≡ blanks (block_words layout.now (Class class)) }
-    requires apart { (i j : ℕ) (p q : Address) → slice_get places.now i ≡ Some p → slice_get places.now j ≡ Some q → p.at ≡ q.at → i ≡ j }
+    requires blank { (i : ℕ) (p : BlockPlace) → slice_get places.now i ≡ Some p → words_at blocks.old.cells p.at ≡ blanks (block_words layout.now (Class class)) }
+    requires apart { (i j : ℕ) (p q : BlockPlace) → slice_get places.now i ≡ Some p → slice_get places.now j ≡ Some q → p.at ≡ q.at → i ≡ j }
     requires few { length places.now ≤ 2 ^ 20 }
     requires touches { blocks.old.touches ≡ 0 }
     ensures laid { LaidTo layout.now blocks.old.cells blocks.new.cells end.at places.now class (length places.now) }

@@ -5,7 +5,7 @@ use Rattle.ss_stats.specs.History.{History}
 use Rattle.ss_program.specs.declared.sections.Statistic.{Statistic}
 use Rattle.ss_meaning.specs.Histories.{no_histories}
 use Rattle.ss_stats_histories.specs.Records.{Recorded, Rows, column_of, columns_of, IsUntil, rows_of, none_yet, none_in}
-use Rattle.ss_stats_histories.specs.Each.{Shown, shown, bare, KeptUntil}
+use Rattle.ss_stats_histories.specs.Each.{StatisticHistories, shown, bare, KeptUntil}
 use Rattle.ss_stats_histories.proofs.Columns.{head_of, tail_of, not_none, joined, none_is}
 
 pub until_bare : (latest : ℤ) (ks ns : List Recorded) → map bare ns ≡ map bare ks → All (KeptUntil latest) ks → All (KeptUntil latest) ns
@@ -18,7 +18,7 @@ until_bare latest (k ∷ ks) (n ∷ ns) e u (suc j) d h = until_bare latest ks n
 pub all_later : (P Q : Recorded → Type 0) (ks : List Recorded) → ((k : Recorded) → P k → Q k) → All P ks → All Q ks
 all_later P Q ks f a j d h = f (get_or ks j d) (a j d h)
 
-abbrev pub pair_of : Statistic × Rows → Shown
+abbrev pub pair_of : Statistic × Rows → StatisticHistories
 pair_of z = (z.0, column_of z.1)
 
 pub shown_bare : (ks ns : List Recorded) → map bare ns ≡ map bare ks → map shown ns ≡ map shown ks

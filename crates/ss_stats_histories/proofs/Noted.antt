@@ -20,7 +20,7 @@ use Rattle.ss_stats_histories.specs.declared.unnoted.Unnoted.TheVariants.{Full}
 use Rattle.ss_stats_histories.specs.declared.unnoted.Unnoted.TheVariants as unnoted
 use Rattle.ss_stats_histories.specs.Places.{places_where, is_about}
 use Rattle.ss_stats_histories.specs.Records.{Records, Recorded, Rows, column_of, columns_of, statistics_of, rows_of, rooms_of, noted_to, renewed_to, figure_of, figured, mean_in, why}
-use Rattle.ss_stats_histories.specs.Each.{Shown, shown, bare, begun_shown, ended_shown, noted_by, renewed_one, changed_at, refused_in, refused_at, stops_at, first_at, has_at}
+use Rattle.ss_stats_histories.specs.Each.{StatisticHistories, shown, bare, begun_shown, ended_shown, noted_by, renewed_one, changed_at, refused_in, refused_at, stops_at, first_at, has_at}
 use Rattle.ss_stats_histories.proofs.Columns.{head_of, tail_of, not_none, joined}
 
 -- what a contract sees of the statistics and a moment
@@ -29,17 +29,17 @@ records_of ks latest = record { statistics = statistics_of ks; rows = rows_of ks
 
 -- ## Statistics of which each is changed
 
-pub same_statistics : (f : Shown → Shown) → ((z : Shown) → (f z).0 ≡ z.0) → (ks ns : List Recorded) → map shown ns ≡ map f (map shown ks) → statistics_of ns ≡ statistics_of ks
+pub same_statistics : (f : StatisticHistories → StatisticHistories) → ((z : StatisticHistories) → (f z).0 ≡ z.0) → (ks ns : List Recorded) → map shown ns ≡ map f (map shown ks) → statistics_of ns ≡ statistics_of ks
 same_statistics f s [] [] e = refl
 same_statistics f s [] (n ∷ ns) e = absurd (not_none _ _ e)
 same_statistics f s (k ∷ ks) [] e = absurd (not_none _ _ (sym e))
-same_statistics f s (k ∷ ks) (n ∷ ns) e = joined _ _ _ _ (ap (λ (z : Shown). z.0) (ap (head_of (shown n)) e) ∙ s (shown k)) (same_statistics f s ks ns (ap tail_of e))
+same_statistics f s (k ∷ ks) (n ∷ ns) e = joined _ _ _ _ (ap (λ (z : StatisticHistories). z.0) (ap (head_of (shown n)) e) ∙ s (shown k)) (same_statistics f s ks ns (ap tail_of e))
 
 pub statistics_same : (ks ns : List Recorded) → map shown ns ≡ map shown ks → statistics_of ns ≡ statistics_of ks
 statistics_same [] [] e = refl
 statistics_same [] (n ∷ ns) e = absurd (not_none _ _ e)
 statistics_same (k ∷ ks) [] e = absurd (not_none _ _ (sym e))
-statistics_same (k ∷ ks) (n ∷ ns) e = joined _ _ _ _ (ap (λ (z : Shown). z.0) (ap (head_of (shown n)) e)) (statistics_same ks ns (ap tail_of e))
+statistics_same (k ∷ ks) (n ∷ ns) e = joined _ _ _ _ (ap (λ (z : StatisticHistories). z.0) (ap (head_of (shown n)) e)) (statistics_same ks ns (ap tail_of e))
 
 pub started_is : (l : Layout) (whose : Owner) (here : ℤ → Bool) (now : ℤ) (ks ns : List Recorded) → map shown ns ≡ map (begun_shown l whose here now) (map shown ks) →
     columns_of (rows_of ns) ≡ starting l whose here now (statistics_of ks) (columns_of (rows_of ks))
@@ -47,7 +47,7 @@ started_is l whose here now [] [] e = refl
 started_is l whose here now [] (n ∷ ns) e = absurd (not_none _ _ e)
 started_is l whose here now (k ∷ ks) [] e = absurd (not_none _ _ (sym e))
 started_is l whose here now (k ∷ ks) (n ∷ ns) e =
-    joined _ _ _ _ (ap (λ (z : Shown). z.1) (ap (head_of (shown n)) e)) (started_is l whose here now ks ns (ap tail_of e))
+    joined _ _ _ _ (ap (λ (z : StatisticHistories). z.1) (ap (head_of (shown n)) e)) (started_is l whose here now ks ns (ap tail_of e))
 
 pub ended_is : (l : Layout) (class : ℕ) (x : ℤ) (ks ns : List Recorded) → map shown ns ≡ map (ended_shown l (Class class) x) (map shown ks) →
     columns_of (rows_of ns) ≡ ending l class x (statistics_of ks) (columns_of (rows_of ks))
@@ -55,7 +55,7 @@ ended_is l class x [] [] e = refl
 ended_is l class x [] (n ∷ ns) e = absurd (not_none _ _ e)
 ended_is l class x (k ∷ ks) [] e = absurd (not_none _ _ (sym e))
 ended_is l class x (k ∷ ks) (n ∷ ns) e =
-    joined _ _ _ _ (ap (λ (z : Shown). z.1) (ap (head_of (shown n)) e)) (ended_is l class x ks ns (ap tail_of e))
+    joined _ _ _ _ (ap (λ (z : StatisticHistories). z.1) (ap (head_of (shown n)) e)) (ended_is l class x ks ns (ap tail_of e))
 
 -- ## Statistics of which those at some places are changed
 
@@ -89,29 +89,29 @@ stops_in (Text t) o = Some unnoted.Misfit
 abbrev pub stopped_by : Bool → Value → Option History → Option Unnoted
 stopped_by b v o = if b then stops_in v o else None
 
-abbrev pub stopped : Subject → (entity : ℤ) → Value → Shown → Option Unnoted
+abbrev pub stopped : Subject → (entity : ℤ) → Value → StatisticHistories → Option Unnoted
 stopped s x v z = stopped_by (is_about s z.0) v (z.1 x)
 
-abbrev pub first_stopped : Subject → (entity : ℤ) → Value → List Shown → Option Unnoted
+abbrev pub first_stopped : Subject → (entity : ℤ) → Value → List StatisticHistories → Option Unnoted
 first_stopped s x v [] = None
 first_stopped s x v (z ∷ zs) = option_or (stopped s x v z) (first_stopped s x v zs)
 
-stops_shifted : (x : ℤ) (v : Value) (z : Shown) (zs : List Shown) (js : List ℕ) → first_at (stops_at v x (z ∷ zs)) (map suc js) ≡ first_at (stops_at v x zs) js
+stops_shifted : (x : ℤ) (v : Value) (z : StatisticHistories) (zs : List StatisticHistories) (js : List ℕ) → first_at (stops_at v x (z ∷ zs)) (map suc js) ≡ first_at (stops_at v x zs) js
 stops_shifted x v z zs [] = refl
 stops_shifted x (Whole n) z zs (j ∷ js) = ap (option_or (refused_at x zs j)) (stops_shifted x (Whole n) z zs js)
 stops_shifted x (Text t) z zs (j ∷ js) = refl
 
-stops_first : (x : ℤ) (v : Value) (z : Shown) (zs : List Shown) → stops_at v x (z ∷ zs) 0 ≡ stops_in v (z.1 x)
+stops_first : (x : ℤ) (v : Value) (z : StatisticHistories) (zs : List StatisticHistories) → stops_at v x (z ∷ zs) 0 ≡ stops_in v (z.1 x)
 stops_first x (Whole n) z zs = refl
 stops_first x (Text t) z zs = refl
 
-stops_step : (x : ℤ) (b : Bool) (v : Value) (z : Shown) (zs : List Shown) (ps : List ℕ) →
+stops_step : (x : ℤ) (b : Bool) (v : Value) (z : StatisticHistories) (zs : List StatisticHistories) (ps : List ℕ) →
     first_at (stops_at v x (z ∷ zs)) (if b then 0 ∷ map suc ps else map suc ps) ≡ option_or (stopped_by b v (z.1 x)) (first_at (stops_at v x zs) ps)
 stops_step x true v z zs ps =
     ap (λ (o : Option Unnoted). option_or o (first_at (stops_at v x (z ∷ zs)) (map suc ps))) (stops_first x v z zs) ∙ ap (option_or (stops_in v (z.1 x))) (stops_shifted x v z zs ps)
 stops_step x false v z zs ps = stops_shifted x v z zs ps
 
-pub stops_places : (s : Subject) (x : ℤ) (v : Value) (zs : List Shown) → first_at (stops_at v x zs) (places_where (λ z. is_about s z.0) zs) ≡ first_stopped s x v zs
+pub stops_places : (s : Subject) (x : ℤ) (v : Value) (zs : List StatisticHistories) → first_at (stops_at v x zs) (places_where (λ z. is_about s z.0) zs) ≡ first_stopped s x v zs
 stops_places s x v [] = refl
 stops_places s x v (z ∷ zs) =
     stops_step x (is_about s z.0) v z zs (places_where (λ z. is_about s z.0) zs) ∙ ap (option_or (stopped s x v z)) (stops_places s x v zs)
@@ -145,22 +145,22 @@ both None None d ds = refl
 both None (Some f) d ds = refl
 both (Some e) p d ds = refl
 
-abbrev pub noted_where : Subject → (entity now : ℤ) → Value → Shown → Shown
+abbrev pub noted_where : Subject → (entity now : ℤ) → Value → StatisticHistories → StatisticHistories
 noted_where s x now v z = if is_about s z.0 then noted_by x now v z else z
 
-of_both : (b : Bool) (x now : ℤ) (v : Value) (z : Shown) → (if b then noted_in x now v (z.1 x) z.1 else z.1) ≡ (if b then noted_by x now v z else z).1
+of_both : (b : Bool) (x now : ℤ) (v : Value) (z : StatisticHistories) → (if b then noted_in x now v (z.1 x) z.1 else z.1) ≡ (if b then noted_by x now v z else z).1
 of_both true x now (Whole v) z = refl
 of_both true x now (Text t) z = refl
 of_both false x now v z = refl
 
 pub noted_is : (s : Subject) (x now : ℤ) (v : Value) (ks : List Recorded) →
-    all_noting s x now v (statistics_of ks) (columns_of (rows_of ks)) ≡ unless (first_stopped s x v (map shown ks)) (map (λ (z : Shown). z.1) (map (noted_where s x now v) (map shown ks)))
+    all_noting s x now v (statistics_of ks) (columns_of (rows_of ks)) ≡ unless (first_stopped s x v (map shown ks)) (map (λ (z : StatisticHistories). z.1) (map (noted_where s x now v) (map shown ks)))
 noted_is s x now v [] = refl
 noted_is s x now v (k ∷ ks) =
     let c = column_of k.rows in
     let b = is_about s k.statistic in
     let d : Column = if b then noted_in x now v (c x) c else c in
-    let ds : List Column = map (λ (z : Shown). z.1) (map (noted_where s x now v) (map shown ks)) in
+    let ds : List Column = map (λ (z : StatisticHistories). z.1) (map (noted_where s x now v) (map shown ks)) in
     let rest = all_noting s x now v (statistics_of ks) (columns_of (rows_of ks)) in
     ap (λ (r : Result Column Trouble). if_ok r (λ d. turned (λ ds. d ∷ ds) rest)) (taken b (c x) x now v c) ∙
     ap (λ (r : Result (List Column) Trouble). if_ok (unless (stopped_by b v (c x)) d) (λ d. turned (λ ds. d ∷ ds) r)) (noted_is s x now v ks) ∙
@@ -174,10 +174,10 @@ fresh_first : (x now v : ℤ) (o : Option History) (c : Column) (cs : List Colum
 fresh_first x now v None c cs e = absurd (not_both (sym e))
 fresh_first x now v (Some h) c cs e = refl
 
-pub renewed_there : (x now v : ℤ) (zs : List Shown) (j : ℕ) → has_at x zs j ≡ true →
-    renewed j x now v (map (λ (z : Shown). z.1) zs) ≡ Ok (map (λ (z : Shown). z.1) (changed_at (renewed_one x now v) zs j))
+pub renewed_there : (x now v : ℤ) (zs : List StatisticHistories) (j : ℕ) → has_at x zs j ≡ true →
+    renewed j x now v (map (λ (z : StatisticHistories). z.1) zs) ≡ Ok (map (λ (z : StatisticHistories). z.1) (changed_at (renewed_one x now v) zs j))
 renewed_there x now v [] j e = absurd (not_both (sym e))
-renewed_there x now v (z ∷ zs) zero e = fresh_first x now v (z.1 x) z.1 (map (λ (z : Shown). z.1) zs) e
+renewed_there x now v (z ∷ zs) zero e = fresh_first x now v (z.1 x) z.1 (map (λ (z : StatisticHistories). z.1) zs) e
 renewed_there x now v (z ∷ zs) (suc j) e = ap (λ (r : Result (List Column) Trouble). turned (λ ds. z.1 ∷ ds) r) (renewed_there x now v zs j e)
 
 none_first : (x now v : ℤ) (o : Option History) (c : Column) (cs : List Column) → is_some o ≡ false →
@@ -185,9 +185,9 @@ none_first : (x now v : ℤ) (o : Option History) (c : Column) (cs : List Column
 none_first x now v None c cs e = refl
 none_first x now v (Some h) c cs e = absurd (not_both e)
 
-pub renewed_nowhere : (x now v : ℤ) (zs : List Shown) (j : ℕ) → has_at x zs j ≡ false → renewed j x now v (map (λ (z : Shown). z.1) zs) ≡ Err Misfit
+pub renewed_nowhere : (x now v : ℤ) (zs : List StatisticHistories) (j : ℕ) → has_at x zs j ≡ false → renewed j x now v (map (λ (z : StatisticHistories). z.1) zs) ≡ Err Misfit
 renewed_nowhere x now v [] j e = refl
-renewed_nowhere x now v (z ∷ zs) zero e = none_first x now v (z.1 x) z.1 (map (λ (z : Shown). z.1) zs) e
+renewed_nowhere x now v (z ∷ zs) zero e = none_first x now v (z.1 x) z.1 (map (λ (z : StatisticHistories). z.1) zs) e
 renewed_nowhere x now v (z ∷ zs) (suc j) e = ap (λ (r : Result (List Column) Trouble). turned (λ ds. z.1 ∷ ds) r) (renewed_nowhere x now v zs j e)
 
 pub renewed_statistics : (x now v : ℤ) (j : ℕ) (ks ns : List Recorded) → map shown ns ≡ changed_at (renewed_one x now v) (map shown ks) j → statistics_of ns ≡ statistics_of ks
@@ -195,14 +195,14 @@ renewed_statistics x now v j [] [] e = refl
 renewed_statistics x now v j [] (n ∷ ns) e = absurd (not_none _ _ e)
 renewed_statistics x now v zero (k ∷ ks) [] e = absurd (not_none _ _ (sym e))
 renewed_statistics x now v (suc j) (k ∷ ks) [] e = absurd (not_none _ _ (sym e))
-renewed_statistics x now v zero (k ∷ ks) (n ∷ ns) e = joined _ _ _ _ (ap (λ (z : Shown). z.0) (ap (head_of (shown n)) e)) (statistics_same ks ns (ap tail_of e))
-renewed_statistics x now v (suc j) (k ∷ ks) (n ∷ ns) e = joined _ _ _ _ (ap (λ (z : Shown). z.0) (ap (head_of (shown n)) e)) (renewed_statistics x now v j ks ns (ap tail_of e))
+renewed_statistics x now v zero (k ∷ ks) (n ∷ ns) e = joined _ _ _ _ (ap (λ (z : StatisticHistories). z.0) (ap (head_of (shown n)) e)) (statistics_same ks ns (ap tail_of e))
+renewed_statistics x now v (suc j) (k ∷ ks) (n ∷ ns) e = joined _ _ _ _ (ap (λ (z : StatisticHistories). z.0) (ap (head_of (shown n)) e)) (renewed_statistics x now v j ks ns (ap tail_of e))
 
 -- ## What is seen of the statistics
 
-pub seconds : (ns : List Recorded) (zs : List Shown) → map shown ns ≡ zs → columns_of (rows_of ns) ≡ map (λ (z : Shown). z.1) zs
-seconds [] zs e = ap (λ (ys : List Shown). map (λ (z : Shown). z.1) ys) e
-seconds (n ∷ ns) zs e = joined _ _ _ _ refl (seconds ns (map shown ns) refl) ∙ ap (λ (ys : List Shown). map (λ (z : Shown). z.1) ys) e
+pub seconds : (ns : List Recorded) (zs : List StatisticHistories) → map shown ns ≡ zs → columns_of (rows_of ns) ≡ map (λ (z : StatisticHistories). z.1) zs
+seconds [] zs e = ap (λ (ys : List StatisticHistories). map (λ (z : StatisticHistories). z.1) ys) e
+seconds (n ∷ ns) zs e = joined _ _ _ _ refl (seconds ns (map shown ns) refl) ∙ ap (λ (ys : List StatisticHistories). map (λ (z : StatisticHistories). z.1) ys) e
 
 pub firsts : (ks ns : List Recorded) → map bare ns ≡ map bare ks → statistics_of ns ≡ statistics_of ks
 firsts [] [] e = refl
@@ -233,9 +233,9 @@ places_within test [] k d h = absurd (omega (arith, h))
 places_within test (x ∷ xs) k d h = one_within (test x) (places_where test xs) (length xs) (places_within test xs) k d h
 
 pub places_known : (s : Subject) (ks : List Recorded) (about : List Statistic) (ps : List ℕ) → about ≡ statistics_of ks → ps ≡ places_where (is_about s) about →
-    ps ≡ places_where (λ (z : Shown). is_about s z.0) (map shown ks)
+    ps ≡ places_where (λ (z : StatisticHistories). is_about s z.0) (map shown ks)
 places_known s ks about ps a p =
-    p ∙ ap (places_where (is_about s)) a ∙ places_of (λ (k : Recorded). k.statistic) (is_about s) ks ∙ sym (places_of shown (λ (z : Shown). is_about s z.0) ks)
+    p ∙ ap (places_where (is_about s)) a ∙ places_of (λ (k : Recorded). k.statistic) (is_about s) ks ∙ sym (places_of shown (λ (z : StatisticHistories). is_about s z.0) ks)
 
 pub within_known : (s : Subject) (ks : List Recorded) (about : List Statistic) (ps : List ℕ) → about ≡ statistics_of ks → ps ≡ places_where (is_about s) about → All (λ j. j < length ks) ps
 within_known s ks about ps a p =
@@ -249,7 +249,7 @@ stops_known s x v ks about ps o a p e =
 pub noted_known : (s : Subject) (x now : ℤ) (v : Value) (ks ns : List Recorded) (about : List Statistic) (ps : List ℕ) → about ≡ statistics_of ks → ps ≡ places_where (is_about s) about →
     map shown ns ≡ fold (changed_at (noted_by x now v)) (map shown ks) ps → map shown ns ≡ map (noted_where s x now v) (map shown ks)
 noted_known s x now v ks ns about ps a p e =
-    e ∙ ap (fold (changed_at (noted_by x now v)) (map shown ks)) (places_known s ks about ps a p) ∙ all_changed (noted_by x now v) (λ (z : Shown). is_about s z.0) (map shown ks)
+    e ∙ ap (fold (changed_at (noted_by x now v)) (map shown ks)) (places_known s ks about ps a p) ∙ all_changed (noted_by x now v) (λ (z : StatisticHistories). is_about s z.0) (map shown ks)
 
 pub about_known : (s : Subject) (ks : List Recorded) (about : List Statistic) (ps : List ℕ) → about ≡ statistics_of ks → ps ≡ places_where (is_about s) about → ps ≡ places_where (is_about s) (statistics_of ks)
 about_known s ks about ps a p = p ∙ ap (places_where (is_about s)) a
@@ -263,12 +263,12 @@ or_as_before s x now v ks ns latest later r (Err e) same n =
     let like : records_of ns later ≡ records_of ks latest = λ i. records_of (n.1 i) (n.2 i) in
     (sym (ap (λ (r : Records). all_noting s x now v r.statistics (columns_of r.rows)) same) ∙ n.0, like ∙ same)
 
-where_same : (b : Bool) (x now : ℤ) (v : Value) (z : Shown) → (if b then noted_by x now v z else z).0 ≡ z.0
+where_same : (b : Bool) (x now : ℤ) (v : Value) (z : StatisticHistories) → (if b then noted_by x now v z else z).0 ≡ z.0
 where_same true x now (Whole v) z = refl
 where_same true x now (Text t) z = refl
 where_same false x now v z = refl
 
-pub noted_statistic : (s : Subject) (x now : ℤ) (v : Value) (z : Shown) → (noted_where s x now v z).0 ≡ z.0
+pub noted_statistic : (s : Subject) (x now : ℤ) (v : Value) (z : StatisticHistories) → (noted_where s x now v z).0 ≡ z.0
 noted_statistic s x now v z = where_same (is_about s z.0) x now v z
 
 -- ## What is asked of a history

@@ -1,7 +1,7 @@
 -- Rows of a table.
 use Rattle.std.proofs.Common.{◌≡◌, ℕ, zero, suc, Bool, true, false, ◌<◌, ◌==◌, ◌&&◌, if◌then◌else◌, List, [], ◌∷◌, ◌++◌, length, Some, slice_get, slice_set, get_or, sym, subst, ap, ◌∙◌, eqb→eq, T, refl, arith}
 use lib.Dec.{eqb_refl}
-use Rattle.ss_stats_histories.specs.Places.{row_at, table_in, cell_at}
+use Rattle.ss_stats_histories.specs.Places.{row_at, table_or_empty, table_cell}
 
 -- an empty row after the last one changes no row
 pub one_row : (rows : List (List ℕ)) (k : ℕ) → row_at (rows ++ [] ∷ []) k ≡ row_at rows k
@@ -11,7 +11,7 @@ one_row (r ∷ rows) zero = refl
 one_row (r ∷ rows) (suc k) = one_row rows k
 
 -- an empty table after the last one changes no cell
-pub one_table : (tables : List (List (List ℕ))) (j k : ℕ) → cell_at (tables ++ [] ∷ []) j k ≡ cell_at tables j k
+pub one_table : (tables : List (List (List ℕ))) (j k : ℕ) → table_cell (tables ++ [] ∷ []) j k ≡ table_cell tables j k
 one_table [] zero k = refl
 one_table [] (suc j) k = refl
 one_table (t ∷ tables) zero k = refl
@@ -47,11 +47,11 @@ false_differs false e t = t
 
 pub longer_cell : (tables : List (List (List ℕ))) (first second n : ℕ) (old table : List (List ℕ)) → first < length tables → old ≡ get_or tables first old →
     ((k : ℕ) → row_at table k ≡ (if second == k then row_at old k ++ n ∷ [] else row_at old k)) →
-    (j k : ℕ) → cell_at (slice_set tables first table) j k ≡ (if (first == j) && (second == k) then cell_at tables j k ++ n ∷ [] else cell_at tables j k)
+    (j k : ℕ) → table_cell (slice_set tables first table) j k ≡ (if (first == j) && (second == k) then table_cell tables j k ++ n ∷ [] else table_cell tables j k)
 longer_cell tables first second n old table h is e j k =
     let there = at_index tables first old h is in
-    (elim (first == j) as (λ b. (first == j) ≡ b → cell_at (slice_set tables first table) j k ≡ (if b && (second == k) then cell_at tables j k ++ n ∷ [] else cell_at tables j k)) [
-      | true ↦ λ q. subst (λ i. cell_at (slice_set tables first table) i k ≡ (if second == k then cell_at tables i k ++ n ∷ [] else cell_at tables i k)) (eqb→eq first j (true_is _ q))
-          (ap (λ o. row_at (table_in o) k) (at_written tables first table h) ∙ e k ∙ ap (λ o. if second == k then row_at (table_in o) k ++ n ∷ [] else row_at (table_in o) k) (sym there))
-      | false ↦ λ q. ap (λ o. row_at (table_in o) k) (at_others tables first j table (λ p. false_differs _ q (subst (λ i. T (first == i)) p (eqb_refl first))))
+    (elim (first == j) as (λ b. (first == j) ≡ b → table_cell (slice_set tables first table) j k ≡ (if b && (second == k) then table_cell tables j k ++ n ∷ [] else table_cell tables j k)) [
+      | true ↦ λ q. subst (λ i. table_cell (slice_set tables first table) i k ≡ (if second == k then table_cell tables i k ++ n ∷ [] else table_cell tables i k)) (eqb→eq first j (true_is _ q))
+          (ap (λ o. row_at (table_or_empty o) k) (at_written tables first table h) ∙ e k ∙ ap (λ o. if second == k then row_at (table_or_empty o) k ++ n ∷ [] else row_at (table_or_empty o) k) (sym there))
+      | false ↦ λ q. ap (λ o. row_at (table_or_empty o) k) (at_others tables first j table (λ p. false_differs _ q (subst (λ i. T (first == i)) p (eqb_refl first))))
     ]) refl

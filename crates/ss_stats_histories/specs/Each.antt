@@ -14,10 +14,10 @@ use Rattle.ss_stats_histories.specs.declared.unnoted.Unnoted.TheVariants.{Full, 
 use Rattle.ss_stats_histories.specs.Records.{Recorded, Rows, column_of, IsUntil, noted_column, renewed_column, is_home}
 
 -- a statistic and its histories
-abbrev pub Shown : Type 0
-Shown = Statistic × Column
+abbrev pub StatisticHistories : Type 0
+StatisticHistories = Statistic × Column
 
-abbrev pub shown : Recorded → Shown
+abbrev pub shown : Recorded → StatisticHistories
 shown k = (k.statistic, column_of k.rows)
 
 -- no history of the statistic has a moment after this one
@@ -28,21 +28,21 @@ KeptUntil latest k = IsUntil latest (column_of k.rows)
 abbrev pub HasRoom : Layout → Owner → (count : ℤ) → Recorded → Type 0
 HasRoom l whose count k = IsTrue (is_home l whose k.statistic) → count ≤ℤ pos k.room
 
-abbrev pub begun_shown : Layout → Owner → (here : ℤ → Bool) → (now : ℤ) → Shown → Shown
+abbrev pub begun_shown : Layout → Owner → (here : ℤ → Bool) → (now : ℤ) → StatisticHistories → StatisticHistories
 begun_shown l whose here now z = (z.0, if is_home l whose z.0 then begun_in here (at_start z.0.weighting now) z.1 else z.1)
 
-abbrev pub ended_shown : Layout → Owner → (entity : ℤ) → Shown → Shown
+abbrev pub ended_shown : Layout → Owner → (entity : ℤ) → StatisticHistories → StatisticHistories
 ended_shown l whose x z = (z.0, if is_home l whose z.0 then ended_in x z.1 else z.1)
 
-abbrev pub noted_one : (entity now value : ℤ) → Shown → Shown
+abbrev pub noted_one : (entity now value : ℤ) → StatisticHistories → StatisticHistories
 noted_one x now v z = (z.0, noted_column x now v z.1)
 
 -- noting any value; a text changes nothing
-abbrev pub noted_by : (entity now : ℤ) → Value → Shown → Shown
+abbrev pub noted_by : (entity now : ℤ) → Value → StatisticHistories → StatisticHistories
 noted_by x now (Whole v) z = noted_one x now v z
 noted_by x now (Text t) z = z
 
-abbrev pub renewed_one : (entity now present : ℤ) → Shown → Shown
+abbrev pub renewed_one : (entity now present : ℤ) → StatisticHistories → StatisticHistories
 renewed_one x now v z = (z.0, renewed_column x now v z.1)
 
 -- a list of which the item at a place is changed
@@ -57,15 +57,15 @@ refused_in None = Some Misfit
 refused_in (Some h) = if is_full h then Some Full else None
 
 -- why the history of an entity in the statistic at a place takes none
-abbrev pub refused_of : (entity : ℤ) → Option Shown → Option Unnoted
+abbrev pub refused_of : (entity : ℤ) → Option StatisticHistories → Option Unnoted
 refused_of x None = None
 refused_of x (Some z) = refused_in (z.1 x)
 
-abbrev pub refused_at : (entity : ℤ) → List Shown → ℕ → Option Unnoted
+abbrev pub refused_at : (entity : ℤ) → List StatisticHistories → ℕ → Option Unnoted
 refused_at x zs j = refused_of x (slice_get zs j)
 
 -- why the history of an entity in the statistic at a place takes no such value
-abbrev pub stops_at : Value → (entity : ℤ) → List Shown → ℕ → Option Unnoted
+abbrev pub stops_at : Value → (entity : ℤ) → List StatisticHistories → ℕ → Option Unnoted
 stops_at (Whole z) x zs j = refused_at x zs j
 stops_at (Text t) x zs j = Some Misfit
 
@@ -75,11 +75,11 @@ first_at f [] = None
 first_at f (j ∷ js) = option_or (f j) (first_at f js)
 
 -- whether the statistic at a place has a history of an entity
-abbrev pub has_of : (entity : ℤ) → Option Shown → Bool
+abbrev pub has_of : (entity : ℤ) → Option StatisticHistories → Bool
 has_of x None = false
 has_of x (Some z) = is_some (z.1 x)
 
-abbrev pub has_at : (entity : ℤ) → List Shown → ℕ → Bool
+abbrev pub has_at : (entity : ℤ) → List StatisticHistories → ℕ → Bool
 has_at x zs j = has_of x (slice_get zs j)
 
 -- a statistic and its histories as they are kept

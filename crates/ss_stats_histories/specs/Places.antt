@@ -23,17 +23,17 @@ abbrev pub is_about : Subject → Statistic → Bool
 is_about subject s = same_subject s.subject subject
 
 -- a table among tables, which is empty beyond their end
-abbrev pub table_in : Option (List (List ℕ)) → List (List ℕ)
-table_in None = []
-table_in (Some table) = table
+abbrev pub table_or_empty : Option (List (List ℕ)) → List (List ℕ)
+table_or_empty None = []
+table_or_empty (Some table) = table
 
-abbrev pub cell_at : List (List (List ℕ)) → ℕ → ℕ → List ℕ
-cell_at tables j k = row_at (table_in (slice_get tables j)) k
+abbrev pub table_cell : List (List (List ℕ)) → ℕ → ℕ → List ℕ
+table_cell tables j k = row_at (table_or_empty (slice_get tables j)) k
 
 -- what tables of variables, of attributes and of sets have of a subject
 abbrev pub place_found : Subject → (variables : List (List ℕ)) → (attributes : List (List (List ℕ))) → (sets : List (List ℕ)) → List ℕ
 place_found (OfVariable k) variables attributes sets = row_at variables k
-place_found (OfAttribute class field) variables attributes sets = cell_at attributes class field
+place_found (OfAttribute class field) variables attributes sets = table_cell attributes class field
 place_found (OfCount set) variables attributes sets = row_at sets set
 
 -- whether there is one

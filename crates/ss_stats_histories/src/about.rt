@@ -6,7 +6,7 @@ ghost use Rattle.ss_program.specs.declared.sections.Subject.{Subject as TheSubje
 ghost use Rattle.ss_program.specs.declared.sections.Subject.TheVariants.{OfAttribute, OfCount};
 ghost use Rattle.ss_stats_histories.specs.Places.{places_where, is_about, place_found};
 
-use crate::table::{Grid, Table};
+use crate::table::{Grid, HistoryTable};
 use ss_program::sections::{Statistic, Subject};
 use std::alloc::{AllocError, Global};
 use std::marker::Model;
@@ -14,9 +14,9 @@ use std::marker::Model;
 /// Numbers under each subject.
 #[derive(Drop)]
 struct Tables {
-    variables: Table,
+    variables: HistoryTable,
     attributes: Grid,
-    sets: Table,
+    sets: HistoryTable,
 }
 
 impl Tables {
@@ -24,9 +24,9 @@ impl Tables {
         ensures { (s : TheSubject) → place_found s result.variables result.attributes result.sets ≡ [] }
     {
         Tables {
-            variables: Table::new(alloc),
+            variables: HistoryTable::new(alloc),
             attributes: Grid::new(alloc),
-            sets: Table::new(alloc),
+            sets: HistoryTable::new(alloc),
         }
     }
 

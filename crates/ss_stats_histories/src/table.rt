@@ -1,7 +1,7 @@
 //! A table of numbers under numbers.
 
 ghost use Rattle.std.specs.Prelude.{◌≡◌, ◌++◌, ◌∷◌, [], ℕ, ◌==◌, ◌&&◌, if◌then◌else◌, length, ◌<◌, OnOk};
-ghost use Rattle.ss_stats_histories.specs.Places.{row_at, cell_at};
+ghost use Rattle.ss_stats_histories.specs.Places.{row_at, table_cell};
 
 use std::alloc::{AllocError, Global};
 use std::marker::Model;
@@ -47,11 +47,11 @@ impl Numbers {
 
 /// Numbers under each number. A contract sees it as the list of these lists; beyond its end there are none.
 #[derive(Drop)]
-pub(crate) struct Table {
+pub(crate) struct HistoryTable {
     rows: Vec<Numbers>,
 }
 
-impl Model for Table {
+impl Model for HistoryTable {
     ghost use Rattle.std.specs.Prelude.{List, ℕ};
 
     ghost Value = { List (List ℕ) };
@@ -59,11 +59,11 @@ impl Model for Table {
     ghost view = { λ t. t.rows.items };
 }
 
-impl Table {
-    pub(crate) fn new(alloc: Global) -> Table
+impl HistoryTable {
+    pub(crate) fn new(alloc: Global) -> HistoryTable
         ensures { result ≡ [] }
     {
-        Table {
+        HistoryTable {
             rows: Vec::new(alloc),
         }
     }
@@ -102,7 +102,7 @@ fn reach(rows: &mut Vec<Numbers>, alloc: Global, key: usize) -> Result<(), Alloc
 /// Numbers under each pair of numbers. A contract sees it as a list of tables.
 #[derive(Drop)]
 pub(crate) struct Grid {
-    tables: Vec<Table>,
+    tables: Vec<HistoryTable>,
 }
 
 impl Model for Grid {
@@ -125,7 +125,7 @@ impl Grid {
     /// The numbers under a pair of numbers.
     #[inline(always)]
     pub(crate) fn at(&self, first: usize, second: usize) -> &[usize]
-        ensures { result.now ≡ cell_at self.now first second }
+        ensures { result.now ≡ table_cell self.now first second }
     {
         match self.tables.get(first) {
             Some(table) => table.at(second),
@@ -141,7 +141,7 @@ impl Grid {
         second: usize,
         number: usize,
     ) -> Result<(), AllocError>
-        ensures { OnOk result ((j k : ℕ) → cell_at self.new j k ≡ (if (first == j) && (second == k) then cell_at self.old j k ++ number ∷ [] else cell_at self.old j k)) }
+        ensures { OnOk result ((j k : ℕ) → table_cell self.new j k ≡ (if (first == j) && (second == k) then table_cell self.old j k ++ number ∷ [] else table_cell self.old j k)) }
     {
         reach_table(&mut self.tables, alloc, first)?;
         self.tables[first].add(alloc, second, number)?;
@@ -150,12 +150,12 @@ impl Grid {
 }
 
 // As many tables as it takes to have this one.
-fn reach_table(tables: &mut Vec<Table>, alloc: Global, key: usize) -> Result<(), AllocError>
+fn reach_table(tables: &mut Vec<HistoryTable>, alloc: Global, key: usize) -> Result<(), AllocError>
     ensures length { OnOk result (key < length tables.new.items) }
-    ensures same { OnOk result ((j k : ℕ) → cell_at tables.new.items j k ≡ cell_at tables.old.items j k) }
+    ensures same { OnOk result ((j k : ℕ) → table_cell tables.new.items j k ≡ table_cell tables.old.items j k) }
 {
     while tables.len() <= key {
-        tables.push(Table::new(alloc))?;
+        tables.push(HistoryTable::new(alloc))?;
     }
     Ok(())
 }

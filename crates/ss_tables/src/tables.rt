@@ -3,7 +3,7 @@
 ghost use Rattle.std.specs.Prelude.{◌≡◌, ◌<◌, length, slice_get, option_map, is_some, Some, IfSome, IfOk, IfErr};
 ghost use Rattle.std.specs.Map.{keys_of};
 ghost use Rattle.ss_tree.specs.Tree.{ProgramTree};
-ghost use Rattle.ss_tree.specs.View.{view_program};
+ghost use Rattle.ss_tree.specs.View.{view_program_tree};
 ghost use Rattle.ss_names_declarations.specs.Declarations.{declarations as declarations_seen};
 ghost use Rattle.ss_names_declarations.specs.Firsts.{place_in};
 ghost use Rattle.ss_tables_rules.specs.Broken.{refusal_of_declarations};
@@ -65,9 +65,9 @@ fn names_of(
     program: &Program,
     declarations: &[Declaration],
 ) -> Result<Names, TableError>
-    requires { declarations.now ≡ declarations_seen (view_program program.now) }
-    ensures made { IfOk result (λ names. AreTablesOf (view_program program.now) names) }
-    ensures refused { IfErr result (λ e. ReportsTableError e (refusal_of_declarations (view_program program.now))) }
+    requires { declarations.now ≡ declarations_seen (view_program_tree program.now) }
+    ensures made { IfOk result (λ names. AreTablesOf (view_program_tree program.now) names) }
+    ensures refused { IfErr result (λ e. ReportsTableError e (refusal_of_declarations (view_program_tree program.now))) }
 {
     let seed = seed_of(declarations);
     let (names, clash) = Names::of(alloc, seed, declarations)?;
@@ -82,8 +82,8 @@ impl Tables {
     /// The first rule that the program breaks by what it declares, in the order of their numbers 51 to 60,
     /// with the line of the first place where it does; `Memory` where memory is refused.
     pub fn of(alloc: Global, program: &Program) -> Result<Tables, TableError>
-        ensures made { IfOk result (λ t. AreTablesOf (view_program program.now) t) }
-        ensures refused { IfErr result (λ e. ReportsTableError e (refusal_of_declarations (view_program program.now))) }
+        ensures made { IfOk result (λ t. AreTablesOf (view_program_tree program.now) t) }
+        ensures refused { IfErr result (λ e. ReportsTableError e (refusal_of_declarations (view_program_tree program.now))) }
     {
         let declarations = declarations_of(alloc, program)?;
         let names = names_of(alloc, program, &declarations)?;

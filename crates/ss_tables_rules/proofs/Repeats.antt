@@ -13,7 +13,7 @@ use Rattle.ss_tables_rules.specs.declared.once.Once.TheVariants as o
 use Rattle.ss_tables_rules.specs.declared.error.TableError.{TableError}
 use Rattle.ss_tables_rules.specs.Keyed.{Key, again_by_key, has_key, key_if, key_of, repeats_by_key, same_key, with_key}
 use Rattle.ss_tables_rules.specs.Once.{again, is_among, once_of, repeats_after, repeated_breach, same_once, once_added}
-use Rattle.ss_tables_rules.specs.Order.{order_of}
+use Rattle.ss_tables_rules.specs.Order.{table_error_order}
 use Rattle.std.specs.Prelude.{option_to_list}
 use Rattle.ss_names_scopes.proofs.Finding.{earlier_of_list}
 
@@ -64,15 +64,15 @@ repeats_keyed t said (x ∷ ds) =
 -- ---- one declaration more
 
 pub repeat_more : (t : Table) (said after : List Key) (found next total : Option TableError) (ds : List Declaration) (i : ℕ) (x : Declaration) → i < length ds → x ≡ get_or ds i x
-    → next ≡ earlier_of order_of found (again_by_key said x.line x.what (key_if (once_of t x.what))) → after ≡ with_key said (key_if (once_of t x.what))
-    → fold (earlier order_of) found (repeats_by_key t said (drop i ds)) ≡ total → fold (earlier order_of) next (repeats_by_key t after (drop (i + 1) ds)) ≡ total
+    → next ≡ earlier_of table_error_order found (again_by_key said x.line x.what (key_if (once_of t x.what))) → after ≡ with_key said (key_if (once_of t x.what))
+    → fold (earlier table_error_order) found (repeats_by_key t said (drop i ds)) ≡ total → fold (earlier table_error_order) next (repeats_by_key t after (drop (i + 1) ds)) ≡ total
 repeat_more t said after found next total ds i x lt is n a h =
     let rest = drop (i + 1) ds in
     let key = key_if (once_of t x.what) in
     let breach = again_by_key said x.line x.what key in
-    (λ k. fold (earlier order_of) (n k) (repeats_by_key t (a k) rest))
-    ∙ ap (λ (b : Option TableError). fold (earlier order_of) b (repeats_by_key t (with_key said key) rest)) (earlier_of_list order_of found breach)
-    ∙ sym (fold-append (earlier order_of) found (option_to_list breach) (repeats_by_key t (with_key said key) rest))
-    ∙ ap (λ (y : Declaration). fold (earlier order_of) found (repeats_by_key t said (y ∷ rest))) is
-    ∙ sym (at_drop_more (λ (l : List Declaration). fold (earlier order_of) found (repeats_by_key t said l)) ds i x lt)
+    (λ k. fold (earlier table_error_order) (n k) (repeats_by_key t (a k) rest))
+    ∙ ap (λ (b : Option TableError). fold (earlier table_error_order) b (repeats_by_key t (with_key said key) rest)) (earlier_of_list table_error_order found breach)
+    ∙ sym (fold-append (earlier table_error_order) found (option_to_list breach) (repeats_by_key t (with_key said key) rest))
+    ∙ ap (λ (y : Declaration). fold (earlier table_error_order) found (repeats_by_key t said (y ∷ rest))) is
+    ∙ sym (at_drop_more (λ (l : List Declaration). fold (earlier table_error_order) found (repeats_by_key t said l)) ds i x lt)
     ∙ h

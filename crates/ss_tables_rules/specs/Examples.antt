@@ -3,10 +3,10 @@ use Rattle.std.specs.Prelude.{◌≡◌, ℕ, suc, zero, ◌+◌, ◌/◌, ◌%�
 use Rattle.ss_base.specs.declared.line.Line.{Line}
 use Rattle.ss_tree.specs.declared.expression.Designator.TheVariants.{Name}
 use Rattle.ss_base.specs.declared.layout.ClassKind.TheVariants.{Permanent, Temporary, Notice}
-use Rattle.ss_tree.specs.declared.preamble.Key.{Key}
-use Rattle.ss_tree.specs.declared.preamble.Mode.{Mode}
-use Rattle.ss_tree.specs.declared.preamble.Mode.TheVariants.{Integer, Alpha, Real}
-use Rattle.ss_tree.specs.declared.preamble.Statistic.{Statistic}
+use Rattle.ss_tree.specs.declared.preamble.NamedKey.{NamedKey}
+use Rattle.ss_tree.specs.declared.preamble.ModeWord.{ModeWord}
+use Rattle.ss_tree.specs.declared.preamble.ModeWord.TheVariants.{Integer, Alpha, Real}
+use Rattle.ss_tree.specs.declared.preamble.NamedStatistic.{NamedStatistic}
 use Rattle.ss_tree.specs.declared.preamble.StatisticKind.TheVariants.{Sum}
 use Rattle.ss_base.specs.declared.words.Weighting.TheVariants.{Tally, Accumulate}
 use Rattle.ss_tree.specs.Tree.{ClauseTree, has, owns, belongs_to, fifo, lifo, ranked, PreambleTree, temporary_entities, event_notices, every, normally, system_owns, define_variables, define_sets, priority_order, break_ties, statistics, DefinitionTree, SectionKindTree, main, routine, event, SectionTree, ProgramTree, ExpressionTree, ExpressionRow, no_expression, and_expression, number, NamedTree, over_range, over_class, for_head, StatementTree, let_statement, reset_statement, loop_statement, no_statement}
@@ -70,10 +70,10 @@ notice n name clauses = every (line n) Notice name clauses
 abbrev system_pool : ℕ → PreambleTree
 system_pool n = system_owns (line n) (names1 pool)
 
-abbrev high : NameBytes → Key
+abbrev high : NameBytes → NamedKey
 high name = record { high = true; name = name }
 
-abbrev sum_as : NameBytes → Statistic
+abbrev sum_as : NameBytes → NamedStatistic
 sum_as name = record { name = name; kind = Sum }
 
 abbrev declares : List PreambleTree → ProgramTree
@@ -85,7 +85,7 @@ with_sections statements sections = record { preamble = statements; sections = s
 abbrev section : ℕ → SectionKindTree → List DefinitionTree → List StatementTree → SectionTree
 section n kind definitions body = record { line = line n; kind = kind; definitions = definitions; body = body }
 
-abbrev local : ℕ → NameBytes → Mode → DefinitionTree
+abbrev local : ℕ → NameBytes → ModeWord → DefinitionTree
 local n name mode = record { line = line n; names = names1 name; mode = mode }
 
 abbrev target : NameBytes → ExpressionRow → NamedTree

@@ -4,7 +4,7 @@ use Rattle.std.specs.List.{flat_map, list_any}
 use Rattle.ss_base.specs.declared.line.Line.{Line}
 use Rattle.ss_tree.specs.Names.{NameBytes}
 use Rattle.ss_tree.specs.Tree.{OrderTree, ranked, PreambleTree, define_sets}
-use Rattle.ss_tree.specs.declared.preamble.Key.{Key}
+use Rattle.ss_tree.specs.declared.preamble.NamedKey.{NamedKey}
 use Rattle.ss_names_declarations.specs.Firsts.{value_for}
 use Rattle.ss_names.specs.declared.entry.Attribute.{Attribute}
 use Rattle.ss_names.specs.declared.entry.Set.{Set}
@@ -33,12 +33,12 @@ abbrev pub is_foreign_to_any : Table → List NameBytes → Option ℕ → Bool
 is_foreign_to_any t sets key = list_any (λ set. is_foreign key (member_named t set)) sets
 
 -- a key that isn't an attribute of the class of the members of a set that its DEFINE names
-abbrev pub misranked_key : Table → Line → List NameBytes → Key → List TableError
+abbrev pub misranked_key : Table → Line → List NameBytes → NamedKey → List TableError
 misranked_key t line sets key =
     if is_foreign_to_any t sets (class_of (value_for t.attributes key.name)) then RankKey line ∷ [] else []
 
 -- the keys of a DEFINE
-abbrev pub keys_of_order : OrderTree → List Key
+abbrev pub keys_of_order : OrderTree → List NamedKey
 keys_of_order (ranked keys) = keys
 keys_of_order _ = []
 

@@ -7,8 +7,8 @@ use Rattle.ss_base.specs.declared.line.Line.{Line}
 use Rattle.ss_base.specs.declared.layout.Mode.{Mode as ValueMode}
 use Rattle.ss_tree.specs.Names.{NameBytes}
 use Rattle.ss_tree.specs.Tree.{SectionTree}
-use Rattle.ss_tree.specs.declared.preamble.Mode.{Mode}
-use Rattle.ss_tree.specs.declared.preamble.Mode.TheVariants as modes
+use Rattle.ss_tree.specs.declared.preamble.ModeWord.{ModeWord}
+use Rattle.ss_tree.specs.declared.preamble.ModeWord.TheVariants as modes
 use Rattle.ss_names_declarations.specs.Earliest.{unless}
 use Rattle.ss_names_declarations.specs.Firsts.{is_one_of, place_among, place_in, same_name, value_for}
 use Rattle.ss_names_declarations.specs.declared.declaration.Declared.{Declared}
@@ -20,7 +20,7 @@ use Rattle.ss_names.specs.declared.entry.Attribute.{Attribute}
 use Rattle.ss_names.specs.declared.entry.Set.{Set}
 use Rattle.ss_names.specs.declared.meaning.Meaning.{Meaning}
 use Rattle.ss_names.specs.declared.meaning.Meaning.TheVariants as m
-use Rattle.ss_names.specs.Entries.{is_notice}
+use Rattle.ss_names.specs.Entries.{is_notice_class}
 use Rattle.ss_names.specs.Table.{Table}
 use Rattle.ss_names_scopes.specs.Locals.{Moded, local_of, locals}
 use Rattle.ss_tables_rules.specs.declared.error.TableError.{TableError}
@@ -32,8 +32,8 @@ use Rattle.ss_tables_rules.specs.declared.error.TableError.TheVariants as e
 abbrev pub is_too_many : Option ℕ → Bool
 is_too_many number = option_map_or (nat_le 64) number false
 
-abbrev pub field_of : Option Attribute → Option ℕ
-field_of attribute = option_map (λ (a : Attribute). a.field) attribute
+abbrev pub field_number : Option Attribute → Option ℕ
+field_number attribute = option_map (λ (a : Attribute). a.field) attribute
 
 -- a parameter or a local variable may hide a variable, that of a class, or nothing
 abbrev pub may_be_hidden : Option Meaning → Bool
@@ -42,15 +42,15 @@ may_be_hidden (Some (m.Variable variable mode)) = true
 may_be_hidden (Some (m.Class class kind variable)) = true
 may_be_hidden (Some _) = false
 
-abbrev pub is_real : Mode → Bool
+abbrev pub is_real : ModeWord → Bool
 is_real modes.Real = true
 is_real _ = false
 
-abbrev pub set_at : Table → Option ℕ → Option Set
-set_at t number = option_and_then (slice_get t.sets) number
+abbrev pub table_set_at : Table → Option ℕ → Option Set
+table_set_at t number = option_and_then (slice_get t.sets) number
 
 abbrev pub set_by_name : Table → NameBytes → Option Set
-set_by_name t name = set_at t (place_among t.set_names name)
+set_by_name t name = table_set_at t (place_among t.set_names name)
 
 abbrev pub has_owner : Option Set → Bool
 has_owner set = option_map_or (λ (s : Set). is_some s.owner) set false
@@ -74,7 +74,7 @@ abbrev pub broken_in : Table → Line → Declared → Option TableError
 broken_in t line (d.Class name kind) = unless (not (is_too_many (place_in t.classes name))) (e.TooMany line)
 broken_in t line (d.Attribute name class) =
     option_or (unless (is_some t.usual || is_some (value_for t.modes name)) (e.RealMode line))
-    (unless (not (is_too_many (field_of (value_for t.attributes name)))) (e.TooMany line))
+    (unless (not (is_too_many (field_number (value_for t.attributes name)))) (e.TooMany line))
 broken_in t line (d.Owner set class) =
     option_or (unless (has_member (set_by_name t set)) (e.NoMember line))
     (unless (not (is_too_many (place_among t.set_names set))) (e.TooMany line))
@@ -83,8 +83,8 @@ broken_in t line (d.Member set class) =
     (unless (not (is_too_many (place_among t.set_names set))) (e.TooMany line))
 broken_in t line (d.Variable name mode) = unless (not (is_real mode)) (e.RealMode line)
 broken_in t line (d.Order set rule statement) = unless (is_one_of t.set_names set) (e.UnknownSet line)
-broken_in t line (d.Priority class) = unless (is_notice (value_for t.classes class)) (e.UnknownClass line)
-broken_in t line (d.Ties class) = unless (is_notice (value_for t.classes class)) (e.UnknownClass line)
+broken_in t line (d.Priority class) = unless (is_notice_class (value_for t.classes class)) (e.UnknownClass line)
+broken_in t line (d.Ties class) = unless (is_notice_class (value_for t.classes class)) (e.UnknownClass line)
 broken_in t line (d.TieKey class attribute high) = unless (is_attribute_of t class attribute) (e.TieKey line)
 broken_in t line (d.Parameter name section) = unless (may_be_hidden (value_for t.meanings name)) (e.Twice line)
 broken_in t line (d.Local name section mode) =

@@ -2,7 +2,7 @@
 
 ghost use Rattle.std.specs.Prelude.{◌≡◌, option_map, IfOk};
 ghost use Rattle.ss_tables_rules.specs.declared.error.TableError.TheVariants as e;
-ghost use Rattle.ss_tree.specs.View.{view_program};
+ghost use Rattle.ss_tree.specs.View.{view_program_tree};
 ghost use Rattle.ss_names.specs.Filling.{first_line};
 ghost use Rattle.ss_names.specs.Table.{clashes, declared};
 ghost use Rattle.ss_names_declarations.specs.Declarations.{declarations as declarations_seen};
@@ -91,10 +91,10 @@ pub fn refusal_of(
     declarations: &[Declaration],
     program: &Program,
 ) -> Result<Option<TableError>, AllocError>
-    requires declarations { declarations.now ≡ declarations_seen (view_program program.now) }
+    requires declarations { declarations.now ≡ declarations_seen (view_program_tree program.now) }
     requires names { names.now ≡ declared declarations.now }
     requires clash { clash ≡ first_line (clashes declarations.now) }
-    ensures { IfOk result (λ b. b ≡ refusal_of_declarations (view_program program.now)) }
+    ensures { IfOk result (λ b. b ≡ refusal_of_declarations (view_program_tree program.now)) }
 {
     let twice = clash_breach(clash);
     let once = repeated(alloc, seed, names, declarations, twice)?;

@@ -5,17 +5,17 @@ ghost use Rattle.std.specs.List.{flat_map, fold};
 ghost use Rattle.std.specs.Option.{option_or};
 ghost use Rattle.ss_names_declarations.specs.Earliest.{earlier, unless};
 ghost use Rattle.ss_names_declarations.specs.Firsts.{place_among, value_for};
-ghost use Rattle.ss_names.specs.Entries.{is_notice};
+ghost use Rattle.ss_names.specs.Entries.{is_notice_class};
 ghost use Rattle.ss_tables_rules.specs.declared.error.TableError.TheVariants as e;
-ghost use Rattle.ss_tables_rules.specs.Broken.{breaks};
-ghost use Rattle.ss_tables_rules.specs.Order.{order_of};
-ghost use Rattle.ss_tables_rules.specs.Rules.{broken_by, broken_in, field_of, has_member, has_owner, is_attribute_of, is_class_of, is_real, is_too_many, may_be_hidden, set_by_name};
+ghost use Rattle.ss_tables_rules.specs.Broken.{declaration_breaches};
+ghost use Rattle.ss_tables_rules.specs.Order.{table_error_order};
+ghost use Rattle.ss_tables_rules.specs.Rules.{broken_by, broken_in, field_number, has_member, has_owner, is_attribute_of, is_class_of, is_real, is_too_many, may_be_hidden, set_by_name};
 
 use crate::error::TableError;
 use ss_base::{Line, Name};
 use ss_names::{Attribute, Meaning, Names, Set};
 use ss_names_declarations::{Declaration, Declared, earlier_of, has_entry};
-use ss_tree::preamble::Mode;
+use ss_tree::preamble::ModeWord;
 
 // The most classes, the most sets, and the most attributes of a class.
 const MOST: usize = 64;
@@ -45,14 +45,14 @@ fn too_many(line: Line, number: Option<usize>) -> Option<TableError>
 }
 
 // Whether a mode is REAL.
-fn is_real(mode: Mode) -> bool
+fn is_real(mode: ModeWord) -> bool
     ensures { result ≡ is_real mode }
 {
-    matches!(mode, Mode::Real)
+    matches!(mode, ModeWord::Real)
 }
 
 // The breach of REAL.
-fn real_breaks(line: Line, mode: Mode) -> Option<TableError>
+fn real_breaks(line: Line, mode: ModeWord) -> Option<TableError>
     ensures { result ≡ unless (not (is_real mode)) (e.RealMode line) }
 {
     unless(!is_real(mode), TableError::RealMode(line))
@@ -60,7 +60,7 @@ fn real_breaks(line: Line, mode: Mode) -> Option<TableError>
 
 // The breach of a class that is none of notices.
 fn class_breaks(names: &Names, line: Line, class: &Name) -> Option<TableError>
-    ensures { result ≡ unless (is_notice (value_for names.now.classes class.now)) (e.UnknownClass line) }
+    ensures { result ≡ unless (is_notice_class (value_for names.now.classes class.now)) (e.UnknownClass line) }
 {
     unless(names.is_notice(class), TableError::UnknownClass(line))
 }
@@ -93,7 +93,7 @@ fn has_mode(names: &Names, name: &Name) -> bool
 
 // The number of an attribute in its class.
 fn field_of(attribute: Option<Attribute>) -> Option<usize>
-    ensures { result ≡ field_of attribute }
+    ensures { result ≡ field_number attribute }
 {
     match attribute {
         Some(attribute) => Some(attribute.field),
@@ -103,7 +103,7 @@ fn field_of(attribute: Option<Attribute>) -> Option<usize>
 
 // An attribute that has no mode, or is one too many of its class.
 fn attribute_breaks(names: &Names, line: Line, attribute: &Name) -> Option<TableError>
-    ensures { result ≡ option_or (unless (is_some names.now.usual || is_some (value_for names.now.modes attribute.now)) (e.RealMode line)) (unless (not (is_too_many (field_of (value_for names.now.attributes attribute.now)))) (e.TooMany line)) }
+    ensures { result ≡ option_or (unless (is_some names.now.usual || is_some (value_for names.now.modes attribute.now)) (e.RealMode line)) (unless (not (is_too_many (field_number (value_for names.now.attributes attribute.now)))) (e.TooMany line)) }
 {
     let mode = unless(has_mode(names, attribute), TableError::RealMode(line));
     let field = field_of(names.attributes.get(attribute).copied());
@@ -231,7 +231,7 @@ pub fn declared_breaks(
     declarations: &[Declaration],
     found: Option<TableError>,
 ) -> Option<TableError>
-    ensures { result ≡ fold (earlier order_of) found (flat_map (breaks names.now) declarations.now) }
+    ensures { result ≡ fold (earlier table_error_order) found (flat_map (declaration_breaches names.now) declarations.now) }
 {
     let mut found = found;
     for declaration in declarations {

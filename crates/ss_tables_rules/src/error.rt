@@ -1,7 +1,7 @@
 //! Why a program has no tables.
 
 ghost use Rattle.std.specs.Prelude.{◌≡◌};
-ghost use Rattle.ss_tables_rules.specs.Order.{order_of};
+ghost use Rattle.ss_tables_rules.specs.Order.{table_error_order};
 ghost use Rattle.ss_tables_rules.specs.declared.error.TableError.TheVariants.{Memory};
 
 use ss_base::Line;
@@ -57,7 +57,7 @@ impl From<AllocError> for TableError {
 }
 
 impl Breach for TableError {
-    ghost order = { order_of };
+    ghost order = { table_error_order };
 
     fn order_of(&self) -> (u32, u32) {
         match self {

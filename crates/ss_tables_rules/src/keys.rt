@@ -7,7 +7,7 @@ ghost use Rattle.ss_tree.specs.View.{view_order, view_preamble};
 ghost use Rattle.ss_names_declarations.specs.Earliest.{earlier, unless};
 ghost use Rattle.ss_names_declarations.specs.Firsts.{value_for};
 ghost use Rattle.ss_tables_rules.specs.Keys.{class_of, is_foreign, is_foreign_to_any, keys_of_order, member_named, member_of, misranked, misranked_in, misranked_key};
-ghost use Rattle.ss_tables_rules.specs.Order.{order_of};
+ghost use Rattle.ss_tables_rules.specs.Order.{table_error_order};
 ghost use Rattle.ss_tables_rules.specs.declared.error.TableError.TheVariants as e;
 
 use crate::declarations::{set_by_name, unless};
@@ -15,7 +15,7 @@ use crate::error::TableError;
 use ss_base::{Line, Name};
 use ss_names::{Attribute, Names, Set};
 use ss_names_declarations::earlier_of;
-use ss_tree::preamble::{Key, PreambleStatement, SetOrder};
+use ss_tree::preamble::{NamedKey, PreambleStatement, SetOrder};
 
 // The class of the members of a set.
 fn member_of(set: Option<Set>) -> Option<usize>
@@ -83,7 +83,7 @@ fn is_foreign_to_any(names: &Names, sets: &[Name], key: Option<usize>) -> bool
 fn key_breaks(
     names: &Names,
     line: Line,
-    key: &Key,
+    key: &NamedKey,
     first: Option<usize>,
     several: bool,
 ) -> Option<TableError>
@@ -99,10 +99,10 @@ fn keys_break(
     names: &Names,
     line: Line,
     sets: &[Name],
-    keys: &[Key],
+    keys: &[NamedKey],
     found: Option<TableError>,
 ) -> Option<TableError>
-    ensures { result ≡ fold (earlier order_of) found (flat_map (misranked_key names.now line sets.now) keys.now) }
+    ensures { result ≡ fold (earlier table_error_order) found (flat_map (misranked_key names.now line sets.now) keys.now) }
 {
     let first = first_member(names, sets);
     let several = is_foreign_to_any(names, sets, first);
@@ -114,7 +114,7 @@ fn keys_break(
 }
 
 // The keys of a DEFINE.
-fn keys_of_order(order: &SetOrder) -> &[Key]
+fn keys_of_order(order: &SetOrder) -> &[NamedKey]
     ensures { result.now ≡ keys_of_order (view_order order.now) }
 {
     match order {
@@ -130,7 +130,7 @@ fn statement_breaks(
     statement: &PreambleStatement,
     found: Option<TableError>,
 ) -> Option<TableError>
-    ensures { result ≡ fold (earlier order_of) found (misranked_in names.now (view_preamble statement.now)) }
+    ensures { result ≡ fold (earlier table_error_order) found (misranked_in names.now (view_preamble statement.now)) }
 {
     match statement {
         PreambleStatement::DefineSets {
@@ -148,7 +148,7 @@ pub fn misranked(
     preamble: &[PreambleStatement],
     found: Option<TableError>,
 ) -> Option<TableError>
-    ensures { result ≡ fold (earlier order_of) found (misranked names.now (map view_preamble preamble.now)) }
+    ensures { result ≡ fold (earlier table_error_order) found (misranked names.now (map view_preamble preamble.now)) }
 {
     let mut found = found;
     for statement in preamble {

@@ -6,7 +6,7 @@ ghost use Rattle.ss_tree.specs.View.{view_section};
 ghost use Rattle.ss_names_declarations.specs.Earliest.{earlier, unless};
 ghost use Rattle.ss_names_scopes.specs.Locals.{local_of};
 ghost use Rattle.ss_tables_rules.specs.Broken.{unmoded};
-ghost use Rattle.ss_tables_rules.specs.Order.{order_of};
+ghost use Rattle.ss_tables_rules.specs.Order.{table_error_order};
 ghost use Rattle.ss_tables_rules.specs.Rules.{has_no_mode, lacks_mode, unmoded_in, unmoded_use};
 ghost use Rattle.ss_tables_rules.specs.declared.error.TableError.TheVariants as e;
 
@@ -56,7 +56,7 @@ fn uses_break(
     uses: &[Use],
     found: Option<TableError>,
 ) -> Option<TableError>
-    ensures { result ≡ fold (earlier order_of) found (flat_map (unmoded_use names.now locals.now) uses.now) }
+    ensures { result ≡ fold (earlier table_error_order) found (flat_map (unmoded_use names.now locals.now) uses.now) }
 {
     let mut found = found;
     for one in uses {
@@ -72,7 +72,7 @@ fn unmoded_in(
     section: &Section,
     found: Option<TableError>,
 ) -> Result<Option<TableError>, AllocError>
-    ensures { IfOk result (λ b. b ≡ fold (earlier order_of) found (unmoded_in names.now (view_section section.now))) }
+    ensures { IfOk result (λ b. b ≡ fold (earlier table_error_order) found (unmoded_in names.now (view_section section.now))) }
 {
     let uses = uses_of(alloc, section)?;
     let locals = Locals::of(alloc, names, &uses)?;
@@ -86,7 +86,7 @@ fn sections_break(
     sections: &[Section],
     found: Option<TableError>,
 ) -> Result<Option<TableError>, AllocError>
-    ensures { IfOk result (λ b. b ≡ fold (earlier order_of) found (flat_map (unmoded_in names.now) (map view_section sections.now))) }
+    ensures { IfOk result (λ b. b ≡ fold (earlier table_error_order) found (flat_map (unmoded_in names.now) (map view_section sections.now))) }
 {
     let mut found = found;
     for section in sections {
@@ -105,7 +105,7 @@ pub fn unmoded(
     sections: &[Section],
     found: Option<TableError>,
 ) -> Result<Option<TableError>, AllocError>
-    ensures { IfOk result (λ b. b ≡ fold (earlier order_of) found (unmoded names.now (map view_section sections.now))) }
+    ensures { IfOk result (λ b. b ≡ fold (earlier table_error_order) found (unmoded names.now (map view_section sections.now))) }
 {
     match names.usual {
         Some(_) => Ok(found),

@@ -7,7 +7,7 @@ ghost use Rattle.ss_names_declarations.specs.Firsts.{is_one_of, value_for};
 ghost use Rattle.ss_tables_rules.specs.declared.once.Once.TheVariants as o;
 ghost use Rattle.ss_tables_rules.specs.Once.{if_class, once_of, repeats, repeated_breach};
 ghost use Rattle.ss_tables_rules.specs.Keyed.{again_by_key, key_if, key_of, with_key};
-ghost use Rattle.ss_tables_rules.specs.Order.{order_of};
+ghost use Rattle.ss_tables_rules.specs.Order.{table_error_order};
 
 use crate::error::TableError;
 use ss_base::{Line, Name};
@@ -195,7 +195,7 @@ pub fn repeated(
     declarations: &[Declaration],
     found: Option<TableError>,
 ) -> Result<Option<TableError>, AllocError>
-    ensures { IfOk result (λ b. b ≡ fold (earlier order_of) found (repeats names.now declarations.now)) }
+    ensures { IfOk result (λ b. b ≡ fold (earlier table_error_order) found (repeats names.now declarations.now)) }
 {
     let mut said = Keys::new(alloc, seed);
     let mut found = found;

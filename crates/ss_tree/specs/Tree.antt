@@ -9,11 +9,11 @@ use Rattle.ss_base.specs.declared.words.PhraseKind.{PhraseKind}
 use Rattle.ss_base.specs.declared.words.GuardKind.{GuardKind}
 use Rattle.ss_base.specs.declared.words.End.{End}
 use Rattle.ss_tree.specs.declared.statement.FindOutcome.{FindOutcome}
-use Rattle.ss_tree.specs.declared.preamble.Mode.{Mode}
+use Rattle.ss_tree.specs.declared.preamble.ModeWord.{ModeWord}
 use Rattle.ss_base.specs.declared.layout.ClassKind.{ClassKind}
-use Rattle.ss_tree.specs.declared.preamble.Key.{Key}
+use Rattle.ss_tree.specs.declared.preamble.NamedKey.{NamedKey}
 use Rattle.ss_base.specs.declared.words.Weighting.{Weighting}
-use Rattle.ss_tree.specs.declared.preamble.Statistic.{Statistic}
+use Rattle.ss_tree.specs.declared.preamble.NamedStatistic.{NamedStatistic}
 
 -- ---- expressions
 
@@ -148,7 +148,7 @@ pub data ClauseTree : Type 0 where
 pub data OrderTree : Type 0 where
   fifo : OrderTree
   lifo : OrderTree
-  ranked : List Key → OrderTree
+  ranked : List NamedKey → OrderTree
 
 -- a statement of a preamble; the line of its first word comes first
 pub data PreambleTree : Type 0 where
@@ -156,20 +156,20 @@ pub data PreambleTree : Type 0 where
   temporary_entities : Line → PreambleTree
   event_notices : Line → List (List ℕ) → PreambleTree
   every : Line → ClassKind → List ℕ → List ClauseTree → PreambleTree
-  normally : Line → Mode → PreambleTree
+  normally : Line → ModeWord → PreambleTree
   system_owns : Line → List (List ℕ) → PreambleTree
-  define_variables : Line → List (List ℕ) → Mode → PreambleTree
+  define_variables : Line → List (List ℕ) → ModeWord → PreambleTree
   define_sets : Line → List (List ℕ) → OrderTree → PreambleTree
   priority_order : Line → List (List ℕ) → PreambleTree
-  break_ties : Line → List ℕ → List Key → PreambleTree
-  statistics : Line → Weighting → List Statistic → List ℕ → PreambleTree
+  break_ties : Line → List ℕ → List NamedKey → PreambleTree
+  statistics : Line → Weighting → List NamedStatistic → List ℕ → PreambleTree
 
 -- ---- programs
 
 pub record DefinitionTree : Type 0 where
   pub line : Line
   pub names : List (List ℕ)
-  pub mode : Mode
+  pub mode : ModeWord
 
 pub data SectionKindTree : Type 0 where
   main : SectionKindTree

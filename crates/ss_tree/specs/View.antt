@@ -33,111 +33,107 @@ use Rattle.ss_tree.specs.declared.program.SectionKind.TheVariants as kinds
 use Rattle.ss_tree.specs.declared.program.Section.{Section}
 use Rattle.ss_tree.specs.declared.program.Program.{Program}
 use Rattle.ss_tree.specs.Tree.{ExpressionTree, number, text, named, call, parenthesised, product, signed, sum, ExpressionRow, no_expression, and_expression, expression_row, TermRow, no_term, and_term, NamedTree, TestTree, compare, empty, member, data_ended, ConditionTree, PhraseTree, GuardTree, StartTree, from_end, from_member, after_member, HeadTree, over_range, over_members, over_class, LoopHeadTree, for_head, guarded, PositionTree, by_discipline, at_first, at_last, before, after, WhenTree, at_time, in_units, now, StatementTree, let_statement, add_statement, subtract_statement, call_statement, return_statement, stop_statement, read_statement, start_simulation, if_statement, loop_statement, find_statement, find_if_statement, create_statement, create_every, destroy_statement, file_statement, remove_end, remove_statement, schedule_new, schedule_statement, cancel_statement, reset_statement, print_statement, skip_statement, StatementRow, no_statement, and_statement, ClauseTree, has, owns, belongs_to, OrderTree, fifo, lifo, ranked, PreambleTree, permanent_entities, temporary_entities, event_notices, every, normally, system_owns, define_variables, define_sets, priority_order, break_ties, statistics, DefinitionTree, SectionKindTree, main, routine, event, SectionTree, ProgramTree}
+use Rattle.std.specs.Option.{option_map}
 
 unfoldable mutual
-  pub view_expression : Expression → ExpressionTree
-  view_expression (Number n) = number n
-  view_expression (Text t) = text t
-  view_expression (Named' designator shape subscripts) = named designator (view_expressions subscripts)
-  view_expression (Call' function shape arguments) = call function (view_expressions arguments)
-  view_expression (Parenthesised' p inner) = parenthesised (view_expression inner)
-  view_expression (Product' p first shape further) = product (view_expression first) (view_expressions further)
-  view_expression (Signed' sign p term) = signed sign (view_expression term)
-  view_expression (Sum' p first shape further) = sum (view_expression first) (view_terms further)
+  pub view_expression_tree : Expression → ExpressionTree
+  view_expression_tree (Number n) = number n
+  view_expression_tree (Text t) = text t
+  view_expression_tree (Named' designator shape subscripts) = named designator (view_expressions subscripts)
+  view_expression_tree (Call' function shape arguments) = call function (view_expressions arguments)
+  view_expression_tree (Parenthesised' p inner) = parenthesised (view_expression_tree inner)
+  view_expression_tree (Product' p first shape further) = product (view_expression_tree first) (view_expressions further)
+  view_expression_tree (Signed' sign p term) = signed sign (view_expression_tree term)
+  view_expression_tree (Sum' p first shape further) = sum (view_expression_tree first) (view_terms further)
 
   pub view_expressions : {n : _} → Row_of-Expression n → ExpressionRow
   view_expressions end_of-Expression = no_expression
-  view_expressions (more_of-Expression e es) = and_expression (view_expression e) (view_expressions es)
+  view_expressions (more_of-Expression e es) = and_expression (view_expression_tree e) (view_expressions es)
 
   pub view_terms : {n : _} → Row_of-Term n → TermRow
   view_terms end_of-Term = no_term
-  view_terms (more_of-Term sign value rest) = and_term sign (view_expression value) (view_terms rest)
+  view_terms (more_of-Term sign value rest) = and_term sign (view_expression_tree value) (view_terms rest)
 
 abbrev pub view_term : Term → Sign × ExpressionTree
-view_term t = (t.sign, view_expression t.value)
+view_term t = (t.sign, view_expression_tree t.value)
 
 abbrev pub view_named : Named → NamedTree
-view_named n = record { designator = n.designator; subscripts = expression_row (map view_expression n.subscripts.items) }
+view_named n = record { designator = n.designator; subscripts = expression_row (map view_expression_tree n.subscripts.items) }
 
-abbrev pub view_test : Test → TestTree
-view_test (tests.Compare left relation right) = compare (view_expression left) relation (view_expression right)
-view_test (tests.Empty set negated) = empty (view_named set) negated
-view_test (tests.Member x set negated) = member (view_expression x) (view_named set) negated
-view_test (tests.DataEnded negated) = data_ended negated
+abbrev pub view_test_tree : Test → TestTree
+view_test_tree (tests.Compare left relation right) = compare (view_expression_tree left) relation (view_expression_tree right)
+view_test_tree (tests.Empty set negated) = empty (view_named set) negated
+view_test_tree (tests.Member x set negated) = member (view_expression_tree x) (view_named set) negated
+view_test_tree (tests.DataEnded negated) = data_ended negated
 
-abbrev pub view_conjunction : Conjunction → List TestTree
-view_conjunction c = map view_test c.tests.items
+abbrev pub view_conjunction_tree : Conjunction → List TestTree
+view_conjunction_tree c = map view_test_tree c.tests.items
 
-abbrev pub view_condition : Condition → ConditionTree
-view_condition c = map view_conjunction c.alternatives.items
+abbrev pub view_condition_tree : Condition → ConditionTree
+view_condition_tree c = map view_conjunction_tree c.alternatives.items
 
-abbrev pub view_phrase : Phrase → PhraseTree
-view_phrase p = record { kind = p.kind; condition = view_condition p.condition }
+abbrev pub view_phrase_tree : Phrase → PhraseTree
+view_phrase_tree p = record { kind = p.kind; condition = view_condition_tree p.condition }
 
-abbrev pub view_guard : Guard → GuardTree
-view_guard g = record { kind = g.kind; condition = view_condition g.condition }
+abbrev pub view_guard_tree : Guard → GuardTree
+view_guard_tree g = record { kind = g.kind; condition = view_condition_tree g.condition }
 
-abbrev pub view_start : MemberStart → StartTree
-view_start starts.End = from_end
-view_start (starts.From e) = from_member (view_expression e)
-view_start (starts.After e) = after_member (view_expression e)
+abbrev pub view_start_tree : MemberStart → StartTree
+view_start_tree starts.End = from_end
+view_start_tree (starts.From e) = from_member (view_expression_tree e)
+view_start_tree (starts.After e) = after_member (view_expression_tree e)
 
--- the view of an optional value
-abbrev pub view_option : {A B : Type 0} → (A → B) → Option A → Option B
-view_option view None = None
-view_option view (Some x) = Some (view x)
-
-abbrev pub view_head : Head → HeadTree
-view_head (heads.Range variable from to step phrases) = over_range variable (view_expression from) (view_expression to) (view_option view_expression step) (map view_phrase phrases.items)
-view_head (heads.Members variable set start reverse phrases) = over_members variable (view_named set) (view_start start) reverse (map view_phrase phrases.items)
-view_head (heads.Class class called phrases) = over_class class called (map view_phrase phrases.items)
+abbrev pub view_head_tree : Head → HeadTree
+view_head_tree (heads.Range variable from to step phrases) = over_range variable (view_expression_tree from) (view_expression_tree to) (option_map view_expression_tree step) (map view_phrase_tree phrases.items)
+view_head_tree (heads.Members variable set start reverse phrases) = over_members variable (view_named set) (view_start_tree start) reverse (map view_phrase_tree phrases.items)
+view_head_tree (heads.Class class called phrases) = over_class class called (map view_phrase_tree phrases.items)
 
 abbrev pub view_loop_head : LoopHead → LoopHeadTree
-view_loop_head (loops.For head) = for_head (view_head head)
-view_loop_head (loops.Guards guards) = guarded (map view_guard guards.items)
+view_loop_head (loops.For head) = for_head (view_head_tree head)
+view_loop_head (loops.Guards guards) = guarded (map view_guard_tree guards.items)
 
-abbrev pub view_position : Position → PositionTree
-view_position positions.Discipline = by_discipline
-view_position positions.First = at_first
-view_position positions.Last = at_last
-view_position (positions.Before e) = before (view_expression e)
-view_position (positions.After e) = after (view_expression e)
+abbrev pub view_position_tree : Position → PositionTree
+view_position_tree positions.Discipline = by_discipline
+view_position_tree positions.First = at_first
+view_position_tree positions.Last = at_last
+view_position_tree (positions.Before e) = before (view_expression_tree e)
+view_position_tree (positions.After e) = after (view_expression_tree e)
 
-abbrev pub view_when : When → WhenTree
-view_when (whens.At e) = at_time (view_expression e)
-view_when (whens.In e) = in_units (view_expression e)
-view_when whens.Now = now
+abbrev pub view_when_tree : When → WhenTree
+view_when_tree (whens.At e) = at_time (view_expression_tree e)
+view_when_tree (whens.In e) = in_units (view_expression_tree e)
+view_when_tree whens.Now = now
 
 unfoldable mutual
-  pub view_statement : Statement → StatementTree
-  view_statement (Let line target value) = let_statement line (view_named target) (view_expression value)
-  view_statement (Add line amount target) = add_statement line (view_expression amount) (view_named target)
-  view_statement (Subtract line amount target) = subtract_statement line (view_expression amount) (view_named target)
-  view_statement (Call line called given yielding) = call_statement line called (map view_expression given.items) (map view_named yielding.items)
-  view_statement (Return line) = return_statement line
-  view_statement (Stop line) = stop_statement line
-  view_statement (Read line targets) = read_statement line (map view_named targets.items)
-  view_statement (StartSimulation line) = start_simulation line
-  view_statement (If' line condition shape then shape' otherwise) = if_statement line (view_condition condition) (view_statements then) (view_statements otherwise)
-  view_statement (Loop' line head shape body) = loop_statement line (view_loop_head head) (view_statements body)
-  view_statement (Find line head) = find_statement line (view_head head)
-  view_statement (FindIf' line head outcome shape then shape' otherwise) = find_if_statement line (view_head head) outcome (view_statements then) (view_statements otherwise)
-  view_statement (Create line class called) = create_statement line class (view_option view_named called)
-  view_statement (CreateEvery line classes) = create_every line classes.items
-  view_statement (Destroy line class called) = destroy_statement line class (view_option view_expression called)
-  view_statement (File line x position set) = file_statement line (view_expression x) (view_position position) (view_named set)
-  view_statement (RemoveEnd line end target set) = remove_end line end (view_named target) (view_named set)
-  view_statement (Remove line x set) = remove_statement line (view_expression x) (view_named set)
-  view_statement (ScheduleNew line class called given when) = schedule_new line class (view_option view_named called) (map view_expression given.items) (view_when when)
-  view_statement (Schedule line class called given when) = schedule_statement line class (view_option view_expression called) (map view_expression given.items) (view_when when)
-  view_statement (Cancel line class called) = cancel_statement line class (view_option view_expression called)
-  view_statement (Reset line targets) = reset_statement line (map view_named targets.items)
-  view_statement (Print line items pictures) = print_statement line (map view_expression items.items) pictures.items
-  view_statement (Skip line count) = skip_statement line (view_expression count)
+  pub view_statement_tree : Statement → StatementTree
+  view_statement_tree (Let line target value) = let_statement line (view_named target) (view_expression_tree value)
+  view_statement_tree (Add line amount target) = add_statement line (view_expression_tree amount) (view_named target)
+  view_statement_tree (Subtract line amount target) = subtract_statement line (view_expression_tree amount) (view_named target)
+  view_statement_tree (Call line called given yielding) = call_statement line called (map view_expression_tree given.items) (map view_named yielding.items)
+  view_statement_tree (Return line) = return_statement line
+  view_statement_tree (Stop line) = stop_statement line
+  view_statement_tree (Read line targets) = read_statement line (map view_named targets.items)
+  view_statement_tree (StartSimulation line) = start_simulation line
+  view_statement_tree (If' line condition shape then shape' otherwise) = if_statement line (view_condition_tree condition) (view_statements then) (view_statements otherwise)
+  view_statement_tree (Loop' line head shape body) = loop_statement line (view_loop_head head) (view_statements body)
+  view_statement_tree (Find line head) = find_statement line (view_head_tree head)
+  view_statement_tree (FindIf' line head outcome shape then shape' otherwise) = find_if_statement line (view_head_tree head) outcome (view_statements then) (view_statements otherwise)
+  view_statement_tree (Create line class called) = create_statement line class (option_map view_named called)
+  view_statement_tree (CreateEvery line classes) = create_every line classes.items
+  view_statement_tree (Destroy line class called) = destroy_statement line class (option_map view_expression_tree called)
+  view_statement_tree (File line x position set) = file_statement line (view_expression_tree x) (view_position_tree position) (view_named set)
+  view_statement_tree (RemoveEnd line end target set) = remove_end line end (view_named target) (view_named set)
+  view_statement_tree (Remove line x set) = remove_statement line (view_expression_tree x) (view_named set)
+  view_statement_tree (ScheduleNew line class called given when) = schedule_new line class (option_map view_named called) (map view_expression_tree given.items) (view_when_tree when)
+  view_statement_tree (Schedule line class called given when) = schedule_statement line class (option_map view_expression_tree called) (map view_expression_tree given.items) (view_when_tree when)
+  view_statement_tree (Cancel line class called) = cancel_statement line class (option_map view_expression_tree called)
+  view_statement_tree (Reset line targets) = reset_statement line (map view_named targets.items)
+  view_statement_tree (Print line items pictures) = print_statement line (map view_expression_tree items.items) pictures.items
+  view_statement_tree (Skip line count) = skip_statement line (view_expression_tree count)
 
   pub view_statements : {n : _} → Row_of-Statement n → StatementRow
   view_statements end_of-Statement = no_statement
-  view_statements (more_of-Statement s ss) = and_statement (view_statement s) (view_statements ss)
+  view_statements (more_of-Statement s ss) = and_statement (view_statement_tree s) (view_statements ss)
 
 abbrev pub view_clause : Clause → ClauseTree
 view_clause (clauses.Has names) = has names.items
@@ -171,8 +167,8 @@ view_kind (kinds.Routine name given yielding) = routine name given.items yieldin
 view_kind (kinds.Event name given saving) = event name given.items saving
 
 abbrev pub view_section : Section → SectionTree
-view_section s = record { line = s.line; kind = view_kind s.kind; definitions = map view_definition s.definitions.items; body = map view_statement s.body.items }
+view_section s = record { line = s.line; kind = view_kind s.kind; definitions = map view_definition s.definitions.items; body = map view_statement_tree s.body.items }
 
 -- the tree of a program
-abbrev pub view_program : Program → ProgramTree
-view_program p = record { preamble = map view_preamble p.preamble.items; sections = map view_section p.sections.items }
+abbrev pub view_program_tree : Program → ProgramTree
+view_program_tree p = record { preamble = map view_preamble p.preamble.items; sections = map view_section p.sections.items }

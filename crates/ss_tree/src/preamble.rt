@@ -5,7 +5,7 @@ use ss_base::{Line, Name};
 
 /// What a value is.
 #[derive(Clone, Copy)]
-pub enum Mode {
+pub enum ModeWord {
     Integer,
     Alpha,
     Real,
@@ -24,7 +24,7 @@ pub enum Clause {
 
 /// A name by which members or events are ranked, the highest value first or the lowest.
 #[derive(Clone, Copy)]
-pub struct Key {
+pub struct NamedKey {
     pub high: bool,
     pub name: Name,
 }
@@ -36,7 +36,7 @@ pub enum SetOrder {
     Fifo,
     Lifo,
     /// RANKED BY keys.
-    Ranked(Vec<Key>),
+    Ranked(Vec<NamedKey>),
 }
 
 /// What a statistic reports of its subject.
@@ -51,7 +51,7 @@ pub enum StatisticKind {
 
 /// A statistic and its name.
 #[derive(Clone, Copy)]
-pub struct Statistic {
+pub struct NamedStatistic {
     pub name: Name,
     pub kind: StatisticKind,
 }
@@ -82,7 +82,7 @@ pub enum PreambleStatement {
     /// NORMALLY MODE IS.
     Normally {
         line: Line,
-        mode: Mode,
+        mode: ModeWord,
     },
     /// THE SYSTEM OWNS.
     SystemOwns {
@@ -93,7 +93,7 @@ pub enum PreambleStatement {
     DefineVariables {
         line: Line,
         names: Vec<Name>,
-        mode: Mode,
+        mode: ModeWord,
     },
     /// DEFINE as a set.
     DefineSets {
@@ -110,13 +110,13 @@ pub enum PreambleStatement {
     BreakTies {
         line: Line,
         class: Name,
-        keys: Vec<Key>,
+        keys: Vec<NamedKey>,
     },
     /// TALLY or ACCUMULATE.
     Statistics {
         line: Line,
         weighting: Weighting,
-        statistics: Vec<Statistic>,
+        statistics: Vec<NamedStatistic>,
         subject: Name,
     },
 }

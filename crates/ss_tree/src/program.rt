@@ -1,6 +1,6 @@
 //! Sections and programs.
 
-use crate::preamble::{Mode, PreambleStatement};
+use crate::preamble::{ModeWord, PreambleStatement};
 use crate::statement::Statement;
 use ss_base::{Line, Name};
 
@@ -9,7 +9,7 @@ use ss_base::{Line, Name};
 pub struct LocalDefinition {
     pub line: Line,
     pub names: Vec<Name>,
-    pub mode: Mode,
+    pub mode: ModeWord,
 }
 
 /// What a section is.

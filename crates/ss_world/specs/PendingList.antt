@@ -36,13 +36,13 @@ abbrev pub without_notice : ℤ → List PendingNotice → List PendingNotice
 without_notice notice entries = filter (λ e. not (int_eq notice e.notice)) entries
 
 -- the one of two entries that comes out first
-abbrev pub earlier : PendingNotice → PendingNotice → PendingNotice
-earlier a b = if comes_before b a then b else a
+abbrev pub earlier_notice : PendingNotice → PendingNotice → PendingNotice
+earlier_notice a b = if comes_before b a then b else a
 
 -- the least entry, which comes out first of all
 abbrev pub least : List PendingNotice → Option PendingNotice
 least [] = None
-least (e ∷ es) = Some (fold earlier e es)
+least (e ∷ es) = Some (fold earlier_notice e es)
 
 -- the list with one more entry, of a new scheduling
 abbrev pub with_entry : SortKey → ℤ → PendingList → PendingList
@@ -71,8 +71,8 @@ cancelled notice p =
     else Err NotScheduled
 
 -- the time and the notice of the least entry
-abbrev pub next : PendingList → Option (ℤ × ℤ)
-next p = option_map (λ e. (e.key.time, e.notice)) (least p.entries)
+abbrev pub least_event : PendingList → Option (ℤ × ℤ)
+least_event p = option_map (λ e. (e.key.time, e.notice)) (least p.entries)
 
 -- the list after the least entry came out
 abbrev pub after_next : PendingList → PendingList

@@ -73,10 +73,10 @@ issued_record (Some None) = Err DestroyedEntity
 issued_record (Some (Some r)) = Ok r
 
 -- the record of a creation number: 0 is no entity
-abbrev pub numbered : State → ℤ → Result Record FaultKind
-numbered s (pos zero) = Err NoEntity
-numbered s (pos (suc i)) = issued_record (slice_get s.records i)
-numbered s (negsuc k) = Err NeverCreated
+abbrev pub numbered_record : State → ℤ → Result Record FaultKind
+numbered_record s (pos zero) = Err NoEntity
+numbered_record s (pos (suc i)) = issued_record (slice_get s.records i)
+numbered_record s (negsuc k) = Err NeverCreated
 
 abbrev pub indexed_record : Option Record → Result Record FaultKind
 indexed_record None = Err Index
@@ -106,8 +106,8 @@ of_notice l r = if is_notice (kind_of l r.class) then Ok r else Err WrongClass
 
 abbrev pub entity_of_kind : State → ClassKind → ℕ → ℤ → Result Record FaultKind
 entity_of_kind s Permanent c x = indexed s c x
-entity_of_kind s Temporary c x = and_then (numbered s x) (of_class c)
-entity_of_kind s Notice c x = and_then (numbered s x) (of_class c)
+entity_of_kind s Temporary c x = and_then (numbered_record s x) (of_class c)
+entity_of_kind s Notice c x = and_then (numbered_record s x) (of_class c)
 
 -- what a number means as an entity of a class
 abbrev pub entity_in : State → ℕ → ℤ → Result Record FaultKind
@@ -115,7 +115,7 @@ entity_in s c x = entity_of_kind s (kind_of s.layout c) c x
 
 -- what a number means as a notice of any class
 abbrev pub notice : State → ℤ → Result Record FaultKind
-notice s x = and_then (numbered s x) (of_notice s.layout)
+notice s x = and_then (numbered_record s x) (of_notice s.layout)
 
 -- the number of an entity that is there
 abbrev pub number_in : ℤ → ℕ
@@ -128,8 +128,8 @@ number_in (negsuc k) = 0
 abbrev pub first_record : Layout → ℕ → Record
 first_record l c = record { class = c; values = map first_value (modes_of l c); time = pos 0 }
 
-abbrev pub with_value : Record → ℕ → Value → Record
-with_value r f v = record { class = r.class; values = slice_set r.values f v; time = r.time }
+abbrev pub record_with_value : Record → ℕ → Value → Record
+record_with_value r f v = record { class = r.class; values = slice_set r.values f v; time = r.time }
 
 abbrev pub with_time : Record → ℤ → Record
 with_time r t = record { class = r.class; values = r.values; time = t }
@@ -154,7 +154,7 @@ value_in s c f x = and_then (entity_in s c x) (λ r. Ok (slice_index_or r.values
 
 -- the state once the attribute f of an entity is v
 abbrev pub assigned : State → ℕ → ℕ → ℤ → Value → Result State FaultKind
-assigned s c f x v = and_then (entity_in s c x) (λ r. Ok (with_entity s c (number_in x) (with_value r f v)))
+assigned s c f x v = and_then (entity_in s c x) (λ r. Ok (with_entity s c (number_in x) (record_with_value r f v)))
 
 -- the time of a notice
 abbrev pub time_in : State → ℤ → Result ℤ FaultKind

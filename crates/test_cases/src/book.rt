@@ -1,6 +1,6 @@
 //! Case files, read into cases.
 
-use crate::cases::{Case, Part};
+use crate::cases::{Case, CasePart};
 use crate::content::Content;
 use crate::directive::{DirectiveHead, DirectiveTopic};
 use crate::words::{first_word, named, number};
@@ -29,7 +29,7 @@ enum Place {
     /// The last text.
     Text,
     /// A part of the last case.
-    Case(Part),
+    Case(CasePart),
 }
 
 /// A case file, as far as it was read: its cases, and the mistakes in it.
@@ -153,7 +153,7 @@ impl<'a> Book<'a> {
     }
 
     // The content from here on belongs to this part of the case under way.
-    fn begin_part(&mut self, part: Part, words: &str) -> Result<(), Wrong> {
+    fn begin_part(&mut self, part: CasePart, words: &str) -> Result<(), Wrong> {
         if !words.is_empty() {
             return Err(Wrong::Directive);
         }
@@ -168,7 +168,7 @@ impl<'a> Book<'a> {
         let number = number(words)?;
         self.settle()?;
         self.case()?.begin_line(number)?;
-        self.place = Place::Case(Part::Model);
+        self.place = Place::Case(CasePart::Model);
         Ok(())
     }
 
@@ -228,7 +228,7 @@ fn add_to_case(
     alloc: Global,
     content: Content<'_>,
     case: Option<&mut Case<'_>>,
-    part: Part,
+    part: CasePart,
 ) -> Result<(), Wrong> {
     match case {
         Some(case) => content.add_to(alloc, case.content(part)),

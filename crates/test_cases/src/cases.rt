@@ -2,7 +2,7 @@
 
 use crate::content::place_of_line;
 use crate::directive::DirectiveTopic;
-use crate::ending::Ending;
+use crate::ending::CaseEnding;
 use crate::words::{SessionCall, StreamPlan, number, numbers, reader, short_numbers, writer};
 use crate::wrong::Wrong;
 use std::alloc::Global;
@@ -37,7 +37,7 @@ impl Judge {
 
 /// A part of a case that content belongs to.
 #[derive(Clone, Copy)]
-pub enum Part {
+pub enum CasePart {
     /// The model, at its end.
     Model,
     Input,
@@ -57,7 +57,7 @@ pub struct Case<'a> {
     pub input: Vec<u8>,
     pub report: Vec<u8>,
     pub calls: Vec<SessionCall<'a>>,
-    pub ending: Option<Ending<'a>>,
+    pub ending: Option<CaseEnding<'a>>,
     pub used: Option<u64>,
     pub cut_short: Option<Vec<u64>>,
     /// What its one reader does.
@@ -109,7 +109,7 @@ impl<'a> Case<'a> {
             DirectiveTopic::Writer => set_once(&mut self.writer, writer(words)),
             DirectiveTopic::Failures => set_once(&mut self.failures, number(words)),
             DirectiveTopic::Run => self.add_call(SessionCall::of(words)),
-            DirectiveTopic::Ending => set_once(&mut self.ending, Ending::of(words)),
+            DirectiveTopic::Ending => set_once(&mut self.ending, CaseEnding::of(words)),
             DirectiveTopic::Judge => set_once(&mut self.judge, Judge::of(words)),
             DirectiveTopic::Used => set_once(&mut self.used, number(words)),
             DirectiveTopic::Cut => set_once(&mut self.cut_short, short_numbers(self.alloc, words)),
@@ -132,10 +132,10 @@ impl<'a> Case<'a> {
     }
 
     /// Begins a part: the content that follows is added to the model, or makes the part anew.
-    pub fn begin_part(&mut self, part: Part) {
+    pub fn begin_part(&mut self, part: CasePart) {
         match part {
-            Part::Model => {}
-            Part::Input | Part::Report => self.content(part).clear(),
+            CasePart::Model => {}
+            CasePart::Input | CasePart::Report => self.content(part).clear(),
         }
     }
 
@@ -160,11 +160,11 @@ impl<'a> Case<'a> {
     }
 
     /// Where the content of a part is put.
-    pub fn content(&mut self, part: Part) -> &mut Vec<u8> {
+    pub fn content(&mut self, part: CasePart) -> &mut Vec<u8> {
         match part {
-            Part::Model => &mut self.model,
-            Part::Input => &mut self.input,
-            Part::Report => &mut self.report,
+            CasePart::Model => &mut self.model,
+            CasePart::Input => &mut self.input,
+            CasePart::Report => &mut self.report,
         }
     }
 
@@ -199,8 +199,8 @@ impl<'a> Case<'a> {
     pub fn judge(&self) -> Judge {
         match (self.judge, self.ending) {
             (Some(judge), _) => judge,
-            (None, Some(Ending::AnyTree | Ending::Tree(_))) => Judge::Tree,
-            (None, Some(Ending::Kept)) => Judge::Rules,
+            (None, Some(CaseEnding::AnyTree | CaseEnding::Tree(_))) => Judge::Tree,
+            (None, Some(CaseEnding::Kept)) => Judge::Rules,
             (None, _) => Judge::Run,
         }
     }

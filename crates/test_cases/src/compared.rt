@@ -1,7 +1,7 @@
 //! The results of a case that are not the wanted ones, in words.
 
 use crate::cases::Case;
-use crate::ending::Ending;
+use crate::ending::CaseEnding;
 use crate::streams::CaseStreams;
 use crate::words::SessionCall;
 use ss_base::Faulty;
@@ -19,7 +19,7 @@ fn part(found: &mut String) -> Result<(), AllocError> {
 /// Notes where an ending is not the one that is wanted.
 pub fn compare_ending(
     case: &Case<'_>,
-    came: Ending<'_>,
+    came: CaseEnding<'_>,
     found: &mut String,
 ) -> Result<(), AllocError> {
     match case.ending {
@@ -35,7 +35,7 @@ pub fn compare_ending(
 pub fn add_cut_short(
     found: &mut String,
     length: usize,
-    came: Ending<'_>,
+    came: CaseEnding<'_>,
 ) -> Result<(), AllocError> {
     part(found)?;
     write!(found, "cut short to {length} bytes: came {came}")

@@ -1,6 +1,6 @@
 //! The first words of directives, which are the lines of a case file that are no content.
 
-use crate::cases::Part;
+use crate::cases::CasePart;
 use crate::wrong::Wrong;
 
 /// What the first word of a directive means.
@@ -17,7 +17,7 @@ pub enum DirectiveHead {
     /// The content after it takes the place of a line of the model.
     Line,
     /// The content after it belongs to this part of the case.
-    Part(Part),
+    Part(CasePart),
     /// A property of the case.
     Says(DirectiveTopic),
 }
@@ -52,9 +52,9 @@ static HEADS: [(&str, DirectiveHead); 17] = [
     ("after", DirectiveHead::After),
     ("as", DirectiveHead::As),
     ("line", DirectiveHead::Line),
-    ("model", DirectiveHead::Part(Part::Model)),
-    ("input", DirectiveHead::Part(Part::Input)),
-    ("report", DirectiveHead::Part(Part::Report)),
+    ("model", DirectiveHead::Part(CasePart::Model)),
+    ("input", DirectiveHead::Part(CasePart::Input)),
+    ("report", DirectiveHead::Part(CasePart::Report)),
     ("ticks", DirectiveHead::Says(DirectiveTopic::Ticks)),
     ("reader", DirectiveHead::Says(DirectiveTopic::Reader)),
     ("writer", DirectiveHead::Says(DirectiveTopic::Writer)),

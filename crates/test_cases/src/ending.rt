@@ -42,7 +42,7 @@ impl fmt::Display for TreeCounts {
 
 /// How a text ends, or is to end.
 #[derive(Clone, Copy)]
-pub enum Ending<'a> {
+pub enum CaseEnding<'a> {
     /// With this line of the program, or `ended`.
     Line(&'a str),
     /// With any tree. A text ends with a certain one.
@@ -53,47 +53,48 @@ pub enum Ending<'a> {
     Kept,
 }
 
-impl<'a> Ending<'a> {
+impl<'a> CaseEnding<'a> {
     /// What these words say: a tree, `kept`, or a line of the program.
-    pub fn of(words: &'a str) -> Result<Ending<'a>, Wrong> {
+    pub fn of(words: &'a str) -> Result<CaseEnding<'a>, Wrong> {
         match words {
             "" => Err(Wrong::Ending),
-            "tree" => Ok(Ending::AnyTree),
-            "kept" => Ok(Ending::Kept),
+            "tree" => Ok(CaseEnding::AnyTree),
+            "kept" => Ok(CaseEnding::Kept),
             _ => match words.strip_prefix("tree ") {
                 Some(counts) => tree_of(counts),
-                None => Ok(Ending::Line(words)),
+                None => Ok(CaseEnding::Line(words)),
             },
         }
     }
 
     /// Whether the end of a text is the one that is wanted.
-    pub fn meets(self, wanted: Ending<'_>) -> bool {
+    pub fn meets(self, wanted: CaseEnding<'_>) -> bool {
         match (self, wanted) {
-            (Ending::Line(line), Ending::Line(wanted)) => is_wanted(wanted, line),
-            (Ending::Tree(_), Ending::AnyTree) | (Ending::Kept, Ending::Kept) => true,
-            (Ending::Tree(counts), Ending::Tree(wanted)) => counts == wanted,
+            (CaseEnding::Line(line), CaseEnding::Line(wanted)) => is_wanted(wanted, line),
+            (CaseEnding::Tree(_), CaseEnding::AnyTree) | (CaseEnding::Kept, CaseEnding::Kept) =>
+                true,
+            (CaseEnding::Tree(counts), CaseEnding::Tree(wanted)) => counts == wanted,
             _ => false,
         }
     }
 }
 
-impl fmt::Display for Ending<'_> {
+impl fmt::Display for CaseEnding<'_> {
     fn fmt<W: fmt::Write>(&self, f: &mut fmt::Formatter<W>) -> fmt::Result {
         match self {
-            Ending::Line(line) => f.write_str(line),
-            Ending::AnyTree => f.write_str("tree"),
-            Ending::Tree(counts) => counts.fmt(f),
-            Ending::Kept => f.write_str("kept"),
+            CaseEnding::Line(line) => f.write_str(line),
+            CaseEnding::AnyTree => f.write_str("tree"),
+            CaseEnding::Tree(counts) => counts.fmt(f),
+            CaseEnding::Kept => f.write_str("kept"),
         }
     }
 }
 
 // P S T.
-fn tree_of(words: &str) -> Result<Ending<'_>, Wrong> {
+fn tree_of(words: &str) -> Result<CaseEnding<'_>, Wrong> {
     let (preamble, rest) = first_word(words);
     let (sections, statements) = first_word(rest);
-    Ok(Ending::Tree(TreeCounts {
+    Ok(CaseEnding::Tree(TreeCounts {
         preamble: number(preamble)?,
         sections: number(sections)?,
         statements: number(statements)?,

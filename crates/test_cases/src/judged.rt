@@ -2,7 +2,7 @@
 
 use crate::cases::Case;
 use crate::compared::{add_cut_short, compare_ending};
-use crate::ending::{Ending, line_in};
+use crate::ending::{CaseEnding, line_in};
 use crate::simulator::Simulator;
 use std::alloc::{AllocError, Global};
 
@@ -14,7 +14,7 @@ pub fn judge_tree<S: Simulator>(
     found: &mut String,
 ) -> Result<(), AllocError> {
     match simulator.tree(alloc, &case.model) {
-        Ok(counts) => compare_ending(case, Ending::Tree(counts), found),
+        Ok(counts) => compare_ending(case, CaseEnding::Tree(counts), found),
         Err(refusal) => compare_outcome(alloc, simulator, case, refusal, found),
     }
 }
@@ -28,7 +28,7 @@ pub fn judge_rules<S: Simulator>(
     found: &mut String,
 ) -> Result<(), AllocError> {
     match simulator.refusal(alloc, &case.model) {
-        None => compare_ending(case, Ending::Kept, found),
+        None => compare_ending(case, CaseEnding::Kept, found),
         Some(refusal) => compare_outcome(alloc, simulator, case, refusal, found),
     }
 }
@@ -42,7 +42,7 @@ pub fn compare_outcome<S: Simulator>(
     found: &mut String,
 ) -> Result<(), AllocError> {
     let printed = simulator.printed(alloc, outcome)?;
-    compare_ending(case, Ending::Line(line_in(&printed)), found)
+    compare_ending(case, CaseEnding::Line(line_in(&printed)), found)
 }
 
 /// Notes the first proper beginning of a model that isn't refused by one of these numbers.
@@ -85,8 +85,8 @@ fn report_cut_short<S: Simulator>(
     found: &mut String,
 ) -> Result<(), AllocError> {
     let Some(refusal) = came else {
-        return add_cut_short(found, length, Ending::Kept);
+        return add_cut_short(found, length, CaseEnding::Kept);
     };
     let printed = simulator.printed(alloc, refusal)?;
-    add_cut_short(found, length, Ending::Line(line_in(&printed)))
+    add_cut_short(found, length, CaseEnding::Line(line_in(&printed)))
 }

@@ -2,8 +2,9 @@
 
 use crate::outcomes::ANSWER;
 use ss_engine::{
-    CheckError, Counted, FaultKind, Line, MemoryRead, MemoryWrite, Outcome, Plan, Refusal, Session,
-    Stop, WriteFailure, compile, simulate,
+    Alpha, CheckError, Counted, FaultKind, Faulty, FaultyRead, FaultyWrite, LexError, Line,
+    MemoryRead, MemoryWrite, Outcome, ParseError, Plan, Refusal, Session, Stop, TableError,
+    WriteFailure, compile, simulate,
 };
 use std::alloc::Global;
 
@@ -50,8 +51,44 @@ fn a_text_is_run(rt: HostRuntime) {
     }
 }
 
-// What four pieces of a session answer, and how many ticks they used.
-fn in_four(mut session: Session<MemoryRead, MemoryWrite>) -> ([Stop; 4], u64) {
+// Why a text is refused.
+fn refusal_of(alloc: Global, text: &[u8]) -> Option<Refusal> {
+    match compile(alloc, text) {
+        Ok(model) => {
+            model.release();
+            None
+        }
+        Err(refusal) => Some(refusal),
+    }
+}
+
+#[test]
+fn a_text_is_refused(rt: HostRuntime) {
+    let open = Refusal::Lexed(LexError::OpenText(Line(2)));
+    let no_end = Refusal::Parsed(ParseError::Syntax(Line(1)));
+    let real = Refusal::Declared(TableError::RealMode(Line(1)));
+    assert_eq!(rt;
+        refusal_of(rt.alloc(), b"MAIN\nLET X = \"A\nEND"),
+        Some(open)
+    );
+    assert_eq!(rt; refusal_of(rt.alloc(), b"MAIN"), Some(no_end));
+    assert_eq!(rt; refusal_of(rt.alloc(), b"MAIN LET X = 1 END"), Some(real));
+}
+
+#[test]
+fn blanks_at_the_end_of_a_text_count_for_nothing(rt: HostRuntime) {
+    assert_eq!(rt; Alpha::of(b"BOX  "), Alpha::of(b"BOX"));
+}
+
+// How often a reader or a writer failed.
+fn faults<T: Faulty>(stream: &T) -> u64 {
+    stream.faults()
+}
+
+// What four pieces of a session answer, how many ticks they used, and how often the reader and the writer failed.
+fn in_four<R: FaultyRead + Drop, W: FaultyWrite + Drop>(
+    mut session: Session<R, W>,
+) -> ([Stop; 4], u64, [u64; 2]) {
     let stops = [
         session.run(1),
         session.run(1),
@@ -59,12 +96,12 @@ fn in_four(mut session: Session<MemoryRead, MemoryWrite>) -> ([Stop; 4], u64) {
         session.run(1),
     ];
     let used = session.used();
-    let (_data, _report) = session.close();
-    (stops, used)
+    let (data, report) = session.close();
+    (stops, used, [faults(&data), faults(&report)])
 }
 
 // What they do in a session of three lines.
-fn pieces(alloc: Global) -> Option<([Stop; 4], u64)> {
+fn pieces(alloc: Global) -> Option<([Stop; 4], u64, [u64; 2])> {
     let data = MemoryRead::new(alloc, b"", Plan::smooth(1)).ok()?;
     let report = MemoryWrite::new(alloc, 100, Plan::smooth(4096), WriteFailure::Error).ok()?;
     let model = compile(alloc, THREE).ok()?;
@@ -77,5 +114,5 @@ fn pieces(alloc: Global) -> Option<([Stop; 4], u64)> {
 #[test]
 fn a_session_runs_in_pieces(rt: HostRuntime) {
     let stops = [Stop::Paused, Stop::Paused, Stop::Ended, Stop::Ended];
-    assert_eq!(rt; pieces(rt.alloc()), Some((stops, 3)));
+    assert_eq!(rt; pieces(rt.alloc()), Some((stops, 3, [0, 0])));
 }

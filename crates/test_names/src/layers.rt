@@ -64,74 +64,63 @@ fn of_one_class(alloc: Global) -> Result<Pending, AllocError> {
     Pending::new(alloc, &classes)
 }
 
-// Whether nothing is next, and nothing can be cancelled.
-fn is_empty(pending: &mut Pending) -> bool {
-    pending.least().is_none()
-        && pending.take().is_none()
-        && pending.cancel(1) == Err(FaultKind::NotScheduled)
+// What is next, what is taken out, whether 1 and 2 are scheduled then, and the answer to a cancelling of 2.
+type Next = (
+    Option<(i64, i64)>,
+    Option<(i64, i64)>,
+    [bool; 2],
+    Result<(), FaultKind>,
+);
+
+fn next(pending: &mut Pending) -> Next {
+    let least = pending.least();
+    let taken = pending.take();
+    let scheduled = [pending.is_scheduled(1), pending.is_scheduled(2)];
+    (least, taken, scheduled, pending.cancel(2))
 }
 
-// Whether the last call made so many comparisons and moves.
-fn has_counted(pending: &Pending, comparisons: u64, moves: u64) -> bool {
-    pending.comparisons() == comparisons && pending.moves() == moves
+// What a scheduling answers, and how many comparisons and moves it makes.
+type Scheduled = (Result<(), Refused>, u64, u64);
+
+fn scheduled(alloc: Global, pending: &mut Pending, time: i64, notice: i64) -> Scheduled {
+    let answer = schedule(alloc, pending, time, notice);
+    (answer, pending.comparisons(), pending.moves())
 }
 
-// Whether two notices are scheduled, each once. The first is compared with none, and put into a place. The second is compared with
-// the first, and stays after it.
-fn are_scheduled(alloc: Global, pending: &mut Pending) -> bool {
-    let twice = Refused::Fault(FaultKind::AlreadyScheduled);
-    schedule(alloc, pending, 5, 1) == Ok(())
-        && has_counted(pending, 0, 1)
-        && schedule(alloc, pending, 9, 2) == Ok(())
-        && has_counted(pending, 1, 1)
-        && schedule(alloc, pending, 7, 1) == Err(twice)
+// What is next in a list, before 1 and 2 are scheduled, then, and at last; what scheduling them answers, and 1 once more.
+fn answers(
+    alloc: Global,
+    mut pending: Pending,
+) -> ([Next; 3], [Scheduled; 2], Result<(), Refused>) {
+    let before = next(&mut pending);
+    let first = scheduled(alloc, &mut pending, 5, 1);
+    let second = scheduled(alloc, &mut pending, 9, 2);
+    let again = schedule(alloc, &mut pending, 7, 1);
+    let after = next(&mut pending);
+    let last = next(&mut pending);
+    ([before, after, last], [first, second], again)
 }
 
-// Whether the earlier one is next, and the later one can be cancelled.
-fn come_out(pending: &mut Pending) -> bool {
-    pending.least() == Some((5, 1))
-        && pending.take() == Some((5, 1))
-        && !pending.is_scheduled(1)
-        && pending.is_scheduled(2)
-        && pending.cancel(2) == Ok(())
-}
-
-// Whether it is so in a list of its own.
-fn are_pending(alloc: Global) -> bool {
-    match of_one_class(alloc) {
-        Ok(mut pending) => {
-            is_empty(&mut pending)
-                && are_scheduled(alloc, &mut pending)
-                && come_out(&mut pending)
-                && is_empty(&mut pending)
-        }
-        Err(_) => false,
-    }
-}
-
+// 1 is compared with none, and put into a place. 2 is compared with 1, and stays after it.
 #[test]
-fn the_earliest_notice_is_next(rt: HostRuntime) {
-    assert!(rt; are_pending(rt.alloc()));
-}
-
-// Whether three values are counted and summed up.
-fn is_tallied() -> bool {
-    let mut totals = Totals::tally();
-    let first = totals.note(0, 4);
-    let second = totals.note(0, -2);
-    let third = totals.note(0, 7);
-    first.is_ok()
-        && second.is_ok()
-        && third.is_ok()
-        && totals.number(0) == 3
-        && totals.sum(0) == Ok(9)
-        && totals.maximum() == 7
-        && totals.minimum() == -2
+fn the_earliest_notice_is_next(rt: HostRuntime) -> Result<(), Fail> {
+    let none = (None, None, [false; 2], Err(FaultKind::NotScheduled));
+    let first = (Some((5, 1)), Some((5, 1)), [false, true], Ok(()));
+    let twice = Refused::Fault(FaultKind::AlreadyScheduled);
+    let (nexts, scheduled, again) = answers(rt.alloc(), of_one_class(rt.alloc())?);
+    assert_eq!(rt; nexts, [none, first, none]);
+    assert_eq!(rt; scheduled, [(Ok(()), 0, 1), (Ok(()), 1, 1)]);
+    assert_eq!(rt; again, Err(twice));
+    Ok(())
 }
 
 #[test]
 fn a_tally_counts_and_sums(rt: HostRuntime) {
-    assert!(rt; is_tallied());
+    let mut totals = Totals::tally();
+    let noted = [totals.note(0, 4), totals.note(0, -2), totals.note(0, 7)];
+    assert_eq!(rt; noted, [Ok(()); 3]);
+    assert_eq!(rt; (totals.number(0), totals.sum(0)), (3, Ok(9)));
+    assert_eq!(rt; (totals.maximum(), totals.minimum()), (7, -2));
 }
 
 // 2 for 5 units of time, and 4 for 5 more.

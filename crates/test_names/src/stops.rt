@@ -1,6 +1,6 @@
 //! Why a machine stops, and how many ticks it has used and how many steps it has made by then.
 //!
-//! Each instruction that is carried out is a step, also the one that ends the program and the one that comes to a fault. A
+//! Each instruction that is carried out is a step, also the one that ends the program and the one that faults. A
 //! pause is no step, nor is an instruction whose reader or writer failed.
 
 use crate::outcomes::{ANSWER, BELL};
@@ -133,7 +133,7 @@ LET X = 5\n\
 LET X = DIV.F(X, 0)\n\
 END";
 
-// The move to X, and the quotient that comes to the fault.
+// The move to X, and the quotient that faults.
 static TO_FAULT: [Piece; 2] = [
     (1, Stop::Fault(FaultKind::ZeroDivisor, Line(4)), 0, 2),
     (1, Stop::Fault(FaultKind::ZeroDivisor, Line(4)), 0, 2),

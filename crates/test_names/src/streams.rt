@@ -1,4 +1,4 @@
-//! Readers and writers, and what stands before them: the data and the report.
+//! Readers and writers, and what is built on them: the data and the report.
 
 use ss_base::{
     Alpha, Counted, FaultKind, Faulty, FaultyRead, FaultyWrite, MemoryRead, MemoryWrite, Plan,
@@ -47,47 +47,49 @@ fn of_three(alloc: Global, failure: WriteFailure) -> Result<MemoryWrite, AllocEr
     MemoryWrite::new(alloc, 100, Plan::wrong_after_bytes(4096, 3), failure)
 }
 
-// Whether a writer takes three bytes, and fails then.
-fn breaks_off<W: FaultyWrite>(writer: &mut W) -> bool {
-    writer.write_some(b"HELLO").ok() == Some(3)
-        && writer.write_some(b"LO").is_err()
-        && faults(writer) == 1
+// How many bytes a writer takes in two writes, and how often it fails.
+fn taken<W: FaultyWrite>(writer: &mut W) -> ([Option<usize>; 2], u64) {
+    let taken = [
+        writer.write_some(b"HELLO").ok(),
+        writer.write_some(b"LO").ok(),
+    ];
+    (taken, faults(writer))
 }
 
 #[test]
 fn a_writer_fails(rt: HostRuntime) -> Result<(), Fail> {
     let mut writer = of_three(rt.alloc(), WriteFailure::Error)?;
-    assert!(rt; breaks_off(&mut writer));
+    assert_eq!(rt; taken(&mut writer), ([Some(3), None], 1));
     Ok(())
 }
 
-// Whether the second line goes out but for its end.
-fn is_cut_off(report: &mut Sink<MemoryWrite>) -> bool {
-    report.write(b"1\n") == Ok(())
-        && report.write(b"2\n") == Err(SinkError::Failed)
-        && report.sent() == 3
+// What two lines answer, and how many of their bytes go out.
+fn sent(report: &mut Sink<MemoryWrite>) -> ([Result<(), SinkError>; 2], u128) {
+    let answers = [report.write(b"1\n"), report.write(b"2\n")];
+    (answers, report.sent())
 }
 
 #[test]
 fn a_report_is_cut_off(rt: HostRuntime) -> Result<(), Fail> {
     let mut report = Sink::new(of_three(rt.alloc(), WriteFailure::Error)?);
-    assert!(rt; is_cut_off(&mut report));
+    let answers = [Ok(()), Err(SinkError::Failed)];
+    assert_eq!(rt; sent(&mut report), (answers, 3));
     assert_eq!(rt; report.into_inner().bytes(), b"1\n2".as_slice());
     Ok(())
 }
 
-// Whether the report is given up after a thousand writes that take nothing.
-fn stalls(mut report: Sink<MemoryWrite>) -> bool {
+// What a report answers, how many of its bytes go out, and how often the writer fails.
+fn answer_of(mut report: Sink<MemoryWrite>) -> (Result<(), SinkError>, u128, u64) {
     let answer = report.write(b"ANSWER");
     let sent = report.sent();
-    let writer = report.into_inner();
-    answer == Err(SinkError::Stalled) && sent == 3 && faults(&writer) == 1000
+    (answer, sent, faults(&report.into_inner()))
 }
 
 #[test]
 fn a_report_stalls(rt: HostRuntime) -> Result<(), Fail> {
     let writer = of_three(rt.alloc(), WriteFailure::NoByte)?;
-    assert!(rt; stalls(Sink::new(writer)));
+    let given_up = (Err(SinkError::Stalled), 3, 1000);
+    assert_eq!(rt; answer_of(Sink::new(writer)), given_up);
     Ok(())
 }
 
@@ -107,16 +109,15 @@ fn words_are_read(rt: HostRuntime) {
     assert_eq!(rt; data.into_inner().into_inner(), b"".as_slice());
 }
 
-// Whether it can't be read, which its reader counts.
-fn is_unreadable(mut data: Source<MemoryRead>) -> bool {
+// What is read as a number, and how often the reader fails.
+fn number_of(mut data: Source<MemoryRead>) -> (Result<i64, Missed>, u64) {
     let answer = data.integer();
-    let reader = data.into_inner();
-    answer == Err(Missed::Input) && faults(&reader) == 1
+    (answer, faults(&data.into_inner()))
 }
 
 #[test]
 fn data_cannot_be_read(rt: HostRuntime) -> Result<(), Fail> {
     let reader = MemoryRead::new(rt.alloc(), b"5", Plan::wrong_from_call(1, 1))?;
-    assert!(rt; is_unreadable(Source::new(reader)));
+    assert_eq!(rt; number_of(Source::new(reader)), (Err(Missed::Input), 1));
     Ok(())
 }

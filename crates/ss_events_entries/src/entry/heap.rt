@@ -6,7 +6,7 @@ ghost use Rattle.std.specs.List.Sorted.{IsPermutation};
 ghost use Rattle.ss_events_entries.specs.declared.entry.Entry.{Entry};
 ghost use Rattle.ss_events_entries.specs.CallWork.{ComparesOnce, Moves};
 ghost use Rattle.ss_events_entries.specs.CountedList.{no_work, with_work};
-ghost use Rattle.ss_events_entries.specs.HeapEntries.{heap_lines, call_work_of, notices_of, event_of, Removes, Leaves, AreAfterHeads};
+ghost use Rattle.ss_events_entries.specs.HeapEntries.{heap_lines, call_work_of, notices_of, event_of, RemovesEntry, Leaves, AreAfterHeads};
 ghost use Rattle.ss_events_entries.specs.HeapOrder.{IsFirstOf, IsFirstAmong};
 ghost use Rattle.ss_world.specs.Order.{comes_before};
 ghost use Rattle.ss_events_entries.specs.Slots.{mark_of, plain_ranks, plain_numbers};
@@ -235,7 +235,7 @@ impl EntryHeap {
     pub fn remove(&mut self, at: usize) -> (i64, i64)
         requires within { at < length self.old.entries }
         requires countable { self.old.moves + 2 < 2 ^ 64 }
-        ensures removed { Removes (heap_lines self.old) (heap_lines self.new) at result }
+        ensures removed { RemovesEntry (heap_lines self.old) (heap_lines self.new) at result }
         ensures moved { Moves 1 2 (call_work_of self.old) (call_work_of self.new) }
     {
         self.entries.remove(at, &mut self.counter)

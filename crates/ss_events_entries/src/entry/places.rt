@@ -6,7 +6,7 @@ ghost use Rattle.std.specs.List.Sorted.{IsPermutation};
 ghost use Rattle.ss_events_entries.specs.declared.entry.Entry.{Entry};
 ghost use Rattle.ss_events_entries.specs.declared.entry.slots.HeapNode.{HeapNode as HeapNodeSeen};
 ghost use Rattle.ss_events_entries.specs.CallWork.{ComparesOnce, Moves};
-ghost use Rattle.ss_events_entries.specs.HeapEntries.{notices_of, event_of, Removes, Leaves, AreAfterHeads};
+ghost use Rattle.ss_events_entries.specs.HeapEntries.{notices_of, event_of, RemovesEntry, Leaves, AreAfterHeads};
 ghost use Rattle.ss_events_entries.specs.Slots.{mark_of, not_plain, order_of, IsBut, plain_entry, plain_ranks, plain_numbers, AreDistinct, AreLed};
 
 use super::counter::WorkCounter;
@@ -310,7 +310,7 @@ impl Places {
     pub(crate) fn remove(&mut self, at: usize, counter: &mut WorkCounter) -> (i64, i64)
         requires within { at < length self.old.heads }
         requires countable { counter.old.moves + 2 < 2 ^ 64 }
-        ensures removed { Removes self.old self.new at result }
+        ensures removed { RemovesEntry self.old self.new at result }
         ensures moved { Moves 1 2 counter.old counter.new }
     {
         let node = self.nodes[at];

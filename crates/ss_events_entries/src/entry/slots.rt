@@ -254,11 +254,6 @@ pub(super) fn new_slot(
 {
     slots.reserve(1)?;
     nodes.reserve(1)?;
-    let number = slots.len();
-    // So many slots fit into no memory.
-    if number >= FOLLOWING - 1 {
-        return Err(AllocError);
-    }
     slots.push_reserved(Slot {
         notice: 0,
         mark: Mark::none(),
@@ -271,7 +266,7 @@ pub(super) fn new_slot(
     });
     nodes[count] = HeapNode {
         mark: Mark::none(),
-        slot: number,
+        slot: slots.as_slice().len() - 1,
     };
     Ok(())
 }

@@ -22,19 +22,20 @@ use ss_parse_expressions::tokens::{
 use ss_parse_expressions::words::{ModeWords, RankWords, StatisticWords};
 use ss_parse_statements::statements::{begins_noisy, expect_noisy};
 use ss_tree::preamble::{
-    ClassKind, Clause, Key, Mode, PreambleStatement, SetOrder, Statistic, StatisticKind, Weighting,
+    ClassKind, Clause, ModeWord, NamedKey, NamedStatistic, PreambleStatement, SetOrder,
+    StatisticKind, Weighting,
 };
 use std::alloc::Global;
 
 /// A mode.
-fn mode(tokens: &[Token]) -> Result<(Mode, &[Token]), Failure>
+fn mode(tokens: &[Token]) -> Result<(ModeWord, &[Token]), Failure>
     ensures { GivesReading (λ x. (x.0, x.1.now)) result (taken (in_table mode_of_word) tokens.now) }
 {
     take_word_of::<ModeWords>(tokens)
 }
 
 /// The end of a DEFINE of variables: a mode.
-pub fn variable_mode(tokens: &[Token]) -> Result<(Mode, &[Token]), Failure>
+pub fn variable_mode(tokens: &[Token]) -> Result<(ModeWord, &[Token]), Failure>
     ensures { GivesReading (λ x. (x.0, x.1.now)) result (closed (taken (in_table mode_of_word)) (expect (word Variable)) tokens.now) }
 {
     let (mode, rest) = mode(tokens)?;
@@ -80,17 +81,17 @@ fn then_rank(tokens: &[Token]) -> Result<(bool, &[Token]), Failure>
 
 /// Keys, the further ones after THEN BY.
 #[tactic(auto, unfolding(crate::specs::ReadPreambles::key))]
-fn keys(alloc: Global, tokens: &[Token]) -> Result<(Vec<Key>, &[Token]), Failure>
+fn keys(alloc: Global, tokens: &[Token]) -> Result<(Vec<NamedKey>, &[Token]), Failure>
     ensures { GivesReading (λ x. (x.0.items, x.1.now)) result (keys tokens.now) }
 {
     let (high, from) = rank(tokens)?;
     let first = name(from)?;
-    let mut all = alone(alloc, Key { high, name: first })?;
+    let mut all = alone(alloc, NamedKey { high, name: first })?;
     let mut rest = after_first(from);
     'more: while begins_noisy(rest, Word::Then) {
         let (higher, after_dropped) = then_rank(rest)?;
         let next = name(after_dropped)?;
-        all.push(Key {
+        all.push(NamedKey {
             high: higher,
             name: next,
         })?;
@@ -117,17 +118,17 @@ fn begins_more_statistics(tokens: &[Token]) -> bool
 
 /// Statistics with separators between.
 #[tactic(auto, unfolding(crate::specs::ReadPreambles::statistic))]
-fn found(alloc: Global, tokens: &[Token]) -> Result<(Vec<Statistic>, &[Token]), Failure>
+fn found(alloc: Global, tokens: &[Token]) -> Result<(Vec<NamedStatistic>, &[Token]), Failure>
     ensures { GivesReading (λ x. (x.0.items, x.1.now)) result (found tokens.now) }
 {
     let first = name(tokens)?;
     let (kind, mut rest) = statistic_kind(after_first(tokens))?;
-    let mut all = alone(alloc, Statistic { name: first, kind })?;
+    let mut all = alone(alloc, NamedStatistic { name: first, kind })?;
     'more: while begins_more_statistics(rest) {
         let from = skip_separator(rest);
         let next = name(from)?;
         let (measure, after) = statistic_kind(after_first(from))?;
-        all.push(Statistic {
+        all.push(NamedStatistic {
             name: next,
             kind: measure,
         })?;

@@ -3,7 +3,7 @@
 ghost use Rattle.std.specs.Prelude.{◌≡◌, map};
 ghost use Rattle.ss_parse_expressions.specs.Openers.{nesting_limit};
 ghost use Rattle.ss_parse_expressions.specs.Shapes.{first_token_line};
-ghost use Rattle.ss_tree.specs.View.{view_definition, view_kind, view_statement, view_section, view_program};
+ghost use Rattle.ss_tree.specs.View.{view_definition, view_kind, view_statement_tree, view_section, view_program_tree};
 ghost use Rattle.ss_parse_expressions.specs.Reading.{GivesReading, word, begins, expect, after_dropped, maybe_list, rows};
 ghost use Rattle.ss_parse_expressions.specs.ReadWords.{names};
 ghost use Rattle.ss_parse.specs.ReadPrograms.{begins_section, saving, routine_kind, event_kind, kind_after, variables, definition, definitions, body_in, section_at, section_in, program_in, program_of};
@@ -18,7 +18,7 @@ use ss_parse_expressions::nesting::levels;
 use ss_parse_expressions::steps::beside;
 use ss_parse_expressions::tokens::{after_first, begins_word, expect_word, skip_word, syntax};
 use ss_parse_statements::statements::statements;
-use ss_tree::preamble::Mode;
+use ss_tree::preamble::ModeWord;
 use ss_tree::program::{LocalDefinition, Program, Section, SectionKind};
 use ss_tree::statement::Statement;
 use std::alloc::Global;
@@ -113,7 +113,7 @@ fn section_kind(
 
 /// Names and their mode, after DEFINE.
 #[tactic(auto, unfolding(crate::specs::ReadPrograms::variables))]
-fn variables(alloc: Global, tokens: &[Token]) -> Result<(Vec<Name>, Mode, &[Token]), Failure>
+fn variables(alloc: Global, tokens: &[Token]) -> Result<(Vec<Name>, ModeWord, &[Token]), Failure>
     ensures { GivesReading (λ x. ((x.0.items, x.1), x.2.now)) result (variables tokens.now) }
 {
     let (names, rest) = names(alloc, tokens)?;
@@ -154,7 +154,7 @@ fn body(
     tokens: &[Token],
     room: u8,
 ) -> Result<(Vec<LocalDefinition>, Vec<Statement>, &[Token]), Failure>
-    ensures { GivesReading (λ x. ((map view_definition x.0.items, map view_statement x.1.items), x.2.now)) result (body_in room tokens.now) }
+    ensures { GivesReading (λ x. ((map view_definition x.0.items, map view_statement_tree x.1.items), x.2.now)) result (body_in room tokens.now) }
 {
     let (definitions, rest) = definitions(alloc, tokens)?;
     let (definitions, (body, rest)) = beside(definitions, statements(alloc, rest, room))?;
@@ -227,7 +227,7 @@ fn sections(alloc: Global, tokens: &[Token], room: u8) -> Result<(Vec<Section>, 
 /// A program, where this many levels of nesting, a statement's own among them, may be opened.
 #[tactic(auto, unfolding(crate::specs::ReadPrograms::program_in))]
 fn parts(alloc: Global, tokens: &[Token], room: u8) -> Result<(Program, &[Token]), Failure>
-    ensures { GivesReading (λ x. (view_program x.0, x.1.now)) result (program_in room tokens.now) }
+    ensures { GivesReading (λ x. (view_program_tree x.0, x.1.now)) result (program_in room tokens.now) }
 {
     let (preamble, rest) = preamble(alloc, tokens)?;
     let (preamble, (sections, rest)) = beside(preamble, sections(alloc, rest, room))?;
@@ -237,7 +237,7 @@ fn parts(alloc: Global, tokens: &[Token], room: u8) -> Result<(Program, &[Token]
 /// A program to the end of the tokens.
 #[tactic(auto, unfolding(crate::specs::ReadPrograms::program_of))]
 pub fn program(alloc: Global, tokens: &[Token]) -> Result<Program, Failure>
-    ensures { GivesReading view_program result (program_of nesting_limit tokens.now) }
+    ensures { GivesReading view_program_tree result (program_of nesting_limit tokens.now) }
 {
     let (program, rest) = parts(alloc, tokens, levels() + 1)?;
     match rest {

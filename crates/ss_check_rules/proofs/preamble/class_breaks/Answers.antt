@@ -4,7 +4,7 @@ use Rattle.ss_base.specs.declared.layout.ClassKind.{ClassKind}
 use Rattle.ss_names_declarations.specs.Earliest.{earlier, earlier_of, unless}
 use Rattle.ss_names_declarations.specs.Firsts.{value_for}
 use Rattle.ss_names_scopes.proofs.Finding.{earlier_of_list}
-use Rattle.ss_check_rules.specs.Order.{order_of}
+use Rattle.ss_check_rules.specs.Order.{check_error_order}
 use Rattle.ss_check_rules.specs.Refusal.{eventless_of}
 use Rattle.ss_check_rules.specs.declared.error.CheckError.TheVariants as e
 use Rattle.ss_check_rules.proofs.preamble.class_breaks.Goals as goal
@@ -13,6 +13,6 @@ pub returns-in-Notice : goal.returns-in-Notice
 returns-in-Notice c =
     let t = c.args.names.now in
     let class = c.args.class.now in
-    c.earlier_of.ensures ∙ ap (earlier_of order_of c.args.found) c.eventless.ensures
-    ∙ earlier_of_list order_of c.args.found (unless (is_some (value_for t.events class)) (e.NoEventRoutine c.args.line))
-    ∙ sym (ap (λ (k : ClassKind). fold (earlier order_of) c.args.found (eventless_of t c.args.line k class)) c.in-Notice.is)
+    c.earlier_of.ensures ∙ ap (earlier_of check_error_order c.args.found) c.eventless.ensures
+    ∙ earlier_of_list check_error_order c.args.found (unless (is_some (value_for t.events class)) (e.NoEventRoutine c.args.line))
+    ∙ sym (ap (λ (k : ClassKind). fold (earlier check_error_order) c.args.found (eventless_of t c.args.line k class)) c.in-Notice.is)

@@ -2,7 +2,7 @@ use Rattle.std.proofs.Common.{is_some, ap, ◌∙◌}
 use Rattle.ss_names_declarations.specs.Earliest.{earlier, earlier_of, unless}
 use Rattle.ss_names_declarations.specs.Firsts.{value_for}
 use Rattle.ss_names_scopes.proofs.Finding.{earlier_of_list, found_after}
-use Rattle.ss_check_rules.specs.Order.{order_of}
+use Rattle.ss_check_rules.specs.Order.{check_error_order}
 use Rattle.ss_check_rules.specs.Refusal.{eventless}
 use Rattle.ss_check_rules.specs.declared.error.CheckError.TheVariants as e
 use Rattle.ss_check_rules.proofs.preamble.notices_break.Goals as goal
@@ -11,7 +11,7 @@ pub loop-class-preserved : goal.loop-class-preserved
 loop-class-preserved c =
     let t = c.args.names.now in
     let class = c.class-item.result in
-    found_after (earlier order_of) (eventless t c.args.line) c.args.found c.loop-class.found _ c.args.classes.now c.loop-class.class-index class
+    found_after (earlier check_error_order) (eventless t c.args.line) c.args.found c.loop-class.found _ c.args.classes.now c.loop-class.class-index class
     c.loop-class-test.true c.class-item.is c.loop-class.invariant
-    (c.earlier_of-found.ensures ∙ ap (earlier_of order_of c.loop-class.found) c.eventless.ensures
-    ∙ earlier_of_list order_of c.loop-class.found (unless (is_some (value_for t.events class)) (e.NoEventRoutine c.args.line)))
+    (c.earlier_of-found.ensures ∙ ap (earlier_of check_error_order c.loop-class.found) c.eventless.ensures
+    ∙ earlier_of_list check_error_order c.loop-class.found (unless (is_some (value_for t.events class)) (e.NoEventRoutine c.args.line)))

@@ -1,9 +1,9 @@
 use Rattle.std.proofs.Common.{◌≡◌, take}
 use Rattle.std.specs.List.{flat_map, fold}
 use Rattle.ss_names_declarations.specs.Earliest.{earlier}
-use Rattle.ss_check_rules.specs.Order.{order_of}
+use Rattle.ss_check_rules.specs.Order.{check_error_order}
 use Rattle.ss_check_rules.specs.Refusal.{eventless}
 use Rattle.ss_check_rules.proofs.preamble.notices_break.Given as goal
 
 abbrev pub invariant-loop-class : goal.invariant-loop-class
-invariant-loop-class l = l.found ≡ fold (earlier order_of) l.fn.found (flat_map (eventless l.names l.line) (take l.class-index l.classes))
+invariant-loop-class l = l.found ≡ fold (earlier check_error_order) l.fn.found (flat_map (eventless l.names l.line) (take l.class-index l.classes))

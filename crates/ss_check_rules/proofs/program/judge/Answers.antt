@@ -1,7 +1,7 @@
 use Rattle.std.proofs.Common.{◌≡◌, List, length, map, sym, ap, ◌∙◌}
 use Rattle.std.specs.Global.{Vec}
 use Rattle.std.proofs.lemmas.List.{length-map}
-use Rattle.ss_tree.specs.View.{view_preamble, view_program, view_section}
+use Rattle.ss_tree.specs.View.{view_preamble, view_program_tree, view_section}
 use Rattle.ss_tree.specs.declared.preamble.PreambleStatement.{PreambleStatement}
 use Rattle.ss_tree.specs.declared.program.Section.{Section}
 use Rattle.ss_names.specs.Table.{Table}
@@ -9,7 +9,7 @@ use Rattle.ss_names_declarations.specs.Earliest.{earliest}
 use Rattle.ss_names_uses.specs.Uses.{uses}
 use Rattle.ss_names_uses.specs.declared.used.Use.{Use}
 use Rattle.ss_names_scopes.specs.Locals.{Moded, locals, locals_of, uses_seen}
-use Rattle.ss_check_rules.specs.Order.{order_of}
+use Rattle.ss_check_rules.specs.Order.{check_error_order}
 use Rattle.ss_check_rules.specs.Refusal.{breaches}
 use Rattle.ss_check_rules.proofs.SectionBreaks.{locals_by_uses}
 use Rattle.ss_check_rules.proofs.program.judge.Goals as goal
@@ -51,8 +51,8 @@ returns-clause-locals c =
 
 pub returns-clause-refusal : goal.returns-clause-refusal
 returns-clause-refusal c =
-    let p = view_program c.args.program.now in
+    let p = view_program_tree c.args.program.now in
     c.program_judged-found.ensures
-    ∙ ap (λ (l : List PreambleStatement). earliest order_of (breaches c.args.names.now (record { preamble = map view_preamble l; sections = map view_section c.deref-4.result.now }))) c.deref-3.ensures.value
-    ∙ ap (λ (l : List Section). earliest order_of (breaches c.args.names.now (record { preamble = p.preamble; sections = map view_section l }))) c.deref-4.ensures.value
-    ∙ ap (λ (t : Table). earliest order_of (breaches t p)) c.requires
+    ∙ ap (λ (l : List PreambleStatement). earliest check_error_order (breaches c.args.names.now (record { preamble = map view_preamble l; sections = map view_section c.deref-4.result.now }))) c.deref-3.ensures.value
+    ∙ ap (λ (l : List Section). earliest check_error_order (breaches c.args.names.now (record { preamble = p.preamble; sections = map view_section l }))) c.deref-4.ensures.value
+    ∙ ap (λ (t : Table). earliest check_error_order (breaches t p)) c.requires

@@ -2,7 +2,7 @@ use Rattle.std.proofs.Common.{◌≡◌, true, false, cond, [], ◌∷◌, map, 
 use Rattle.std.specs.List.{fold, list_any}
 use Rattle.ss_tree.specs.View.{view_section}
 use Rattle.ss_names_declarations.specs.Earliest.{earlier}
-use Rattle.ss_check_rules.specs.Order.{order_of}
+use Rattle.ss_check_rules.specs.Order.{check_error_order}
 use Rattle.ss_names_scopes.specs.Scopes.{is_main_section}
 use Rattle.ss_check_rules.specs.declared.error.CheckError.TheVariants as e
 use Rattle.ss_check_rules.proofs.SectionBreaks.{any_viewed}
@@ -12,10 +12,10 @@ pub returns-then-has_main : goal.returns-then-has_main
 returns-then-has_main c =
     let is : list_any is_main_section (map view_section c.args.sections.now) ≡ true =
     sym (any_viewed is_main_section view_section c.args.sections.now) ∙ sym c.has_main.ensures ∙ c.if-has_main.true in
-    ap (λ b. fold (earlier order_of) c.args.found (cond b [] (e.NoMain (record { 0 = 0 }) ∷ []))) (sym is)
+    ap (λ b. fold (earlier check_error_order) c.args.found (cond b [] (e.NoMain (record { 0 = 0 }) ∷ []))) (sym is)
 
 pub returns-else-has_main : goal.returns-else-has_main
 returns-else-has_main c =
     let is : list_any is_main_section (map view_section c.args.sections.now) ≡ false =
     sym (any_viewed is_main_section view_section c.args.sections.now) ∙ sym c.has_main.ensures ∙ c.if-has_main.false in
-    c.earlier.ensures ∙ ap (λ b. fold (earlier order_of) c.args.found (cond b [] (e.NoMain (record { 0 = 0 }) ∷ []))) (sym is)
+    c.earlier.ensures ∙ ap (λ b. fold (earlier check_error_order) c.args.found (cond b [] (e.NoMain (record { 0 = 0 }) ∷ []))) (sym is)

@@ -3,8 +3,8 @@ use Rattle.std.specs.List.{flat_map, fold}
 use Rattle.std.proofs.lemmas.List.Sums.{fold-append}
 use Rattle.ss_tree.specs.View.{view_preamble, view_section}
 use Rattle.ss_names_declarations.specs.Earliest.{earlier}
-use Rattle.ss_check_rules.specs.Order.{order_of}
-use Rattle.ss_check_rules.specs.Refusal.{in_preamble, in_program, in_section}
+use Rattle.ss_check_rules.specs.Order.{check_error_order}
+use Rattle.ss_check_rules.specs.Refusal.{in_preamble, in_program, breaches_in_section}
 use Rattle.ss_check_rules.specs.declared.error.CheckError.{CheckError}
 use Rattle.ss_check_rules.proofs.program.program_judged.Goals as goal
 
@@ -15,10 +15,10 @@ pub returns : goal.returns
 returns c =
     let t = c.args.names.now in
     let vs = map view_section c.args.sections.now in
-    let step : Option CheckError → CheckError → Option CheckError = earlier order_of in
+    let step : Option CheckError → CheckError → Option CheckError = earlier check_error_order in
     let first = flat_map (in_preamble t) (map view_preamble c.args.preamble.now) in
     let second = in_program vs in
-    let third = flat_map (in_section t vs) vs in
+    let third = flat_map (breaches_in_section t vs) vs in
     c.sections_break.ensures
     ∙ ap (λ (f : Option CheckError). fold step f third) (c.program_breaks-by_program.ensures ∙ ap (λ (f : Option CheckError). fold step f second) c.preamble_breaks-by_preamble.ensures)
     ∙ sym (fold-append step None first (second ++ third) ∙ fold-append step (fold step None first) second third)

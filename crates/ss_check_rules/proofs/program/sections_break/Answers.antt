@@ -5,8 +5,8 @@ use Rattle.ss_names_declarations.specs.Earliest.{earlier}
 use Rattle.ss_names_uses.specs.declared.used.Use.{Use}
 use Rattle.ss_names_scopes.specs.Scopes.{Scope}
 use Rattle.ss_names_scopes.proofs.Finding.{viewed_after}
-use Rattle.ss_check_rules.specs.Order.{order_of}
-use Rattle.ss_check_rules.specs.Refusal.{breaks, in_section}
+use Rattle.ss_check_rules.specs.Order.{check_error_order}
+use Rattle.ss_check_rules.specs.Refusal.{breaks, breaches_in_section}
 use Rattle.ss_check_rules.specs.declared.error.CheckError.{CheckError}
 use Rattle.ss_check_rules.proofs.SectionBreaks.{section_more}
 use Rattle.ss_check_rules.proofs.program.sections_break.Goals as goal
@@ -23,8 +23,8 @@ loop-number-preserved c =
     let scope : Scope = record { table = t; locals = ls; sections = every } in
     let within : i < length c.args.all.now = omega (arith, c.loop-number-test.true, c.requires.each) in
     let more = section_more t sections c.args.all.now every i x us ls c.is_main.result c.loop-number-test.true within c.index-sections-number.is c.index-all-number.is c.index-locals-number.is c.is_main.ensures c.requires.uses c.requires.locals in
-    viewed_after view_section (earlier order_of) (in_section t (map view_section sections)) c.args.found c.loop-number.found _ sections i x
+    viewed_after view_section (earlier check_error_order) (breaches_in_section t (map view_section sections)) c.args.found c.loop-number.found _ sections i x
     c.loop-number-test.true c.index-sections-number.is c.loop-number.invariant
     (c.section_breaks-found.ensures
-    ∙ ap (λ (used : List Use). fold (earlier order_of) c.loop-number.found (flat_map (breaks scope c.is_main.result) used)) c.deref.ensures.value
-    ∙ ap (λ (found : List CheckError). fold (earlier order_of) c.loop-number.found found) more)
+    ∙ ap (λ (used : List Use). fold (earlier check_error_order) c.loop-number.found (flat_map (breaks scope c.is_main.result) used)) c.deref.ensures.value
+    ∙ ap (λ (found : List CheckError). fold (earlier check_error_order) c.loop-number.found found) more)

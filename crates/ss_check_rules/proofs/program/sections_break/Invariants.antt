@@ -2,10 +2,10 @@ use Rattle.std.proofs.Common.{◌≡◌, map, take}
 use Rattle.std.specs.List.{flat_map, fold}
 use Rattle.ss_tree.specs.View.{view_section}
 use Rattle.ss_names_declarations.specs.Earliest.{earlier}
-use Rattle.ss_check_rules.specs.Order.{order_of}
-use Rattle.ss_check_rules.specs.Refusal.{in_section}
+use Rattle.ss_check_rules.specs.Order.{check_error_order}
+use Rattle.ss_check_rules.specs.Refusal.{breaches_in_section}
 use Rattle.ss_check_rules.proofs.program.sections_break.Given as goal
 
 abbrev pub invariant-loop-number : goal.invariant-loop-number
 invariant-loop-number l =
-    l.found ≡ fold (earlier order_of) l.fn.found (flat_map (in_section l.names (map view_section l.sections)) (map view_section (take l.number l.sections)))
+    l.found ≡ fold (earlier check_error_order) l.fn.found (flat_map (breaches_in_section l.names (map view_section l.sections)) (map view_section (take l.number l.sections)))

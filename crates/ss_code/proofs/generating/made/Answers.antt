@@ -1,6 +1,8 @@
 use Rattle.std.proofs.Common.{◌≡◌, ◌+◌, ◌≤◌, length, sym, ap, ◌∙◌, subst, arith}
+use Rattle.std.proofs.lemmas.List.{length-map}
 use Rattle.ss_program.specs.View.{view_program}
-use Rattle.ss_code.specs.Running.{Compiled, IsFor}
+use Rattle.ss_code_pieces.specs.declared.piece.LinedInstruction.{LinedInstruction}
+use Rattle.ss_code.specs.Running.{Generated, IsFor}
 use Rattle.ss_code.proofs.Alike.{all_alike_long}
 use Rattle.ss_code.proofs.Made.{all_made, code_long, never_long, made_for}
 use Rattle.ss_code.proofs.generating.made.Goals as goal
@@ -24,8 +26,8 @@ new-requires-2 c =
     let made = c.sift_walks.new.code.items in
     let sections = c.in_ok-sections.sections in
     let low : c.len-2.result + c.len-3.result ≡ length c.in_ok-globals.globals.items + length c.put_events.new.generator.constants.items = omega (arith, c.len-2.ensures, c.len-3.ensures, c.in_ok-globals.globals.ok, c.put_events.new.generator.constants.ok) in
-    let short : length c.put_events.new.code.instructions ≤ 1048576 = omega (arith, c.if-len-instruction_limit.false, c.len.ensures.value, c.instruction_limit.ensures) in
-    let for_it = made_for all p c.in_ok-generator.ensures.program c.requires.typed c.into_parts-instructions.result.0.items made c.into_parts-instructions.result.1.items sections.depth sections.main sections.routines.items sections.events.items c.in_ok-said.said c.in_ok-globals.globals.items (c.len-2.result + c.len-3.result) c.into_parts-instructions.ensures.instructions c.into_parts-instructions.ensures.lines c.in_ok-sections.ensures.depth c.sift_walks.ensures.alike c.sift_walks.ensures.sifts low (c.laws_of_code.ensures.jumps_land (view_program p)) short c.in_ok-sections.ensures.main c.in_ok-sections.ensures.routines c.in_ok-sections.ensures.events c.in_ok-said.ensures (c.in_ok-globals.ensures.items ∙ c.deref.ensures.value) in
+    let short : length c.put_events.new.code ≤ 1048576 = omega (arith, c.if-len-instruction_limit.false, c.len.ensures.value, c.instruction_limit.ensures) in
+    let for_it = made_for all p c.in_ok-generator.ensures.program c.requires.typed c.in_ok-text.text.instructions.items made c.in_ok-text.text.lines.items sections.depth sections.main sections.routines.items sections.events.items c.in_ok-said.said c.in_ok-globals.globals.items (c.len-2.result + c.len-3.result) c.in_ok-text.ensures.instructions c.in_ok-text.ensures.lines c.in_ok-sections.ensures.depth c.sift_walks.ensures.alike c.sift_walks.ensures.sifts low (c.laws_of_code.ensures.jumps_land (view_program p)) short c.in_ok-sections.ensures.main c.in_ok-sections.ensures.routines c.in_ok-sections.ensures.events c.in_ok-said.ensures (c.in_ok-globals.ensures.items ∙ c.deref.ensures.value) in
     (view_program p, c.requires.typed, for_it)
 
 pub returns-clause-code : goal.returns-clause-code
@@ -35,9 +37,9 @@ returns-clause-code c =
     let made = c.sift_walks.new.code.items in
     let sections = c.in_ok-sections.sections in
     let low : c.len-2.result + c.len-3.result ≡ length c.in_ok-globals.globals.items + length c.put_events.new.generator.constants.items = omega (arith, c.len-2.ensures, c.len-3.ensures, c.in_ok-globals.globals.ok, c.put_events.new.generator.constants.ok) in
-    let short : length c.put_events.new.code.instructions ≤ 1048576 = omega (arith, c.if-len-instruction_limit.false, c.len.ensures.value, c.instruction_limit.ensures) in
-    let for_it = made_for all p c.in_ok-generator.ensures.program c.requires.typed c.into_parts-instructions.result.0.items made c.into_parts-instructions.result.1.items sections.depth sections.main sections.routines.items sections.events.items c.in_ok-said.said c.in_ok-globals.globals.items (c.len-2.result + c.len-3.result) c.into_parts-instructions.ensures.instructions c.into_parts-instructions.ensures.lines c.in_ok-sections.ensures.depth c.sift_walks.ensures.alike c.sift_walks.ensures.sifts low (c.laws_of_code.ensures.jumps_land (view_program p)) short c.in_ok-sections.ensures.main c.in_ok-sections.ensures.routines c.in_ok-sections.ensures.events c.in_ok-said.ensures (c.in_ok-globals.ensures.items ∙ c.deref.ensures.value) in
-    subst (λ (k : Compiled). IsFor (view_program p) k) (sym c.new-2.ensures) for_it
+    let short : length c.put_events.new.code ≤ 1048576 = omega (arith, c.if-len-instruction_limit.false, c.len.ensures.value, c.instruction_limit.ensures) in
+    let for_it = made_for all p c.in_ok-generator.ensures.program c.requires.typed c.in_ok-text.text.instructions.items made c.in_ok-text.text.lines.items sections.depth sections.main sections.routines.items sections.events.items c.in_ok-said.said c.in_ok-globals.globals.items (c.len-2.result + c.len-3.result) c.in_ok-text.ensures.instructions c.in_ok-text.ensures.lines c.in_ok-sections.ensures.depth c.sift_walks.ensures.alike c.sift_walks.ensures.sifts low (c.laws_of_code.ensures.jumps_land (view_program p)) short c.in_ok-sections.ensures.main c.in_ok-sections.ensures.routines c.in_ok-sections.ensures.events c.in_ok-said.ensures (c.in_ok-globals.ensures.items ∙ c.deref.ensures.value) in
+    subst (λ (k : Generated). IsFor (view_program p) k) (sym c.new-2.ensures) for_it
 
 pub returns-clause-behaves : goal.returns-clause-behaves
 returns-clause-behaves c = c.laws_of_meaning.ensures.code_behaves (view_program c.args.program.now)
@@ -47,7 +49,7 @@ returns-clause-lands c = c.laws_of_code.ensures.jumps_land (view_program c.args.
 
 pub returns-clause-limit : goal.returns-clause-limit
 returns-clause-limit c =
-    let same : length c.new-2.result.run.instructions ≡ length c.sift_walks.new.code.items = ap (λ (k : Compiled). length k.run.instructions) c.new-2.ensures in
-    let long = all_alike_long c.into_parts-instructions.result.0.items c.sift_walks.new.code.items c.sift_walks.ensures.alike in
-    let before : length c.into_parts-instructions.result.0.items ≡ length c.put_events.new.code.instructions = ap length c.into_parts-instructions.ensures.instructions in
+    let same : length c.new-2.result.run.instructions ≡ length c.sift_walks.new.code.items = ap (λ (k : Generated). length k.run.instructions) c.new-2.ensures in
+    let long = all_alike_long c.in_ok-text.text.instructions.items c.sift_walks.new.code.items c.sift_walks.ensures.alike in
+    let before : length c.in_ok-text.text.instructions.items ≡ length c.put_events.new.code = ap length c.in_ok-text.ensures.instructions ∙ length-map c.put_events.new.code (λ (x : LinedInstruction). x.instruction) in
     omega (arith, same, long, before, c.if-len-instruction_limit.false, c.len.ensures.value, c.instruction_limit.ensures)

@@ -1,6 +1,6 @@
 use Rattle.std.proofs.Common.{ap, sym, ◌∙◌, Err, subst}
 use Rattle.std.specs.Prelude.{IfOk}
-use Rattle.ss_tree.specs.View.{view_program as tree_seen}
+use Rattle.ss_tree.specs.View.{view_program_tree as tree_seen}
 use Rattle.ss_program.specs.View.{view_program}
 use Rattle.ss_code.specs.Running.{IsFor}
 use Rattle.ss_code_instructions.specs.Running.{Behaves}

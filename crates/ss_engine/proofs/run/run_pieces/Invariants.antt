@@ -1,6 +1,6 @@
 use Rattle.std.proofs.Common.{◌≡◌, ◌+◌, ◌≤◌, [], take}
 use Rattle.std.specs.List.{sum}
-use Rattle.ss_code.specs.Running.{Compiled as Generated}
+use Rattle.ss_code.specs.Running.{Generated}
 use Rattle.ss_machine.specs.declared.stop.Stop.TheVariants.{Paused, Failed}
 use Rattle.ss_engine.specs.Headline.{handed_out}
 use Rattle.ss_engine.specs.Sessions.{Begins, GoesOn, HasRun, WasRun, session_machine, last_stop}

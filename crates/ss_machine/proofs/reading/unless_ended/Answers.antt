@@ -2,7 +2,7 @@ use Rattle.std.proofs.Common.{◌≡◌, ◌+◌, Bool, true, false, Ok, Err, re
 use Rattle.std.specs.Prelude.{not}
 use mathlib.Core.Bool.{beq}
 use Rattle.ss_meaning.specs.Words.{is_ended}
-use Rattle.ss_meaning.specs.Expressions.{unless}
+use Rattle.ss_meaning.specs.Expressions.{not_if}
 use Rattle.ss_code_instructions.specs.declared.instruction.Instruction.TheVariants.{UnlessEnded as Runs}
 use Rattle.ss_code_instructions.specs.States.{past}
 use Rattle.ss_machine_instructions.specs.Ways.{on_if_at, tested_at}
@@ -13,7 +13,7 @@ use Rattle.ss_machine.proofs.Worded.{test_on, test_fails, missed_did, moved_to}
 use Rattle.ss_machine.proofs.reading.unless_ended.Goals as goal
 
 -- whether one differs from the other
-differs : (b n : Bool) → not (beq b n) ≡ unless n b
+differs : (b n : Bool) → not (beq b n) ≡ not_if n b
 differs true true = refl
 differs true false = refl
 differs false true = refl
@@ -35,9 +35,9 @@ returns-in-Ok-clause-read g c = λ skip.
     let s = c.args.state.now in
     let z = c.requires.can in
     subst (λ o. DidRead g.R.FaultyRead.remaining c.args.here s (Runs skip c.args.negated) c.args.source.now c.is_ended.new.source s o)
-    (sym (ap (λ (x : Bool). on_if_at c.args.here x skip) (differs b c.args.negated) ∙ on_if_is z.1.0 z.1.1 c.args.here s (Runs z.0 c.args.negated) z.1.2 (unless c.args.negated b) skip))
+    (sym (ap (λ (x : Bool). on_if_at c.args.here x skip) (differs b c.args.negated) ∙ on_if_is z.1.0 z.1.1 c.args.here s (Runs z.0 c.args.negated) z.1.2 (not_if c.args.negated b) skip))
     (reads_so g.R.FaultyRead.remaining c.args.source.now c.is_ended.new.source _ _
-    (λ input rest h w core same r. moved_to w core c.args.here s (Runs skip c.args.negated) r rest s (past skip (unless c.args.negated b) (core.place + 1)) (past skip (unless c.args.negated b) (z.1.1.place + 1))
-    (ap (λ p. past skip (unless c.args.negated b) (p + 1)) (sym r.holds.place ∙ z.1.2.holds.place))
+    (λ input rest h w core same r. moved_to w core c.args.here s (Runs skip c.args.negated) r rest s (past skip (not_if c.args.negated b) (core.place + 1)) (past skip (not_if c.args.negated b) (z.1.1.place + 1))
+    (ap (λ p. past skip (not_if c.args.negated b) (p + 1)) (sym r.holds.place ∙ z.1.2.holds.place))
     (test_on w core c.args.here s (Runs skip c.args.negated) r c.args.negated skip r.runs.carries b rest (h.0 ∙ sym same) (subst (λ l. is_ended l ≡ Ok b) (sym same) h.1)))
     (c.is_ended.ensures.read b c.in-Ok.is))

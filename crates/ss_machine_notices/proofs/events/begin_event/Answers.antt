@@ -5,13 +5,13 @@ use Rattle.ss_base.specs.declared.layout.Mode.{Mode}
 use Rattle.ss_world.specs.State.{modes_of}
 use Rattle.ss_meaning.specs.Entities.{is_single}
 use Rattle.ss_meaning.specs.Store.{Notices}
-use Rattle.ss_code_instructions.specs.declared.entry.Entry.{Entry}
+use Rattle.ss_code_instructions.specs.declared.entry.SectionEntry.{SectionEntry}
 use Rattle.ss_code_instructions.specs.declared.instruction.Instruction.TheVariants.{TakeEvent}
-use Rattle.ss_machine_instructions.specs.Ways.{begun_at}
+use Rattle.ss_machine_instructions.specs.Ways.{begun_event_at}
 use Rattle.ss_machine_frames.proofs.Entering.{cleared_long}
 use Rattle.ss_machine_world.specs.Seen.{Seen}
 use Rattle.ss_machine_notices.specs.Beginning.{IsUnbegun, Receives}
-use Rattle.ss_machine_instructions.specs.Entered.{Enters, IsRefused}
+use Rattle.ss_machine_instructions.specs.Entered.{Enters, IsOutOfMemory}
 use Rattle.ss_machine_instructions.specs.declared.flow.Here.{Here}
 use Rattle.ss_machine_instructions.specs.declared.state.State.{State}
 use Rattle.ss_machine_instructions.proofs.Placing.{small}
@@ -42,7 +42,7 @@ enter-requires-clause-sized c =
     let z = c.requires in let es = c.args.events.now in let d = c.index-events-rank.result in let k = c.rank-rank.result in
     let rank : k ≡ z.3.coming.ranked.rank = c.rank-rank.ensures z.3.coming.ranked z.3.place in
     let within : k < length es = omega (arith, rank, begun_entry_within z.0 z.1 c.args.here c.args.state.now c.args.cell c.args.notice c.args.class z.3, ap length z.2) in
-    let at : slice_get z.0.run.events z.3.coming.ranked.rank ≡ Some d = ap (slice_get z.0.run.events) (sym rank) ∙ ap (λ (l : List Entry). slice_get l k) (sym z.2) ∙ slice_get_read es (length es) k d refl within c.index-events-rank.is in
+    let at : slice_get z.0.run.events z.3.coming.ranked.rank ≡ Some d = ap (slice_get z.0.run.events) (sym rank) ∙ ap (λ (l : List SectionEntry). slice_get l k) (sym z.2) ∙ slice_get_read es (length es) k d refl within c.index-events-rank.is in
     (entry_is z.0 z.1 c.args.here c.args.state.now c.args.cell c.args.notice c.args.class z.3 d at).sized
 
 pub enter-requires-clause-small : goal.enter-requires-clause-small
@@ -54,26 +54,26 @@ enter-requires-clause-place c = let z = c.requires in let lt = small z.0 z.1 c.a
 pub unbegun-requires-clause-rank : goal.unbegun-requires-clause-rank
 unbegun-requires-clause-rank c =
     let z = c.requires in
-    let refused : IsRefused c.args.state.now c.enter.new.self = search rules in
+    let refused : IsOutOfMemory c.args.state.now c.enter.new.self = search rules in
     let rank : c.rank-rank.result ≡ z.3.coming.ranked.rank = c.rank-rank.ensures z.3.coming.ranked z.3.place in
     omega (arith, rank, begun_rank z.0 z.1 c.args.here c.args.state.now c.args.cell c.args.notice c.args.class z.3, ap (λ (e : Seen). length e.notices) refused.scene)
 
 pub unbegun-requires-clause-class : goal.unbegun-requires-clause-class
 unbegun-requires-clause-class c =
     let z = c.requires in
-    let refused : IsRefused c.args.state.now c.enter.new.self = search rules in
+    let refused : IsOutOfMemory c.args.state.now c.enter.new.self = search rules in
     omega (arith, begun_class z.0 z.1 c.args.here c.args.state.now c.args.cell c.args.notice c.args.class z.3, ap (λ (e : Seen). length e.heap.layout.classes) refused.scene)
 
 pub unbegun-requires-clause-single : goal.unbegun-requires-clause-single
 unbegun-requires-clause-single c =
     let z = c.requires in
-    let refused : IsRefused c.args.state.now c.enter.new.self = search rules in
+    let refused : IsOutOfMemory c.args.state.now c.enter.new.self = search rules in
     ap (λ (e : Seen). is_single (slice_get e.heap.layout.classes c.args.class)) refused.scene ∙ begun_single z.0 z.1 c.args.here c.args.state.now c.args.cell c.args.notice c.args.class z.3
 
 pub unbegun-requires-clause-saved : goal.unbegun-requires-clause-saved
 unbegun-requires-clause-saved c = λ said here.
     let z = c.requires in
-    let refused : IsRefused c.args.state.now c.enter.new.self = search rules in
+    let refused : IsOutOfMemory c.args.state.now c.enter.new.self = search rules in
     let rank : c.rank-rank.result ≡ z.3.coming.ranked.rank = c.rank-rank.ensures z.3.coming.ranked z.3.place in
     let it : z.3.coming.ranked.said ≡ said = one (sym (begun_said z.0 z.1 c.args.here c.args.state.now c.args.cell c.args.notice c.args.class z.3) ∙ ap (λ (e : Seen). slice_get e.notices z.3.coming.ranked.rank) (sym refused.scene) ∙ ap (slice_get c.enter.new.self.scene.notices) (sym rank) ∙ here) in
     let low = subst (λ (m : Notices). IfSome m.saved (λ k. k < c.args.here.frame)) it (begun_saved z.0 z.1 c.args.here c.args.state.now c.args.cell c.args.notice c.args.class z.3) in
@@ -82,7 +82,7 @@ unbegun-requires-clause-saved c = λ said here.
 pub unbegun-requires-clause-ticks : goal.unbegun-requires-clause-ticks
 unbegun-requires-clause-ticks c =
     let z = c.requires in
-    let refused : IsRefused c.args.state.now c.enter.new.self = search rules in
+    let refused : IsOutOfMemory c.args.state.now c.enter.new.self = search rules in
     omega (arith, z.3.left, refused.ticks, z.3.few)
 
 pub returns-in_default : goal.returns-in_default
@@ -90,13 +90,13 @@ returns-in_default c = λ w core all n.
     let s = c.args.state.now in let x = c.args.notice in let class = c.args.class in let s1 = c.enter.new.self in let new = c.unbegun.new.state in
     let same : to_z w64 (of_z w64 x) ≡ x = search rules in
     let es = c.args.events.now in let d = c.index-events-rank.result in let k = c.rank-rank.result in
-    let refused : IsRefused s s1 = search rules in
+    let refused : IsOutOfMemory s s1 = search rules in
     let rank : k ≡ n.coming.ranked.rank = c.rank-rank.ensures n.coming.ranked n.place in
     let within : k < length es = omega (arith, rank, begun_entry_within w core c.args.here s c.args.cell c.args.notice c.args.class n, ap length all) in
-    let at : slice_get w.run.events n.coming.ranked.rank ≡ Some d = ap (slice_get w.run.events) (sym rank) ∙ ap (λ (l : List Entry). slice_get l k) (sym all) ∙ slice_get_read es (length es) k d refl within c.index-events-rank.is in
+    let at : slice_get w.run.events n.coming.ranked.rank ≡ Some d = ap (slice_get w.run.events) (sym rank) ∙ ap (λ (l : List SectionEntry). slice_get l k) (sym all) ∙ slice_get_read es (length es) k d refl within c.index-events-rank.is in
     let here : slice_get s1.scene.notices k ≡ Some n.coming.ranked.said = ap (slice_get s1.scene.notices) rank ∙ ap (λ (e : Seen). slice_get e.notices n.coming.ranked.rank) refused.scene ∙ begun_said w core c.args.here s c.args.cell c.args.notice c.args.class n in
     let u = subst (λ (y : ℤ). IsUnbegun n.coming.ranked.said class y s1 new) same (c.unbegun.ensures.state n.coming.ranked.said here) in
-    unbegun_as w core c.args.here s c.args.cell c.args.notice c.args.class n d at s1 new (begun_at c.args.here c.args.cell c.unbegun.result) refused u (ap (begun_at c.args.here c.args.cell) c.unbegun.ensures.none)
+    unbegun_as w core c.args.here s c.args.cell c.args.notice c.args.class n d at s1 new (begun_event_at c.args.here c.args.cell c.unbegun.result) refused u (ap (begun_event_at c.args.here c.args.cell) c.unbegun.ensures.none)
 
 pub receive-requires-clause-rank : goal.receive-requires-clause-rank
 receive-requires-clause-rank c =
@@ -132,7 +132,7 @@ receive-requires-clause-modes c = λ i m e.
     let enters : Enters c.args.here c.args.state.now c.enter.new.self d c.args.cell c.in-Ok.frame = search rules in
     let rank : k ≡ z.3.coming.ranked.rank = c.rank-rank.ensures z.3.coming.ranked z.3.place in
     let within : k < length es = omega (arith, rank, begun_entry_within z.0 z.1 c.args.here c.args.state.now c.args.cell c.args.notice c.args.class z.3, ap length z.2) in
-    let at : slice_get z.0.run.events z.3.coming.ranked.rank ≡ Some d = ap (slice_get z.0.run.events) (sym rank) ∙ ap (λ (l : List Entry). slice_get l k) (sym z.2) ∙ slice_get_read es (length es) k d refl within c.index-events-rank.is in
+    let at : slice_get z.0.run.events z.3.coming.ranked.rank ≡ Some d = ap (slice_get z.0.run.events) (sym rank) ∙ ap (λ (l : List SectionEntry). slice_get l k) (sym z.2) ∙ slice_get_read es (length es) k d refl within c.index-events-rank.is in
     let given = c.deref.ensures.value ∙ (entry_is z.0 z.1 c.args.here c.args.state.now c.args.cell c.args.notice c.args.class z.3 d at).given in
     ap (λ (t : State). slice_get (modes_of t.scene.heap.layout c.args.class) i) enters.is ∙ begun_modes z.0 z.1 c.args.here c.args.state.now c.args.cell c.args.notice c.args.class z.3 i m (ap (λ (ms : List Mode). slice_get ms i) (sym given) ∙ e)
 
@@ -142,7 +142,7 @@ receive-requires-clause-places c =
     let enters : Enters c.args.here c.args.state.now c.enter.new.self d c.args.cell c.in-Ok.frame = search rules in
     let rank : k ≡ z.3.coming.ranked.rank = c.rank-rank.ensures z.3.coming.ranked z.3.place in
     let within : k < length es = omega (arith, rank, begun_entry_within z.0 z.1 c.args.here c.args.state.now c.args.cell c.args.notice c.args.class z.3, ap length z.2) in
-    let at : slice_get z.0.run.events z.3.coming.ranked.rank ≡ Some d = ap (slice_get z.0.run.events) (sym rank) ∙ ap (λ (l : List Entry). slice_get l k) (sym z.2) ∙ slice_get_read es (length es) k d refl within c.index-events-rank.is in
+    let at : slice_get z.0.run.events z.3.coming.ranked.rank ≡ Some d = ap (slice_get z.0.run.events) (sym rank) ∙ ap (λ (l : List SectionEntry). slice_get l k) (sym z.2) ∙ slice_get_read es (length es) k d refl within c.index-events-rank.is in
     let long = cleared_long enters.grown (c.in-Ok.frame + length d.given.items) d.others.items in
     omega (arith, enters.room, (entry_is z.0 z.1 c.args.here c.args.state.now c.args.cell c.args.notice c.args.class z.3 d at).sized.variables, ap length c.deref.ensures.value, long, ap (λ (t : State). length t.rows.numbers) enters.is)
 
@@ -162,13 +162,13 @@ returns-in-Ok-receive c = λ w core all n.
     let enters : Enters c.args.here s s1 d c.args.cell frame = search rules in
     let rank : k ≡ n.coming.ranked.rank = c.rank-rank.ensures n.coming.ranked n.place in
     let within : k < length es = omega (arith, rank, begun_entry_within w core c.args.here s c.args.cell c.args.notice c.args.class n, ap length all) in
-    let at : slice_get w.run.events n.coming.ranked.rank ≡ Some d = ap (slice_get w.run.events) (sym rank) ∙ ap (λ (l : List Entry). slice_get l k) (sym all) ∙ slice_get_read es (length es) k d refl within c.index-events-rank.is in
+    let at : slice_get w.run.events n.coming.ranked.rank ≡ Some d = ap (slice_get w.run.events) (sym rank) ∙ ap (λ (l : List SectionEntry). slice_get l k) (sym all) ∙ slice_get_read es (length es) k d refl within c.index-events-rank.is in
     let here : slice_get s1.scene.notices k ≡ Some n.coming.ranked.said = ap (slice_get s1.scene.notices) rank ∙ ap (λ (t : State). slice_get t.scene.notices n.coming.ranked.rank) enters.is ∙ begun_said w core c.args.here s c.args.cell c.args.notice c.args.class n in
     let same : to_z w64 (of_z w64 x) ≡ x = search rules in
     let got =
     subst (λ (ms : List Mode). Receives n.coming.ranked.said class x ms frame s1 c.receive.new.state (Ok tt)) c.deref.ensures.value
     (subst (λ (y : ℤ). Receives n.coming.ranked.said class y c.deref.result.now frame s1 c.receive.new.state (Ok tt)) same (c.in-Ok-receive.ensures n.coming.ranked.said here)) in
-    begins w core c.args.here s c.args.cell c.args.notice c.args.class n d at s1 frame enters c.receive.new.state got (begun_at c.args.here c.args.cell (Some d.place)) (ap (λ (f : ℕ). let h : Here = record { place = d.place; frame = f } in Some h) (sym enters.begin)) (omega (arith, enters.begin))
+    begins w core c.args.here s c.args.cell c.args.notice c.args.class n d at s1 frame enters c.receive.new.state got (begun_event_at c.args.here c.args.cell (Some d.place)) (ap (λ (f : ℕ). let h : Here = record { place = d.place; frame = f } in Some h) (sym enters.begin)) (omega (arith, enters.begin))
 
 pub returns-in-Err : goal.returns-in-Err
 returns-in-Err c = λ w core all n.
@@ -177,7 +177,7 @@ returns-in-Err c = λ w core all n.
     let enters : Enters c.args.here s s1 d c.args.cell frame = search rules in
     let rank : k ≡ n.coming.ranked.rank = c.rank-rank.ensures n.coming.ranked n.place in
     let within : k < length es = omega (arith, rank, begun_entry_within w core c.args.here s c.args.cell c.args.notice c.args.class n, ap length all) in
-    let at : slice_get w.run.events n.coming.ranked.rank ≡ Some d = ap (slice_get w.run.events) (sym rank) ∙ ap (λ (l : List Entry). slice_get l k) (sym all) ∙ slice_get_read es (length es) k d refl within c.index-events-rank.is in
+    let at : slice_get w.run.events n.coming.ranked.rank ≡ Some d = ap (slice_get w.run.events) (sym rank) ∙ ap (λ (l : List SectionEntry). slice_get l k) (sym all) ∙ slice_get_read es (length es) k d refl within c.index-events-rank.is in
     let here : slice_get s1.scene.notices k ≡ Some n.coming.ranked.said = ap (slice_get s1.scene.notices) rank ∙ ap (λ (t : State). slice_get t.scene.notices n.coming.ranked.rank) enters.is ∙ begun_said w core c.args.here s c.args.cell c.args.notice c.args.class n in
     let same : to_z w64 (of_z w64 x) ≡ x = search rules in
     let got =
@@ -185,7 +185,7 @@ returns-in-Err c = λ w core all n.
     (subst (λ (y : ℤ). Receives n.coming.ranked.said class y c.deref.result.now frame s1 c.receive.new.state (Err c.in-Err.kind)) same (c.in-Err.ensures n.coming.ranked.said here)) in
     let kept = receives_not n.coming.ranked.said class x d.given.items frame s1 c.receive.new.state c.in-Err.kind got in
     let still : slice_get c.receive.new.state.scene.notices k ≡ Some n.coming.ranked.said = ap (λ (e : Seen). slice_get e.notices k) kept ∙ here in
-    begins_fault w core c.args.here s c.args.cell c.args.notice c.args.class n d at s1 frame enters c.receive.new.state c.in-Err.kind got c.fault_of_event.new.state (begun_at c.args.here c.args.cell c.fault_of_event.result) (c.fault_of_event.ensures.state n.coming.ranked.said still) (ap (begun_at c.args.here c.args.cell) c.fault_of_event.ensures.none)
+    begins_fault w core c.args.here s c.args.cell c.args.notice c.args.class n d at s1 frame enters c.receive.new.state c.in-Err.kind got c.fault_of_event.new.state (begun_event_at c.args.here c.args.cell c.fault_of_event.result) (c.fault_of_event.ensures.state n.coming.ranked.said still) (ap (begun_event_at c.args.here c.args.cell) c.fault_of_event.ensures.none)
 
 pub receive-requires-clause-small : goal.receive-requires-clause-small
 receive-requires-clause-small c =
@@ -193,5 +193,5 @@ receive-requires-clause-small c =
     let enters : Enters c.args.here c.args.state.now c.enter.new.self d c.args.cell c.in-Ok.frame = search rules in
     let rank : k ≡ z.3.coming.ranked.rank = c.rank-rank.ensures z.3.coming.ranked z.3.place in
     let within : k < length es = omega (arith, rank, begun_entry_within z.0 z.1 c.args.here c.args.state.now c.args.cell c.args.notice c.args.class z.3, ap length z.2) in
-    let at : slice_get z.0.run.events z.3.coming.ranked.rank ≡ Some d = ap (slice_get z.0.run.events) (sym rank) ∙ ap (λ (l : List Entry). slice_get l k) (sym z.2) ∙ slice_get_read es (length es) k d refl within c.index-events-rank.is in
+    let at : slice_get z.0.run.events z.3.coming.ranked.rank ≡ Some d = ap (slice_get z.0.run.events) (sym rank) ∙ ap (λ (l : List SectionEntry). slice_get l k) (sym z.2) ∙ slice_get_read es (length es) k d refl within c.index-events-rank.is in
     omega (arith, enters.room, enters.small, (entry_is z.0 z.1 c.args.here c.args.state.now c.args.cell c.args.notice c.args.class z.3 d at).sized.variables, ap length c.deref.ensures.value)

@@ -1,9 +1,9 @@
 use Rattle.std.proofs.Common.{Option, rules, ◌≡◌, ℤ, Some, None, true, false, ap, sym, ◌∙◌, subst, to_z, of_z, w64}
 use Rattle.ss_meaning.specs.Fitting.{living}
-use Rattle.ss_world.specs.PendingList.{next}
+use Rattle.ss_world.specs.PendingList.{least_event}
 use Rattle.ss_code_instructions.specs.declared.instruction.Instruction.TheVariants.{TakeEvent as Runs}
 use Rattle.ss_code_instructions.specs.Machine.{act, is_due}
-use Rattle.ss_machine_instructions.specs.Ways.{led, begun_at, led_to}
+use Rattle.ss_machine_instructions.specs.Ways.{led, begun_event_at, led_to}
 use Rattle.ss_machine_events.specs.Events.{IsNextNotice}
 use Rattle.ss_machine_world.specs.Seen.{Seen}
 use Rattle.ss_machine_instructions.specs.declared.flow.Here.{Here}
@@ -29,7 +29,7 @@ returns-in_default c = λ w core all r.
     let some : c.has_taken_tick.result ≡ true = search rules in
     let took = c.has_taken_tick.ensures.taken some in
     let kept : e ≡ s.scene = c.in_default.ensures.1 ∙ ap (λ (t : State). t.scene) took.2 in
-    let none : next s.scene.pending ≡ None = sym (ap (λ (t : State). next t.scene.pending) took.2) ∙ c.in_default.ensures.0 in
+    let none : least_event s.scene.pending ≡ None = sym (ap (λ (t : State). least_event t.scene.pending) took.2) ∙ c.in_default.ensures.0 in
     let same : record c.has_taken_tick.new.self { scene = e } ≡ record s { ticks = took.0 } = ap (λ (t : State). record t { scene = e }) took.2 ∙ ap (λ (v : Seen). record s { ticks = took.0; scene = v }) kept in
     ticks w core c.args.here s (Runs c.args.cell) r took.0 (record c.has_taken_tick.new.self { scene = e }) (led c.on-on.result) (ap is_due r.runs.carries.2) took.1
     (goes_past w core c.args.here s c.args.cell r took.0 (record c.has_taken_tick.new.self { scene = e }) (led c.on-on.result) none same (ap led c.on-on.ensures))
@@ -68,7 +68,7 @@ cell-requires c = let z = c.requires in frame_small z.0 z.1 c.args.here c.args.s
 pub returns-in-Some-class_of : goal.returns-in-Some-class_of
 returns-in-Some-class_of c = λ w core all r.
     let s = c.args.state.now in let x = c.in-Some.notice in let class = c.in-Some-class_of.class in let e = c.next_event.new.scene in
-    let new = c.begin_event-place.new.state in let result = begun_at c.args.here c.args.cell c.begin_event-place.result in
+    let new = c.begin_event-place.new.state in let result = begun_event_at c.args.here c.args.cell c.begin_event-place.result in
     let some : c.has_taken_tick.result ≡ true = search rules in
     let took = c.has_taken_tick.ensures.taken some in
     let same : to_z w64 (of_z w64 x) ≡ x = search rules in

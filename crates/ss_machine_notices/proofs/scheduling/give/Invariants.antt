@@ -1,8 +1,8 @@
-use Rattle.ss_machine_notices.specs.Giving.{Gives}
+use Rattle.ss_machine_notices.specs.Giving.{HasGivenValues}
 use Rattle.ss_machine_notices.proofs.Giving.{Endowed}
 use Rattle.ss_machine_notices.proofs.scheduling.give.Given as goal
 
 -- so many attributes are assigned, whatever the store
 abbrev pub invariant-loop-field : goal.invariant-loop-field
 invariant-loop-field l =
-    (g : Gives l.what.class l.what.noted l.what.from l.given l.rows l.fn.scene) → Endowed l.what.class l.what.notice l.what.noted l.what.from l.given l.rows l.fn.scene l.field l.scene g
+    (g : HasGivenValues l.what.class l.what.noted l.what.from l.given l.rows l.fn.scene) → Endowed l.what.class l.what.notice l.what.noted l.what.from l.given l.rows l.fn.scene l.field l.scene g

@@ -4,11 +4,12 @@ use Rattle.ss_code_instructions.specs.declared.instruction.Instruction.TheVarian
 use Rattle.ss_code_instructions.specs.Machine.{act}
 use Rattle.ss_machine_instructions.specs.Ways.{on_after}
 use Rattle.ss_machine_frames.specs.Rows.{TwoRows, with_number}
-use Rattle.ss_machine_instructions.specs.Doing.{Delivers, as_value}
-use Rattle.ss_machine_notices.specs.Giving.{MadeIn, Gives}
+use Rattle.ss_machine_instructions.specs.Doing.{Delivers}
+use Rattle.ss_machine_notices.specs.Giving.{MadeIn, HasGivenValues}
 use Rattle.ss_machine_notices.proofs.Notices.{makes_in, make_gives, make_core, make_delivers, makes, makes_not}
 use Rattle.ss_machine_instructions.proofs.Placing.{frame_small}
 use Rattle.ss_machine_notices.proofs.scheduling.make_notice.Goals as goal
+use Rattle.ss_machine_world.specs.Seen.{as_value}
 
 pub cell-from-requires : goal.cell-from-requires
 cell-from-requires c = let z = c.requires in frame_small z.0 z.1 c.args.here c.args.state.now (Runs c.args.values.class c.args.values.cell c.args.values.count c.args.to.now c.args.values.noted) z.2
@@ -24,7 +25,7 @@ pub new_notice-requires : goal.new_notice-requires
 new_notice-requires c =
     let z = c.requires in
     let cell : c.cell-from.result ≡ c.args.here.frame + c.args.values.cell = c.cell-from.ensures in
-    subst (λ j. Gives c.args.values.class c.args.values.noted j c.args.values.count c.args.state.now.rows c.args.state.now.scene) (sym cell) (make_gives z.0 z.1 c.args.here c.args.state.now (Runs c.args.values.class c.args.values.cell c.args.values.count c.args.to.now c.args.values.noted) z.2 c.args.values.class c.args.values.cell c.args.values.count c.args.to.now c.args.values.noted z.2.runs.carries.1 z.2.runs.carries.0)
+    subst (λ j. HasGivenValues c.args.values.class c.args.values.noted j c.args.values.count c.args.state.now.rows c.args.state.now.scene) (sym cell) (make_gives z.0 z.1 c.args.here c.args.state.now (Runs c.args.values.class c.args.values.cell c.args.values.count c.args.to.now c.args.values.noted) z.2 c.args.values.class c.args.values.cell c.args.values.count c.args.to.now c.args.values.noted z.2.runs.carries.1 z.2.runs.carries.0)
 
 pub set_number_at-requires : goal.set_number_at-requires
 set_number_at-requires c =
@@ -42,7 +43,7 @@ put-requires c =
     let cell : c.cell-from.result ≡ i = c.cell-from.ensures in
     let same : to_z w64 (of_z w64 t) ≡ t = search rules in
     let at : slice_get s.rows.numbers (i + given) ≡ Some t = subst (λ j. slice_get s.rows.numbers (j + given) ≡ Some t) cell c.number_at-time.ensures in
-    let all = subst (λ j. (g : Gives class notes j given s.rows s.scene) → MadeIn g.store class g.values (to_z w64 (of_z w64 t)) s.scene e (Ok n)) cell c.in-Ok.ensures in
+    let all = subst (λ j. (g : HasGivenValues class notes j given s.rows s.scene) → MadeIn g.store class g.values (to_z w64 (of_z w64 t)) s.scene e (Ok n)) cell c.in-Ok.ensures in
     let g = make_gives z.0 z.1 c.args.here c.args.state.now (Runs c.args.values.class c.args.values.cell c.args.values.count c.args.to.now c.args.values.noted) z.2 c.args.values.class c.args.values.cell c.args.values.count c.args.to.now notes z.2.runs.carries.1 z.2.runs.carries.0 in
     let made = subst (λ (y : ℤ). MadeIn z.1.store class g.values y s.scene e (Ok n)) same (all g) in
     let rows : c.set_number_at.new.self ≡ with_number s.rows i t = c.set_number_at.ensures ∙ ap (λ j. with_number s.rows j (to_z w64 (of_z w64 t))) cell ∙ ap (with_number s.rows i) same in
@@ -61,7 +62,7 @@ returns-in-Ok c = λ w core r.
     let cell : c.cell-from.result ≡ i = c.cell-from.ensures in
     let same : to_z w64 (of_z w64 t) ≡ t = search rules in
     let at : slice_get s.rows.numbers (i + given) ≡ Some t = subst (λ j. slice_get s.rows.numbers (j + given) ≡ Some t) cell c.number_at-time.ensures in
-    let all = subst (λ j. (g : Gives class notes j given s.rows s.scene) → MadeIn g.store class g.values (to_z w64 (of_z w64 t)) s.scene e (Ok n)) cell c.in-Ok.ensures in
+    let all = subst (λ j. (g : HasGivenValues class notes j given s.rows s.scene) → MadeIn g.store class g.values (to_z w64 (of_z w64 t)) s.scene e (Ok n)) cell c.in-Ok.ensures in
     let g = make_gives w core c.args.here s (Runs c.args.values.class c.args.values.cell c.args.values.count c.args.to.now c.args.values.noted) r c.args.values.class c.args.values.cell c.args.values.count c.args.to.now notes r.runs.carries.1 r.runs.carries.0 in
     let made = subst (λ (y : ℤ). MadeIn core.store class g.values y s.scene e (Ok n)) same (all g) in
     let rows : c.set_number_at.new.self ≡ with_number s.rows i t = c.set_number_at.ensures ∙ ap (λ j. with_number s.rows j (to_z w64 (of_z w64 t))) cell ∙ ap (with_number s.rows i) same in
@@ -80,7 +81,7 @@ returns-in-Err c = λ w core r.
     let cell : c.cell-from.result ≡ i = c.cell-from.ensures in
     let same : to_z w64 (of_z w64 t) ≡ t = search rules in
     let at : slice_get s.rows.numbers (i + given) ≡ Some t = subst (λ j. slice_get s.rows.numbers (j + given) ≡ Some t) cell c.number_at-time.ensures in
-    let all = subst (λ j. (g : Gives class notes j given s.rows s.scene) → MadeIn g.store class g.values (to_z w64 (of_z w64 t)) s.scene e (Err c.in-Err.refused)) cell c.in-Err.ensures in
+    let all = subst (λ j. (g : HasGivenValues class notes j given s.rows s.scene) → MadeIn g.store class g.values (to_z w64 (of_z w64 t)) s.scene e (Err c.in-Err.refused)) cell c.in-Err.ensures in
     let g = make_gives w core c.args.here s (Runs c.args.values.class c.args.values.cell c.args.values.count c.args.to.now c.args.values.noted) r c.args.values.class c.args.values.cell c.args.values.count c.args.to.now notes r.runs.carries.1 r.runs.carries.0 in
     let made = subst (λ (y : ℤ). MadeIn core.store class g.values y s.scene e (Err c.in-Err.refused)) same (all g) in
     makes_not w core c.args.here s (Runs c.args.values.class c.args.values.cell c.args.values.count c.args.to.now c.args.values.noted) r c.args.values.class c.args.values.cell c.args.values.count c.args.to.now notes r.runs.carries.0 r.runs.carries.1 t e c.in-Err.refused c.refused.new.self (on_after c.args.here c.refused.result) at made c.refused.ensures.state (ap (on_after c.args.here) c.refused.ensures.none)

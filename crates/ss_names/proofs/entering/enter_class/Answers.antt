@@ -5,14 +5,14 @@ use Rattle.std.proofs.lemmas.Result.{on_ok_weaker}
 use Rattle.ss_names_declarations.specs.Firsts.{entry_if}
 use Rattle.ss_names.specs.Entries.{count_name}
 use Rattle.ss_names.specs.Table.{class_entry, count_entry}
-use Rattle.ss_names.specs.Filling.{enter, entered}
+use Rattle.ss_names.specs.Filling.{enter_name, entered}
 use Rattle.ss_names.proofs.entering.enter_class.Goals as goal
 
 pub returns : goal.returns
 returns c =
     let t = c.args.names.now in
     let name = c.args.name.now in
-    let step = enter c.args.line in
+    let step = enter_name c.args.line in
     let start = entered c.args.meanings.now c.args.clash.now in
     let first = entry_if name (class_entry t name) in
     let second = entry_if (count_name name) (count_entry t name) in

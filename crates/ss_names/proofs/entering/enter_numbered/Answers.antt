@@ -5,13 +5,13 @@ use Rattle.ss_program.specs.declared.expression.MemberQuery.TheVariants.{Predece
 use Rattle.ss_tree.specs.Names.{NameBytes}
 use Rattle.ss_names.specs.declared.meaning.Meaning.TheVariants as m
 use Rattle.ss_names.specs.Table.{derived_name}
-use Rattle.ss_names.specs.Filling.{enter, entered}
+use Rattle.ss_names.specs.Filling.{enter_name, entered}
 use Rattle.ss_names.proofs.Steps.{one_further}
 use Rattle.ss_names.proofs.entering.enter_numbered.Goals as goal
 
 pub returns : goal.returns
 returns c =
-    let step = enter c.args.line in
+    let step = enter_name c.args.line in
     let name = c.args.name.now in
     let set = c.args.set in
     let one = c.in_ok-enter.ensures ∙ ap (λ (n : NameBytes). step (entered c.args.meanings.now c.args.clash.now) (n, m.Set set)) c.of_name-spelling.ensures in

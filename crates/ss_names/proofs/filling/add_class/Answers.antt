@@ -3,7 +3,7 @@ use Rattle.std.specs.List.{fold}
 use Rattle.std.proofs.lemmas.Result.{on_ok_weaker}
 use Rattle.ss_names_declarations.specs.Firsts.{with_first}
 use Rattle.ss_names.specs.Table.{Table}
-use Rattle.ss_names.specs.Entries.{class_variables, notice_number, with_number}
+use Rattle.ss_names.specs.Entries.{class_variables, notice_number, number_added}
 use Rattle.ss_names.specs.Filling.{with_ranks, with_variables}
 use Rattle.ss_names.specs.View.{view_table}
 use Rattle.ss_names.proofs.filling.add_class.Goals as goal
@@ -12,6 +12,6 @@ pub returns : goal.returns
 returns c =
     on_ok_weaker c.add_notice.result
     (λ e. e
-    ∙ (λ i. with_ranks (with_variables (view_table c.names.inside) (c.in_ok-add_class_variables.ensures i)) (fold with_number c.names.inside.ranks (notice_number c.names.inside.classes c.args.class.now)))
-    ∙ ap (λ (t : Table). with_ranks (with_variables t (fold with_first t.variables (class_variables c.args.kind c.args.class.now))) (fold with_number t.ranks (notice_number t.classes c.args.class.now))) c.names.view_is)
+    ∙ (λ i. with_ranks (with_variables (view_table c.names.inside) (c.in_ok-add_class_variables.ensures i)) (fold number_added c.names.inside.ranks (notice_number c.names.inside.classes c.args.class.now)))
+    ∙ ap (λ (t : Table). with_ranks (with_variables t (fold with_first t.variables (class_variables c.args.kind c.args.class.now))) (fold number_added t.ranks (notice_number t.classes c.args.class.now))) c.names.view_is)
     c.add_notice.ensures

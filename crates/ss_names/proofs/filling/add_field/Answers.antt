@@ -1,7 +1,7 @@
 use Rattle.std.proofs.Common.{◌≡◌, true, false, cond, is_some, sym, ap, ◌∙◌}
 use Rattle.std.proofs.lemmas.Result.{on_ok_weaker}
 use Rattle.ss_names_declarations.specs.Firsts.{value_for}
-use Rattle.ss_names.specs.Filling.{field_pushed, fields_of, mode_named, with_fields}
+use Rattle.ss_names.specs.Filling.{field_pushed, table_fields, mode_named, with_fields}
 use Rattle.ss_names.proofs.Steps.{none_of_not_some}
 use Rattle.ss_names.proofs.filling.add_field.Goals as goal
 
@@ -9,7 +9,7 @@ pub returns-then-has_attribute : goal.returns-then-has_attribute
 returns-then-has_attribute c =
     let t = c.args.names.now in
     let known : is_some (value_for t.attributes c.args.attribute) ≡ true = sym c.has_attribute.ensures ∙ c.if-has_attribute.true in
-    ap (λ b. with_fields t (cond b (fields_of t) (field_pushed (mode_named t) (fields_of t) (c.args.attribute, c.args.class)))) (sym known)
+    ap (λ b. with_fields t (cond b (table_fields t) (field_pushed (mode_named t) (table_fields t) (c.args.attribute, c.args.class)))) (sym known)
 
 pub push_attribute-requires : goal.push_attribute-requires
 push_attribute-requires c = record {
@@ -22,5 +22,5 @@ returns c =
     let t = c.args.names.now in
     let new : is_some (value_for t.attributes c.args.attribute) ≡ false = sym c.has_attribute.ensures ∙ c.if-has_attribute.false in
     on_ok_weaker c.push_attribute.result
-    (λ e. e ∙ ap (λ b. with_fields t (cond b (fields_of t) (field_pushed (mode_named t) (fields_of t) (c.args.attribute, c.args.class)))) (sym new))
+    (λ e. e ∙ ap (λ b. with_fields t (cond b (table_fields t) (field_pushed (mode_named t) (table_fields t) (c.args.attribute, c.args.class)))) (sym new))
     c.push_attribute.ensures

@@ -2,7 +2,7 @@ use Rattle.std.proofs.Common.{◌≡◌, ℕ, List, [], ◌∷◌, sym, ap, ◌�
 use Rattle.std.specs.List.{fold}
 use Rattle.std.proofs.lemmas.Result.{on_ok_weaker}
 use Rattle.std.specs.Prelude.{option_to_list}
-use Rattle.ss_names.specs.Entries.{notice_number, with_number}
+use Rattle.ss_names.specs.Entries.{notice_number, number_added}
 use Rattle.ss_names.specs.Table.{Table}
 use Rattle.ss_names.specs.Filling.{with_ranks}
 use Rattle.ss_names.specs.View.{view_table}
@@ -14,12 +14,12 @@ returns-in-Some c =
     let known : c.in-Some.number ∷ [] ≡ notice_number t.classes c.args.class.now = ap option_to_list (sym c.in-Some.is) ∙ c.notice_number.ensures in
     on_ok_weaker c.insert_new.result
     (λ e. (λ i. record (view_table c.names.inside) { ranks = e i })
-    ∙ ap (λ (s : Table). with_ranks s (with_number s.ranks c.in-Some.number)) c.names.view_is
-    ∙ ap (λ (ns : List ℕ). with_ranks t (fold with_number t.ranks ns)) known)
+    ∙ ap (λ (s : Table). with_ranks s (number_added s.ranks c.in-Some.number)) c.names.view_is
+    ∙ ap (λ (ns : List ℕ). with_ranks t (fold number_added t.ranks ns)) known)
     c.insert_new.ensures.ok
 
 pub returns-in-None : goal.returns-in-None
 returns-in-None c =
     let t = c.args.names.now in
     let none : [] ≡ notice_number t.classes c.args.class.now = ap option_to_list (sym c.in-None.is) ∙ c.notice_number.ensures in
-    ap (λ (ns : List ℕ). with_ranks t (fold with_number t.ranks ns)) none
+    ap (λ (ns : List ℕ). with_ranks t (fold number_added t.ranks ns)) none

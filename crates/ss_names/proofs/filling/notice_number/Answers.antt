@@ -1,19 +1,19 @@
 use Rattle.std.proofs.Common.{◌≡◌, true, false, cond, [], sym, ap, ◌∙◌}
 use Rattle.ss_names_declarations.specs.Firsts.{place_in, value_for}
 use Rattle.std.specs.Prelude.{option_to_list}
-use Rattle.ss_names.specs.Entries.{is_notice}
+use Rattle.ss_names.specs.Entries.{is_notice_class}
 use Rattle.ss_names.proofs.filling.notice_number.Goals as goal
 
 pub returns-then-is_notice : goal.returns-then-is_notice
 returns-then-is_notice c =
     let cs = c.args.names.now.classes in
     let class = c.args.class.now in
-    let known : is_notice (value_for cs class) ≡ true = sym c.is_notice.ensures ∙ c.if-is_notice.true in
+    let known : is_notice_class (value_for cs class) ≡ true = sym c.is_notice.ensures ∙ c.if-is_notice.true in
     ap option_to_list c.class_number.ensures ∙ ap (λ b. cond b (option_to_list (place_in cs class)) []) (sym known)
 
 pub returns-else-is_notice : goal.returns-else-is_notice
 returns-else-is_notice c =
     let cs = c.args.names.now.classes in
     let class = c.args.class.now in
-    let other : is_notice (value_for cs class) ≡ false = sym c.is_notice.ensures ∙ c.if-is_notice.false in
+    let other : is_notice_class (value_for cs class) ≡ false = sym c.is_notice.ensures ∙ c.if-is_notice.false in
     ap (λ b. cond b (option_to_list (place_in cs class)) []) (sym other)

@@ -1,7 +1,7 @@
 use Rattle.std.proofs.Common.{◌≡◌, ◌++◌, map, take}
 use Rattle.ss_tree.specs.View.{view_preamble}
-use Rattle.ss_names_declarations.specs.Declarations.{flat_map_from, in_statement}
+use Rattle.ss_names_declarations.specs.Declarations.{flat_map_from, in_preamble_statement}
 use Rattle.ss_names_declarations.proofs.declarations.add_preamble.Given as goal
 
 abbrev pub invariant-loop-number : goal.invariant-loop-number
-invariant-loop-number l = l.out.items ≡ l.initial.out.items ++ flat_map_from in_statement 0 (map view_preamble (take l.number l.preamble))
+invariant-loop-number l = l.out.items ≡ l.initial.out.items ++ flat_map_from in_preamble_statement 0 (map view_preamble (take l.number l.preamble))

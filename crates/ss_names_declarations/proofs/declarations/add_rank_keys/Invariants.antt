@@ -1,8 +1,8 @@
 use Rattle.std.proofs.Common.{◌≡◌, ◌++◌, map, take}
-use Rattle.ss_tree.specs.declared.preamble.Key.{Key}
+use Rattle.ss_tree.specs.declared.preamble.NamedKey.{NamedKey}
 use Rattle.ss_names_declarations.specs.Declarations.{at_line}
 use Rattle.ss_names_declarations.specs.declared.declaration.Declared.TheVariants as d
 use Rattle.ss_names_declarations.proofs.declarations.add_rank_keys.Given as goal
 
 abbrev pub invariant-loop-key : goal.invariant-loop-key
-invariant-loop-key l = l.out.items ≡ l.initial.out.items ++ map (λ (key : Key). at_line l.line (d.RankKey key.name key.high l.statement)) (take l.key-index l.keys)
+invariant-loop-key l = l.out.items ≡ l.initial.out.items ++ map (λ (key : NamedKey). at_line l.line (d.RankKey key.name key.high l.statement)) (take l.key-index l.keys)

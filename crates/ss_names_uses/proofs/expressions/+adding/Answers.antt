@@ -1,7 +1,7 @@
 use Rattle.std.proofs.Common.{rules, ◌≡◌, ◌∷◌, [], true, length, append_assoc}
 use Rattle.ss_base.specs.declared.words.Sign.{Sign}
 use Rattle.ss_tree.specs.Tree.{ExpressionTree}
-use Rattle.ss_tree.specs.View.{view_expression, view_term}
+use Rattle.ss_tree.specs.View.{view_expression_tree, view_term}
 use Rattle.ss_names_uses.specs.Uses.{in_expression}
 use Rattle.ss_names_uses.proofs.Rows.{in_named_made, in_call_made, in_product_made, in_sum_made, next_noted}
 use Rattle.ss_names_uses.proofs.expressions.+adding.Goals as goal
@@ -26,7 +26,7 @@ add_expression-returns-in_ok-add_expression-in-Sum t c =
 
 pub add_numbers-loop-expression-preserved : goal.add_numbers-loop-expression-preserved
 add_numbers-loop-expression-preserved t c =
-    next_noted (in_expression c.args.line true) view_expression c.args.expressions.now c.loop-expression.expression-index c.expression-item.result c.args.into.now.items c.loop-expression.into.items c.add_expression.new.into.items c.loop-expression-test.true c.expression-item.is c.loop-expression.invariant c.in_ok-add_expression.ensures
+    next_noted (in_expression c.args.line true) view_expression_tree c.args.expressions.now c.loop-expression.expression-index c.expression-item.result c.args.into.now.items c.loop-expression.into.items c.add_expression.new.into.items c.loop-expression-test.true c.expression-item.is c.loop-expression.invariant c.in_ok-add_expression.ensures
 
 pub add_terms-loop-term-preserved : goal.add_terms-loop-term-preserved
 add_terms-loop-term-preserved t c =

@@ -1,8 +1,8 @@
 use Rattle.std.proofs.Common.{◌≡◌, ◌++◌, map, take}
 use Rattle.std.specs.List.{flat_map}
-use Rattle.ss_tree.specs.View.{view_guard}
+use Rattle.ss_tree.specs.View.{view_guard_tree}
 use Rattle.ss_names_uses.specs.Uses.{in_guard}
 use Rattle.ss_names_uses.proofs.heads.add_guards.Given as goal
 
 abbrev pub invariant-loop-guard : goal.invariant-loop-guard
-invariant-loop-guard l = l.into.items ≡ l.initial.into.items ++ flat_map (in_guard l.line) (map view_guard (take l.guard-index l.guards))
+invariant-loop-guard l = l.into.items ≡ l.initial.into.items ++ flat_map (in_guard l.line) (map view_guard_tree (take l.guard-index l.guards))

@@ -1,8 +1,8 @@
 use Rattle.std.proofs.Common.{◌≡◌, ◌++◌, map, take}
 use Rattle.std.specs.List.{flat_map}
-use Rattle.ss_tree.specs.View.{view_phrase}
+use Rattle.ss_tree.specs.View.{view_phrase_tree}
 use Rattle.ss_names_uses.specs.Uses.{in_phrase}
 use Rattle.ss_names_uses.proofs.heads.add_phrases.Given as goal
 
 abbrev pub invariant-loop-phrase : goal.invariant-loop-phrase
-invariant-loop-phrase l = l.into.items ≡ l.initial.into.items ++ flat_map (in_phrase l.line) (map view_phrase (take l.phrase-index l.phrases))
+invariant-loop-phrase l = l.into.items ≡ l.initial.into.items ++ flat_map (in_phrase l.line) (map view_phrase_tree (take l.phrase-index l.phrases))

@@ -1,7 +1,7 @@
 use Rattle.std.proofs.Common.{◌≡◌, ◌++◌, map, take}
-use Rattle.ss_tree.specs.View.{view_expression}
+use Rattle.ss_tree.specs.View.{view_expression_tree}
 use Rattle.ss_names_uses.specs.Uses.{in_item_at, in_places}
 use Rattle.ss_names_uses.proofs.pictures.add_placed_items.Given as goal
 
 abbrev pub invariant-loop-place : goal.invariant-loop-place
-invariant-loop-place l = l.into.items ≡ l.initial.into.items ++ in_places (in_item_at l.line l.fields) 0 (map view_expression (take l.place l.items))
+invariant-loop-place l = l.into.items ≡ l.initial.into.items ++ in_places (in_item_at l.line l.fields) 0 (map view_expression_tree (take l.place l.items))

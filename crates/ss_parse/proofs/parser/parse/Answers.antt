@@ -1,7 +1,7 @@
 use Rattle.std.proofs.Common.{◌≡◌, ℕ, ◌<◌, List, ap, subst, ◌∙◌, Err}
 use Rattle.ss_lex.specs.declared.token.Token.{Token}
 use Rattle.ss_parse_expressions.specs.declared.failure.ParseFault.{ParseFault}
-use Rattle.ss_tree.specs.View.{view_program}
+use Rattle.ss_tree.specs.View.{view_program_tree}
 use Rattle.ss_parse.specs.SpelledPrograms.{Spell}
 use Rattle.ss_parse_expressions.specs.Openers.{nesting_limit, openers}
 use Rattle.ss_parse.specs.Promise.{Without_tree}
@@ -13,7 +13,7 @@ pub line_of-line-requires : goal.line_of-line-requires
 line_of-line-requires c = tokens_there nesting_limit _ _ (rw c.in-Err-Refused.field-0-is at c.in-Err-Refused.ensures)
 
 pub returns-in-Ok-clause-found : goal.returns-in-Ok-clause-found
-returns-in-Ok-clause-found c = subst (λ (ts : List Token). Spell ts nesting_limit (view_program c.in-Ok.program)) c.list-list.ensures (program_sound nesting_limit _ _ c.in-Ok.ensures)
+returns-in-Ok-clause-found c = subst (λ (ts : List Token). Spell ts nesting_limit (view_program_tree c.in-Ok.program)) c.list-list.ensures (program_sound nesting_limit _ _ c.in-Ok.ensures)
 
 pub returns-in-Syntax-clause-refused : goal.returns-in-Syntax-clause-refused
 returns-in-Syntax-clause-refused c =

@@ -1,5 +1,5 @@
 use Rattle.std.proofs.Common.{◌≡◌, ◌+◌, ◌*◌, length, map}
-use Rattle.ss_tree.specs.View.{view_expression, view_term}
+use Rattle.ss_tree.specs.View.{view_expression_tree, view_term}
 use Rattle.ss_parse_expressions.specs.Reading.{begins, begins_more, skip, skip_separator, rows}
 use Rattle.ss_parse_expressions.specs.ReadExpressions.{star, begins_sign, begins_sum, arguments_with, factor_with, further_factors_with, signed_term_with, further_terms_with, sum_in}
 use Rattle.ss_parse_expressions.proofs.Rows.{with_front}
@@ -48,13 +48,13 @@ abbrev pub decreases-first_term : goal.decreases-first_term
 decreases-first_term l = 16 * l.room + 13
 
 abbrev pub invariant-sums-more : goal.invariant-sums-more
-invariant-sums-more l = with_front (map view_expression l.all.items) (rows (begins_more begins_sum) (λ r. sum_in l.room (skip_separator r)) l.rest) ≡ arguments_with (sum_in l.room) l.tokens
+invariant-sums-more l = with_front (map view_expression_tree l.all.items) (rows (begins_more begins_sum) (λ r. sum_in l.room (skip_separator r)) l.rest) ≡ arguments_with (sum_in l.room) l.tokens
 
 abbrev pub decreases-sums-more : goal.decreases-sums-more
 decreases-sums-more l = length l.rest
 
 abbrev pub invariant-further_factors-more : goal.invariant-further_factors-more
-invariant-further_factors-more l = with_front (map view_expression l.all.items) (rows (begins star) (λ r. factor_with (sum_in l.room) (skip star r)) l.rest) ≡ further_factors_with (sum_in l.room) l.tokens
+invariant-further_factors-more l = with_front (map view_expression_tree l.all.items) (rows (begins star) (λ r. factor_with (sum_in l.room) (skip star r)) l.rest) ≡ further_factors_with (sum_in l.room) l.tokens
 
 abbrev pub decreases-further_factors-more : goal.decreases-further_factors-more
 decreases-further_factors-more l = length l.rest

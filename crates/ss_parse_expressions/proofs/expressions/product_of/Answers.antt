@@ -1,5 +1,5 @@
 use Rattle.std.proofs.Common.{◌∙◌, sym}
-use Rattle.ss_tree.specs.View.{view_expression}
+use Rattle.ss_tree.specs.View.{view_expression_tree}
 use Rattle.ss_tree.specs.Views.{view_product_made}
 use Rattle.ss_parse_expressions.proofs.Lists.{product_of_some}
 use Rattle.ss_parse_expressions.proofs.expressions.product_of.Goals as goal
@@ -9,4 +9,4 @@ returns c =
     let first = c.in_ok-first.ensures.ok in
     let some = c.if-is_empty.false in
     let is = c.is_empty.ensures in
-    view_product_made c.in_ok-first.first c.args.further ∙ rw first (product_of_some view_expression (view_expression c.args.first) c.args.further.items _ (sym c.args.further.ok.0) (sym is ∙ some))
+    view_product_made c.in_ok-first.first c.args.further ∙ rw first (product_of_some view_expression_tree (view_expression_tree c.args.first) c.args.further.items _ (sym c.args.further.ok.0) (sym is ∙ some))

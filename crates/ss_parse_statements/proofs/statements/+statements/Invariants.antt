@@ -1,5 +1,5 @@
 use Rattle.std.proofs.Common.{◌≡◌, ◌+◌, ◌*◌, length, map}
-use Rattle.ss_tree.specs.View.{view_statement}
+use Rattle.ss_tree.specs.View.{view_statement_tree}
 use Rattle.ss_parse_expressions.specs.Reading.{rows, skip_comma}
 use Rattle.ss_parse_expressions.proofs.Rows.{with_front}
 use Rattle.ss_parse_statements.specs.ReadStatements.{begins_statement, statement_in, statements_in}
@@ -51,7 +51,7 @@ abbrev pub decreases-statement : goal.decreases-statement
 decreases-statement l = 16 * l.room + 0
 
 abbrev pub invariant-statements-more : goal.invariant-statements-more
-invariant-statements-more l = with_front (map view_statement l.all.items) (rows begins_statement (λ r. statement_in l.room (skip_comma r)) l.rest) ≡ statements_in l.room l.tokens
+invariant-statements-more l = with_front (map view_statement_tree l.all.items) (rows begins_statement (λ r. statement_in l.room (skip_comma r)) l.rest) ≡ statements_in l.room l.tokens
 
 abbrev pub decreases-statements-more : goal.decreases-statements-more
 decreases-statements-more l = length l.rest

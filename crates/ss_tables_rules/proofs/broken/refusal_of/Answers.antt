@@ -2,14 +2,14 @@ use Rattle.std.proofs.Common.{◌≡◌, ◌++◌, List, Option, None, map, opti
 use Rattle.std.specs.List.{flat_map, fold}
 use Rattle.std.proofs.lemmas.List.Sums.{fold-append}
 use Rattle.std.proofs.lemmas.Result.{IfOk-weaker}
-use Rattle.ss_tree.specs.View.{view_preamble, view_program, view_section}
+use Rattle.ss_tree.specs.View.{view_preamble, view_program_tree, view_section}
 use Rattle.ss_names_declarations.specs.Earliest.{earlier}
 use Rattle.ss_names_declarations.specs.declared.declaration.Declaration.{Declaration}
 use Rattle.ss_names.specs.Table.{Table, clashes, declared}
-use Rattle.ss_tables_rules.specs.Broken.{breaches, breaks, unmoded}
+use Rattle.ss_tables_rules.specs.Broken.{table_breaches, declaration_breaches, unmoded}
 use Rattle.ss_tables_rules.specs.Keys.{misranked}
 use Rattle.ss_tables_rules.specs.Once.{repeats}
-use Rattle.ss_tables_rules.specs.Order.{order_of}
+use Rattle.ss_tables_rules.specs.Order.{table_error_order}
 use Rattle.ss_tables_rules.specs.declared.error.TableError.{TableError}
 use Rattle.ss_tables_rules.specs.declared.error.TableError.TheVariants as e
 use Rattle.ss_tables_rules.proofs.Finding.{twice_first}
@@ -19,11 +19,11 @@ pub returns : goal.returns
 returns c =
     let t = c.args.names.now in
     let ds = c.args.declarations.now in
-    let p = view_program c.args.program.now in
-    let step : Option TableError → TableError → Option TableError = earlier order_of in
+    let p = view_program_tree c.args.program.now in
+    let step : Option TableError → TableError → Option TableError = earlier table_error_order in
     let first = map e.Twice (clashes ds) in
     let second = repeats t ds in
-    let third = flat_map (breaks t) ds in
+    let third = flat_map (declaration_breaches t) ds in
     let fourth = misranked t p.preamble in
     let fifth = unmoded t p.sections in
     let clash : c.clash_breach-twice.result ≡ fold step None first =
@@ -35,7 +35,7 @@ returns c =
     let three : c.misranked-by_keys.result ≡ fold step (fold step (fold step (fold step None first) second) third) fourth =
     c.misranked-by_keys.ensures
     ∙ (λ i. fold step (two i) (misranked t (map view_preamble (c.deref.ensures.value i)))) in
-    let all : fold step (fold step (fold step (fold step (fold step None first) second) third) fourth) fifth ≡ fold step None (breaches t ds p) =
+    let all : fold step (fold step (fold step (fold step (fold step None first) second) third) fourth) fifth ≡ fold step None (table_breaches t ds p) =
     sym (fold-append step None first (second ++ (third ++ (fourth ++ fifth)))
     ∙ fold-append step (fold step None first) second (third ++ (fourth ++ fifth))
     ∙ fold-append step (fold step (fold step None first) second) third (fourth ++ fifth)
@@ -44,6 +44,6 @@ returns c =
     (λ b is. is
     ∙ (λ i. fold step (three i) (unmoded t (map view_section (c.deref-2.ensures.value i))))
     ∙ all
-    ∙ ap (λ (s : Table). fold step None (breaches s ds p)) c.requires.names
-    ∙ ap (λ (xs : List Declaration). fold step None (breaches (declared xs) xs p)) c.requires.declarations)
+    ∙ ap (λ (s : Table). fold step None (table_breaches s ds p)) c.requires.names
+    ∙ ap (λ (xs : List Declaration). fold step None (table_breaches (declared xs) xs p)) c.requires.declarations)
     c.unmoded.ensures

@@ -1,7 +1,7 @@
 use Rattle.std.proofs.Common.{ap, ◌∙◌}
 use Rattle.ss_names_declarations.specs.Earliest.{earlier, earlier_of}
-use Rattle.ss_tables_rules.specs.Broken.{breaks}
-use Rattle.ss_tables_rules.specs.Order.{order_of}
+use Rattle.ss_tables_rules.specs.Broken.{declaration_breaches}
+use Rattle.ss_tables_rules.specs.Order.{table_error_order}
 use Rattle.ss_tables_rules.specs.Rules.{broken_by}
 use Rattle.ss_names_scopes.proofs.Finding.{earlier_of_list, found_after}
 use Rattle.ss_tables_rules.proofs.declarations.declared_breaks.Goals as goal
@@ -9,7 +9,7 @@ use Rattle.ss_tables_rules.proofs.declarations.declared_breaks.Goals as goal
 pub loop-declaration-preserved : goal.loop-declaration-preserved
 loop-declaration-preserved c =
     let x = c.declaration-item.result in
-    found_after (earlier order_of) (breaks c.args.names.now) c.args.found c.loop-declaration.found _ c.args.declarations.now c.loop-declaration.declaration-index x
+    found_after (earlier table_error_order) (declaration_breaches c.args.names.now) c.args.found c.loop-declaration.found _ c.args.declarations.now c.loop-declaration.declaration-index x
     c.loop-declaration-test.true c.declaration-item.is c.loop-declaration.invariant
-    (c.earlier_of-found.ensures ∙ ap (earlier_of order_of c.loop-declaration.found) c.broken_by.ensures
-    ∙ earlier_of_list order_of c.loop-declaration.found (broken_by c.args.names.now x))
+    (c.earlier_of-found.ensures ∙ ap (earlier_of table_error_order c.loop-declaration.found) c.broken_by.ensures
+    ∙ earlier_of_list table_error_order c.loop-declaration.found (broken_by c.args.names.now x))

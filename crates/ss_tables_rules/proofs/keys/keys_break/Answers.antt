@@ -3,7 +3,7 @@ use Rattle.std.specs.List.{fold}
 use Rattle.ss_names_declarations.specs.Earliest.{earlier, earlier_of}
 use Rattle.ss_names_declarations.specs.Firsts.{value_for}
 use Rattle.ss_tables_rules.specs.Keys.{class_of, is_foreign, is_foreign_to_any, misranked_key}
-use Rattle.ss_tables_rules.specs.Order.{order_of}
+use Rattle.ss_tables_rules.specs.Order.{table_error_order}
 use Rattle.ss_tables_rules.specs.declared.error.TableError.TheVariants as e
 use Rattle.ss_names_scopes.proofs.Finding.{found_after}
 use Rattle.ss_tables_rules.proofs.Finding.{earlier_if}
@@ -19,8 +19,8 @@ loop-key-preserved c =
     let class = class_of (value_for t.attributes key.name) in
     let foreign : (c.is_foreign_to_any-several.result || is_foreign class c.first_member-first.result) ≡ is_foreign_to_any t sets class =
     foreign_by_first t sets class c.first_member-first.result c.is_foreign_to_any-several.result c.first_member-first.ensures c.is_foreign_to_any-several.ensures in
-    found_after (earlier order_of) (misranked_key t line sets) c.args.found c.loop-key.found _ c.args.keys.now c.loop-key.key-index key
+    found_after (earlier table_error_order) (misranked_key t line sets) c.args.found c.loop-key.found _ c.args.keys.now c.loop-key.key-index key
     c.loop-key-test.true c.key-item.is c.loop-key.invariant
-    (c.earlier_of-found.ensures ∙ ap (earlier_of order_of c.loop-key.found) c.key_breaks.ensures
+    (c.earlier_of-found.ensures ∙ ap (earlier_of table_error_order c.loop-key.found) c.key_breaks.ensures
     ∙ earlier_if c.loop-key.found (c.is_foreign_to_any-several.result || is_foreign class c.first_member-first.result) (e.RankKey line)
-    ∙ ap (λ b. fold (earlier order_of) c.loop-key.found (cond b (e.RankKey line ∷ []) [])) foreign)
+    ∙ ap (λ b. fold (earlier table_error_order) c.loop-key.found (cond b (e.RankKey line ∷ []) [])) foreign)

@@ -2,8 +2,8 @@ use Rattle.std.proofs.Common.{◌≡◌, take}
 use Rattle.std.specs.List.{flat_map, fold}
 use Rattle.ss_names_declarations.specs.Earliest.{earlier}
 use Rattle.ss_tables_rules.specs.Keys.{misranked_key}
-use Rattle.ss_tables_rules.specs.Order.{order_of}
+use Rattle.ss_tables_rules.specs.Order.{table_error_order}
 use Rattle.ss_tables_rules.proofs.keys.keys_break.Given as goal
 
 abbrev pub invariant-loop-key : goal.invariant-loop-key
-invariant-loop-key l = l.found ≡ fold (earlier order_of) l.fn.found (flat_map (misranked_key l.names l.line l.sets) (take l.key-index l.keys))
+invariant-loop-key l = l.found ≡ fold (earlier table_error_order) l.fn.found (flat_map (misranked_key l.names l.line l.sets) (take l.key-index l.keys))

@@ -3,7 +3,7 @@ use Rattle.std.specs.List.{flat_map, fold}
 use Rattle.ss_names_declarations.specs.Earliest.{earlier}
 use Rattle.ss_names_uses.specs.declared.used.Use.{Use}
 use Rattle.ss_names_scopes.specs.Locals.{Moded, locals}
-use Rattle.ss_tables_rules.specs.Order.{order_of}
+use Rattle.ss_tables_rules.specs.Order.{table_error_order}
 use Rattle.ss_tables_rules.specs.Rules.{unmoded_use}
 use Rattle.ss_tables_rules.proofs.modes.unmoded_in.Goals as goal
 
@@ -11,6 +11,6 @@ pub returns : goal.returns
 returns c =
     let t = c.args.names.now in
     c.uses_break.ensures
-    ∙ ap (λ (ls : Moded). fold (earlier order_of) c.args.found (flat_map (unmoded_use t ls) c.deref-2.result.now)) (c.in_ok-locals.ensures ∙ ap (locals t) c.deref.ensures.value)
-    ∙ ap (λ (us : List Use). fold (earlier order_of) c.args.found (flat_map (unmoded_use t (locals t c.in_ok-uses.uses.items)) us)) c.deref-2.ensures.value
-    ∙ ap (λ (us : List Use). fold (earlier order_of) c.args.found (flat_map (unmoded_use t (locals t us)) us)) c.in_ok-uses.ensures
+    ∙ ap (λ (ls : Moded). fold (earlier table_error_order) c.args.found (flat_map (unmoded_use t ls) c.deref-2.result.now)) (c.in_ok-locals.ensures ∙ ap (locals t) c.deref.ensures.value)
+    ∙ ap (λ (us : List Use). fold (earlier table_error_order) c.args.found (flat_map (unmoded_use t (locals t c.in_ok-uses.uses.items)) us)) c.deref-2.ensures.value
+    ∙ ap (λ (us : List Use). fold (earlier table_error_order) c.args.found (flat_map (unmoded_use t (locals t us)) us)) c.in_ok-uses.ensures

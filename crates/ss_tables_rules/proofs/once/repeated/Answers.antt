@@ -5,7 +5,7 @@ use Rattle.ss_names_declarations.specs.Earliest.{earlier, earlier_of}
 use Rattle.ss_names_declarations.specs.declared.declaration.Declaration.{Declaration}
 use Rattle.ss_tables_rules.specs.Keyed.{again_by_key, key_if, repeats_by_key, with_key}
 use Rattle.ss_tables_rules.specs.Once.{once_of}
-use Rattle.ss_tables_rules.specs.Order.{order_of}
+use Rattle.ss_tables_rules.specs.Order.{table_error_order}
 use Rattle.ss_tables_rules.proofs.Repeats.{repeat_more, repeats_keyed}
 use Rattle.ss_tables_rules.proofs.once.repeated.Goals as goal
 
@@ -13,8 +13,8 @@ pub loop-declaration-init : goal.loop-declaration-init
 loop-declaration-init c =
     let t = c.args.names.now in
     let ds = c.args.declarations.now in
-    (λ i. fold (earlier order_of) c.args.found (repeats_by_key t (c.new-said.ensures i) ds))
-    ∙ ap (fold (earlier order_of) c.args.found) (repeats_keyed t [] ds)
+    (λ i. fold (earlier table_error_order) c.args.found (repeats_by_key t (c.new-said.ensures i) ds))
+    ∙ ap (fold (earlier table_error_order) c.args.found) (repeats_keyed t [] ds)
 
 pub loop-declaration-preserved : goal.loop-declaration-preserved
 loop-declaration-preserved c =
@@ -24,11 +24,11 @@ loop-declaration-preserved c =
     let key : c.key_said-key.result ≡ key_if (once_of t x.what) = c.key_said-key.ensures in
     repeat_more t said _ c.loop-declaration.found _ _ c.args.declarations.now c.loop-declaration.declaration-index x
     c.loop-declaration-test.true c.declaration-item.is
-    (c.earlier_of-found.ensures ∙ ap (earlier_of order_of c.loop-declaration.found) (c.again_by_key.ensures ∙ ap (again_by_key said x.line x.what) key))
+    (c.earlier_of-found.ensures ∙ ap (earlier_of table_error_order c.loop-declaration.found) (c.again_by_key.ensures ∙ ap (again_by_key said x.line x.what) key))
     (c.in_ok-note_key.ensures ∙ ap (with_key said) key)
     c.loop-declaration.invariant
 
 pub returns : goal.returns
 returns c =
-    sym (at_drop_all (λ (l : List Declaration). fold (earlier order_of) c.loop-declaration.found (repeats_by_key c.args.names.now c.loop-declaration.said l)) c.args.declarations.now c.loop-declaration.declaration-index c.loop-declaration-test.false)
+    sym (at_drop_all (λ (l : List Declaration). fold (earlier table_error_order) c.loop-declaration.found (repeats_by_key c.args.names.now c.loop-declaration.said l)) c.args.declarations.now c.loop-declaration.declaration-index c.loop-declaration-test.false)
     ∙ c.loop-declaration.invariant

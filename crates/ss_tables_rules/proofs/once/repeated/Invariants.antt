@@ -3,9 +3,9 @@ use Rattle.std.specs.List.{fold}
 use Rattle.ss_names_declarations.specs.Earliest.{earlier}
 use Rattle.ss_tables_rules.specs.Keyed.{repeats_by_key}
 use Rattle.ss_tables_rules.specs.Once.{repeats}
-use Rattle.ss_tables_rules.specs.Order.{order_of}
+use Rattle.ss_tables_rules.specs.Order.{table_error_order}
 use Rattle.ss_tables_rules.proofs.once.repeated.Given as goal
 
 abbrev pub invariant-loop-declaration : goal.invariant-loop-declaration
 invariant-loop-declaration l =
-    fold (earlier order_of) l.found (repeats_by_key l.names l.said (drop l.declaration-index l.declarations)) ≡ fold (earlier order_of) l.fn.found (repeats l.names l.declarations)
+    fold (earlier table_error_order) l.found (repeats_by_key l.names l.said (drop l.declaration-index l.declarations)) ≡ fold (earlier table_error_order) l.fn.found (repeats l.names l.declarations)

@@ -1,38 +1,28 @@
-use Rattle.std.proofs.Common.{refl}
-use Rattle.ss_program.specs.View.{view_statement as view_resolved}
+use Rattle.ss_program.specs.View.{view_body, view_statement as view_resolved}
 use Rattle.ss_names_meaning.proofs.Steps.{failed, fails_then}
 use Rattle.ss_check_bodies.specs.Results.{scope_in}
 use Rattle.ss_check_bodies.proofs.Nested.{if_is, loop_is, find_if_is, no_statements, statements_fail, statements_next}
+use Rattle.ss_check_bodies.proofs.Seen.{after_failed, both_fail, next_made}
 use Rattle.ss_check_bodies.proofs.resolver.Resolver.+nesting.Goals as goal
 
-pub resolve_statement-returns-in_err-first-in-If : goal.resolve_statement-returns-in_err-first-in-If
-resolve_statement-returns-in_err-first-in-If t c =
-    failed view_resolved c.from_residual.result c.in_err-first-in-If.field-0.0 _ c.from_residual.ensures.1
-    (rw (if_is (scope_in c.args.self.now) c.args.tree.now c.in-If.line c.in-If.condition c.in-If.then c.in-If.otherwise c.deref.result.now c.in-If.otherwise.items c.in-If.is c.deref.ensures.value refl) (fails_then _ _ c.in_err-first-in-If.field-0.0 c.in_err-first-in-If.ensures))
+pub resolve_statement-returns-in_err-then-in-If : goal.resolve_statement-returns-in_err-then-in-If
+resolve_statement-returns-in_err-then-in-If t c =
+    failed view_resolved c.from_residual.result c.in_err-then-in-If.field-0.0 _ c.from_residual.ensures.1
+    (rw (if_is (scope_in c.args.self.now) c.args.tree.now c.in-If.line c.in-If.condition c.in-If.then c.in-If.otherwise c.deref.result.now c.deref-in-If.result.now c.in-If.is c.deref.ensures.value c.deref-in-If.ensures.value) (both_fail (λ v. view_body v.items) (λ v. view_body v.items) _ _ _ _ _ c.in_err-then-in-If.field-0.0 c.resolve_body-first.ensures c.resolve_body.ensures c.in_err-then-in-If.ensures))
 
-pub resolve_statement-returns-in_err-second-in-If : goal.resolve_statement-returns-in_err-second-in-If
-resolve_statement-returns-in_err-second-in-If t c =
-    failed view_resolved c.from_residual-in_err-second-in-If.result c.in_err-second-in-If.field-0.0 _ c.from_residual-in_err-second-in-If.ensures.1
-    (rw (if_is (scope_in c.args.self.now) c.args.tree.now c.in-If.line c.in-If.condition c.in-If.then c.in-If.otherwise c.deref.result.now c.deref-in-If.result.now c.in-If.is c.deref.ensures.value c.deref-in-If.ensures.value, c.in_ok-first-in-If.ensures) (fails_then _ _ c.in_err-second-in-If.field-0.0 c.in_err-second-in-If.ensures))
-
-pub resolve_statement-returns-in_ok-second-in-If : goal.resolve_statement-returns-in_ok-second-in-If
-resolve_statement-returns-in_ok-second-in-If t c =
-    rw (if_is (scope_in c.args.self.now) c.args.tree.now c.in-If.line c.in-If.condition c.in-If.then c.in-If.otherwise c.deref.result.now c.deref-in-If.result.now c.in-If.is c.deref.ensures.value c.deref-in-If.ensures.value, c.in_ok-first-in-If.ensures, c.in_ok-second-in-If.ensures)
+pub resolve_statement-returns-in_ok-then-in-If : goal.resolve_statement-returns-in_ok-then-in-If
+resolve_statement-returns-in_ok-then-in-If t c =
+    rw (if_is (scope_in c.args.self.now) c.args.tree.now c.in-If.line c.in-If.condition c.in-If.then c.in-If.otherwise c.deref.result.now c.deref-in-If.result.now c.in-If.is c.deref.ensures.value c.deref-in-If.ensures.value, next_made (λ v. view_body v.items) _ _ _ c.resolve_body-first.ensures c.in_ok-then-in-If.ensures.0, next_made (λ v. view_body v.items) _ _ _ c.resolve_body.ensures c.in_ok-then-in-If.ensures.1)
     c.resolve_if.ensures
 
-pub resolve_statement-returns-in_err-first-in-FindIf : goal.resolve_statement-returns-in_err-first-in-FindIf
-resolve_statement-returns-in_err-first-in-FindIf t c =
-    failed view_resolved c.from_residual-in_err-first-in-FindIf.result c.in_err-first-in-FindIf.field-0.0 _ c.from_residual-in_err-first-in-FindIf.ensures.1
-    (rw (find_if_is (scope_in c.args.self.now) c.args.tree.now c.in-FindIf.line c.in-FindIf.head c.in-FindIf.outcome c.in-FindIf.then c.in-FindIf.otherwise c.deref-in-FindIf.result.now c.in-FindIf.otherwise.items c.in-FindIf.is c.deref-in-FindIf.ensures.value refl) (fails_then _ _ c.in_err-first-in-FindIf.field-0.0 c.in_err-first-in-FindIf.ensures))
+pub resolve_statement-returns-in_err-then-in-FindIf : goal.resolve_statement-returns-in_err-then-in-FindIf
+resolve_statement-returns-in_err-then-in-FindIf t c =
+    failed view_resolved c.from_residual-in_err-then-in-FindIf.result c.in_err-then-in-FindIf.field-0.0 _ c.from_residual-in_err-then-in-FindIf.ensures.1
+    (rw (find_if_is (scope_in c.args.self.now) c.args.tree.now c.in-FindIf.line c.in-FindIf.head c.in-FindIf.outcome c.in-FindIf.then c.in-FindIf.otherwise c.deref-in-FindIf.result.now c.deref-in-FindIf-2.result.now c.in-FindIf.is c.deref-in-FindIf.ensures.value c.deref-in-FindIf-2.ensures.value) (both_fail (λ v. view_body v.items) (λ v. view_body v.items) _ _ _ _ _ c.in_err-then-in-FindIf.field-0.0 c.resolve_body-first-in-FindIf.ensures c.resolve_body-in-FindIf.ensures c.in_err-then-in-FindIf.ensures))
 
-pub resolve_statement-returns-in_err-second-in-FindIf : goal.resolve_statement-returns-in_err-second-in-FindIf
-resolve_statement-returns-in_err-second-in-FindIf t c =
-    failed view_resolved c.from_residual-in_err-second-in-FindIf.result c.in_err-second-in-FindIf.field-0.0 _ c.from_residual-in_err-second-in-FindIf.ensures.1
-    (rw (find_if_is (scope_in c.args.self.now) c.args.tree.now c.in-FindIf.line c.in-FindIf.head c.in-FindIf.outcome c.in-FindIf.then c.in-FindIf.otherwise c.deref-in-FindIf.result.now c.deref-in-FindIf-2.result.now c.in-FindIf.is c.deref-in-FindIf.ensures.value c.deref-in-FindIf-2.ensures.value, c.in_ok-first-in-FindIf.ensures) (fails_then _ _ c.in_err-second-in-FindIf.field-0.0 c.in_err-second-in-FindIf.ensures))
-
-pub resolve_statement-returns-in_ok-second-in-FindIf : goal.resolve_statement-returns-in_ok-second-in-FindIf
-resolve_statement-returns-in_ok-second-in-FindIf t c =
-    rw (find_if_is (scope_in c.args.self.now) c.args.tree.now c.in-FindIf.line c.in-FindIf.head c.in-FindIf.outcome c.in-FindIf.then c.in-FindIf.otherwise c.deref-in-FindIf.result.now c.deref-in-FindIf-2.result.now c.in-FindIf.is c.deref-in-FindIf.ensures.value c.deref-in-FindIf-2.ensures.value, c.in_ok-first-in-FindIf.ensures, c.in_ok-second-in-FindIf.ensures)
+pub resolve_statement-returns-in_ok-then-in-FindIf : goal.resolve_statement-returns-in_ok-then-in-FindIf
+resolve_statement-returns-in_ok-then-in-FindIf t c =
+    rw (find_if_is (scope_in c.args.self.now) c.args.tree.now c.in-FindIf.line c.in-FindIf.head c.in-FindIf.outcome c.in-FindIf.then c.in-FindIf.otherwise c.deref-in-FindIf.result.now c.deref-in-FindIf-2.result.now c.in-FindIf.is c.deref-in-FindIf.ensures.value c.deref-in-FindIf-2.ensures.value, next_made (λ v. view_body v.items) _ _ _ c.resolve_body-first-in-FindIf.ensures c.in_ok-then-in-FindIf.ensures.0, next_made (λ v. view_body v.items) _ _ _ c.resolve_body-in-FindIf.ensures c.in_ok-then-in-FindIf.ensures.1)
     c.resolve_find_by.ensures
 
 pub resolve_statement-returns-in_err-first-in-Loop : goal.resolve_statement-returns-in_err-first-in-Loop
@@ -49,11 +39,11 @@ pub resolve_body-loop-tree-init : goal.resolve_body-loop-tree-init
 resolve_body-loop-tree-init t c =
     no_statements (scope_in c.args.self.now) c.new-resolved.result.items c.new-resolved.ensures.items
 
-pub resolve_body-returns-in_err-one : goal.resolve_body-returns-in_err-one
-resolve_body-returns-in_err-one t c =
-    failed _ c.from_residual.result c.in_err-one.field-0.0 _ c.from_residual.ensures.1
-    (statements_fail (scope_in c.args.self.now) c.args.trees.now c.loop-tree.tree-index c.tree-item.result c.in_err-one.field-0.0 c.loop-tree-test.true c.tree-item.is c.in_err-one.ensures)
+pub resolve_body-returns-in_err-resolved : goal.resolve_body-returns-in_err-resolved
+resolve_body-returns-in_err-resolved t c =
+    failed _ c.from_residual.result c.in_err-resolved.field-0.0 _ c.from_residual.ensures.1
+    (statements_fail (scope_in c.args.self.now) c.args.trees.now c.loop-tree.tree-index c.tree-item.result c.in_err-resolved.field-0.0 c.loop-tree-test.true c.tree-item.is (after_failed view_resolved c.loop-tree.resolved _ _ c.in_err-resolved.field-0.0 c.resolve_statement.ensures c.in_err-resolved.ensures))
 
 pub resolve_body-loop-tree-preserved : goal.resolve_body-loop-tree-preserved
 resolve_body-loop-tree-preserved t c =
-    statements_next (scope_in c.args.self.now) c.args.trees.now c.loop-tree.tree-index c.tree-item.result c.loop-tree.resolved.items c.push.new.self.items c.in_ok-one.one c.loop-tree-test.true c.tree-item.is c.in_ok-push.ensures.items c.loop-tree.invariant c.in_ok-one.ensures
+    statements_next (scope_in c.args.self.now) c.args.trees.now c.loop-tree.tree-index c.tree-item.result c.loop-tree.resolved.items c.in_ok-resolved.resolved.items c.in_ok-resolved.ensures.0 c.loop-tree-test.true c.tree-item.is c.in_ok-resolved.ensures.2 c.loop-tree.invariant (next_made view_resolved _ _ _ c.resolve_statement.ensures c.in_ok-resolved.ensures.1)

@@ -1,5 +1,5 @@
 use Rattle.std.proofs.Common.{refl, subst}
-use Rattle.ss_program.specs.View.{view_expression as view_resolved, view_option}
+use Rattle.ss_program.specs.View.{view_expression as view_resolved}
 use Rattle.ss_program.specs.Views.{with_operation}
 use Rattle.std.specs.List.{fold}
 use Rattle.ss_names_meaning.specs.Answers.{Gives}
@@ -8,6 +8,7 @@ use Rattle.ss_names_meaning.proofs.Steps.{failed, fails_then}
 use Rattle.ss_check_bodies.specs.Results.{scope_in}
 use Rattle.ss_check_bodies.proofs.Trees.{named_is, call_is, product_fails, sum_fails, product_made, sum_made, subscript_is, subscripts_none, one_is, not_one, two_is, less_than_two, more_than_two, factors_fail, terms_fail, no_factors, no_terms, factors_next, terms_next}
 use Rattle.ss_check_bodies.proofs.resolver.Resolver.+resolving.Goals as goal
+use Rattle.std.specs.Option.{option_map}
 
 pub resolve_expression-returns-in_err-further-in-Product : goal.resolve_expression-returns-in_err-further-in-Product
 resolve_expression-returns-in_err-further-in-Product t c =
@@ -60,7 +61,7 @@ resolve_one-returns-in-len2-up t c = not_one (scope_in c.args.self.now) c.args.a
 
 pub resolve_subscript-returns-in_err-entity-in-len1 : goal.resolve_subscript-returns-in_err-entity-in-len1
 resolve_subscript-returns-in_err-entity-in-len1 t c =
-    failed (view_option view_resolved) c.from_residual.result c.in_err-entity-in-len1.field-0.0 _ c.from_residual.ensures.1
+    failed (option_map view_resolved) c.from_residual.result c.in_err-entity-in-len1.field-0.0 _ c.from_residual.ensures.1
     (rw (subscript_is (scope_in c.args.self.now) c.args.subscripts.now c.only-item.result c.in-len1.len_at_least c.in-len1.len_below c.only-item.is)
     (fails_then _ _ c.in_err-entity-in-len1.field-0.0 c.in_err-entity-in-len1.ensures))
 

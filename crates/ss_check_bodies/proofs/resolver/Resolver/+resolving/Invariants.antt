@@ -1,7 +1,7 @@
 use Rattle.std.proofs.Common.{◌≡◌, map, take, Some}
 use Rattle.std.specs.List.{fold}
 use Rattle.ss_tree.specs.Tree.{expression_row, term_row}
-use Rattle.ss_tree.specs.View.{view_expression, view_term}
+use Rattle.ss_tree.specs.View.{view_expression_tree, view_term}
 use Rattle.ss_program.specs.Program.{Expression}
 use Rattle.ss_program.specs.Views.{with_operation}
 use Rattle.ss_names_meaning.specs.Expressions.{factors, terms}
@@ -9,7 +9,7 @@ use Rattle.ss_check_bodies.specs.Results.{scope_in}
 use Rattle.ss_check_bodies.proofs.resolver.Resolver.+resolving.Given as goal
 
 abbrev pub invariant-resolve_factors-loop-tree : goal.invariant-resolve_factors-loop-tree
-invariant-resolve_factors-loop-tree l = (left : Expression) → factors (scope_in l.self) left (expression_row (map view_expression (take l.tree-index l.trees))) ≡ Some (fold with_operation left l.operations.items)
+invariant-resolve_factors-loop-tree l = (left : Expression) → factors (scope_in l.self) left (expression_row (map view_expression_tree (take l.tree-index l.trees))) ≡ Some (fold with_operation left l.operations.items)
 
 abbrev pub invariant-resolve_terms-loop-tree : goal.invariant-resolve_terms-loop-tree
 invariant-resolve_terms-loop-tree l = (left : Expression) → terms (scope_in l.self) left (term_row (map view_term (take l.tree-index l.trees))) ≡ Some (fold with_operation left l.operations.items)

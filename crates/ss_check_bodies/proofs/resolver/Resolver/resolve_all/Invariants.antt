@@ -1,5 +1,5 @@
 use Rattle.std.proofs.Common.{◌≡◌, map, take, Some}
-use Rattle.ss_tree.specs.View.{view_expression}
+use Rattle.ss_tree.specs.View.{view_expression_tree}
 use Rattle.ss_program.specs.View.{view_expression as view_resolved}
 use Rattle.ss_names_meaning.specs.Answers.{each}
 use Rattle.ss_names_meaning.specs.Expressions.{expression}
@@ -7,4 +7,4 @@ use Rattle.ss_check_bodies.specs.Results.{scope_in}
 use Rattle.ss_check_bodies.proofs.resolver.Resolver.resolve_all.Given as goal
 
 abbrev pub invariant-loop-tree : goal.invariant-loop-tree
-invariant-loop-tree l = each (expression (scope_in l.self)) (map view_expression (take l.tree-index l.trees)) ≡ Some (map view_resolved l.resolved.items)
+invariant-loop-tree l = each (expression (scope_in l.self)) (map view_expression_tree (take l.tree-index l.trees)) ≡ Some (map view_resolved l.resolved.items)

@@ -1,19 +1,16 @@
-use Rattle.ss_tree.specs.View.{view_guard}
-use Rattle.ss_program.specs.View.{view_guard as guard_seen}
-use Rattle.ss_names_meaning.specs.Heads.{guard}
 use Rattle.ss_names_meaning.proofs.Each.{no_items, each_fails, each_next}
 use Rattle.ss_names_meaning.proofs.Steps.{failed}
-use Rattle.ss_check_bodies.specs.Results.{scope_in}
+use Rattle.ss_check_bodies.proofs.Seen.{after_failed, next_made}
 use Rattle.ss_check_bodies.proofs.resolver.Resolver.resolve_guards.Goals as goal
 
 pub loop-tree-init : goal.loop-tree-init
-loop-tree-init c = no_items (guard (scope_in c.args.self.now)) guard_seen c.new-resolved.result.items c.new-resolved.ensures.items
+loop-tree-init c = no_items _ _ c.new-resolved.result.items c.new-resolved.ensures.items
 
-pub returns-in_err-one : goal.returns-in_err-one
-returns-in_err-one c =
-    failed _ c.from_residual.result c.in_err-one.field-0.0 _ c.from_residual.ensures.1
-    (each_fails (guard (scope_in c.args.self.now)) view_guard c.args.trees.now c.loop-tree.tree-index c.tree-item.result c.in_err-one.field-0.0 c.loop-tree-test.true c.tree-item.is c.in_err-one.ensures)
+pub returns-in_err-resolved : goal.returns-in_err-resolved
+returns-in_err-resolved c =
+    failed _ c.from_residual.result c.in_err-resolved.field-0.0 _ c.from_residual.ensures.1
+    (each_fails _ _ c.args.trees.now c.loop-tree.tree-index c.tree-item.result c.in_err-resolved.field-0.0 c.loop-tree-test.true c.tree-item.is (after_failed _ c.loop-tree.resolved _ _ c.in_err-resolved.field-0.0 c.resolve_guard.ensures c.in_err-resolved.ensures))
 
 pub loop-tree-preserved : goal.loop-tree-preserved
 loop-tree-preserved c =
-    each_next (guard (scope_in c.args.self.now)) view_guard guard_seen c.args.trees.now c.loop-tree.tree-index c.tree-item.result c.loop-tree.resolved.items c.push.new.self.items c.in_ok-one.one c.loop-tree-test.true c.tree-item.is c.in_ok-push.ensures.items c.loop-tree.invariant c.in_ok-one.ensures
+    each_next _ _ _ c.args.trees.now c.loop-tree.tree-index c.tree-item.result c.loop-tree.resolved.items c.in_ok-resolved.resolved.items c.in_ok-resolved.ensures.0 c.loop-tree-test.true c.tree-item.is c.in_ok-resolved.ensures.2 c.loop-tree.invariant (next_made _ _ _ _ c.resolve_guard.ensures c.in_ok-resolved.ensures.1)

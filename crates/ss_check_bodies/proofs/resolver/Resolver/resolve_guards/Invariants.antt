@@ -1,5 +1,5 @@
 use Rattle.std.proofs.Common.{◌≡◌, map, take, Some}
-use Rattle.ss_tree.specs.View.{view_guard}
+use Rattle.ss_tree.specs.View.{view_guard_tree}
 use Rattle.ss_program.specs.View.{view_guard as guard_seen}
 use Rattle.ss_names_meaning.specs.Answers.{each}
 use Rattle.ss_names_meaning.specs.Heads.{guard}
@@ -7,4 +7,4 @@ use Rattle.ss_check_bodies.specs.Results.{scope_in}
 use Rattle.ss_check_bodies.proofs.resolver.Resolver.resolve_guards.Given as goal
 
 abbrev pub invariant-loop-tree : goal.invariant-loop-tree
-invariant-loop-tree l = each (guard (scope_in l.self)) (map view_guard (take l.tree-index l.trees)) ≡ Some (map guard_seen l.resolved.items)
+invariant-loop-tree l = each (guard (scope_in l.self)) (map view_guard_tree (take l.tree-index l.trees)) ≡ Some (map guard_seen l.resolved.items)

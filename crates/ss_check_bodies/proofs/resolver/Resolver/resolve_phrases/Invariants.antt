@@ -1,5 +1,5 @@
 use Rattle.std.proofs.Common.{◌≡◌, map, take, Some}
-use Rattle.ss_tree.specs.View.{view_phrase}
+use Rattle.ss_tree.specs.View.{view_phrase_tree}
 use Rattle.ss_program.specs.View.{view_phrase as phrase_seen}
 use Rattle.ss_names_meaning.specs.Answers.{each}
 use Rattle.ss_names_meaning.specs.Heads.{resolved_phrase}
@@ -7,4 +7,4 @@ use Rattle.ss_check_bodies.specs.Results.{scope_in}
 use Rattle.ss_check_bodies.proofs.resolver.Resolver.resolve_phrases.Given as goal
 
 abbrev pub invariant-loop-tree : goal.invariant-loop-tree
-invariant-loop-tree l = each (resolved_phrase (scope_in l.self)) (map view_phrase (take l.tree-index l.trees)) ≡ Some (map phrase_seen l.resolved.items)
+invariant-loop-tree l = each (resolved_phrase (scope_in l.self)) (map view_phrase_tree (take l.tree-index l.trees)) ≡ Some (map phrase_seen l.resolved.items)

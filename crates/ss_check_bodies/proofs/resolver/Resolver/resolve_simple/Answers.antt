@@ -2,7 +2,6 @@ use Rattle.std.proofs.Common.{map, ap, subst, ◌∙◌}
 use Rattle.ss_program.specs.View.{view_item, view_statement as view_resolved}
 use Rattle.ss_names_meaning.specs.Answers.{Gives}
 use Rattle.ss_names_meaning.proofs.Steps.{failed}
-use Rattle.ss_check_bodies.specs.Results.{scope_in}
 use Rattle.ss_check_bodies.proofs.Nested.{find_is, lines_of, print_fails, print_made}
 use Rattle.ss_check_bodies.proofs.Seen.{next_failed, next_made}
 use Rattle.ss_check_bodies.proofs.resolver.Resolver.resolve_simple.Goals as goal
@@ -10,12 +9,12 @@ use Rattle.ss_check_bodies.proofs.resolver.Resolver.resolve_simple.Goals as goal
 pub returns-in_err-pictures-in-Print : goal.returns-in_err-pictures-in-Print
 returns-in_err-pictures-in-Print c =
     failed view_resolved c.from_residual-in_err-pictures-in-Print.result c.in_err-pictures-in-Print.field-0.0 _ c.from_residual-in_err-pictures-in-Print.ensures.1
-    (print_fails (scope_in c.args.self.now) c.args.tree.now c.in-Print.line c.in-Print.items c.in-Print.pictures c.deref-in-Print-2.result.now c.in_err-pictures-in-Print.field-0.0
+    (print_fails _ c.args.tree.now c.in-Print.line c.in-Print.items c.in-Print.pictures c.deref-in-Print-2.result.now c.in_err-pictures-in-Print.field-0.0
     c.in-Print.is c.deref-in-Print-2.ensures.value (next_failed (λ v. map view_item v.items) c.resolve_items.result _ _ c.resolve_items.ensures c.in_err-pictures-in-Print.ensures))
 
 pub returns-in_ok-pictures-in-Print : goal.returns-in_ok-pictures-in-Print
 returns-in_ok-pictures-in-Print c =
-    print_made (scope_in c.args.self.now) c.args.tree.now c.in-Print.line c.in-Print.items c.in-Print.pictures c.deref-in-Print-2.result.now c.deref-in-Print.result.now
+    print_made _ c.args.tree.now c.in-Print.line c.in-Print.items c.in-Print.pictures c.deref-in-Print-2.result.now c.deref-in-Print.result.now
     c.in_ok-pictures-in-Print.items c.in_ok-pictures-in-Print.pictures c.in-Print.is c.deref-in-Print-2.ensures.value c.deref-in-Print.ensures.value
     (next_made (λ v. map view_item v.items) c.resolve_items.result _ _ c.resolve_items.ensures c.in_ok-pictures-in-Print.ensures.1)
     (ap lines_of c.in_ok-pictures-in-Print.ensures.0 ∙ c.in_ok-lines-in-Print.ensures)
@@ -23,5 +22,5 @@ returns-in_ok-pictures-in-Print c =
 pub returns-in-Find : goal.returns-in-Find
 returns-in-Find c =
     subst (λ s. Gives view_resolved c.resolve_find.result s)
-    (find_is (scope_in c.args.self.now) c.args.tree.now c.in-Find.line c.in-Find.head c.new-found.result c.new-none.result c.in-Find.is c.new-found.ensures.items c.new-none.ensures.items)
+    (find_is _ c.args.tree.now c.in-Find.line c.in-Find.head c.new-found.result c.new-none.result c.in-Find.is c.new-found.ensures.items c.new-none.ensures.items)
     c.resolve_find.ensures

@@ -1,5 +1,5 @@
 use Rattle.std.proofs.Common.{◌≡◌, map, take, Some}
-use Rattle.ss_tree.specs.View.{view_test}
+use Rattle.ss_tree.specs.View.{view_test_tree}
 use Rattle.ss_program.specs.View.{view_test as test_seen}
 use Rattle.ss_names_meaning.specs.Answers.{each}
 use Rattle.ss_names_meaning.specs.Conditions.{one_test}
@@ -7,4 +7,4 @@ use Rattle.ss_check_bodies.specs.Results.{scope_in}
 use Rattle.ss_check_bodies.proofs.resolver.Resolver.resolve_tests.Given as goal
 
 abbrev pub invariant-loop-tree : goal.invariant-loop-tree
-invariant-loop-tree l = each (one_test (scope_in l.self)) (map view_test (take l.tree-index l.trees)) ≡ Some (map test_seen l.resolved.items)
+invariant-loop-tree l = each (one_test (scope_in l.self)) (map view_test_tree (take l.tree-index l.trees)) ≡ Some (map test_seen l.resolved.items)

@@ -1,12 +1,11 @@
-use Rattle.std.proofs.Common.{◌≡◌, take}
-use Rattle.std.specs.Global.{Box}
-use Rattle.ss_program.specs.declared.expression.Expression as expressions
-use Rattle.ss_program.specs.declared.expression.Expression.TheVariants as variants
-use Rattle.ss_program.specs.View.{view_expression}
-use Rattle.ss_code_generator.specs.Calculations.{folded}
-use Rattle.ss_code_generator.specs.Emitted.{Reads}
+use Rattle.std.proofs.Common.{take}
+use Rattle.ss_program.specs.Program.{Expression}
+use Rattle.ss_code_pieces.specs.Lined.{Lined}
+use Rattle.ss_code_generator.specs.declared.generator.Generator.{Generator}
+use Rattle.ss_code_generator.specs.Calculations.{with_operations}
+use Rattle.ss_code_generator.specs.Emitted.{ReadsOperand}
 use Rattle.ss_code_generator.proofs.generator.Generator.+expressions.Given as goal
 
-abbrev pub invariant-expression-loop-i : goal.invariant-expression-loop-i
-invariant-expression-loop-i l =
-    (b : Box expressions.Expression) × (l.e ≡ variants.Calculate b l.further) × Reads l.fn.self l.self l.fn.code l.code l.site (folded (view_expression b.value) (take l.i l.further.items)) l.left
+abbrev pub invariant-work_off-loop-i : goal.invariant-work_off-loop-i
+invariant-work_off-loop-i l =
+    (old : Generator) (before : Lined) (e : Expression) → ReadsOperand old l.fn.self before l.fn.code l.site e l.fn.left → ReadsOperand old l.self before l.code l.site (with_operations e (take l.i l.further)) l.left

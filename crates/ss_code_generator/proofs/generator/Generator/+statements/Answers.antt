@@ -12,7 +12,6 @@ use Rattle.ss_code_instructions.specs.Translation.{place, height, after_values, 
 use Rattle.ss_code_generator.specs.declared.generator.Site.{Site as Here}
 use Rattle.ss_code_generator.specs.Notices.{simulate_code}
 use Rattle.ss_code_generator.specs.Printed.{line_or_none, EmitsBlock}
-use Rattle.ss_code_generator.proofs.Emitting.{both_ok}
 use Rattle.ss_code_generator.proofs.Bodies.{let_seen, change_seen, call_seen, return_seen, stop_seen, read_seen, simulate_seen, create_seen, create_every_seen, destroy_seen, file_seen, remove_end_seen, remove_seen, schedule_new_seen, schedule_seen, cancel_seen, reset_seen, print_seen, skip_seen, said, put_said, loop_said, for_said, if_said, find_said, print_said, body_none, body_more}
 use Rattle.ss_code_generator.proofs.generator.Generator.+statements.Goals as goal
 
@@ -38,17 +37,17 @@ pub statement-returns-in-Return : goal.statement-returns-in-Return
 statement-returns-in-Return t' c =
     let i' = c.in-Return in
     let site : Here = record { line = c.line_of.result; height = c.args.height } in
-    both_ok c.put.result c.put.ensures.instructions c.put.ensures.lines (λ is ls.
+    on_ok_weaker c.put.result (λ is.
     said c.args.self.now c.args.self.now c.args.code.now c.put.new.code c.args.height c.line_of.result c.args.prints.now.items c.args.s.now _ _ (λ k. Unit {0}) (λ t. place t i.Leave ∷ [])
-    (put_said c.args.self.now c.args.code.now c.put.new.code site i.Leave _ is ls (λ f t. refl) (λ f t. tt)) i'.is return_seen c.line_of.ensures (λ k h. tt) refl (λ first t. refl))
+    (put_said c.args.self.now c.args.code.now c.put.new.code site i.Leave _ is (λ f t. refl) (λ f t. tt)) i'.is return_seen c.line_of.ensures (λ k h. tt) refl (λ first t. refl)) c.put.ensures
 
 pub statement-returns-in-Stop : goal.statement-returns-in-Stop
 statement-returns-in-Stop t' c =
     let i' = c.in-Stop in
     let site : Here = record { line = c.line_of.result; height = c.args.height } in
-    both_ok c.put-in-Stop.result c.put-in-Stop.ensures.instructions c.put-in-Stop.ensures.lines (λ is ls.
+    on_ok_weaker c.put-in-Stop.result (λ is.
     said c.args.self.now c.args.self.now c.args.code.now c.put-in-Stop.new.code c.args.height c.line_of.result c.args.prints.now.items c.args.s.now _ _ (λ k. Unit {0}) (λ t. place t i.Halt ∷ [])
-    (put_said c.args.self.now c.args.code.now c.put-in-Stop.new.code site i.Halt _ is ls (λ f t. refl) (λ f t. tt)) i'.is stop_seen c.line_of.ensures (λ k h. tt) refl (λ first t. refl))
+    (put_said c.args.self.now c.args.code.now c.put-in-Stop.new.code site i.Halt _ is (λ f t. refl) (λ f t. tt)) i'.is stop_seen c.line_of.ensures (λ k h. tt) refl (λ first t. refl)) c.put-in-Stop.ensures
 
 pub statement-returns-in-Read : goal.statement-returns-in-Read
 statement-returns-in-Read t' c =
@@ -144,8 +143,8 @@ statement-returns-in_ok-second-in-If t' c =
     let seen : view_statement c.args.s.now ≡ p.If i'.line (view_condition i'.condition) a b = ap view_statement i'.is ∙ view_if_made i'.line i'.condition i'.then i'.otherwise in
     let one = c.in_ok-first-in-If in
     let two = c.in_ok-second-in-If in
-    rw seen (on_ok_weaker c.branches.result
-    (if_said c.args.self.now c.body.new.self c.body-in-If.new.self c.args.height one.first two.second c.args.prints.now.items c.body.new.prints.items c.body-in-If.new.prints.items a b (rw c.deref-in-If.ensures.value at one.ensures) (rw c.deref-in-If-2.ensures.value at two.ensures) c.branches.new.self c.args.code.now c.branches.new.code c.line_of.result i'.line (view_condition i'.condition) (c.line_of.ensures ∙ ap line_or_none seen)) c.branches.ensures)
+    rw (seen, ← (c.line_of.ensures ∙ ap line_or_none seen)) (on_ok_weaker c.branches.result
+    (if_said c.args.self.now c.body.new.self c.body-in-If.new.self c.args.height one.first two.second c.args.prints.now.items c.body.new.prints.items c.body-in-If.new.prints.items a b (rw c.deref-in-If.ensures.value at one.ensures) (rw c.deref-in-If-2.ensures.value at two.ensures) c.branches.new.self c.args.code.now c.branches.new.code c.line_of.result (view_condition i'.condition)) c.branches.ensures)
 
 pub statement-returns-in_ok-turn-in-Loop : goal.statement-returns-in_ok-turn-in-Loop
 statement-returns-in_ok-turn-in-Loop t' c =
@@ -153,21 +152,14 @@ statement-returns-in_ok-turn-in-Loop t' c =
     let a = view_body i'.body.items in
     let gs = map view_guard i'.guards.items in
     let seen : view_statement c.args.s.now ≡ p.Loop i'.line gs a = ap view_statement i'.is ∙ view_loop_made i'.line i'.guards i'.body in
-    let turn = c.in_ok-turn-in-Loop in
-    rw seen (on_ok_weaker c.guarded_loop.result
-    (loop_said c.args.self.now c.body-in-Loop.new.self c.args.height turn.turn c.args.prints.now.items c.body-in-Loop.new.prints.items a (rw c.deref-in-Loop.ensures.value at turn.ensures) c.guarded_loop.new.self c.args.code.now c.guarded_loop.new.code c.line_of.result i'.line gs (c.line_of.ensures ∙ ap line_or_none seen))
-    (rw c.deref-in-Loop-2.ensures.value at c.guarded_loop.ensures))
+    rw (seen, ← (c.line_of.ensures ∙ ap line_or_none seen)) (on_ok_weaker c.guarded_loop.result
+    (loop_said c.args.self.now c.body-in-Loop.new.self c.args.height c.in_ok-turn-in-Loop.turn c.args.prints.now.items c.body-in-Loop.new.prints.items a (rw c.deref-in-Loop.ensures.value at c.in_ok-turn-in-Loop.ensures) c.guarded_loop.new.self c.args.code.now c.guarded_loop.new.code c.line_of.result gs) (rw c.deref-in-Loop-2.ensures.value at c.guarded_loop.ensures))
 
-pub statement-returns-in_ok-turn-in-For : goal.statement-returns-in_ok-turn-in-For
-statement-returns-in_ok-turn-in-For t' c =
+pub statement-returns-in-For : goal.statement-returns-in-For
+statement-returns-in-For t' c =
     let i' = c.in-For in
-    let a = view_body i'.body.items in
-    let ps = map view_phrase i'.phrases.items in
-    let seen : view_statement c.args.s.now ≡ p.For i'.line (view_head i'.head) ps a = ap view_statement i'.is ∙ view_for_made i'.line i'.head i'.phrases i'.body in
-    let inner = c.in_ok-inner-in-For in
-    let turn = c.in_ok-turn-in-For in
-    rw seen (on_ok_weaker c.for_loop.result
-    (for_said c.args.self.now c.reach.new.self c.body-in-For.new.self c.phrases.new.self c.for_loop.new.self c.args.code.now c.for_loop.new.code inner.inner turn.turn c.args.height c.above-above.result c.args.prints.now.items c.body-in-For.new.prints.items c.line_of.result i'.line (view_head i'.head) ps a c.cells_of.result (c.line_of.ensures ∙ ap line_or_none seen) c.cells_of.ensures c.above-above.ensures.line c.above-above.ensures.height c.reach.ensures.grows c.reach.ensures.room (rw c.deref-in-For.ensures.value at inner.ensures) (rw c.deref-in-For-2.ensures.value at turn.ensures)) c.for_loop.ensures)
+    let seen : view_statement c.args.s.now ≡ p.For i'.line (view_head i'.head) (map view_phrase i'.phrases.items) (view_body i'.body.items) = ap view_statement i'.is ∙ view_for_made i'.line i'.head i'.phrases i'.body in
+    rw (seen, ← (c.line_of.ensures ∙ ap line_or_none seen)) (rw (c.deref-in-For.ensures.value, c.deref-in-For-2.ensures.value) at c.for_statement.ensures)
 
 pub statement-returns-in_ok-second-in-Find : goal.statement-returns-in_ok-second-in-Find
 statement-returns-in_ok-second-in-Find t' c =
@@ -178,9 +170,14 @@ statement-returns-in_ok-second-in-Find t' c =
     let seen : view_statement c.args.s.now ≡ p.Find i'.line (view_head i'.head) ps a b = ap view_statement i'.is ∙ view_find_made i'.line i'.head i'.phrases i'.found i'.none in
     let one = c.in_ok-first-in-Find in
     let two = c.in_ok-second-in-Find in
-    rw seen (on_ok_weaker c.find.result
-    (find_said c.args.self.now c.body-in-Find.new.self c.body-in-Find-2.new.self c.args.height one.first two.second c.args.prints.now.items c.body-in-Find.new.prints.items c.body-in-Find-2.new.prints.items a b (rw c.deref-in-Find.ensures.value at one.ensures) (rw c.deref-in-Find-2.ensures.value at two.ensures) c.find.new.self c.args.code.now c.find.new.code c.line_of.result i'.line (view_head i'.head) ps (c.line_of.ensures ∙ ap line_or_none seen))
+    rw (seen, ← (c.line_of.ensures ∙ ap line_or_none seen)) (on_ok_weaker c.find.result
+    (find_said c.args.self.now c.body-in-Find.new.self c.body-in-Find-2.new.self c.args.height one.first two.second c.args.prints.now.items c.body-in-Find.new.prints.items c.body-in-Find-2.new.prints.items a b (rw c.deref-in-Find.ensures.value at one.ensures) (rw c.deref-in-Find-2.ensures.value at two.ensures) c.find.new.self c.args.code.now c.find.new.code c.line_of.result (view_head i'.head) ps)
     (rw c.as_slice-phrases.ensures.value at c.find.ensures))
+
+pub for_statement-returns : goal.for_statement-returns
+for_statement-returns t' c =
+    on_ok_weaker c.for_loop.result
+    (for_said c.args.self.now c.reach.new.self c.body.new.self c.phrases.new.self c.for_loop.new.self c.args.code.now c.for_loop.new.code c.in_ok-inner.inner c.in_ok-turn.turn c.args.site.height c.above-above.result c.args.prints.now.items c.body.new.prints.items c.args.site.line (view_head c.args.head.now) (map view_phrase c.args.phrases.now) (view_body c.args.body.now) c.cells_of.result c.cells_of.ensures c.above-above.ensures.line c.above-above.ensures.height c.reach.ensures.grows c.reach.ensures.room c.in_ok-inner.ensures c.in_ok-turn.ensures) c.for_loop.ensures
 
 pub body-returns : goal.body-returns
 body-returns t' c = rw (take_all c.loop-s.s-index c.args.body.now c.loop-s-test.false) at c.loop-s.invariant

@@ -20,8 +20,7 @@ loop-i-init c =
     let drops : drop j alts ≡ x ∷ [] = next_dropped alts j x low c.index-alternatives-count.is ∙ ap (λ (k : ℕ). x ∷ drop k alts) up ∙ ap (λ (ys : List Conjunction). x ∷ ys) (drop_all n alts (omega arith)) in
     let tests = c.deref.ensures.value ∙ ap (λ (y : Conjunction). y.tests.items) (sym c.index-alternatives-count.is) in
     rw drops
-    (last_alternative c.args.self.now c.tests.new.self c.in_ok-last.last c.put_before.new.self c.args.site c.args.skip (view_conjunction x) (rw tests at c.in_ok-last.ensures)
-    (rw c.new-rest.ensures at c.in_ok-put_before.ensures.instructions) (rw c.new-rest.ensures at c.in_ok-put_before.ensures.lines))
+    (last_alternative c.args.self.now c.tests.new.self c.in_ok-last.last c.of-rest.result c.args.site c.args.skip (view_conjunction x) (rw tests at c.in_ok-last.ensures) c.of-rest.ensures)
 
 pub loop-i-preserved : goal.loop-i-preserved
 loop-i-preserved c =
@@ -38,8 +37,8 @@ loop-i-preserved c =
     let drops : drop j alts ≡ x ∷ (y ∷ rest) = next_dropped alts j x low c.index-alternatives-i.is ∙ ap (λ (k : ℕ). x ∷ drop k alts) up ∙ ap (λ (ys : List Conjunction). x ∷ ys) after in
     let tests = c.deref-in-loop-i.ensures.value ∙ ap (λ (y : Conjunction). y.tests.items) (sym c.index-alternatives-i.is) in
     rw drops
-    (alternatives_step c.args.self.now l.self c.tests-in-loop-i.new.self l.rest c.in_ok-front.front c.in_ok-jump.field-0 c.append.new.self c.put_before-in-loop-i.new.self c.args.site c.args.skip c.in_ok-as_index.field-0 (view_conjunction x) (view_conjunction y) (map view_conjunction rest) (rw after at l.invariant) (rw tests at c.in_ok-front.ensures) c.in_ok-jump.ensures (c.in_ok-as_index.ensures ∙ c.len.ensures.value)
-    c.in_ok-append.ensures.instructions c.in_ok-append.ensures.lines c.in_ok-put_before-2.ensures.instructions c.in_ok-put_before-2.ensures.lines)
+    (alternatives_step c.args.self.now l.self c.tests-in-loop-i.new.self l.rest c.in_ok-front.front c.put.new.self c.put_before.new.self c.args.site c.args.skip c.in_ok-past.past (view_conjunction x) (view_conjunction y) (map view_conjunction rest) (rw after at l.invariant) (rw tests at c.in_ok-front.ensures) (c.in_ok-past.ensures ∙ c.len.ensures.value)
+    c.in_ok-put.ensures c.in_ok-put_before.ensures)
 
 pub returns : goal.returns
 returns c =

@@ -1,7 +1,6 @@
 use Rattle.std.proofs.lemmas.Result.{on_ok_weaker}
 use Rattle.ss_program.specs.View.{view_expression}
 use Rattle.ss_code_instructions.specs.Facts.{must_look}
-use Rattle.ss_code_generator.proofs.Emitting.{both_ok}
 use Rattle.ss_code_generator.proofs.Spotted.{attribute_looked}
 use Rattle.ss_code_generator.proofs.Letting.{let_of_variable, let_of_attribute, let_of_count}
 use Rattle.ss_code_generator.proofs.generator.Generator.assignment.Goals as goal
@@ -19,9 +18,8 @@ returns-in_ok-from-in-ToAttribute c =
     let s = c.in_ok-spot-in-ToAttribute in
     let look = c.in_ok-look_if-in-ToAttribute.ensures in
     let from = c.in_ok-from-in-ToAttribute in
-    let looked = attribute_looked c.args.self.now c.attribute_spot.new.self c.args.code.now c.attribute_spot.new.code c.look_if.new.code c.args.site x.class x.field of s.spot (must_look x.class of e) s.ensures (rw c.must_look.ensures at look.instructions) (rw c.must_look.ensures at look.lines) in
-    rw x.is (both_ok c.put.result (rw c.set_of.ensures at c.put.ensures.instructions) c.put.ensures.lines
-    (let_of_attribute c.args.self.now c.attribute_spot.new.self c.operand.new.self c.args.code.now c.look_if.new.code c.operand.new.code c.put.new.self c.args.site c.above.result x.class x.field of e s.spot from.field-0 looked c.above.ensures.line c.above.ensures.height from.ensures))
+    let looked = attribute_looked c.args.self.now c.attribute_spot.new.self c.args.code.now c.attribute_spot.new.code c.look_if.new.code c.args.site x.class x.field of s.spot (must_look x.class of e) s.ensures (rw c.must_look.ensures at look) in
+    rw x.is (on_ok_weaker c.put.result (let_of_attribute c.args.self.now c.attribute_spot.new.self c.operand.new.self c.args.code.now c.look_if.new.code c.operand.new.code c.put.new.self c.args.site c.above.result x.class x.field of e s.spot from.field-0 looked c.above.ensures.line c.above.ensures.height from.ensures) (rw c.set_of.ensures at c.put.ensures))
 
 pub returns-in_ok-from-in-ToCount : goal.returns-in_ok-from-in-ToCount
 returns-in_ok-from-in-ToCount c =

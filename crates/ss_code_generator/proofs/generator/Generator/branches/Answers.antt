@@ -1,16 +1,15 @@
+use Rattle.std.proofs.lemmas.Result.{on_ok_weaker}
 use Rattle.std.proofs.Common.{◌≡◌, ◌+◌, length, ap, ◌∙◌, arith}
 use Rattle.ss_program.specs.View.{view_condition}
-use Rattle.ss_code_generator.proofs.Emitting.{both_ok}
 use Rattle.ss_code_generator.proofs.Bodies.{one_sided, two_sided}
 use Rattle.ss_code_generator.proofs.generator.Generator.branches.Goals as goal
 
 pub returns-then-len-eq0 : goal.returns-then-len-eq0
 returns-then-len-eq0 c =
-    let none : length c.args.otherwise.instructions ≡ 0 = omega (arith, c.if-len-eq0.true, c.len.ensures.value) in
-    both_ok c.put_one_side.result c.put_one_side.ensures.instructions c.put_one_side.ensures.lines
-    (one_sided c.args.self.now c.condition.new.self c.args.code.now c.put_one_side.new.code c.args.site c.args.then c.args.otherwise c.in_ok-test.test (view_condition c.args.condition.now) c.in_ok-past.past none (c.in_ok-past.ensures ∙ c.len-then-len-eq0.ensures.value) c.in_ok-test.ensures)
+    let none : length c.args.otherwise.now ≡ 0 = omega (arith, c.if-len-eq0.true, c.len.ensures.value) in
+    on_ok_weaker c.put_one_side.result (one_sided c.args.self.now c.condition.new.self c.args.code.now c.put_one_side.new.code c.args.site c.args.then.now c.args.otherwise.now c.in_ok-test.test (view_condition c.args.condition.now) c.in_ok-past.past none (c.in_ok-past.ensures ∙ c.len-then-len-eq0.ensures.value) c.in_ok-test.ensures) c.put_one_side.ensures
 
 pub returns : goal.returns
 returns c =
-    let some : length c.args.otherwise.instructions ≡ 0 → ⊥ = λ e. omega (arith, e, c.if-len-eq0.false, c.len.ensures.value) in
-    two_sided c.args.self.now c.condition-2.new.self c.args.code.now c.put_one_side-2.new.code c.put.new.self c.append.new.self c.args.site c.args.then c.args.otherwise c.in_ok-test-2.test (view_condition c.args.condition.now) c.in_ok-past-2.past c.in_ok-skip.skip some (c.in_ok-past-2.ensures ∙ ap (λ k. k + 1) c.len-2.ensures.value) c.in_ok-test-2.ensures c.in_ok-put_one_side.ensures.instructions c.in_ok-put_one_side.ensures.lines (c.in_ok-skip.ensures ∙ c.len-3.ensures.value) c.in_ok-put.ensures.instructions c.in_ok-put.ensures.lines c.in_ok-append.ensures.instructions c.in_ok-append.ensures.lines
+    let some : length c.args.otherwise.now ≡ 0 → ⊥ = λ e. omega (arith, e, c.if-len-eq0.false, c.len.ensures.value) in
+    on_ok_weaker c.append_copy.result (λ is. two_sided c.args.self.now c.condition-2.new.self c.args.code.now c.put_one_side-2.new.code c.put.new.self c.append_copy.new.self c.args.site c.args.then.now c.args.otherwise.now c.in_ok-test-2.test (view_condition c.args.condition.now) c.in_ok-past-2.past c.in_ok-skip.skip some (c.in_ok-past-2.ensures ∙ ap (λ k. k + 1) c.len-2.ensures.value) c.in_ok-test-2.ensures c.in_ok-put_one_side.ensures (c.in_ok-skip.ensures ∙ c.len-3.ensures.value) c.in_ok-put.ensures is) c.append_copy.ensures

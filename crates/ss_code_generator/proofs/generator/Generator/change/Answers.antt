@@ -1,6 +1,5 @@
 use Rattle.std.proofs.lemmas.Result.{on_ok_weaker}
 use Rattle.ss_program.specs.View.{view_expression}
-use Rattle.ss_code_generator.proofs.Emitting.{both_ok}
 use Rattle.ss_code_generator.proofs.Letting.{change_of_variable, attribute_changed, change_of_count}
 use Rattle.ss_code_generator.proofs.generator.Generator.change.Goals as goal
 
@@ -14,8 +13,7 @@ returns-in_ok-spot-in-ToAttribute c =
     let x = c.in-ToAttribute in
     let by = c.in_ok-by-in-ToAttribute in
     let s = c.in_ok-spot-in-ToAttribute in
-    rw x.is (both_ok c.put.result (rw c.change_of.ensures at c.put.ensures.instructions) c.put.ensures.lines
-    (attribute_changed c.args.self.now c.operand.new.self c.attribute_spot.new.self c.args.code.now c.operand.new.code c.attribute_spot.new.code c.put.new.self c.args.site c.above-above.result c.args.sign x.class x.field (view_expression x.of) (view_expression c.args.value.now) by.by s.spot by.ensures c.above-above.ensures.line c.above-above.ensures.height s.ensures))
+    rw x.is (on_ok_weaker c.put.result (attribute_changed c.args.self.now c.operand.new.self c.attribute_spot.new.self c.args.code.now c.operand.new.code c.attribute_spot.new.code c.put.new.self c.args.site c.above-above.result c.args.sign x.class x.field (view_expression x.of) (view_expression c.args.value.now) by.by s.spot by.ensures c.above-above.ensures.line c.above-above.ensures.height s.ensures) (rw c.change_of.ensures at c.put.ensures))
 
 pub returns-in_ok-as_index-in-ToCount : goal.returns-in_ok-as_index-in-ToCount
 returns-in_ok-as_index-in-ToCount c =

@@ -11,4 +11,4 @@ loop-counted-preserved c =
     let none : CountedClass = record { class = 0; variable = 0 } in
     let x : CountedClass = get_or xs l.counted-index none in
     let more : take (l.counted-index + 1) xs ≡ take l.counted-index xs ++ x ∷ [] = take_more xs l.counted-index none c.loop-counted-test.true in
-    rw more (creates_step c.args.self.now c.args.code.now l.code c.put.new.self c.args.site (take l.counted-index xs) x l.invariant (rw (c.in_ok-class.ensures, c.in_ok-variable.ensures) at c.in_ok-put.ensures.instructions) c.in_ok-put.ensures.lines)
+    rw more (creates_step c.args.self.now c.args.code.now l.code c.put.new.self c.args.site (take l.counted-index xs) x l.invariant (rw (c.in_ok-class.ensures, c.in_ok-variable.ensures) at c.in_ok-put.ensures))

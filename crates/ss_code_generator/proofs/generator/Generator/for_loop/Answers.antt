@@ -1,21 +1,22 @@
 use Rattle.std.proofs.Common.{ℕ, Some, ap}
 use Rattle.std.proofs.lemmas.Result.{on_ok_weaker}
 use Rattle.ss_program.specs.Program.{Each}
-use Rattle.ss_program.specs.View.{view_expression, view_option}
+use Rattle.ss_program.specs.View.{view_expression}
 use Rattle.ss_program.specs.WellTyped.{GoodHead}
 use Rattle.ss_code_instructions.specs.Translation.{for_code}
 use Rattle.ss_code_generator.specs.Looped.{item_loop_code}
 use Rattle.ss_code_generator.proofs.Testing.{around_for}
 use Rattle.ss_code_generator.proofs.Rounds.{range_looped}
 use Rattle.ss_code_generator.proofs.generator.Generator.for_loop.Goals as goal
+use Rattle.std.specs.Option.{option_map}
 
-pub returns-in_ok-range-in-Numbers : goal.returns-in_ok-range-in-Numbers
-returns-in_ok-range-in-Numbers c =
+pub returns-in-Numbers : goal.returns-in-Numbers
+returns-in-Numbers c =
     let head = c.in-Numbers in
-    rw head.is (on_ok_weaker c.item_loop.result (range_looped c.args.self.now c.range.new.self c.item_loop.new.self c.args.code.now c.range.new.code c.item_loop.new.code c.args.turn c.args.site head.variable (view_expression head.first) (view_expression head.limit) (view_option view_expression head.step) c.in_ok-range-in-Numbers.ensures) c.item_loop.ensures)
+    rw head.is (on_ok_weaker c.item_loop.result (range_looped c.args.self.now c.range.new.self c.item_loop.new.self c.args.code.now c.range.new.code c.item_loop.new.code c.args.turn c.args.site head.variable (view_expression head.first) (view_expression head.limit) (option_map view_expression head.step) c.in_ok-range-in-Numbers.ensures) c.item_loop.ensures)
 
-pub returns-in_ok-class-in-Each : goal.returns-in_ok-class-in-Each
-returns-in_ok-class-in-Each c =
+pub returns : goal.returns
+returns c =
     let x = c.in-Each.variable in
     let head = Each x c.in-Each.class in
     rw c.in-Each.is (on_ok_weaker c.item_loop-in-Each.result (λ m.

@@ -14,8 +14,8 @@ loop-i-preserved c =
     let x = c.index-guards-i.result in
     let drops : drop j gs ≡ x ∷ drop l.i gs = next_dropped gs j x low c.index-guards-i.is ∙ ap (λ (k : ℕ). x ∷ drop k gs) up in
     rw drops
-    (guards_step c.args.self.now l.self c.guard.new.self l.rest c.in_ok-front.front c.put_before-in-loop-i.new.self c.args.following c.args.site c.args.more c.in_ok-past.past (view_guard x) (map view_guard (drop l.i gs)) l.invariant c.in_ok-front.ensures
-    (c.in_ok-past.ensures ∙ ap (λ (k : ℕ). k + c.args.more) c.len.ensures.value) c.in_ok-put_before-2.ensures.instructions c.in_ok-put_before-2.ensures.lines)
+    (guards_step c.args.self.now l.self c.guard.new.self l.rest c.in_ok-front.front c.put_before.new.self c.args.following c.args.site c.args.more c.in_ok-past.past (view_guard x) (map view_guard (drop l.i gs)) l.invariant c.in_ok-front.ensures
+    (c.in_ok-past.ensures ∙ ap (λ (k : ℕ). k + c.args.more) c.len.ensures.value) c.in_ok-put_before.ensures)
 
 pub returns : goal.returns
 returns c =

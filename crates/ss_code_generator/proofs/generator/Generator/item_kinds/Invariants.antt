@@ -1,8 +1,8 @@
 use Rattle.std.proofs.Common.{◌≡◌, map, take}
 use Rattle.ss_program.specs.View.{view_item}
-use Rattle.ss_code_pieces.specs.Preamble.{scope_of}
-use Rattle.ss_code_generator.specs.Items.{kind_of}
+use Rattle.ss_code_pieces.specs.Preamble.{scope_for_modes}
+use Rattle.ss_code_generator.specs.Items.{running_kind}
 use Rattle.ss_code_generator.proofs.generator.Generator.item_kinds.Given as goal
 
 abbrev pub invariant-loop-item : goal.invariant-loop-item
-invariant-loop-item l = l.kinds.items ≡ map (kind_of (scope_of l.self.program.now l.self.locals.items)) (map view_item (take l.item-index l.items))
+invariant-loop-item l = l.kinds.items ≡ map (running_kind (scope_for_modes l.self.program.now l.self.locals.items)) (map view_item (take l.item-index l.items))

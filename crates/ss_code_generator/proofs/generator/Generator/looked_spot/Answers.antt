@@ -13,7 +13,7 @@ returns-in_ok-put-in-ToAttribute c =
     let field = c.in-ToAttribute.field in
     let e = view_expression c.in-ToAttribute.of in
     let s = c.in_ok-spot-in-ToAttribute.spot in
-    let looked = attribute_looked old new p c.attribute_spot.new.code c.put.new.self c.args.site class field e s true c.in_ok-spot-in-ToAttribute.ensures c.in_ok-put-in-ToAttribute.ensures.instructions c.in_ok-put-in-ToAttribute.ensures.lines in
+    let looked = attribute_looked old new p c.attribute_spot.new.code c.put.new.self c.args.site class field e s true c.in_ok-spot-in-ToAttribute.ensures c.in_ok-put-in-ToAttribute.ensures in
     rw c.in-ToAttribute.is (attribute_spotted old new p c.put.new.self c.args.site (λ t. entity_code t true class e) class field e s looked)
 
 pub returns-in-ToCount : goal.returns-in-ToCount

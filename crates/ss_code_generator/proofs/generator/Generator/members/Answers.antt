@@ -1,20 +1,18 @@
-use Rattle.std.proofs.Common.{refl, ◌∙◌, arith}
+use Rattle.std.proofs.Common.{◌≡◌, [], ◌∷◌, ◌++◌, refl, ◌∙◌, arith}
 use Rattle.std.proofs.lemmas.Result.{on_ok_weaker}
 use Rattle.ss_program.specs.View.{view_owner, view_start}
-use Rattle.ss_code_generator.specs.declared.loops.Walk.{Walk}
+use Rattle.ss_code_generator.specs.declared.loops.MemberLoop.{MemberLoop}
 use Rattle.ss_code_generator.specs.Looped.{is_after, begin_of}
-use Rattle.ss_code_generator.proofs.Rounds.{Puts, members_walked}
+use Rattle.ss_code_pieces.specs.Lined.{on_line}
+use Rattle.ss_code_generator.proofs.Rounds.{members_walked}
 use Rattle.ss_code_generator.proofs.generator.Generator.members.Goals as goal
 
 pub returns : goal.returns
 returns c =
-    let w : Walk = record { variable = c.in_ok-variable_spot.field-0; set = c.in_ok-as_index.field-0; owner = c.in_ok-kept.kept.address; cell = c.in_ok-place_of.field-0; reverse = c.args.of.reverse } in
-    let put : Puts c.start.new.code c.put.new.self c.args.site (begin_of w (is_after (view_start c.args.of.start.now)) c.in_ok-skip.skip) = record {
-      instructions = rw c.begin.ensures at c.in_ok-put.ensures.instructions;
-      lines = c.in_ok-put.ensures.lines;
-    } in
+    let w : MemberLoop = record { variable = c.in_ok-variable_spot.field-0; set = c.in_ok-as_index.field-0; owner = c.in_ok-kept.kept.address; cell = c.in_ok-place_of.field-0; reverse = c.args.of.reverse } in
+    let put : c.put.new.self ≡ c.start.new.code ++ on_line c.args.site.line (begin_of w (is_after (view_start c.args.of.start.now)) c.in_ok-skip.skip) ∷ [] = rw c.begin.ensures at c.in_ok-put.ensures in
     on_ok_weaker c.forget.result (λ forgets.
-    members_walked c.args.self.now c.kept_owner.new.self c.start.new.self c.reach.new.self c.args.code.now c.kept_owner.new.code c.start.new.code c.put.new.self c.append.new.self c.forget.new.code c.args.site c.above-below.result c.above-above.result w c.in_ok-kept.kept c.args.turn c.in_ok-members.members c.args.of.variable c.args.of.set (view_owner c.args.of.owner.now) (view_start c.args.of.start.now) c.args.of.reverse (record {
+    members_walked c.args.self.now c.kept_owner.new.self c.start.new.self c.reach.new.self c.args.code.now c.kept_owner.new.code c.start.new.code c.put.new.self c.append.new.self c.forget.new.code c.args.site c.above-below.result c.above-above.result w c.in_ok-kept.kept c.args.turn.now c.in_ok-members.members c.args.of.variable c.args.of.set (view_owner c.args.of.owner.now) (view_start c.args.of.start.now) c.args.of.reverse (record {
       keeps = c.in_ok-kept.ensures;
       below_line = c.above-below.ensures.line;
       below_height = c.above-below.ensures.height;
@@ -32,7 +30,7 @@ returns c =
       skip = c.in_ok-skip.skip;
       skips = c.in_ok-skip.ensures ∙ c.len.ensures.value;
       put = put;
-      joins = record { instructions = c.in_ok-append.ensures.instructions; lines = c.in_ok-append.ensures.lines };
+      joins = c.in_ok-append.ensures;
       count = c.saturating_add.result;
       counts = λ few. omega (arith, few, c.saturating_add.ensures);
       forgets = forgets;

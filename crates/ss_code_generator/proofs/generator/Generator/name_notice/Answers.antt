@@ -1,6 +1,5 @@
 use Rattle.std.proofs.lemmas.Result.{on_ok_weaker}
 use Rattle.ss_code_generator.proofs.Noticing.{variable_named, attribute_named, count_named}
-use Rattle.ss_code_generator.proofs.Emitting.{both_ok}
 use Rattle.ss_code_generator.proofs.generator.Generator.name_notice.Goals as goal
 
 pub returns-in-Variable : goal.returns-in-Variable
@@ -9,7 +8,7 @@ returns-in-Variable c =
 
 pub returns-in-Attribute : goal.returns-in-Attribute
 returns-in-Attribute c =
-    rw c.in-Attribute.is (both_ok c.put.result (rw c.set_of.ensures at c.put.ensures.instructions) c.put.ensures.lines (attribute_named c.args.self.now c.args.code.now c.put.new.self c.args.site c.args.to c.in-Attribute.attribute))
+    rw c.in-Attribute.is (on_ok_weaker c.put.result (attribute_named c.args.self.now c.args.code.now c.put.new.self c.args.site c.args.to c.in-Attribute.attribute) (rw c.set_of.ensures at c.put.ensures))
 
 pub returns-in-Count : goal.returns-in-Count
 returns-in-Count c =

@@ -4,4 +4,4 @@ use Rattle.ss_code_generator.proofs.generator.Generator.negated.Goals as goal
 
 pub returns : goal.returns
 returns c =
-    negated_made c.args.self.now c.condition.new.self c.in_ok-code.code c.in_ok-jump.field-0 c.append.new.self c.args.site c.args.skip (view_condition c.args.condition.now) c.in_ok-code.ensures c.in_ok-jump.ensures c.in_ok-append.ensures.instructions c.in_ok-append.ensures.lines
+    negated_made c.args.self.now c.condition.new.self c.in_ok-code.code c.put.new.self c.args.site c.args.skip (view_condition c.args.condition.now) c.in_ok-code.ensures c.in_ok-put.ensures

@@ -14,8 +14,8 @@ loop-i-preserved c =
     let x = c.index-phrases-i.result in
     let drops : drop j ps ≡ x ∷ drop l.i ps = next_dropped ps j x low c.index-phrases-i.is ∙ ap (λ (k : ℕ). x ∷ drop k ps) up in
     rw drops
-    (phrases_step c.args.self.now l.self c.phrase.new.self l.rest c.in_ok-front.front c.put_before-in-loop-i.new.self c.args.turn c.args.site c.in_ok-past.past (view_phrase x) (map view_phrase (drop l.i ps)) l.invariant c.in_ok-front.ensures
-    (c.in_ok-past.ensures ∙ c.len.ensures.value) c.in_ok-put_before-2.ensures.instructions c.in_ok-put_before-2.ensures.lines)
+    (phrases_step c.args.self.now l.self c.phrase.new.self l.rest c.in_ok-front.front c.put_before.new.self c.args.turn c.args.site c.in_ok-past.past (view_phrase x) (map view_phrase (drop l.i ps)) l.invariant c.in_ok-front.ensures
+    (c.in_ok-past.ensures ∙ c.len.ensures.value) c.in_ok-put_before.ensures)
 
 pub returns : goal.returns
 returns c =

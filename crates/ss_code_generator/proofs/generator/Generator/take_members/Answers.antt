@@ -4,4 +4,4 @@ use Rattle.ss_code_generator.proofs.generator.Generator.take_members.Goals as go
 
 pub returns : goal.returns
 returns c =
-    members_taken c.args.self.now c.take_item.new.code c.append.new.self c.put.new.self c.args.turn c.args.site c.args.walk c.in_ok-back.back (rw c.new-code.ensures at c.in_ok-take_item.ensures) (record { instructions = c.in_ok-append.ensures.instructions; lines = c.in_ok-append.ensures.lines }) (c.in_ok-back.ensures ∙ c.len.ensures.value) (record { instructions = c.in_ok-put.ensures.instructions; lines = c.in_ok-put.ensures.lines })
+    members_taken c.args.self.now c.take_item.new.code c.append_copy.new.self c.put.new.self c.args.turn.now c.args.site c.args.walk c.in_ok-back.back (rw c.new-code.ensures at c.in_ok-take_item.ensures) c.in_ok-append_copy.ensures (c.in_ok-back.ensures ∙ c.len.ensures.value) c.in_ok-put.ensures

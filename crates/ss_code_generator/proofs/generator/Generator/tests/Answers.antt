@@ -15,4 +15,4 @@ loop-i-preserved c =
     let drops : drop j ts ≡ x ∷ drop l.i ts = next_dropped ts j x low c.index-tests-i.is ∙ ap (λ (k : ℕ). x ∷ drop k ts) up in
     rw drops
     (tests_step c.args.self.now l.self c.test.new.self l.rest c.test.new.code c.put_before.new.self c.args.site c.args.skip c.in_ok-past.past (view_test x) (map view_test (drop l.i ts)) l.invariant (rw c.new-front.ensures at c.in_ok-test.ensures)
-    (c.in_ok-past.ensures ∙ ap (λ (k : ℕ). k + c.args.skip) c.len.ensures.value) c.in_ok-put_before.ensures.instructions c.in_ok-put_before.ensures.lines)
+    (c.in_ok-past.ensures ∙ ap (λ (k : ℕ). k + c.args.skip) c.len.ensures.value) c.in_ok-put_before.ensures)

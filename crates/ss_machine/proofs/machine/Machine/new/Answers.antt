@@ -1,5 +1,5 @@
 use Rattle.std.proofs.Common.{None, IfOk, refl, sym, subst}
-use Rattle.ss_code.specs.Running.{IsCompiled as IsGenerated}
+use Rattle.ss_code.specs.Running.{IsGenerated}
 use Rattle.ss_machine_instructions.specs.declared.state.State.{State}
 use Rattle.ss_machine.specs.Beginning.{IsFirstState}
 use Rattle.ss_machine.specs.Situations.{situated}

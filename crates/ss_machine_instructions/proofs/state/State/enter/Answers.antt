@@ -2,7 +2,7 @@ use Rattle.std.proofs.Common.{rules, arith, ◌≤◌, length, ap, refl}
 use Rattle.ss_machine_frames.specs.Rows.{TwoRows}
 use Rattle.ss_machine_frames.proofs.Entering.{cleared_long}
 use Rattle.ss_machine_instructions.specs.declared.state.State.{State}
-use Rattle.ss_machine_instructions.specs.Entered.{IsRefused}
+use Rattle.ss_machine_instructions.specs.Entered.{IsOutOfMemory}
 use Rattle.ss_machine_instructions.proofs.Calling.{on_err, cleared_from}
 use Rattle.ss_machine_instructions.proofs.state.State.enter.Goals as goal
 
@@ -14,5 +14,5 @@ returns-in_err-push-clause-err c =
     let is = c.clear.ensures in
     let long = ap (λ (r : TwoRows). length r.numbers) is in
     let longer : length old.rows.numbers ≤ length c.clear.new.self.numbers = first_of (search (cleared_from, grown, is), search (cleared_from, rules), omega (arith, long, grown.longer, cleared_long)) in
-    let refused : IsRefused old new = record { ticks = refl; steps = refl; scene = refl; longer = longer } in
-    on_err (IsRefused old new) _ refused
+    let refused : IsOutOfMemory old new = record { ticks = refl; steps = refl; scene = refl; longer = longer } in
+    on_err (IsOutOfMemory old new) _ refused

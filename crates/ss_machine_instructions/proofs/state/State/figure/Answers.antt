@@ -4,7 +4,7 @@ use Rattle.ss_base.specs.declared.value.Value.{Value}
 use Rattle.ss_meaning.specs.Statistics.{figure}
 use Rattle.ss_code_instructions.specs.Machine.{is_due}
 use Rattle.ss_machine_world.specs.Seen.{Looks}
-use Rattle.ss_machine_world.specs.Numbers.{RefersToSubject, HasSubject}
+use Rattle.ss_machine_world.specs.Numbers.{RefersToSubject, HasValidSubject}
 use Rattle.ss_machine_instructions.specs.Ways.{on_after}
 use Rattle.ss_machine_instructions.proofs.Placing.{calm}
 use Rattle.ss_machine_instructions.proofs.Figuring.{figures_in, figures, has_subject}
@@ -17,7 +17,7 @@ number-entity-requires c = let z = c.requires in figures_in z.0 z.1 c.args.here 
 pub figure-answer-requires : goal.figure-answer-requires
 figure-answer-requires c =
     let z = c.requires in
-    let has : HasSubject c.args.self.now.scene c.args.statistic = has_subject z.0 z.1 c.args.here c.args.self.now (Runs c.args.statistic c.args.entity.now c.args.to.now c.args.fold) z.2 c.args.statistic in
+    let has : HasValidSubject c.args.self.now.scene c.args.statistic = has_subject z.0 z.1 c.args.here c.args.self.now (Runs c.args.statistic c.args.entity.now c.args.to.now c.args.fold) z.2 c.args.statistic in
     record { subject = search rules }
 
 pub put-requires : goal.put-requires

@@ -3,7 +3,7 @@ use Rattle.ss_code_instructions.specs.declared.instruction.Instruction.TheVarian
 use Rattle.ss_base.specs.declared.value.Value.{Value}
 use Rattle.ss_meaning.specs.Statistics.{mean}
 use Rattle.ss_machine_world.specs.Seen.{Looks, without_value}
-use Rattle.ss_machine_world.specs.Numbers.{RefersToSubject, HasSubject}
+use Rattle.ss_machine_world.specs.Numbers.{RefersToSubject, HasValidSubject}
 use Rattle.ss_machine_instructions.specs.Ways.{on_after}
 use Rattle.ss_machine_instructions.proofs.Figuring.{looks_in_mean, looks_at_mean, has_subject}
 use Rattle.ss_machine_instructions.proofs.state.State.look_mean.Goals as goal
@@ -14,7 +14,7 @@ number-entity-requires c = let z = c.requires in looks_in_mean z.0 z.1 c.args.he
 pub look_mean-answer-requires : goal.look_mean-answer-requires
 look_mean-answer-requires c =
     let z = c.requires in
-    let has : HasSubject c.args.self.now.scene c.args.statistic = has_subject z.0 z.1 c.args.here c.args.self.now (Runs c.args.statistic c.args.entity.now) z.2 c.args.statistic in
+    let has : HasValidSubject c.args.self.now.scene c.args.statistic = has_subject z.0 z.1 c.args.here c.args.self.now (Runs c.args.statistic c.args.entity.now) z.2 c.args.statistic in
     record { subject = search rules }
 
 pub returns : goal.returns

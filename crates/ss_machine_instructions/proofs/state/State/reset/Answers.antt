@@ -3,12 +3,12 @@ use Rattle.std.specs.Prelude.{slice_get}
 use Rattle.ss_code_instructions.specs.declared.instruction.Instruction.TheVariants.{Reset as Runs}
 use Rattle.ss_base.specs.declared.value.Value.{Value}
 use Rattle.ss_meaning.specs.Statistics.{reset}
-use Rattle.ss_machine_time.specs.Figures.{variable_of}
+use Rattle.ss_machine_time.specs.Figures.{statistic_variable}
 use Rattle.ss_machine_world.specs.Seen.{ChangesWhere, IsRight}
-use Rattle.ss_machine_world.specs.Numbers.{RefersToSubject, HasSubject}
+use Rattle.ss_machine_world.specs.Numbers.{RefersToSubject, HasValidSubject}
 use Rattle.ss_machine_instructions.specs.Ways.{on_after}
 use Rattle.ss_machine_instructions.proofs.Figuring.{has_subject, resets_in, resets, held_within}
-use Rattle.ss_machine_world.specs.Numbers.{Holds as VariableHolds}
+use Rattle.ss_machine_world.specs.Numbers.{HoldsSubject as VariableHolds}
 use Rattle.ss_machine_instructions.proofs.state.State.reset.Goals as goal
 
 pub number-entity-requires : goal.number-entity-requires
@@ -20,12 +20,12 @@ held-held-requires c = let z = c.requires in record { within = λ k e. held_with
 pub reset-answer-requires : goal.reset-answer-requires
 reset-answer-requires c =
     let z = c.requires in
-    let has : HasSubject c.args.self.now.scene c.args.statistic = has_subject z.0 z.1 c.args.here c.args.self.now (Runs c.args.statistic c.args.entity.now) z.2 c.args.statistic in
+    let has : HasValidSubject c.args.self.now.scene c.args.statistic = has_subject z.0 z.1 c.args.here c.args.self.now (Runs c.args.statistic c.args.entity.now) z.2 c.args.statistic in
     record { subject = search rules }
 
 pub returns : goal.returns
 returns c = λ w core r.
-    let at : (k : ℕ) → variable_of c.args.self.now.scene.statistics c.args.statistic ≡ Some k → slice_get c.args.self.now.rows.numbers k ≡ Some c.held-held.result = c.held-held.ensures in
+    let at : (k : ℕ) → statistic_variable c.args.self.now.scene.statistics c.args.statistic ≡ Some k → slice_get c.args.self.now.rows.numbers k ≡ Some c.held-held.result = c.held-held.ensures in
     let x = c.number-entity.result in
     let held = c.held-held.result in
     let same_x : to_z w64 (of_z w64 x) ≡ x = search rules in

@@ -1,5 +1,5 @@
 use Rattle.std.proofs.Common.{rules, ◌≡◌, ◌∙◌, ℤ, None, ap, sym, subst, to_z, of_z, w64}
-use Rattle.ss_world.specs.PendingList.{PendingList, next}
+use Rattle.ss_world.specs.PendingList.{PendingList, least_event}
 use Rattle.ss_machine_time.specs.Times.{Times, IsTimely}
 use Rattle.ss_machine_time.proofs.Timely.{timely_passed, none_next}
 use Rattle.ss_machine_time.proofs.timeline.Timeline.next.Goals as goal
@@ -15,8 +15,8 @@ invariant_of-self c =
 pub returns-in-None : goal.returns-in-None
 returns-in-None c =
     let p = c.self.inside.pending.list in
-    let none : next p ≡ None = sym c.take.ensures.next ∙ c.in-None.is in
+    let none : least_event p ≡ None = sym c.take.ensures.next ∙ c.in-None.is in
     let same : c.take.new.self.list ≡ p = c.take.ensures.rest ∙ none_next p none in (
-      ap (λ (t : Times). next t.pending) (sym c.self.view_is) ∙ none,
+      ap (λ (t : Times). least_event t.pending) (sym c.self.view_is) ∙ none,
       ap (λ (q : PendingList). record { time = c.self.inside.time; pending = q; histories = c.self.inside.histories }) same ∙ c.self.view_is,
     )

@@ -1,7 +1,7 @@
 use Rattle.std.proofs.Common.{rules, ◌≡◌, Err, sym, subst, to_z, of_z, w64}
 use Rattle.ss_machine_time.specs.Figures.{renewed_known}
 use Rattle.ss_meaning.specs.Statistics.{reset}
-use Rattle.ss_machine_world.specs.Numbers.{Holds}
+use Rattle.ss_machine_world.specs.Numbers.{HoldsSubject}
 use Rattle.ss_machine_world.specs.Seen.{Seen, IsRight, Changes, ChangesWhere}
 use Rattle.ss_machine_world.proofs.Figured.{reset_not, reset_then}
 use Rattle.ss_machine_world.proofs.scene.Scene.reset.Goals as goal
@@ -11,7 +11,7 @@ returns-in-Err c = λ o refers.
     let e = c.args.self.now in let j = c.args.statistic in let x = c.args.entity in let held = c.args.held in let k = c.in-Err.kind in
     let same_x : to_z w64 (of_z w64 x) ≡ x = search rules in
     let same_h : to_z w64 (of_z w64 held) ≡ held = search rules in
-    subst (λ (new : Seen). ChangesWhere (λ s. IsRight (reset j o s) × Holds j held s) (reset j o) e new (Err k)) (sym c.in-Err.ensures.same)
+    subst (λ (new : Seen). ChangesWhere (λ s. IsRight (reset j o s) × HoldsSubject j held s) (reset j o) e new (Err k)) (sym c.in-Err.ensures.same)
     (reset_not j o x held e refers c.requires.subject k (λ t is. simp (same_x, same_h) at c.in-Err.ensures.value t is))
 
 pub returns-in-Ok : goal.returns-in-Ok

@@ -30,7 +30,7 @@ use Rattle.ss_records_blocks.proofs.Memory.{word_ptr, store_take, store_knows, n
 use Rattle.ss_records_blocks.proofs.Numbers.{counter_inside, is_counter, put_seen}
 use Rattle.ss_records_blocks.proofs.Values.{place_val, place_known, place_typed}
 use Rattle.ss_records_blocks.specs.contracts.store.Store as S
-use Rattle.ss_records_blocks.specs.contracts.store.Address as P
+use Rattle.ss_records_blocks.specs.contracts.store.BlockPlace as P
 use Rattle.ss_records_blocks.specs.contracts.store.Store.count.{ended, clauses}
 use Rattle.ss_records_blocks.specs.contracts.store.Store.count.Key.{name as #self}
 use Rattle.ss_records_blocks.proofs.store.Store.count.Statement.{statement}

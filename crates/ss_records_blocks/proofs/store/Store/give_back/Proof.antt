@@ -34,7 +34,7 @@ use Rattle.ss_records_blocks.proofs.Cutting.{block_glue, store_leave, null_words
 use Rattle.ss_records_blocks.proofs.Calls.{Gives, at_gives, Gives-goes, Gives-gives}
 use Rattle.ss_records_blocks.proofs.Values.{place_val, place_known, place_typed}
 use Rattle.ss_records_blocks.specs.contracts.store.Store as S
-use Rattle.ss_records_blocks.specs.contracts.store.Address as P
+use Rattle.ss_records_blocks.specs.contracts.store.BlockPlace as P
 use Rattle.ss_records_blocks.specs.contracts.store.Store.give_back.{ended, clauses}
 use Rattle.ss_records_blocks.specs.contracts.store.Store.give_back.Key.{name as #self}
 use Rattle.ss_records_blocks.proofs.store.Store.give_back.Statement.{statement}

@@ -29,7 +29,7 @@ use Rattle.ss_records_blocks.proofs.Memory.{word_ptr, store_take, store_knows, n
 use Rattle.ss_records_blocks.proofs.Numbers.{link_inside, is_link, put_seen}
 use Rattle.ss_records_blocks.proofs.Values.{place_val, place_known, place_typed, place_made, ptr_typed}
 use Rattle.ss_records_blocks.specs.contracts.store.Store as S
-use Rattle.ss_records_blocks.specs.contracts.store.Address as P
+use Rattle.ss_records_blocks.specs.contracts.store.BlockPlace as P
 use Rattle.ss_records_blocks.specs.contracts.store.Store.link.{ended, clauses}
 use Rattle.ss_records_blocks.specs.contracts.store.Store.link.Key.{name as #self}
 use Rattle.ss_records_blocks.proofs.store.Store.link.Statement.{statement}

@@ -32,7 +32,7 @@ use Rattle.ss_records_blocks.proofs.Numbers.{number_inside, is_number}
 use Rattle.ss_records_blocks.proofs.Sharing.{store_see, lent_knows, peer_in, peer_out}
 use Rattle.ss_records_blocks.proofs.Values.{place_val, place_known, place_typed}
 use Rattle.ss_records_blocks.specs.contracts.store.Store as S
-use Rattle.ss_records_blocks.specs.contracts.store.Address as P
+use Rattle.ss_records_blocks.specs.contracts.store.BlockPlace as P
 use Rattle.ss_records_blocks.specs.contracts.store.Store.number.{ended, clauses}
 use Rattle.ss_records_blocks.specs.contracts.store.Store.number.Key.{name as #self}
 use Rattle.ss_records_blocks.proofs.store.Store.number.Statement.{statement}

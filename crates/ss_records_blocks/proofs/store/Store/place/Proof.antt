@@ -41,7 +41,7 @@ use Rattle.ss_records_blocks.proofs.Puts.{length-blanks}
 use Rattle.ss_records_blocks.proofs.Calls.{token, Takes, at_takes, Answered, Takes-goes, Takes-gives, answers}
 use Rattle.ss_records_blocks.proofs.Values.{place_val, place_made, then_runs}
 use Rattle.ss_records_blocks.specs.contracts.store.Store as S
-use Rattle.ss_records_blocks.specs.contracts.store.Address as P
+use Rattle.ss_records_blocks.specs.contracts.store.BlockPlace as P
 use Rattle.ss_records_blocks.specs.contracts.store.Store.place.{ended, clauses}
 use Rattle.ss_records_blocks.specs.contracts.store.Store.place.Key.{name as #self}
 use Rattle.ss_records_blocks.proofs.store.Store.place.Statement.{statement}

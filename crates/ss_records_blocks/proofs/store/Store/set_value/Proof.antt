@@ -27,7 +27,7 @@ use Rattle.ss_records_blocks.specs.Ownership.{word_owns, store_owns}
 use Rattle.ss_records_blocks.proofs.Memory.{word_ptr, store_take, store_knows, null_word, word_room, value_in}
 use Rattle.ss_records_blocks.proofs.Values.{place_val, place_known, place_typed}
 use Rattle.ss_records_blocks.specs.contracts.store.Store as S
-use Rattle.ss_records_blocks.specs.contracts.store.Address as P
+use Rattle.ss_records_blocks.specs.contracts.store.BlockPlace as P
 use Rattle.ss_records_blocks.specs.contracts.store.Store.set_value.{ended, clauses}
 use Rattle.ss_records_blocks.specs.contracts.store.Store.set_value.Key.{name as #self}
 use Rattle.ss_records_blocks.proofs.store.Store.set_value.Statement.{statement}

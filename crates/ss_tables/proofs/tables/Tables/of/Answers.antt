@@ -1,5 +1,5 @@
 use Rattle.std.proofs.Common.{refl, ◌∙◌}
-use Rattle.ss_tree.specs.View.{view_program}
+use Rattle.ss_tree.specs.View.{view_program_tree}
 use Rattle.ss_tables.specs.Tables.{ReportsTableError}
 use Rattle.ss_tables.proofs.Refused.{refused_so}
 use Rattle.ss_tables.proofs.tables.Tables.of.Goals as goal
@@ -15,4 +15,4 @@ pub returns-clause-made : goal.returns-clause-made
 returns-clause-made c = c.in_ok-names.ensures.made
 
 pub invariant_of-result : goal.invariant_of-result
-invariant_of-result c = (view_program c.args.program.now, c.in_ok-names.ensures.made)
+invariant_of-result c = (view_program_tree c.args.program.now, c.in_ok-names.ensures.made)
