@@ -5,7 +5,7 @@ ghost use Rattle.simscript_commands.specs.Statuses.{ended_status};
 
 use simscript_order::{
     Data, FileStore, Order, ProgramFailure, Retrying, Streams, explain, open, read_file,
-    read_source, report_trouble, write_whole,
+    read_source, report_failure, write_whole,
 };
 use ss_base::Counted;
 use ss_engine::{Outcome, Stop, compile, outcome_line, outcome_status, simulate};
@@ -174,7 +174,7 @@ fn print_listing<O: Write + Drop>(
 fn print<O: Write + Drop>(output: O, bytes: &[u8]) -> Result<Outcome, ProgramFailure> {
     match write_whole(output, bytes) {
         Ok(()) => Ok(Outcome::Stopped(Stop::Ended, 0)),
-        Err(trouble) => Err(trouble),
+        Err(failure) => Err(failure),
     }
 }
 
@@ -189,7 +189,7 @@ pub fn report_ending<E: Write + Drop>(
 {
     match ended {
         Ok(outcome) => report_outcome(alloc, &outcome, errors),
-        Err(trouble) => report_trouble(trouble, errors),
+        Err(failure) => report_failure(failure, errors),
     }
 }
 
@@ -202,6 +202,6 @@ fn report_outcome<E: Write + Drop>(alloc: Global, outcome: &Outcome, mut errors:
             let _ = errors.write_all(&line);
             outcome_status(outcome)
         }
-        Err(_) => report_trouble(ProgramFailure::Memory, errors),
+        Err(_) => report_failure(ProgramFailure::Memory, errors),
     }
 }

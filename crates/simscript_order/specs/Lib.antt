@@ -2,4 +2,4 @@ pub mod CommandLine
 pub mod Statuses
 pub mod Retrying
 pub mod Data
-pub mod TroubleStatuses
+pub mod FailureStatuses

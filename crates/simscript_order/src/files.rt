@@ -1,6 +1,6 @@
 //! The files that the program reads.
 
-use crate::trouble::ProgramFailure;
+use crate::failure::ProgramFailure;
 use std::alloc::Global;
 use std::io::{ErrorKind, Read};
 use std::rt::Files;
@@ -38,13 +38,13 @@ impl<R: Files> FileStore for Disk<'_, R> {
     }
 }
 
-/// The file of this name, open for reading; where it can't be opened, this trouble.
+/// The file of this name, open for reading; where it can't be opened, this failure.
 pub fn open<F: FileStore>(
     files: &F,
     name: &str,
-    trouble: ProgramFailure,
+    failure: ProgramFailure,
 ) -> Result<F::File, ProgramFailure> {
-    files.open(name).map_err(|_error| trouble)
+    files.open(name).map_err(|_error| failure)
 }
 
 /// The text in the file of this name, or as much of it as shows that it is too long.

@@ -9,7 +9,7 @@ mod misuse;
 mod order;
 mod retrying;
 mod streams;
-mod trouble;
+mod failure;
 
 pub use command_line::{without_words, words};
 pub use data::Data;
@@ -17,5 +17,5 @@ pub use files::{Disk, FileStore, open, read_file, read_source};
 pub use misuse::Misuse;
 pub use order::Order;
 pub use retrying::Retrying;
-pub use streams::{Streams, explain, report_trouble, write_whole};
-pub use trouble::ProgramFailure;
+pub use streams::{Streams, explain, report_failure, write_whole};
+pub use failure::ProgramFailure;

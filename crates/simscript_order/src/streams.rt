@@ -1,10 +1,10 @@
 //! The standard streams, and what is written to them but for a report.
 ghost use Rattle.std.specs.Prelude.{◌≡◌};
-ghost use Rattle.simscript_order.specs.TroubleStatuses.{trouble_status};
+ghost use Rattle.simscript_order.specs.FailureStatuses.{failure_status};
 
 use crate::misuse::Misuse;
 use crate::retrying::Retrying;
-use crate::trouble::ProgramFailure;
+use crate::failure::ProgramFailure;
 use std::io::Write;
 
 /// The standard streams of a process.
@@ -26,11 +26,11 @@ pub fn write_whole<O: Write + Drop>(output: O, bytes: &[u8]) -> Result<(), Progr
 
 /// Reports what stopped the program, and answers the exit status. The line is one write, so that it
 /// stays whole where several programs share their errors.
-pub fn report_trouble<E: Write + Drop>(trouble: ProgramFailure, mut errors: E) -> u8
-    ensures { result ≡ trouble_status trouble }
+pub fn report_failure<E: Write + Drop>(failure: ProgramFailure, mut errors: E) -> u8
+    ensures { result ≡ failure_status failure }
 {
-    let _ = errors.write_all(trouble.line().as_bytes());
-    trouble.status()
+    let _ = errors.write_all(failure.line().as_bytes());
+    failure.status()
 }
 
 /// Gives the help or the version that was asked for, or says what is wrong with the words, and answers the exit status.
@@ -43,6 +43,6 @@ pub fn explain<O: Write + Drop, E: Write + Drop>(misuse: &Misuse, output: O, mut
     let written = write!(output, "{misuse}").and_then(|()| output.flush());
     match written {
         Ok(()) => 0,
-        Err(_) => report_trouble(ProgramFailure::Report, errors),
+        Err(_) => report_failure(ProgramFailure::Report, errors),
     }
 }

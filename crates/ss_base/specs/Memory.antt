@@ -26,7 +26,7 @@ bytes_given r room = bytes_passed r.progress r.passed (min room (length r.remain
 pub record Writing : Type 0 where
   pub bytes : List ℕ
   pub room : ℕ
-  pub trouble : WriteFailure
+  pub failure : WriteFailure
   pub progress : Progress
   pub faults : ℕ
   pub errors : ℕ
@@ -34,14 +34,14 @@ pub record Writing : Type 0 where
 
 -- a writer before its first call
 abbrev pub writer_of : ℕ → Plan → WriteFailure → Writing
-writer_of room plan trouble = record { bytes = []; room = room; trouble = trouble; progress = start_of_plan plan; faults = 0; errors = 0; idle = 0 }
+writer_of room plan failure = record { bytes = []; room = room; failure = failure; progress = start_of_plan plan; faults = 0; errors = 0; idle = 0 }
 
 -- what a call that goes wrong returns: an error, or that it took no byte
 abbrev pub answer_in : WriteFailure → Option ℕ → Option ℕ
-answer_in trouble (Some n) = Some n
+answer_in failure (Some n) = Some n
 answer_in Error None = None
 answer_in NoByte None = Some 0
 
 -- how many of so many bytes the next write takes, or none where it fails
 abbrev pub bytes_taken : Writing → ℕ → Option ℕ
-bytes_taken w len = answer_in w.trouble (bytes_passed w.progress (length w.bytes) (min len (w.room - length w.bytes)))
+bytes_taken w len = answer_in w.failure (bytes_passed w.progress (length w.bytes) (min len (w.room - length w.bytes)))

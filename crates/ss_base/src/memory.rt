@@ -100,7 +100,7 @@ pub enum WriteFailure {
 pub struct MemoryWrite {
     bytes: Vec<u8>,
     room: usize,
-    trouble: WriteFailure,
+    failure: WriteFailure,
     progress: Progress,
     faults: u64,
     errors: u64,
@@ -113,7 +113,7 @@ impl Model for MemoryWrite {
 
     ghost Value = { Writing };
 
-    ghost view = { λ w. record { bytes = w.bytes.items; room = w.room; trouble = w.trouble; progress = w.progress; faults = w.faults; errors = w.errors; idle = w.idle } };
+    ghost view = { λ w. record { bytes = w.bytes.items; room = w.room; failure = w.failure; progress = w.progress; faults = w.faults; errors = w.errors; idle = w.idle } };
 
     ghost invariant = { λ w. (length w.bytes.items ≤ w.room) × (w.room ≤ vec_capacity w.bytes) };
 }
@@ -127,14 +127,14 @@ impl MemoryWrite {
         alloc: Global,
         room: usize,
         plan: Plan,
-        trouble: WriteFailure,
+        failure: WriteFailure,
     ) -> Result<MemoryWrite, AllocError>
-        ensures { IfOk result (λ writer. writer ≡ writer_of room plan trouble) }
+        ensures { IfOk result (λ writer. writer ≡ writer_of room plan failure) }
     {
         Ok(MemoryWrite {
             bytes: Vec::with_capacity(alloc, room)?,
             room,
-            trouble,
+            failure,
             progress: Progress::new(plan),
             faults: 0,
             errors: 0,
@@ -176,11 +176,11 @@ impl FaultyWrite for MemoryWrite {
         ensures answer { result_ok result ≡ bytes_taken self.old (length buf.now) }
         ensures progress { self.new.progress ≡ after_call self.old.progress (length self.old.bytes) }
         ensures room { self.new.room ≡ self.old.room }
-        ensures trouble { self.new.trouble ≡ self.old.trouble }
+        ensures failure { self.new.failure ≡ self.old.failure }
     {
         let held = self.bytes.len();
         let could = buf.len().min(self.room - held);
-        let count = match (self.progress.next_call(held, could), self.trouble) {
+        let count = match (self.progress.next_call(held, could), self.failure) {
             (Some(count), _) => count,
             (None, WriteFailure::NoByte) => 0,
             (None, WriteFailure::Error) => {

@@ -1,7 +1,7 @@
 //! Event routines.
 
 ghost use Rattle.std.specs.Prelude.{◌≡◌, map, IfOk};
-ghost use Rattle.ss_names_declarations.specs.Firsts.{value_for};
+ghost use Rattle.ss_names_declarations.specs.NameTable.{value_for};
 ghost use Rattle.ss_program.specs.View.{view_event};
 ghost use Rattle.ss_names_meaning.specs.Answers.{Gives, each};
 ghost use Rattle.ss_names_meaning.specs.Resolved.{class_event_from, event_from, event_of_class, saved};

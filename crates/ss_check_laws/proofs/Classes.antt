@@ -9,7 +9,7 @@ use Rattle.ss_base.specs.declared.layout.Mode.TheVariants.{Integer}
 use Rattle.ss_tree.specs.Names.{NameBytes}
 use Rattle.ss_program.specs.Program.{ToVariable}
 use Rattle.ss_program.specs.WellTyped.{TypedScope as Place, TakesMode}
-use Rattle.ss_names_declarations.specs.Firsts.{value_for}
+use Rattle.ss_names_declarations.specs.NameTable.{value_for}
 use Rattle.ss_names_uses.specs.Uses.{class_used}
 use Rattle.ss_names_uses.specs.declared.used.ClassNeed.{ClassNeed}
 use Rattle.ss_names_uses.specs.declared.used.ClassNeed.TheVariants as needs

@@ -9,7 +9,7 @@ use Rattle.ss_base.specs.declared.line.Line.{Line}
 use Rattle.ss_base.specs.declared.words.End.{End}
 use Rattle.ss_tree.specs.Names.{NameBytes}
 use Rattle.ss_tree.specs.Tree.{ExpressionTree, NamedTree, PositionTree, by_discipline, at_first, at_last, before, after as after_member, create_statement, create_every, destroy_statement, file_statement, remove_end, remove_statement}
-use Rattle.ss_names_declarations.specs.Firsts.{value_for}
+use Rattle.ss_names_declarations.specs.NameTable.{value_for}
 use Rattle.ss_names_uses.specs.declared.used.ClassNeed.{ClassNeed}
 use Rattle.ss_names_uses.specs.declared.used.ClassNeed.TheVariants as needs
 use Rattle.ss_names_uses.specs.declared.used.Role.TheVariants as roles

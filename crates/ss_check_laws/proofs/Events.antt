@@ -19,7 +19,7 @@ use Rattle.ss_base.specs.Plain.{PlainClass, PlainLayout}
 use Rattle.ss_tree.specs.Names.{NameBytes}
 use Rattle.ss_tree.specs.Tree as tree
 use Rattle.ss_names_declarations.specs.Declarations.{declarations}
-use Rattle.ss_names_declarations.specs.Firsts.{place_in, value_for}
+use Rattle.ss_names_declarations.specs.NameTable.{place_in, value_for}
 use Rattle.ss_names_declarations.proofs.Entries.{entry_of_key, firsts_once, key_at, place_from, place_of_value, there, value_at, value_from_place}
 use Rattle.ss_names_uses.specs.Uses as uses
 use Rattle.ss_names_uses.specs.declared.used.CountNeed.TheVariants as counts

@@ -28,7 +28,7 @@ use Rattle.ss_program.specs.declared.sections.Statistic.{Statistic}
 use Rattle.ss_program.specs.declared.sections.Subject.{Subject}
 use Rattle.ss_program.specs.declared.sections.Subject.TheVariants as subjects
 use Rattle.ss_program.specs.declared.statement.CountedClass.{CountedClass}
-use Rattle.ss_names_declarations.specs.Firsts.{place_in, same_name, value_for}
+use Rattle.ss_names_declarations.specs.NameTable.{place_in, same_name, value_for}
 use Rattle.ss_names_declarations.proofs.Entries.{there as item_at, value_at, value_by_place}
 use Rattle.ss_names.specs.declared.entry.Set.{Set}
 use Rattle.ss_names.specs.declared.meaning.Meaning.{Meaning}

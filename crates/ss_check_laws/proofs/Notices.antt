@@ -10,7 +10,7 @@ use Rattle.ss_base.specs.declared.line.Line.{Line}
 use Rattle.ss_base.specs.Plain.{PlainClass, PlainLayout}
 use Rattle.ss_tree.specs.Names.{NameBytes}
 use Rattle.ss_tree.specs.Tree.{ExpressionTree, NamedTree, WhenTree, at_time, in_units, now, schedule_new, schedule_statement, cancel_statement, reset_statement}
-use Rattle.ss_names_declarations.specs.Firsts.{place_in}
+use Rattle.ss_names_declarations.specs.NameTable.{place_in}
 use Rattle.ss_names_declarations.proofs.Entries.{there}
 use Rattle.ss_names_uses.specs.declared.used.ClassNeed.TheVariants as needs
 use Rattle.ss_names_uses.specs.declared.used.ModeOf.TheVariants as modes

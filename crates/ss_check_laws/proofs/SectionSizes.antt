@@ -15,7 +15,7 @@ use Rattle.ss_tree.specs.Names.{NameBytes}
 use Rattle.ss_tree.specs.Nodes as tree
 use Rattle.ss_tree.specs.Tree.{SectionKindTree, main, routine, event, SectionTree, StatementTree, statement_row, ProgramTree}
 use Rattle.ss_names_declarations.specs.Declarations.{declarations, flat_map_from}
-use Rattle.ss_names_declarations.specs.Firsts.{entry_beside, first_entries, same_name, value_for, with_first}
+use Rattle.ss_names_declarations.specs.NameTable.{entry_beside, first_entries, same_name, value_for, with_first}
 use Rattle.ss_names_declarations.specs.declared.declaration.Declared.{Declared}
 use Rattle.ss_names_declarations.proofs.Entries.{entry_of_key, firsts_once, place_from, there}
 use Rattle.ss_names.specs.declared.entry.EventSection.{EventSection}

@@ -3,7 +3,7 @@ use Rattle.std.specs.Prelude.{ℕ, Bool, true, ◌==◌, length, get_or, [], nat
 use Rattle.std.specs.Option.{option_map_or}
 use Rattle.ss_tree.specs.declared.expression.Function.{Function}
 use Rattle.ss_tree.specs.declared.expression.Function.TheVariants.{One, Two}
-use Rattle.ss_names_declarations.specs.Firsts.{place_in, value_for}
+use Rattle.ss_names_declarations.specs.NameTable.{place_in, value_for}
 use Rattle.ss_names_uses.specs.declared.used.CountNeed.{CountNeed}
 use Rattle.ss_names_uses.specs.declared.used.CountNeed.TheVariants as needs
 use Rattle.ss_names.specs.declared.entry.RoutineSection.{RoutineSection}

@@ -5,7 +5,7 @@ use Rattle.ss_base.specs.declared.layout.Owner.{Owner}
 use Rattle.ss_base.specs.declared.layout.Owner.TheVariants as owners
 use Rattle.ss_tree.specs.declared.expression.Designator.{Designator}
 use Rattle.ss_tree.specs.declared.expression.Designator.TheVariants as designators
-use Rattle.ss_names_declarations.specs.Firsts.{value_for}
+use Rattle.ss_names_declarations.specs.NameTable.{value_for}
 use Rattle.ss_names_uses.specs.declared.used.Role.{Role}
 use Rattle.ss_names_uses.specs.declared.used.Role.TheVariants as roles
 use Rattle.ss_names_uses.specs.declared.used.ClassNeed.{ClassNeed}

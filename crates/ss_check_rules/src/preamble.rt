@@ -4,7 +4,7 @@ ghost use Rattle.std.specs.Prelude.{◌≡◌, is_some, map};
 ghost use Rattle.std.specs.List.{flat_map, fold};
 ghost use Rattle.ss_tree.specs.View.{view_preamble};
 ghost use Rattle.ss_names_declarations.specs.Earliest.{earlier, unless};
-ghost use Rattle.ss_names_declarations.specs.Firsts.{value_for};
+ghost use Rattle.ss_names_declarations.specs.NameTable.{value_for};
 ghost use Rattle.ss_check_rules.specs.declared.error.CheckError.TheVariants as e;
 ghost use Rattle.ss_check_rules.specs.Order.{check_error_order};
 ghost use Rattle.ss_check_rules.specs.Refusal.{eventless, eventless_of, in_preamble, subject_breaks};

@@ -3,7 +3,7 @@
 ghost use Rattle.std.specs.Prelude.{◌≡◌};
 ghost use Rattle.std.specs.List.{flat_map, fold};
 ghost use Rattle.ss_names_declarations.specs.Earliest.{earlier, unless};
-ghost use Rattle.ss_names_declarations.specs.Firsts.{value_for};
+ghost use Rattle.ss_names_declarations.specs.NameTable.{value_for};
 ghost use Rattle.ss_names_scopes.specs.Seen.{view_scope};
 ghost use Rattle.ss_check_rules.specs.declared.error.CheckError.TheVariants as e;
 ghost use Rattle.ss_check_rules.specs.Kinds.{if_means, is_routine};

@@ -17,7 +17,7 @@ use std::marker::Model;
 
 /// What a program says of its classes and sets, its notices and its statistics.
 #[derive(Drop)]
-pub(crate) struct Sayings {
+pub(crate) struct ProgramFacts {
     pub(crate) layout: Layout,
     pub(crate) disciplines: Vec<Discipline>,
     pub(crate) notices: Vec<NoticeClass>,
@@ -25,7 +25,7 @@ pub(crate) struct Sayings {
     pub(crate) statistics: Vec<Statistic>,
 }
 
-impl Model for Sayings {
+impl Model for ProgramFacts {
     ghost use Rattle.std.specs.Prelude.{map};
     ghost use Rattle.ss_code.specs.Running.{Said};
 
@@ -60,7 +60,7 @@ pub struct Code {
     constants: Vec<Value>,
     prints: Vec<Lines>,
     sections: Sections,
-    sayings: Sayings,
+    program_facts: ProgramFacts,
     globals: Vec<Mode>,
 }
 
@@ -69,9 +69,9 @@ impl Model for Code {
 
     ghost Value = { Generated };
 
-    ghost view = { λ c. record { run = record { instructions = c.text.instructions.items; lines = c.text.lines.items; constants = c.constants.items; prints = c.prints.items; main = c.sections.main; routines = c.sections.routines.items; events = c.sections.events.items; depth = c.sections.depth }; said = c.sayings; globals = c.globals.items } };
+    ghost view = { λ c. record { run = record { instructions = c.text.instructions.items; lines = c.text.lines.items; constants = c.constants.items; prints = c.prints.items; main = c.sections.main; routines = c.sections.routines.items; events = c.sections.events.items; depth = c.sections.depth }; said = c.program_facts; globals = c.globals.items } };
 
-    ghost invariant = { λ c. IsGenerated (record { run = record { instructions = c.text.instructions.items; lines = c.text.lines.items; constants = c.constants.items; prints = c.prints.items; main = c.sections.main; routines = c.sections.routines.items; events = c.sections.events.items; depth = c.sections.depth }; said = c.sayings; globals = c.globals.items }) };
+    ghost invariant = { λ c. IsGenerated (record { run = record { instructions = c.text.instructions.items; lines = c.text.lines.items; constants = c.constants.items; prints = c.prints.items; main = c.sections.main; routines = c.sections.routines.items; events = c.sections.events.items; depth = c.sections.depth }; said = c.program_facts; globals = c.globals.items }) };
 }
 
 impl Code {
@@ -81,18 +81,18 @@ impl Code {
         constants: Vec<Value>,
         prints: Vec<Lines>,
         sections: Sections,
-        sayings: Sayings,
+        program_facts: ProgramFacts,
         globals: Vec<Mode>,
     ) -> Code
-        requires { IsGenerated (record { run = record { instructions = text.instructions.items; lines = text.lines.items; constants = constants.items; prints = prints.items; main = sections.main; routines = sections.routines.items; events = sections.events.items; depth = sections.depth }; said = sayings; globals = globals.items }) }
-        ensures { result ≡ record { run = record { instructions = text.instructions.items; lines = text.lines.items; constants = constants.items; prints = prints.items; main = sections.main; routines = sections.routines.items; events = sections.events.items; depth = sections.depth }; said = sayings; globals = globals.items } }
+        requires { IsGenerated (record { run = record { instructions = text.instructions.items; lines = text.lines.items; constants = constants.items; prints = prints.items; main = sections.main; routines = sections.routines.items; events = sections.events.items; depth = sections.depth }; said = program_facts; globals = globals.items }) }
+        ensures { result ≡ record { run = record { instructions = text.instructions.items; lines = text.lines.items; constants = constants.items; prints = prints.items; main = sections.main; routines = sections.routines.items; events = sections.events.items; depth = sections.depth }; said = program_facts; globals = globals.items } }
     {
         Code {
             text,
             constants,
             prints,
             sections,
-            sayings,
+            program_facts,
             globals,
         }
     }
@@ -181,35 +181,35 @@ impl Code {
     pub fn layout(&self) -> &Layout
         ensures { result.now ≡ self.now.said.layout }
     {
-        &self.sayings.layout
+        &self.program_facts.layout
     }
 
     /// The disciplines of the sets, by their numbers.
     pub fn disciplines(&self) -> &[Discipline]
         ensures { result.now ≡ self.now.said.setting.disciplines }
     {
-        &self.sayings.disciplines
+        &self.program_facts.disciplines
     }
 
     /// The classes of notices, in the order in which they come at one time.
     pub fn notices(&self) -> &[NoticeClass]
         ensures { result.now ≡ self.now.said.setting.notices }
     {
-        &self.sayings.notices
+        &self.program_facts.notices
     }
 
     /// The shapes of the ties of each class of notices, in the same order.
     pub fn ties(&self) -> &[Vec<TieShape>]
         ensures { map (λ shapes. shapes.items) result.now ≡ self.now.said.ties }
     {
-        &self.sayings.ties
+        &self.program_facts.ties
     }
 
     /// The statistics, by their numbers.
     pub fn statistics(&self) -> &[Statistic]
         ensures { result.now ≡ self.now.said.setting.statistics }
     {
-        &self.sayings.statistics
+        &self.program_facts.statistics
     }
 
     /// The modes of the global variables.

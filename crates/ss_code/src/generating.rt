@@ -14,7 +14,7 @@ ghost use Rattle.ss_code.specs.Sections.{Deepened, AllDeepened, PutsSection, Put
 
 use crate::code::{Code, Sections, Text};
 use crate::error::CodeError;
-use crate::sayings::sayings;
+use crate::program_facts::program_facts;
 use crate::sifting::sift_walks;
 use ss_base::{Line, Mode};
 use ss_code_generator::generator::Generator;
@@ -40,7 +40,7 @@ fn joined(alloc: Global, first: &[Mode], second: &[Mode]) -> Result<Vec<Mode>, A
 
 /// The local variables of a section: the modes of those that it is given, how many of the others it yields, and the modes of the
 /// others.
-struct Locals {
+struct SectionLocals {
     given: Vec<Mode>,
     yielding: usize,
     others: Vec<Mode>,
@@ -51,12 +51,12 @@ fn put_section(
     generator: &mut Generator,
     code: &mut Piece,
     prints: &mut Vec<Lines>,
-    locals: Locals,
+    locals: SectionLocals,
     body: &[Statement],
 ) -> Result<SectionEntry, AllocError>
     ensures { IfOk result (λ entry. PutsSection generator.old generator.new code.old code.new prints.old.items prints.new.items (record { place = length code.old; given = locals.given.items; yielding = locals.yielding; others = locals.others.items }) (view_body body.now) entry) }
 {
-    let Locals {
+    let SectionLocals {
         given,
         yielding,
         others,
@@ -86,7 +86,7 @@ fn put_main(
     let program = generator.program;
     let others = Vec::from_slice(generator.alloc, &program.locals)?;
     let given = Vec::new(generator.alloc);
-    let locals = Locals {
+    let locals = SectionLocals {
         given,
         yielding: 0,
         others,
@@ -106,7 +106,7 @@ fn put_routine(
     let given = Vec::from_slice(generator.alloc, &routine.given)?;
     let others = joined(generator.alloc, &routine.yielding, &routine.others)?;
     let yielding = routine.yielding.len();
-    let locals = Locals {
+    let locals = SectionLocals {
         given,
         yielding,
         others,
@@ -125,7 +125,7 @@ fn put_event(
 {
     let given = Vec::from_slice(generator.alloc, &event.given)?;
     let others = Vec::from_slice(generator.alloc, &event.others)?;
-    let locals = Locals {
+    let locals = SectionLocals {
         given,
         yielding: 0,
         others,
@@ -285,7 +285,7 @@ fn made(alloc: Global, program: &Program) -> Result<Code, CodeError>
         return Err(CodeError::CodeTooLong);
     }
     let mut text = text_of(alloc, code)?;
-    let said = sayings(alloc, program)?;
+    let said = program_facts(alloc, program)?;
     let globals = Vec::from_slice(alloc, &program.globals)?;
     let Generator { constants, .. } = generator;
     sift_walks(&mut text.instructions, globals.len() + constants.len());

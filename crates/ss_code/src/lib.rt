@@ -5,7 +5,7 @@ pub mod code;
 pub mod error;
 mod generating;
 pub mod model;
-mod sayings;
+mod program_facts;
 mod sifting;
 
 pub use code::Code;

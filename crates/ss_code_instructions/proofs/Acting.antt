@@ -7,7 +7,7 @@ use Rattle.ss_base.specs.declared.line.Line.{Line}
 use Rattle.ss_base.specs.declared.value.Value.{Value}
 use Rattle.ss_base.specs.declared.value.Value.TheVariants.{Whole}
 use Rattle.ss_meaning.specs.Words.{Given, is_ended}
-use Rattle.ss_meaning.specs.Values.{Trouble, if_ok, turned, due, where_fit, number_of, calculated, applied, related, printed, empty_lines}
+use Rattle.ss_meaning.specs.Values.{Failure, if_ok, turned, due, where_fit, number_of, calculated, applied, related, printed, empty_lines}
 use Rattle.ss_meaning.specs.Store.{Setting, Store, opened, yielded}
 use Rattle.ss_meaning.specs.Entities.{entity, attribute, time_of, made_one, made_all, without}
 use Rattle.ss_meaning.specs.Places.{assigned_variable, assigned_attribute}
@@ -44,19 +44,19 @@ module _ (P : Store → Type 0) (on : (t u : Store) → P t → Same t u → P u
       fits true = p
       fits false = tt
 
-  delivers_so : (l : Line) (to : Target) (r : Result (Value × Store) Trouble) (cells : List Value) (c : Core) → Only (λ (b : Value × Store). P b.1) r → Every (λ (d : Core). P d.store) (deliver_with l to r cells c)
+  delivers_so : (l : Line) (to : Target) (r : Result (Value × Store) Failure) (cells : List Value) (c : Core) → Only (λ (b : Value × Store). P b.1) r → Every (λ (d : Core). P d.store) (deliver_with l to r cells c)
   delivers_so l to r cells c q =
       did_only (λ (d : Core). P d.store) IsWritten l (if_ok r (λ b. put_to to b.0 cells b.1)) (λ w. onward w.cells c w.store) (then_only IsWritten (λ (b : Value × Store). P b.1) r (λ b. put_to to b.0 cells b.1) q (λ b p. put_to_so to b.0 cells b.1 p)) (λ w p. p)
 
-delivers : (s : Store) (l : Line) (to : Target) (r : Result (Value × Store) Trouble) (cells : List Value) (c : Core) → Only (SameWith s) r → Keeps s (deliver_with l to r cells c)
+delivers : (s : Store) (l : Line) (to : Target) (r : Result (Value × Store) Failure) (cells : List Value) (c : Core) → Only (SameWith s) r → Keeps s (deliver_with l to r cells c)
 delivers s l to r cells c q = delivers_so (Same s) (λ t u p q. same_then s t u p q) l to r cells c q
 
 -- what computes a value leaves the store
-computes : (l : Line) (to : Target) (r : Result Value Trouble) (cells : List Value) (c : Core) → Keeps c.store (deliver_with l to (turned (λ v. (v, c.store)) r) cells c)
+computes : (l : Line) (to : Target) (r : Result Value Failure) (cells : List Value) (c : Core) → Keeps c.store (deliver_with l to (turned (λ v. (v, c.store)) r) cells c)
 computes l to r cells c = delivers c.store l to (turned (λ v. (v, c.store)) r) cells c (made (SameWith c.store) (λ v. (v, c.store)) r (λ v. same_here c.store))
 
 -- what changes the store
-changes : (l : Line) (r : Result Store Trouble) (cells : List Value) (c : Core) → Only (Same c.store) r → Keeps c.store (did l r (λ t. onward cells c t))
+changes : (l : Line) (r : Result Store Failure) (cells : List Value) (c : Core) → Only (Same c.store) r → Keeps c.store (did l r (λ t. onward cells c t))
 changes l r cells c q = did_only (Saying c.store) (Same c.store) l r (λ t. onward cells c t) q (λ t p. p)
 
 entering : (e : EntryPoint) (called : Called) (given below : List Value) (c : Core) (t : Store) → Same c.store t → Keeps c.store (enter e called given below c t)
@@ -78,7 +78,7 @@ taking code h n c p =
     did_only (Saying c.store) (BeginningSame c.store) n.ranked.said.line (event_begun n) _ (weaken (event_begun n) (begun_same n)) (λ b q.
     fit_any (Saying c.store) (slice_get code.events b.rank) _ (λ e. high (Saying c.store) h c.cells _ (entering e (AnEvent b.rank) b.given c.cells c b.store q)))
   where
-    weaken : (r : Result Beginning Trouble) → Only (BeginningSame n.store) r → Only (BeginningSame c.store) r
+    weaken : (r : Result Beginning Failure) → Only (BeginningSame n.store) r → Only (BeginningSame c.store) r
     weaken (Ok b) q = same_then c.store n.store b.store p q
     weaken (Err t) q = tt
 
@@ -114,7 +114,7 @@ act_keeps code l (i.ChangeAttribute sign class field x by) c =
 act_keeps code l (i.Reset j x) c = bearer (Saying c.store) x c.store c.cells _ (λ x below. changes l (reset j x c.store) below c (reset_same j x c.store))
 act_keeps code l (i.Jump skip) c = same_here c.store
 act_keeps code l (i.Unless relation left right skip) c = values (Saying c.store) left right c.store c.cells _ (λ x y below. fit_any (Saying c.store) (related relation x y) _ (λ b. same_here c.store))
-act_keeps code l (i.UnlessEnded negated skip) c = did_any (Saying c.store) l (due (is_ended c.store.scene.input)) _ (λ b. same_here c.store)
+act_keeps code l (i.UnlessEnded negated skip) c = did_any (Saying c.store) l (due (is_ended c.store.world.input)) _ (λ b. same_here c.store)
 act_keeps code l (i.UnlessEmpty negated set owner skip) c = bearer (Saying c.store) owner c.store c.cells _ (λ o below. did_any (Saying c.store) l (is_empty set o c.store) _ (λ b. same_here c.store))
 act_keeps code l (i.UnlessMember negated set x owner skip) c =
     bearer (Saying c.store) owner c.store c.cells _ (λ o above. value (Saying c.store) x c.store above _ (λ x below. did_any (Saying c.store) l (is_in set x o c.store) _ (λ b. same_here c.store)))

@@ -24,12 +24,12 @@ fits_input p code c input f =
         store = record {
           sound = record {
             globals = s.globals;
-            scene = record {
-              setting = s.scene.setting;
-              layout = s.scene.layout;
-              heap = s.scene.heap;
-              pending = s.scene.pending;
-              histories = s.scene.histories;
+            world = record {
+              setting = s.world.setting;
+              layout = s.world.layout;
+              heap = s.world.heap;
+              pending = s.world.pending;
+              histories = s.world.histories;
             };
           };
           locals = f.fits.store.locals;

@@ -9,11 +9,11 @@ use Rattle.ss_meaning.specs.State.{is_made}
 use Rattle.ss_program.specs.declared.expression.Variable.{Variable}
 use Rattle.ss_program.specs.declared.expression.Variable.TheVariants.{Global}
 use Rattle.ss_program.specs.declared.statement.CountedClass.{CountedClass}
-use Rattle.ss_meaning.specs.Values.{Trouble, Fails, Misfit, turned, where_fit, unless_fault}
+use Rattle.ss_meaning.specs.Values.{Failure, Fails, TypeError, turned, where_fit, unless_fault}
 use Rattle.ss_meaning.specs.Store.{Store}
 use Rattle.ss_meaning.specs.Entities.{class_at, is_permanent}
 use Rattle.ss_meaning.specs.Places.{InVariable, InCount, assigned_variable}
-use Rattle.ss_meaning.specs.Parts.{World, WentOn, Left, Outcome, Part, outcome_then, looked, settle, write}
+use Rattle.ss_meaning.specs.Parts.{RunState, WentOn, Left, Outcome, Part, outcome_then, looked, settle, write}
 use Rattle.ss_code_instructions.specs.Instructions.{Operand, Target, Into, Placed}
 use Rattle.ss_code_instructions.specs.Instructions as i
 use Rattle.ss_code_instructions.specs.States.{Frame, MachineState, Moved, Written, did, core_at, with_operand_value, onward, deliver}
@@ -24,7 +24,7 @@ use Rattle.ss_code_instructions.proofs.Parts.{Leads, onwards, breaks, whatever, 
 use Rattle.ss_code_instructions.proofs.Operands.{on, Tops, put_then}
 
 -- a part whose value is written, and then is no longer needed
-pub written_goal : {code : Code} (s : MachineState) (k : World → MachineState) (frames : List Frame) (o : Outcome Value) (f : Value → Part (Unit {0})) → Reaches code s (arrive (λ v. k) frames (outcome_then o (λ v w. outcome_then (f v w) (λ _. WentOn v)))) → Reaches code s (arrive (λ u. k) frames (outcome_then o f))
+pub written_goal : {code : Code} (s : MachineState) (k : RunState → MachineState) (frames : List Frame) (o : Outcome Value) (f : Value → Part (Unit {0})) → Reaches code s (arrive (λ v. k) frames (outcome_then o (λ v w. outcome_then (f v w) (λ _. WentOn v)))) → Reaches code s (arrive (λ u. k) frames (outcome_then o f))
 written_goal s k frames (Left e w) f r = r
 written_goal {code} s k frames (WentOn v w) f r = by (f v w) r
   where
@@ -34,19 +34,19 @@ written_goal {code} s k frames (WentOn v w) f r = by (f v w) r
 
 module _ (code : Code) where
   -- an instruction that changes the store, and what follows
-  pub change_leads : {B : Type 0} (l : Line) (r : OkOr Store Trouble) (go : Store → Moved) (w : World) (k : B → World → MachineState) (frames : List Frame) (f : Unit {0} → Part B) → ((s : Store) → r ≡ Ok s → Leads code w (go s) (arrive k frames (f tt (record w { store = s })))) → Leads code w (did l r go) (arrive k frames (outcome_then (outcome_then (looked l r w) settle) f))
+  pub change_leads : {B : Type 0} (l : Line) (r : OkOr Store Failure) (go : Store → Moved) (w : RunState) (k : B → RunState → MachineState) (frames : List Frame) (f : Unit {0} → Part B) → ((s : Store) → r ≡ Ok s → Leads code w (go s) (arrive k frames (f tt (record w { store = s })))) → Leads code w (did l r go) (arrive k frames (outcome_then (outcome_then (looked l r w) settle) f))
   change_leads l (Ok s) go w k frames f h = h s refl
   change_leads l (Err (Fails kind)) go w k frames f h = breaks
-  change_leads l (Err Misfit) go w k frames f h = whatever
+  change_leads l (Err TypeError) go w k frames f h = whatever
 
   -- an operand goes to a variable
-  pub assigns : (u : Site) (x : Variable) (from : Operand) (v : Value) (q : ℕ) (cells0 cells : List Value) (frames : List Frame) (w : World) → ((go : Value → List Value → Moved) → with_operand_value from w.store cells0 go ≡ go v cells) → slice_get code.places q ≡ Some (place u (assignment u x from)) → Reaches code (at q cells0 frames w) (arrive (λ o w'. at (q + 1) cells frames w') frames (write u.line (InVariable x) v w))
+  pub assigns : (u : Site) (x : Variable) (from : Operand) (v : Value) (q : ℕ) (cells0 cells : List Value) (frames : List Frame) (w : RunState) → ((go : Value → List Value → Moved) → with_operand_value from w.store cells0 go ≡ go v cells) → slice_get code.places q ≡ Some (place u (assignment u x from)) → Reaches code (at q cells0 frames w) (arrive (λ o w'. at (q + 1) cells frames w') frames (write u.line (InVariable x) v w))
   assigns u x from v q cells0 cells frames w reads has = by (is_kept u x) has
     where
-      moved : (r : OkOr Store Trouble) → Leads code w (did {A = Written} u.line (turned (λ t. record { cells = cells; store = t }) r) (λ b. onward b.cells (core_at q cells0 frames w.store) b.store)) (arrive (λ o w'. at (q + 1) cells frames w') frames (outcome_then (looked u.line r w) settle))
+      moved : (r : OkOr Store Failure) → Leads code w (did {A = Written} u.line (turned (λ t. record { cells = cells; store = t }) r) (λ b. onward b.cells (core_at q cells0 frames w.store) b.store)) (arrive (λ o w'. at (q + 1) cells frames w') frames (outcome_then (looked u.line r w) settle))
       moved (Ok t) = onwards here
       moved (Err (Fails kind)) = breaks
-      moved (Err Misfit) = whatever
+      moved (Err TypeError) = whatever
 
       by : (b : Bool) → slice_get code.places q ≡ Some (place u (if b then i.Keep from x else i.Move from (Into x))) → Reaches code (at q cells0 frames w) (arrive (λ o w'. at (q + 1) cells frames w') frames (write u.line (InVariable x) v w))
       by true has =
@@ -59,16 +59,16 @@ module _ (code : Code) where
           (moved (assigned_variable x v w.store))
 
   -- an operand goes to N. of a permanent class
-  pub count_run : (u : Site) (c : CountedClass) (from : Operand) (v : Value) (q : ℕ) (cells0 cells : List Value) (frames : List Frame) (w : World) → ((go : Value → List Value → Moved) → with_operand_value from w.store cells0 go ≡ go v cells) → HasAt code.places q (count_code u c from) → Reaches code (at q cells0 frames w) (arrive (λ o w'. at (q + 2) cells frames w') frames (write u.line (InCount c) v w))
+  pub count_run : (u : Site) (c : CountedClass) (from : Operand) (v : Value) (q : ℕ) (cells0 cells : List Value) (frames : List Frame) (w : RunState) → ((go : Value → List Value → Moved) → with_operand_value from w.store cells0 go ≡ go v cells) → HasAt code.places q (count_code u c from) → Reaches code (at q cells0 frames w) (arrive (λ o w'. at (q + 2) cells frames w') frames (write u.line (InCount c) v w))
   count_run u c from v q cells0 cells frames w reads has =
       step_leads code (place u (i.LookCount c.class)) (core_at q cells0 frames w.store) w _ _ has.0 refl refl
-      (subst (λ o. Leads code w (did u.line (assignable_count c.class w.store) (λ _. onward cells0 (core_at q cells0 frames w.store) w.store)) (arrive ends frames o)) (after_look (is_permanent (class_at c.class w.store)) (is_made w.store.scene.heap c.class))
+      (subst (λ o. Leads code w (did u.line (assignable_count c.class w.store) (λ _. onward cells0 (core_at q cells0 frames w.store) w.store)) (arrive ends frames o)) (after_look (is_permanent (class_at c.class w.store)) (is_made w.store.world.heap c.class))
       (did_leads code u.line (assignable_count c.class w.store) (λ _. onward cells0 (core_at q cells0 frames w.store) w.store) w ends frames (λ _. write u.line (InVariable (Global c.variable)) v) (λ a r.
       onwards
       (subst (λ j. Reaches code (at (q + 1) cells0 frames w) (arrive (λ o w'. at j cells frames w') frames (write u.line (InVariable (Global c.variable)) v w))) two
       (assigns u (Global c.variable) from v (q + 1) cells0 cells frames w reads has.1.0)))))
     where
-      ends : Unit {0} → World → MachineState
+      ends : Unit {0} → RunState → MachineState
       ends o w' = at (q + 2) cells frames w'
 
       two : q + 1 + 1 ≡ q + 2

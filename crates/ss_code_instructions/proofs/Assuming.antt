@@ -3,7 +3,7 @@ use Rattle.std.proofs.Common.{◌≡◌, ℕ, suc, ◌+◌, List, [], ◌∷◌,
 use Rattle.ss_base.specs.declared.line.Line.{Line}
 use Rattle.ss_base.specs.declared.value.Value.{Value}
 use Rattle.ss_program.specs.Program.{Statement, Block, Done, Then}
-use Rattle.ss_meaning.specs.Parts.{World}
+use Rattle.ss_meaning.specs.Parts.{RunState}
 use Rattle.ss_meaning.specs.Statements.{Calls, effect, effects}
 use Rattle.ss_code_instructions.specs.Instructions as i
 use Rattle.ss_code_instructions.specs.States.{Frame, core_at}
@@ -20,8 +20,8 @@ heap_on us cells = us ++ cells
 -- The instruction that calls does what h says, and yields as many values as are wanted. With a tick to take, the one that takes an event does what h says.
 pub record CallsRun (code : Code) (n : ℕ) (h : Calls) : Type 0 where
   pub by : (u : Site) (routine cell yielding : ℕ) (vs : List Value) → Runs code n cell (onto vs) (place u (i.Call routine cell) ∷ []) heap_on (h.call routine vs yielding)
-  pub such : (routine yielding : ℕ) (vs : List Value) (w : World) → IfWentOn (λ (us : List Value). length us ≡ yielding) (h.call routine vs yielding w)
-  pub event : (m : ℕ) → n ≡ suc m → (l : Line) (cell p : ℕ) (cells : List Value) (frames : List Frame) (w : World) → length cells ≡ cell → Within code m w → Leads code w (act code l (i.TakeEvent cell) (core_at p cells frames w.store)) (arrive (λ (o : Unit {0}) w'. at (p + 1) cells frames w') frames (h.event w))
+  pub such : (routine yielding : ℕ) (vs : List Value) (w : RunState) → IfWentOn (λ (us : List Value). length us ≡ yielding) (h.call routine vs yielding w)
+  pub event : (m : ℕ) → n ≡ suc m → (l : Line) (cell p : ℕ) (cells : List Value) (frames : List Frame) (w : RunState) → length cells ≡ cell → Within code m w → Leads code w (act code l (i.TakeEvent cell) (core_at p cells frames w.store)) (arrive (λ (o : Unit {0}) w'. at (p + 1) cells frames w') frames (h.event w))
 
 module _ (code : Code) (n : ℕ) (h : Calls) where
   -- of each statement: where its PRINTs are among those of the program, its code does what it means, above the cells of its site

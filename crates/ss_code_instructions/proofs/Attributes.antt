@@ -9,12 +9,12 @@ use Rattle.ss_base.specs.declared.value.Value.{Value}
 use Rattle.ss_program.specs.declared.expression.Variable.{Variable}
 use Rattle.ss_program.specs.declared.expression.Variable.TheVariants.{Global, Local}
 use Rattle.ss_program.specs.Program.{Expression, Constant, Fetch, Attribute, OfSystemSet, OfSet, OfMember, Clock, TimeOf, Figure, FigureOf, Signed, Unary, Calculate, ToAttribute}
-use Rattle.ss_meaning.specs.Values.{Trouble, Fails, Misfit, if_ok, turned, sure, calculated}
+use Rattle.ss_meaning.specs.Values.{Failure, Fails, TypeError, if_ok, turned, sure, calculated}
 use Rattle.ss_meaning.specs.Store.{Store, fetched}
 use Rattle.ss_meaning.specs.Entities.{entity, attribute}
 use Rattle.ss_meaning.specs.Places.{InAttribute, assigned_attribute}
 use Rattle.ss_meaning.specs.Expressions.{value, looked_at}
-use Rattle.ss_meaning.specs.Parts.{World, Faulted, Part, outcome_then, looked, look, settle, change, write}
+use Rattle.ss_meaning.specs.Parts.{RunState, Faulted, Part, outcome_then, looked, look, settle, change, write}
 use Rattle.ss_meaning.specs.Statements.{give_to}
 use Rattle.ss_code_instructions.specs.Instructions.{Operand, Held, Taken, Stays, Placed}
 use Rattle.ss_code_instructions.specs.Instructions as i
@@ -51,7 +51,7 @@ fetch_value x (Signed sign e) v s q f = absurd cc
 fetch_value x (Unary op e) v s q f = absurd cc
 fetch_value x (Calculate op a b) v s q f = absurd cc
 
-pub err_first : {A B : Type 0} (r : OkOr A Trouble) (f : A → OkOr B Trouble) (t : Trouble) → r ≡ Err t → if_ok r f ≡ Err t
+pub err_first : {A B : Type 0} (r : OkOr A Failure) (f : A → OkOr B Failure) (t : Failure) → r ≡ Err t → if_ok r f ≡ Err t
 err_first r f t e = ap (λ r. if_ok r f) e
 
 constant_value : (e : Expression) (s : Store) → is_constant e ≡ true → (c : Value) × (value e s ≡ Ok c)
@@ -70,7 +70,7 @@ constant_value (Unary op e) s q = absurd cc
 constant_value (Calculate op a b) s q = absurd cc
 
 -- it fails as the look does
-pub first_look : (class : ℕ) (x : Variable) (e : Expression) (v : Value) (s : Store) (t : Trouble) → looks_first class x e ≡ true → fetched x s ≡ Some v → entity class v s ≡ Err t → value e s ≡ Err t
+pub first_look : (class : ℕ) (x : Variable) (e : Expression) (v : Value) (s : Store) (t : Failure) → looks_first class x e ≡ true → fetched x s ≡ Some v → entity class v s ≡ Err t → value e s ≡ Err t
 first_look class x (Attribute k field e) v s t q f h = by (λ q. first_look class x e v s t q f h) (is_leaf e) q
   where
     by : (looks_first class x e ≡ true → value e s ≡ Err t) → (b : Bool) → (if b then (k == class) && is_fetch_of x e else looks_first class x e) ≡ true → value (Attribute k field e) s ≡ Err t
@@ -108,7 +108,7 @@ leaf_if e q = by (is_leaf e) q
     by false q = absurd cc
 
 -- where a reference is not looked at before, the value is a constant or a variable, or fails as the look does
-pub unlooked : (class : ℕ) (r e : Expression) (v : Value) (s : Store) (t : Trouble) → must_look class r e ≡ false → value r s ≡ Ok v → entity class v s ≡ Err t → (value e s ≡ Err t) ⊎ (is_leaf e ≡ true)
+pub unlooked : (class : ℕ) (r e : Expression) (v : Value) (s : Store) (t : Failure) → must_look class r e ≡ false → value r s ≡ Ok v → entity class v s ≡ Err t → (value e s ≡ Err t) ⊎ (is_leaf e ≡ true)
 unlooked class (Fetch x) e v s t q p h = by (is_leaf e) refl q
   where
     found : (b : Bool) → not b ≡ false → b ≡ true
@@ -146,7 +146,7 @@ low_held (Stays h) y = refl
 
 module _ (code : Code) (n : ℕ) where
   -- an instruction that changes the store by two operands
-  pub two_change : (last : Placed) (x y : Operand) (f : Value → Value → Store → OkOr Store Trouble) (v z : Value) (q : ℕ) (cells0 cells : List Value) (frames : List Frame) (w : World) → is_due last.instruction ≡ false → act code last.line last.instruction (core_at q cells0 frames w.store) ≡ with_values x y w.store cells0 (λ v z below. did last.line (f v z w.store) (λ u. onward below (core_at q cells0 frames w.store) u)) → ((go : Value → Value → List Value → Moved) → with_values x y w.store cells0 go ≡ go v z cells) → slice_get code.places q ≡ Some last → Reaches code (at q cells0 frames w) (arrive (λ o w'. at (q + 1) cells frames w') frames (change last.line (f v z) w))
+  pub two_change : (last : Placed) (x y : Operand) (f : Value → Value → Store → OkOr Store Failure) (v z : Value) (q : ℕ) (cells0 cells : List Value) (frames : List Frame) (w : RunState) → is_due last.instruction ≡ false → act code last.line last.instruction (core_at q cells0 frames w.store) ≡ with_values x y w.store cells0 (λ v z below. did last.line (f v z w.store) (λ u. onward below (core_at q cells0 frames w.store) u)) → ((go : Value → Value → List Value → Moved) → with_values x y w.store cells0 go ≡ go v z cells) → slice_get code.places q ≡ Some last → Reaches code (at q cells0 frames w) (arrive (λ o w'. at (q + 1) cells frames w') frames (change last.line (f v z) w))
   two_change last x y f v z q cells0 cells frames w calm acts takes has =
       step_leads code last (core_at q cells0 frames w.store) w _ _ has calm
       (acts ∙ takes (λ v z below. did last.line (f v z w.store) (λ u. onward below (core_at q cells0 frames w.store) u)))
@@ -158,7 +158,7 @@ module _ (code : Code) (n : ℕ) where
   abbrev value_code : Site → (class field : ℕ) → (r e : Expression) → List Placed
   value_code t class field r e = with_operand (after t r) e (i.SetAttribute class field (operand t r))
 
-  valued : (t : Site) (class field : ℕ) (r e : Expression) (v : Value) (q end : ℕ) (cells : List Value) (frames : List Frame) (w : World) → Within code n w → length cells ≡ height t → value r w.store ≡ Ok v → q + length (value_code t class field r e) ≡ end → HasAt code.places q (value_code t class field r e) → Reaches code (at q (held (leaf r) v cells) frames w) (arrive (λ o w'. at end cells frames w') frames (outcome_then (look t.line (value e) w) (write t.line (InAttribute class field v))))
+  valued : (t : Site) (class field : ℕ) (r e : Expression) (v : Value) (q end : ℕ) (cells : List Value) (frames : List Frame) (w : RunState) → Within code n w → length cells ≡ height t → value r w.store ≡ Ok v → q + length (value_code t class field r e) ≡ end → HasAt code.places q (value_code t class field r e) → Reaches code (at q (held (leaf r) v cells) frames w) (arrive (λ o w'. at end cells frames w') frames (outcome_then (look t.line (value e) w) (write t.line (InAttribute class field v))))
   valued t class field r e v q end cells frames w in_ high p len has =
       let c : List Placed = operand_code (after t r) e in
       let last : Placed = place (after (after t r) e) (i.SetAttribute class field (operand t r) (operand (after t r) e)) in
@@ -168,7 +168,7 @@ module _ (code : Code) (n : ℕ) where
       (two_change last (operand t r) (operand (after t r) e) (assigned_attribute class field) v z (q + length c) (held (leaf e) z (held (leaf r) v cells)) cells frames w refl refl (λ go. reads_both t r e v z w.store cells go high p found) has'.0))
 
   -- the assignment of a constant or a variable finds the fault of the reference
-  leaf_faults : (t : Site) (us : List Mode) (class field : ℕ) (r : Expression) (y : Operand) (v z : Value) (kind : FaultKind) (q : ℕ) (cells : List Value) (frames : List Frame) (w : World) → length cells ≡ height t → value r w.store ≡ Ok v → entity class v w.store ≡ Err (Fails kind) → lies_above (operand t r) y ≡ false → ((cs : List Value) (go : Value → List Value → Moved) → with_operand_value y w.store cs go ≡ go z cs) → slice_get code.places q ≡ Some (place (with_cells t us) (i.SetAttribute class field (operand t r) y)) → Reaches code (at q (held (leaf r) v cells) frames w) (left_to (Faulted kind t.line) frames w)
+  leaf_faults : (t : Site) (us : List Mode) (class field : ℕ) (r : Expression) (y : Operand) (v z : Value) (kind : FaultKind) (q : ℕ) (cells : List Value) (frames : List Frame) (w : RunState) → length cells ≡ height t → value r w.store ≡ Ok v → entity class v w.store ≡ Err (Fails kind) → lies_above (operand t r) y ≡ false → ((cs : List Value) (go : Value → List Value → Moved) → with_operand_value y w.store cs go ≡ go z cs) → slice_get code.places q ≡ Some (place (with_cells t us) (i.SetAttribute class field (operand t r) y)) → Reaches code (at q (held (leaf r) v cells) frames w) (left_to (Faulted kind t.line) frames w)
   leaf_faults t us class field r y v z kind q cells frames w high p h low reads_y has =
       let h0 : List Value = held (leaf r) v cells in
       let c : Core = core_at q h0 frames w.store in
@@ -180,7 +180,7 @@ module _ (code : Code) (n : ℕ) where
       ∙ ap (λ o. did t.line o (λ u. onward cells c u)) (err_first (entity class v w.store) _ (Fails kind) h))
       breaks
 
-  valued_faults : (t : Site) (class field : ℕ) (r e : Expression) (v : Value) (kind : FaultKind) (q : ℕ) (cells : List Value) (frames : List Frame) (w : World) → length cells ≡ height t → value r w.store ≡ Ok v → entity class v w.store ≡ Err (Fails kind) → is_leaf e ≡ true → HasAt code.places q (value_code t class field r e) → Reaches code (at q (held (leaf r) v cells) frames w) (left_to (Faulted kind t.line) frames w)
+  valued_faults : (t : Site) (class field : ℕ) (r e : Expression) (v : Value) (kind : FaultKind) (q : ℕ) (cells : List Value) (frames : List Frame) (w : RunState) → length cells ≡ height t → value r w.store ≡ Ok v → entity class v w.store ≡ Err (Fails kind) → is_leaf e ≡ true → HasAt code.places q (value_code t class field r e) → Reaches code (at q (held (leaf r) v cells) frames w) (left_to (Faulted kind t.line) frames w)
   valued_faults t class field r (Constant c) v kind q cells frames w high p h leaf_ has =
       leaf_faults t (after (after t r) (Constant c)).cells class field r (i.Constant c) v c kind q cells frames w high p h (low_constant (operand t r) c) (λ cs go. refl) has.0
   valued_faults t class field r (Fetch y) v kind q cells frames w high p h leaf_ has =
@@ -201,20 +201,20 @@ module _ (code : Code) (n : ℕ) where
   abbrev let_part : Line → (class field : ℕ) → Expression → Value → Part (Unit {0})
   let_part l class field e v w = outcome_then (looked l (entity class v w.store) w) (λ n w. outcome_then (look l (value e) w) (write l (InAttribute class field v)))
 
-  spot_then : (l : Line) (class field : ℕ) (e : Expression) (r : OkOr Value Trouble) (w : World) → outcome_then (looked l r w) (let_part l class field e) ≡ outcome_then (looked l (turned (InAttribute class field) (if_ok r (looked_at (λ x. entity class x w.store)))) w) (λ p w. outcome_then (look l (value e) w) (write l p))
+  spot_then : (l : Line) (class field : ℕ) (e : Expression) (r : OkOr Value Failure) (w : RunState) → outcome_then (looked l r w) (let_part l class field e) ≡ outcome_then (looked l (turned (InAttribute class field) (if_ok r (looked_at (λ x. entity class x w.store)))) w) (λ p w. outcome_then (look l (value e) w) (write l p))
   spot_then l class field e (Err (Fails kind)) w = refl
-  spot_then l class field e (Err Misfit) w = refl
+  spot_then l class field e (Err TypeError) w = refl
   spot_then l class field e (Ok v) w = by (entity class v w.store)
     where
-      by : (m : OkOr ℤ Trouble) → outcome_then (looked l m w) (λ n w. outcome_then (look l (value e) w) (write l (InAttribute class field v))) ≡ outcome_then (looked l (turned (InAttribute class field) (turned (λ n. v) m)) w) (λ p w. outcome_then (look l (value e) w) (write l p))
+      by : (m : OkOr ℤ Failure) → outcome_then (looked l m w) (λ n w. outcome_then (look l (value e) w) (write l (InAttribute class field v))) ≡ outcome_then (looked l (turned (InAttribute class field) (turned (λ n. v) m)) w) (λ p w. outcome_then (look l (value e) w) (write l p))
       by (Ok n) = refl
       by (Err (Fails kind)) = refl
-      by (Err Misfit) = refl
+      by (Err TypeError) = refl
 
   pub let_attribute_runs : (t : Site) (class field : ℕ) (r e : Expression) → Runs code n (height t) same (let_code t (ToAttribute class field r) e) done (give_to t.line (ToAttribute class field r) (look t.line (value e)))
   let_attribute_runs t class field r e = record { by = λ p cells frames w high has in_. choose p cells frames w high in_ (must_look class r e) refl has }
     where
-      choose : (p : ℕ) (cells : List Value) (frames : List Frame) (w : World) → length cells ≡ height t → Within code n w → (b : Bool) → must_look class r e ≡ b → HasAt code.places p (entity_code t b class r ++ value_code t class field r e) → Reaches code (at p cells frames w) (arrive (λ o w'. at (p + length (entity_code t b class r ++ value_code t class field r e)) cells frames w') frames (give_to t.line (ToAttribute class field r) (look t.line (value e)) w))
+      choose : (p : ℕ) (cells : List Value) (frames : List Frame) (w : RunState) → length cells ≡ height t → Within code n w → (b : Bool) → must_look class r e ≡ b → HasAt code.places p (entity_code t b class r ++ value_code t class field r e) → Reaches code (at p cells frames w) (arrive (λ o w'. at (p + length (entity_code t b class r ++ value_code t class field r e)) cells frames w') frames (give_to t.line (ToAttribute class field r) (look t.line (value e)) w))
       choose p cells frames w high in_ false q has =
           let c : List Placed = operand_code t r in
           let rest : List Placed = value_code t class field r e in
@@ -223,9 +223,9 @@ module _ (code : Code) (n : ℕ) where
           (one_join code n t r (evaluates code n t r) rest (λ o w'. at (p + length (c ++ rest)) cells frames w') (let_part t.line class field e) p cells frames w high has in_ (λ v found has'.
           go v found (p + length c) (p + length (c ++ rest)) end has' (entity class v w.store) refl))
         where
-          go : (v : Value) → value r w.store ≡ Ok v → (j end : ℕ) → j + length (value_code t class field r e) ≡ end → HasAt code.places j (value_code t class field r e) → (m : OkOr ℤ Trouble) → entity class v w.store ≡ m → Reaches code (at j (held (leaf r) v cells) frames w) (arrive (λ o w'. at end cells frames w') frames (outcome_then (looked t.line m w) (λ n w. outcome_then (look t.line (value e) w) (write t.line (InAttribute class field v)))))
+          go : (v : Value) → value r w.store ≡ Ok v → (j end : ℕ) → j + length (value_code t class field r e) ≡ end → HasAt code.places j (value_code t class field r e) → (m : OkOr ℤ Failure) → entity class v w.store ≡ m → Reaches code (at j (held (leaf r) v cells) frames w) (arrive (λ o w'. at end cells frames w') frames (outcome_then (looked t.line m w) (λ n w. outcome_then (look t.line (value e) w) (write t.line (InAttribute class field v)))))
           go v found j end len h (Ok x) known = valued t class field r e v j end cells frames w in_ high found len h
-          go v found j end len h (Err Misfit) known = free
+          go v found j end len h (Err TypeError) known = free
           go v found j end len h (Err (Fails kind)) known = by (unlooked class r e v w.store (Fails kind) q found known)
             where
               by : (value e w.store ≡ Err (Fails kind)) ⊎ (is_leaf e ≡ true) → Reaches code (at j (held (leaf r) v cells) frames w) (left_to (Faulted kind t.line) frames w)

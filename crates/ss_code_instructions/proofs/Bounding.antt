@@ -6,7 +6,7 @@ use Rattle.ss_base.specs.declared.line.Line.{Line}
 use Rattle.ss_base.specs.declared.value.Value.{Value}
 use Rattle.ss_base.specs.declared.value.Value.TheVariants.{Whole}
 use Rattle.ss_meaning.specs.Words.{is_ended}
-use Rattle.ss_meaning.specs.Values.{Trouble, if_ok, turned, due, number_of, calculated, applied, related, printed, empty_lines}
+use Rattle.ss_meaning.specs.Values.{Failure, if_ok, turned, due, number_of, calculated, applied, related, printed, empty_lines}
 use Rattle.ss_meaning.specs.Store.{Store, yielded}
 use Rattle.ss_meaning.specs.Entities.{entity, attribute, time_of, made_one, made_all, without}
 use Rattle.ss_meaning.specs.Places.{assigned_variable, assigned_attribute}
@@ -48,13 +48,13 @@ backs : (c : Core) (back : ℕ) (b : Bool) (cells : List Value) → Every (Way (
 backs c back true cells = inr (inl (back, refl, refl, refl))
 backs c back false cells = inl (ahead c, refl)
 
-delivers : (l : Line) (to : Target) (r : Result (Value × Store) Trouble) (cells : List Value) (c : Core) → Every (Way None c) (deliver_with l to r cells c)
+delivers : (l : Line) (to : Target) (r : Result (Value × Store) Failure) (cells : List Value) (c : Core) → Every (Way None c) (deliver_with l to r cells c)
 delivers l to r cells c = did_any (Way None c) l (if_ok r (λ b. put_to to b.0 cells b.1)) (λ w. onward w.cells c w.store) (λ w. inl (ahead c, refl))
 
-computes : (l : Line) (to : Target) (r : Result Value Trouble) (cells : List Value) (c : Core) → Every (Way None c) (deliver_with l to (turned (λ v. (v, c.store)) r) cells c)
+computes : (l : Line) (to : Target) (r : Result Value Failure) (cells : List Value) (c : Core) → Every (Way None c) (deliver_with l to (turned (λ v. (v, c.store)) r) cells c)
 computes l to r cells c = delivers l to (turned (λ v. (v, c.store)) r) cells c
 
-changes : (l : Line) (r : Result Store Trouble) (cells : List Value) (c : Core) → Every (Way None c) (did l r (λ t. onward cells c t))
+changes : (l : Line) (r : Result Store Failure) (cells : List Value) (c : Core) → Every (Way None c) (did l r (λ t. onward cells c t))
 changes l r cells c = did_any (Way None c) l r (λ t. onward cells c t) (λ t. inl (ahead c, refl))
 
 leaving : (fs : List Frame) (c : Core) → c.frames ≡ fs → Every (Way None c) (leave fs c)
@@ -94,7 +94,7 @@ act_way code l (i.ChangeAttribute sign class field x by) c calm =
 act_way code l (i.Reset j x) c calm = bearer (Way None c) x c.store c.cells _ (λ x below. changes l (reset j x c.store) below c)
 act_way code l (i.Jump skip) c calm = skips c skip false c.cells
 act_way code l (i.Unless relation left right skip) c calm = values (Way None c) left right c.store c.cells _ (λ x y below. fit_any (Way None c) (related relation x y) _ (λ b. skips c skip b below))
-act_way code l (i.UnlessEnded negated skip) c calm = did_any (Way None c) l (due (is_ended c.store.scene.input)) _ (λ b. skips c skip (not_if negated b) c.cells)
+act_way code l (i.UnlessEnded negated skip) c calm = did_any (Way None c) l (due (is_ended c.store.world.input)) _ (λ b. skips c skip (not_if negated b) c.cells)
 act_way code l (i.UnlessEmpty negated set owner skip) c calm = bearer (Way None c) owner c.store c.cells _ (λ o below. did_any (Way None c) l (is_empty set o c.store) _ (λ b. skips c skip (not_if negated b) below))
 act_way code l (i.UnlessMember negated set x owner skip) c calm =
     bearer (Way None c) owner c.store c.cells _ (λ o above. value (Way None c) x c.store above _ (λ x below. did_any (Way None c) l (is_in set x o c.store) _ (λ b. skips c skip (not_if negated b) below)))

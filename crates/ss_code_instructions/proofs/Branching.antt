@@ -4,10 +4,10 @@ use Rattle.std.specs.Prelude.{slice_get, Result as OkOr}
 use Rattle.ss_base.specs.declared.line.Line.{Line}
 use Rattle.ss_base.specs.declared.value.Value.{Value}
 use Rattle.ss_code_instructions.specs.Instructions.{Placed, Jump}
-use Rattle.ss_meaning.specs.Values.{Trouble, if_ok}
+use Rattle.ss_meaning.specs.Values.{Failure, if_ok}
 use Rattle.ss_meaning.specs.Store.{Store}
 use Rattle.ss_meaning.specs.Expressions.{both, either}
-use Rattle.ss_meaning.specs.Parts.{World, Part, outcome_then, look, choose}
+use Rattle.ss_meaning.specs.Parts.{RunState, Part, outcome_then, look, choose}
 use Rattle.ss_code_instructions.specs.States.{Frame, core_at, past}
 use Rattle.ss_code_instructions.specs.Machine.{Code}
 use Rattle.ss_code_instructions.specs.Translation.{Site, height, place as here_is}
@@ -16,13 +16,13 @@ use Rattle.ss_code_instructions.proofs.Parts.{Within, within_on, onwards, step_l
 
 module _ (code : Code) (n : ℕ) (t : Site) where
   -- a jump
-  pub jumps : (skip p end : ℕ) (cells : List Value) (frames : List Frame) (w : World) (r : Goal) → slice_get code.places p ≡ Some (here_is t (Jump skip)) → p + 1 + skip ≡ end → Reaches code (at end cells frames w) r → Reaches code (at p cells frames w) r
+  pub jumps : (skip p end : ℕ) (cells : List Value) (frames : List Frame) (w : RunState) (r : Goal) → slice_get code.places p ≡ Some (here_is t (Jump skip)) → p + 1 + skip ≡ end → Reaches code (at end cells frames w) r → Reaches code (at p cells frames w) r
   jumps skip p end cells frames w r has e f =
       step_leads code (here_is t (Jump skip)) (core_at p cells frames w.store) w _ r has refl refl
       (onwards (subst (λ q. Reaches code (at q cells frames w) r) (let e' : end ≡ p + 1 + skip = omega (arith, e) in e') f))
 
   -- two conditions that both must hold
-  pub both_lands : {c1 c2 : List Placed} (l : Line) (skip : ℕ) (f g : Store → OkOr Bool Trouble) → Lands code n (height t) same c1 (past (length c2 + skip)) done (look l f) → Lands code n (height t) same c2 (past skip) done (look l g) → Lands code n (height t) same (c1 ++ c2) (past skip) done (look l (λ s. if_ok (f s) (λ b. both b (g s))))
+  pub both_lands : {c1 c2 : List Placed} (l : Line) (skip : ℕ) (f g : Store → OkOr Bool Failure) → Lands code n (height t) same c1 (past (length c2 + skip)) done (look l f) → Lands code n (height t) same c2 (past skip) done (look l g) → Lands code n (height t) same (c1 ++ c2) (past skip) done (look l (λ s. if_ok (f s) (λ b. both b (g s))))
   both_lands {c1 = c1} {c2 = c2} l skip f g r1 r2 = alike code n (height t) (λ w. looks_then l (f w.store) (λ b s. both b (g s)) w) (record {
     by = λ place cells frames w high has in_.
         let len : place + length c1 + length c2 ≡ place + length (c1 ++ c2) = omega (arith, length-append c1 c2) in
@@ -31,7 +31,7 @@ module _ (code : Code) (n : ℕ) (t : Site) where
         (λ b w' k. sides (place + length c1) (place + length (c1 ++ c2)) cells frames w' (has_back code.places place c1 c2 has) len high (within_on in_ k) b);
   })
     where
-      sides : (p end : ℕ) (cells : List Value) (frames : List Frame) (w : World) → HasAt code.places p c2 → p + length c2 ≡ end → length cells ≡ height t → Within code n w → (b : Bool) → Reaches code (at (past (length c2 + skip) b p) cells frames w) (arrive (λ b w'. at (past skip b end) cells frames w') frames (look l (λ s. both b (g s)) w))
+      sides : (p end : ℕ) (cells : List Value) (frames : List Frame) (w : RunState) → HasAt code.places p c2 → p + length c2 ≡ end → length cells ≡ height t → Within code n w → (b : Bool) → Reaches code (at (past (length c2 + skip) b p) cells frames w) (arrive (λ b w'. at (past skip b end) cells frames w') frames (look l (λ s. both b (g s)) w))
       sides p end cells frames w h len high in_ true =
           subst (λ e. Reaches code (at p cells frames w) (arrive (λ b w'. at (past skip b e) cells frames w') frames (look l g w))) len (r2.by p cells frames w high h in_)
       sides p end cells frames w h len high in_ false =
@@ -39,7 +39,7 @@ module _ (code : Code) (n : ℕ) (t : Site) where
           subst (λ q. Reaches code (at q cells frames w) (Comes (at (end + skip) cells frames w))) e here
 
   -- two conditions of which one must hold
-  pub either_lands : {c1 c2 : List Placed} (l : Line) (skip : ℕ) (f g : Store → OkOr Bool Trouble) → Lands code n (height t) same c1 (past 1) done (look l f) → Lands code n (height t) same c2 (past skip) done (look l g) → Lands code n (height t) same (c1 ++ (here_is t (Jump (length c2)) ∷ c2)) (past skip) done (look l (λ s. if_ok (f s) (λ b. either b (g s))))
+  pub either_lands : {c1 c2 : List Placed} (l : Line) (skip : ℕ) (f g : Store → OkOr Bool Failure) → Lands code n (height t) same c1 (past 1) done (look l f) → Lands code n (height t) same c2 (past skip) done (look l g) → Lands code n (height t) same (c1 ++ (here_is t (Jump (length c2)) ∷ c2)) (past skip) done (look l (λ s. if_ok (f s) (λ b. either b (g s))))
   either_lands {c1 = c1} {c2 = c2} l skip f g r1 r2 = alike code n (height t) (λ w. looks_then l (f w.store) (λ b s. either b (g s)) w) (record {
     by = λ place cells frames w high has in_.
         let rest = here_is t (Jump (length c2)) ∷ c2 in
@@ -49,13 +49,13 @@ module _ (code : Code) (n : ℕ) (t : Site) where
         (λ b w' k. sides (place + length c1) (place + length (c1 ++ rest)) cells frames w' (has_back code.places place c1 rest has) len high (within_on in_ k) b);
   })
     where
-      sides : (p end : ℕ) (cells : List Value) (frames : List Frame) (w : World) → HasAt code.places p (here_is t (Jump (length c2)) ∷ c2) → p + 1 + length c2 ≡ end → length cells ≡ height t → Within code n w → (b : Bool) → Reaches code (at (past 1 b p) cells frames w) (arrive (λ b w'. at (past skip b end) cells frames w') frames (look l (λ s. either b (g s)) w))
+      sides : (p end : ℕ) (cells : List Value) (frames : List Frame) (w : RunState) → HasAt code.places p (here_is t (Jump (length c2)) ∷ c2) → p + 1 + length c2 ≡ end → length cells ≡ height t → Within code n w → (b : Bool) → Reaches code (at (past 1 b p) cells frames w) (arrive (λ b w'. at (past skip b end) cells frames w') frames (look l (λ s. either b (g s)) w))
       sides p end cells frames w h len high in_ true = jumps (length c2) p end cells frames w _ h.0 len here
       sides p end cells frames w h len high in_ false =
           subst (λ e. Reaches code (at (p + 1) cells frames w) (arrive (λ b w'. at (past skip b e) cells frames w') frames (look l g w))) len (r2.by (p + 1) cells frames w high h.1 in_)
 
   -- a condition that must not hold
-  pub not_lands : {c : List Placed} (l : Line) (skip : ℕ) (f : Store → OkOr Bool Trouble) → Lands code n (height t) same c (past 1) done (look l f) → Lands code n (height t) same (c ++ (here_is t (Jump skip) ∷ [])) (past skip) done (look l (λ s. if_ok (f s) (λ b. Ok (not b))))
+  pub not_lands : {c : List Placed} (l : Line) (skip : ℕ) (f : Store → OkOr Bool Failure) → Lands code n (height t) same c (past 1) done (look l f) → Lands code n (height t) same (c ++ (here_is t (Jump skip) ∷ [])) (past skip) done (look l (λ s. if_ok (f s) (λ b. Ok (not b))))
   not_lands {c = c} l skip f r = alike code n (height t) (λ w. looks_then l (f w.store) (λ b s. Ok (not b)) w) (record {
     by = λ place cells frames w high has in_.
         let tail = here_is t (Jump skip) ∷ [] in
@@ -65,7 +65,7 @@ module _ (code : Code) (n : ℕ) (t : Site) where
         (λ b w' k. sides (place + length c) (place + length (c ++ tail)) cells frames w' (has_back code.places place c tail has).0 len b);
   })
     where
-      sides : (p end : ℕ) (cells : List Value) (frames : List Frame) (w : World) → slice_get code.places p ≡ Some (here_is t (Jump skip)) → p + 1 ≡ end → (b : Bool) → Reaches code (at (past 1 b p) cells frames w) (Comes (at (past skip (not b) end) cells frames w))
+      sides : (p end : ℕ) (cells : List Value) (frames : List Frame) (w : RunState) → slice_get code.places p ≡ Some (here_is t (Jump skip)) → p + 1 ≡ end → (b : Bool) → Reaches code (at (past 1 b p) cells frames w) (Comes (at (past skip (not b) end) cells frames w))
       sides p end cells frames w h len true = jumps skip p (end + skip) cells frames w _ h (omega (arith, len)) here
       sides p end cells frames w h len false = subst (λ q. Reaches code (at (p + 1) cells frames w) (Comes (at q cells frames w))) len here
 
@@ -84,7 +84,7 @@ module _ (code : Code) (n : ℕ) (t : Site) where
           (λ b w' k. sides (place + length ct) cells frames w' end len (has_back code.places place ct rest has) high (within_on in_ k) b);
     }
       where
-        sides : (p : ℕ) (cells : List Value) (frames : List Frame) (w : World) (end : ℕ) → p + 1 + length cb + length ca ≡ end → HasAt code.places p (ca ++ (here_is t (Jump (length cb)) ∷ cb)) → length cells ≡ height t → Within code n w → (b : Bool) → Reaches code (at (past (length ca + 1) b p) cells frames w) (arrive (λ u w'. at end cells frames w') frames (choose b ma mb w))
+        sides : (p : ℕ) (cells : List Value) (frames : List Frame) (w : RunState) (end : ℕ) → p + 1 + length cb + length ca ≡ end → HasAt code.places p (ca ++ (here_is t (Jump (length cb)) ∷ cb)) → length cells ≡ height t → Within code n w → (b : Bool) → Reaches code (at (past (length ca + 1) b p) cells frames w) (arrive (λ u w'. at end cells frames w') frames (choose b ma mb w))
         sides p cells frames w end len h high in_ true =
             follow (at p cells frames w) (λ u w'. at (p + length ca) cells frames w') (λ u w'. at end cells frames w') frames (ma w)
             (ra.by p cells frames w high (has_front code.places p ca _ h) in_)
@@ -109,7 +109,7 @@ module _ (code : Code) (n : ℕ) (t : Site) where
           (λ b w' k. sides (place + length ct) cells frames w' end len (has_back code.places place ct ca has) high (within_on in_ k) b);
     }
       where
-        sides : (p : ℕ) (cells : List Value) (frames : List Frame) (w : World) (end : ℕ) → p + length ca ≡ end → HasAt code.places p ca → length cells ≡ height t → Within code n w → (b : Bool) → Reaches code (at (past (length ca) b p) cells frames w) (arrive (λ u w'. at end cells frames w') frames (choose b ma mb w))
+        sides : (p : ℕ) (cells : List Value) (frames : List Frame) (w : RunState) (end : ℕ) → p + length ca ≡ end → HasAt code.places p ca → length cells ≡ height t → Within code n w → (b : Bool) → Reaches code (at (past (length ca) b p) cells frames w) (arrive (λ u w'. at end cells frames w') frames (choose b ma mb w))
         sides p cells frames w end len h high in_ true =
             subst (λ j. Reaches code (at p cells frames w) (arrive (λ u w'. at j cells frames w') frames (ma w))) len (ra.by p cells frames w high h in_)
         sides p cells frames w end len h high in_ false =

@@ -5,7 +5,7 @@ use Rattle.ss_base.specs.declared.line.Line.{Line}
 use Rattle.ss_base.specs.declared.value.Value.{Value}
 use Rattle.ss_base.specs.declared.value.Value.TheVariants.{Whole}
 use Rattle.ss_meaning.specs.Words.{is_ended}
-use Rattle.ss_meaning.specs.Values.{Trouble, if_ok, turned, due, number_of, calculated, applied, related, printed, empty_lines}
+use Rattle.ss_meaning.specs.Values.{Failure, if_ok, turned, due, number_of, calculated, applied, related, printed, empty_lines}
 use Rattle.ss_meaning.specs.Store.{Store, opened, yielded}
 use Rattle.ss_meaning.specs.Entities.{entity, attribute, time_of, made_one, made_all, without}
 use Rattle.ss_meaning.specs.Places.{assigned_variable, assigned_attribute}
@@ -28,13 +28,13 @@ Calls due c d =
     ⊎ (((f : Frame) × (d.frames ≡ f ∷ c.frames) × (due ≡ true))
     ⊎ ((f : Frame) × (c.frames ≡ f ∷ d.frames) × (d.place ≡ f.back)))
 
-delivers : (l : Line) (to : Target) (r : Result (Value × Store) Trouble) (cells : List Value) (c : Core) → Every (Calls false c) (deliver_with l to r cells c)
+delivers : (l : Line) (to : Target) (r : Result (Value × Store) Failure) (cells : List Value) (c : Core) → Every (Calls false c) (deliver_with l to r cells c)
 delivers l to r cells c = did_any (Calls false c) l (if_ok r (λ b. put_to to b.0 cells b.1)) (λ w. onward w.cells c w.store) (λ w. inl refl)
 
-computes : (l : Line) (to : Target) (r : Result Value Trouble) (cells : List Value) (c : Core) → Every (Calls false c) (deliver_with l to (turned (λ v. (v, c.store)) r) cells c)
+computes : (l : Line) (to : Target) (r : Result Value Failure) (cells : List Value) (c : Core) → Every (Calls false c) (deliver_with l to (turned (λ v. (v, c.store)) r) cells c)
 computes l to r cells c = delivers l to (turned (λ v. (v, c.store)) r) cells c
 
-changes : (due : Bool) (l : Line) (r : Result Store Trouble) (cells : List Value) (c : Core) → Every (Calls due c) (did l r (λ t. onward cells c t))
+changes : (due : Bool) (l : Line) (r : Result Store Failure) (cells : List Value) (c : Core) → Every (Calls due c) (did l r (λ t. onward cells c t))
 changes due l r cells c = did_any (Calls due c) l r (λ t. onward cells c t) (λ t. inl refl)
 
 entering : (e : EntryPoint) (called : Called) (given below : List Value) (c : Core) (t : Store) → Every (Calls true c) (enter e called given below c t)
@@ -86,7 +86,7 @@ act_calls code l (i.ChangeAttribute sign class field x by) c =
 act_calls code l (i.Reset j x) c = bearer (Calls false c) x c.store c.cells _ (λ x below. changes false l (reset j x c.store) below c)
 act_calls code l (i.Jump skip) c = inl refl
 act_calls code l (i.Unless relation left right skip) c = values (Calls false c) left right c.store c.cells _ (λ x y below. fit_any (Calls false c) (related relation x y) _ (λ b. inl refl))
-act_calls code l (i.UnlessEnded negated skip) c = did_any (Calls false c) l (due (is_ended c.store.scene.input)) _ (λ b. inl refl)
+act_calls code l (i.UnlessEnded negated skip) c = did_any (Calls false c) l (due (is_ended c.store.world.input)) _ (λ b. inl refl)
 act_calls code l (i.UnlessEmpty negated set owner skip) c = bearer (Calls false c) owner c.store c.cells _ (λ o below. did_any (Calls false c) l (is_empty set o c.store) _ (λ b. inl refl))
 act_calls code l (i.UnlessMember negated set x owner skip) c =
     bearer (Calls false c) owner c.store c.cells _ (λ o above. value (Calls false c) x c.store above _ (λ x below. did_any (Calls false c) l (is_in set x o c.store) _ (λ b. inl refl)))

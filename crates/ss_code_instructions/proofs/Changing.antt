@@ -6,12 +6,12 @@ use Rattle.ss_base.specs.declared.line.Line.{Line}
 use Rattle.ss_base.specs.declared.value.Value.{Value}
 use Rattle.ss_base.specs.declared.words.Sign.{Sign}
 use Rattle.ss_program.specs.Program.{Expression, Constant, Fetch, Attribute, OfSystemSet, OfSet, OfMember, Clock, TimeOf, Figure, FigureOf, Signed, Unary, Calculate, ToAttribute}
-use Rattle.ss_meaning.specs.Values.{Trouble, Fails, Misfit, if_ok, turned, calculated, operator_of}
+use Rattle.ss_meaning.specs.Values.{Failure, Fails, TypeError, if_ok, turned, calculated, operator_of}
 use Rattle.ss_meaning.specs.Store.{Store}
 use Rattle.ss_meaning.specs.Entities.{entity, attribute}
 use Rattle.ss_meaning.specs.Places.{InAttribute, held as held_at, assigned_attribute}
 use Rattle.ss_meaning.specs.Expressions.{value, looked_at, spot}
-use Rattle.ss_meaning.specs.Parts.{World, outcome_then, looked, look, settle, change, write}
+use Rattle.ss_meaning.specs.Parts.{RunState, outcome_then, looked, look, settle, change, write}
 use Rattle.ss_meaning.specs.Statements.{change_by}
 use Rattle.ss_code_instructions.specs.Instructions.{Operand, Held, Taken, Placed}
 use Rattle.ss_code_instructions.specs.Instructions as i
@@ -86,30 +86,30 @@ takes_over t e r z v s cells go h q p = by (leaf r) refl (leaf e) refl
 
 module _ (code : Code) (n : ℕ) where
   -- what the instruction does is what the meaning's look, sum and write do
-  change_is : (l : Line) (sign : Sign) (class field : ℕ) (v z : Value) (w : World) (m : OkOr ℤ Trouble) → entity class v w.store ≡ m → change l (changed_attribute sign class field v z) w ≡ outcome_then (looked l (turned (InAttribute class field) (turned (λ n. v) m)) w) (λ p w. outcome_then (look l (λ s. if_ok (held_at p s) (λ x. calculated (operator_of sign) x z)) w) (write l p))
+  change_is : (l : Line) (sign : Sign) (class field : ℕ) (v z : Value) (w : RunState) (m : OkOr ℤ Failure) → entity class v w.store ≡ m → change l (changed_attribute sign class field v z) w ≡ outcome_then (looked l (turned (InAttribute class field) (turned (λ n. v) m)) w) (λ p w. outcome_then (look l (λ s. if_ok (held_at p s) (λ x. calculated (operator_of sign) x z)) w) (write l p))
   change_is l sign class field v z w (Err t) e =
       let lost : changed_attribute sign class field v z w.store ≡ Err t = err_first (attribute class field v w.store) _ t (err_first (entity class v w.store) _ t e) in
       ap (λ r. outcome_then (looked l r w) settle) lost ∙ fails t
     where
-      fails : (t : Trouble) → outcome_then (looked l (Err t) w) settle ≡ outcome_then (looked l (turned (InAttribute class field) (turned (λ (n : ℤ). v) (Err t))) w) (λ p w. outcome_then (look l (λ s. if_ok (held_at p s) (λ x. calculated (operator_of sign) x z)) w) (write l p))
+      fails : (t : Failure) → outcome_then (looked l (Err t) w) settle ≡ outcome_then (looked l (turned (InAttribute class field) (turned (λ (n : ℤ). v) (Err t))) w) (λ p w. outcome_then (look l (λ s. if_ok (held_at p s) (λ x. calculated (operator_of sign) x z)) w) (write l p))
       fails (Fails kind) = refl
-      fails Misfit = refl
+      fails TypeError = refl
   change_is l sign class field v z w (Ok n) e = of (attribute class field v w.store)
     where
-      sum : (r : OkOr Value Trouble) → outcome_then (looked l (if_ok r (λ u. assigned_attribute class field v u w.store)) w) settle ≡ outcome_then (looked l r w) (write l (InAttribute class field v))
+      sum : (r : OkOr Value Failure) → outcome_then (looked l (if_ok r (λ u. assigned_attribute class field v u w.store)) w) settle ≡ outcome_then (looked l r w) (write l (InAttribute class field v))
       sum (Ok u) = refl
       sum (Err (Fails kind)) = refl
-      sum (Err Misfit) = refl
+      sum (Err TypeError) = refl
 
-      of : (a : OkOr Value Trouble) → outcome_then (looked l (if_ok a (λ x. if_ok (calculated (operator_of sign) x z) (λ u. assigned_attribute class field v u w.store))) w) settle ≡ outcome_then (looked l (if_ok a (λ x. calculated (operator_of sign) x z)) w) (write l (InAttribute class field v))
+      of : (a : OkOr Value Failure) → outcome_then (looked l (if_ok a (λ x. if_ok (calculated (operator_of sign) x z) (λ u. assigned_attribute class field v u w.store))) w) settle ≡ outcome_then (looked l (if_ok a (λ x. calculated (operator_of sign) x z)) w) (write l (InAttribute class field v))
       of (Ok x) = sum (calculated (operator_of sign) x z)
       of (Err (Fails kind)) = refl
-      of (Err Misfit) = refl
+      of (Err TypeError) = refl
 
-  reference_then : (l : Line) (sign : Sign) (class field : ℕ) (z : Value) (w : World) (r : OkOr Value Trouble) → outcome_then (looked l r w) (λ v. change l (changed_attribute sign class field v z)) ≡ outcome_then (looked l (turned (InAttribute class field) (if_ok r (looked_at (λ x. entity class x w.store)))) w) (λ p w. outcome_then (look l (λ s. if_ok (held_at p s) (λ x. calculated (operator_of sign) x z)) w) (write l p))
+  reference_then : (l : Line) (sign : Sign) (class field : ℕ) (z : Value) (w : RunState) (r : OkOr Value Failure) → outcome_then (looked l r w) (λ v. change l (changed_attribute sign class field v z)) ≡ outcome_then (looked l (turned (InAttribute class field) (if_ok r (looked_at (λ x. entity class x w.store)))) w) (λ p w. outcome_then (look l (λ s. if_ok (held_at p s) (λ x. calculated (operator_of sign) x z)) w) (write l p))
   reference_then l sign class field z w (Ok v) = change_is l sign class field v z w (entity class v w.store) refl
   reference_then l sign class field z w (Err (Fails kind)) = refl
-  reference_then l sign class field z w (Err Misfit) = refl
+  reference_then l sign class field z w (Err TypeError) = refl
 
   pub change_attribute_runs : (t : Site) (sign : Sign) (class field : ℕ) (r e : Expression) → Runs code n (height t) same (change_code t sign (ToAttribute class field r) e) done (change_by t.line sign (ToAttribute class field r) e)
   change_attribute_runs t sign class field r e = record {
@@ -118,7 +118,7 @@ module _ (code : Code) (n : ℕ) where
         let cr : List Placed = operand_code (after t e) r in
         let last : Placed = place (after (after t e) r) (i.ChangeAttribute sign class field (operand (after t e) r) (operand t e)) in
         let end : p + length ce + length cr + 1 ≡ p + length (ce ++ (cr ++ last ∷ [])) = omega (arith, length-append ce (cr ++ last ∷ []), length-append cr (last ∷ [])) in
-        let ends : Unit {0} → World → MachineState = λ o w'. at (p + length (ce ++ (cr ++ last ∷ []))) cells frames w' in
+        let ends : Unit {0} → RunState → MachineState = λ o w'. at (p + length (ce ++ (cr ++ last ∷ []))) cells frames w' in
         one_join code n t e (evaluates code n t e) (cr ++ last ∷ []) ends (λ z w. outcome_then (look t.line (spot (ToAttribute class field r)) w) (λ q w. outcome_then (look t.line (λ s. if_ok (held_at q s) (λ x. calculated (operator_of sign) x z)) w) (write t.line q))) p cells frames w high has in_ (λ z found_z has'.
         subst (λ o. Reaches code (at (p + length ce) (held (leaf e) z cells) frames w) (arrive ends frames o)) (reference_then t.line sign class field z w (value r w.store))
         (one_join code n (after t e) r (evaluates code n (after t e) r) (last ∷ []) ends (λ v. change t.line (changed_attribute sign class field v z)) (p + length ce) (held (leaf e) z cells) frames w (held_height t e z cells high) has' in_ (λ v found_v has''.

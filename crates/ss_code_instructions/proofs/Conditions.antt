@@ -8,10 +8,10 @@ use Rattle.ss_meaning.specs.Words.{is_ended}
 use Rattle.ss_base.specs.declared.words.GuardKind.{GuardKind}
 use Rattle.ss_base.specs.declared.words.GuardKind.TheVariants as guards
 use Rattle.ss_program.specs.Program.{Expression, SetOwner, Test, Compare, DataEnded, Empty, Member, Condition, Guard}
-use Rattle.ss_meaning.specs.Values.{Trouble, Fails, Misfit, if_ok, turned, due, sure, related}
+use Rattle.ss_meaning.specs.Values.{Failure, Fails, TypeError, if_ok, turned, due, sure, related}
 use Rattle.ss_meaning.specs.Sets.{member, is_empty, is_in}
 use Rattle.ss_meaning.specs.Expressions.{member_value, owner_value, not_if, passed, both, either, all_hold, holds, passes, all_pass}
-use Rattle.ss_meaning.specs.Parts.{World, WentOn, outcome_then, looked, look}
+use Rattle.ss_meaning.specs.Parts.{RunState, WentOn, outcome_then, looked, look}
 use Rattle.ss_code_instructions.specs.Instructions as i
 use Rattle.ss_code_instructions.specs.States.{Moved, did, fit, core_at, past, onward_if}
 use Rattle.ss_code_instructions.specs.Machine.{Code}
@@ -23,13 +23,13 @@ use Rattle.ss_code_instructions.proofs.Looking.{fit_did, two_lands, owner_lands}
 use Rattle.ss_code_instructions.proofs.Members.{member_owner_run}
 use Rattle.ss_code_instructions.proofs.Branching.{both_lands, either_lands, not_lands}
 
-turned_did : {A B : Type 0} (l : Line) (r : OkOr A Trouble) (g : A → B) (go : B → Moved) → did l r (λ a. go (g a)) ≡ did l (turned g r) go
+turned_did : {A B : Type 0} (l : Line) (r : OkOr A Failure) (g : A → B) (go : B → Moved) → did l r (λ a. go (g a)) ≡ did l (turned g r) go
 turned_did l (Ok a) g go = refl
 turned_did l (Err (Fails k)) g go = refl
-turned_did l (Err Misfit) g go = refl
+turned_did l (Err TypeError) g go = refl
 
 -- where the first of two fails
-first_fails : {A B : Type 0} (r : OkOr A Trouble) (f : A → OkOr B Trouble) (kind : FaultKind) → r ≡ Err (Fails kind) → if_ok r f ≡ Err (Fails kind)
+first_fails : {A B : Type 0} (r : OkOr A Failure) (f : A → OkOr B Failure) (kind : FaultKind) → r ≡ Err (Fails kind) → if_ok r f ≡ Err (Fails kind)
 first_fails r f kind q = ap (λ r. if_ok r f) q
 
 module _ (code : Code) (n : ℕ) (t : Site) where
@@ -44,28 +44,28 @@ module _ (code : Code) (n : ℕ) (t : Site) where
         (λ q cells0 b len. onwards (subst (λ j. Reaches code (at (past skip (not_if negated b) (q + 1)) cells frames w) (Comes (at (past skip (not_if negated b) j) cells frames w))) len here)));
   }
     where
-      last : (r : OkOr Bool Trouble) (w : World) → outcome_then (looked t.line r w) (λ b. WentOn (not_if negated b)) ≡ looked t.line (turned (not_if negated) r) w
+      last : (r : OkOr Bool Failure) (w : RunState) → outcome_then (looked t.line r w) (λ b. WentOn (not_if negated b)) ≡ looked t.line (turned (not_if negated) r) w
       last (Ok b) w = refl
       last (Err (Fails kind)) w = refl
-      last (Err Misfit) w = refl
+      last (Err TypeError) w = refl
 
-      owned : (v : Value) (r : OkOr (Option Value) Trouble) (w : World) → outcome_then (looked t.line r w) (λ u w. outcome_then (look t.line (is_in set v u) w) (λ b. WentOn (not_if negated b))) ≡ looked t.line (if_ok r (λ u. turned (not_if negated) (is_in set v u w.store))) w
+      owned : (v : Value) (r : OkOr (Option Value) Failure) (w : RunState) → outcome_then (looked t.line r w) (λ u w. outcome_then (look t.line (is_in set v u) w) (λ b. WentOn (not_if negated b))) ≡ looked t.line (if_ok r (λ u. turned (not_if negated) (is_in set v u w.store))) w
       owned v (Ok u) w = last (is_in set v u w.store) w
       owned v (Err (Fails kind)) w = refl
-      owned v (Err Misfit) w = refl
+      owned v (Err TypeError) w = refl
 
-      in_set : (r : OkOr Value Trouble) (w : World) → outcome_then (looked t.line r w) (λ v w. outcome_then (look t.line (owner_value o) w) (λ u w. outcome_then (look t.line (is_in set v u) w) (λ b. WentOn (not_if negated b)))) ≡ looked t.line (if_ok r (λ v. if_ok (owner_value o w.store) (λ u. turned (not_if negated) (is_in set v u w.store)))) w
+      in_set : (r : OkOr Value Failure) (w : RunState) → outcome_then (looked t.line r w) (λ v w. outcome_then (look t.line (owner_value o) w) (λ u w. outcome_then (look t.line (is_in set v u) w) (λ b. WentOn (not_if negated b)))) ≡ looked t.line (if_ok r (λ v. if_ok (owner_value o w.store) (λ u. turned (not_if negated) (is_in set v u w.store)))) w
       in_set (Ok v) w = owned v (owner_value o w.store) w
       in_set (Err (Fails kind)) w = refl
-      in_set (Err Misfit) w = refl
+      in_set (Err TypeError) w = refl
 
   pub test_lands : (skip : ℕ) (x : Test) → Lands code n (height t) same (test_code t skip x) (past skip) done (look t.line (passed x))
   test_lands skip (Compare relation a b) =
       two_lands code n t a b (λ x y. i.Unless relation x y skip) (past skip) (λ x y s. sure (related relation x y)) (λ p cells frames s x y below. fit (related relation x y) (λ b. onward_if skip b below (core_at p cells frames s))) (λ x y. refl) (λ x y p cells frames s. refl)
       (λ p cells frames s x y below. fit_did t.line (related relation x y) (λ b. onward_if skip b below (core_at p cells frames s)))
   test_lands skip (DataEnded negated) =
-      look_lands code n (height t) (place t (i.UnlessEnded negated skip)) same (past skip) done (λ s. turned (not_if negated) (due (is_ended s.scene.input))) refl
-      (λ p cells frames s h. turned_did t.line (due (is_ended s.scene.input)) (not_if negated) (λ b. onward_if skip b cells (core_at p cells frames s)))
+      look_lands code n (height t) (place t (i.UnlessEnded negated skip)) same (past skip) done (λ s. turned (not_if negated) (due (is_ended s.world.input))) refl
+      (λ p cells frames s h. turned_did t.line (due (is_ended s.world.input)) (not_if negated) (λ b. onward_if skip b cells (core_at p cells frames s)))
   test_lands skip (Empty negated set o) =
       owner_lands code n t o (λ o. i.UnlessEmpty negated set o skip) (past skip) (λ o s. turned (not_if negated) (is_empty set o s)) (λ p cells frames s o below. did t.line (is_empty set o s) (λ b. onward_if skip (not_if negated b) below (core_at p cells frames s))) (λ x. refl) (λ x p cells frames s. refl)
       (λ p cells frames s o below. turned_did t.line (is_empty set o s) (not_if negated) (λ b. onward_if skip b below (core_at p cells frames s)))
@@ -81,7 +81,7 @@ module _ (code : Code) (n : ℕ) (t : Site) where
   tests_land skip [] = holds_so skip
   tests_land skip (x ∷ xs) = both_lands code n t t.line skip (passed x) (all_hold xs) (test_lands (length (tests_code t skip xs) + skip) x) (tests_land skip xs)
 
-  either_none : (r : OkOr Bool Trouble) (w : World) → looked t.line r w ≡ looked t.line (if_ok r (λ b. either b (Ok false))) w
+  either_none : (r : OkOr Bool Failure) (w : RunState) → looked t.line r w ≡ looked t.line (if_ok r (λ b. either b (Ok false))) w
   either_none (Ok true) w = refl
   either_none (Ok false) w = refl
   either_none (Err e) w = refl
@@ -97,7 +97,7 @@ module _ (code : Code) (n : ℕ) (t : Site) where
   pub negated_lands : (skip : ℕ) (c : Condition) → Lands code n (height t) same (negated_code t skip c) (past skip) done (look t.line (λ s. if_ok (holds c s) (λ b. Ok (not b))))
   negated_lands skip c = not_lands code n t t.line skip (holds c) (condition_lands 1 c)
 
-  if_same : (r : OkOr Bool Trouble) (w : World) → looked t.line r w ≡ looked t.line (if_ok r Ok) w
+  if_same : (r : OkOr Bool Failure) (w : RunState) → looked t.line r w ≡ looked t.line (if_ok r Ok) w
   if_same (Ok b) w = refl
   if_same (Err e) w = refl
 
@@ -105,7 +105,7 @@ module _ (code : Code) (n : ℕ) (t : Site) where
   guard_lands skip guards.While c = alike code n (height t) (λ w. if_same (holds c w.store) w) (condition_lands skip c)
   guard_lands skip guards.Until c = negated_lands skip c
 
-  if_twice : (r : OkOr Bool Trouble) (p : Bool → Bool) (g : Bool → OkOr Bool Trouble) (w : World) → looked t.line (if_ok (if_ok r (λ b. Ok (p b))) g) w ≡ looked t.line (if_ok r (λ b. g (p b))) w
+  if_twice : (r : OkOr Bool Failure) (p : Bool → Bool) (g : Bool → OkOr Bool Failure) (w : RunState) → looked t.line (if_ok (if_ok r (λ b. Ok (p b))) g) w ≡ looked t.line (if_ok r (λ b. g (p b))) w
   if_twice (Ok b) p g w = refl
   if_twice (Err e) p g w = refl
 

@@ -8,7 +8,7 @@ use Rattle.ss_program.specs.WellTyped.{TypedScope}
 use Rattle.ss_program.specs.Program.{Block, Routine, Event, Program}
 use Rattle.ss_meaning.specs.Store.{Store, opened, yielded}
 use Rattle.ss_meaning.specs.Events.{Beginning, Coming, next_event, event_begun}
-use Rattle.ss_meaning.specs.Parts.{World, Returned, Stopped, Faulted, OutOfTicks, Wrong, Outcome, WentOn, Left, Part, outcome_then, then_nothing, needed}
+use Rattle.ss_meaning.specs.Parts.{RunState, Returned, Stopped, Faulted, OutOfTicks, Wrong, Outcome, WentOn, Left, Part, outcome_then, then_nothing, needed}
 use Rattle.ss_meaning.specs.Statements.{Calls, effects}
 use Rattle.ss_meaning.specs.Meaning.{with_locals, come_back, enclosed, routine_called, event_routine, begin, event_taken, calls, setting_of}
 use Rattle.ss_code_instructions.specs.Instructions.{Placed, EntryPoint}
@@ -58,7 +58,7 @@ pub record Linked (code : Code) (p : Program) : Type 0 where
 -- ## Into a section, and back
 
 module _ (code : Code) where
-  landed_back : (f : Frame) (fs : List Frame) (w : World) (s : MachineState) (o : Option (List Value)) → Reaches code s (landed o f fs w) → Reaches code s (arrive (λ us w'. at f.back (us ++ f.cells) fs w') fs (outcome_then (needed o w) (λ vs w. WentOn vs (with_locals f.locals w))))
+  landed_back : (f : Frame) (fs : List Frame) (w : RunState) (s : MachineState) (o : Option (List Value)) → Reaches code s (landed o f fs w) → Reaches code s (arrive (λ us w'. at f.back (us ++ f.cells) fs w') fs (outcome_then (needed o w) (λ vs w. WentOn vs (with_locals f.locals w))))
   landed_back f fs w s None g = g
   landed_back f fs w s (Some us) g = g
 
@@ -74,7 +74,7 @@ module _ (code : Code) where
 
   module _ (n : ℕ) (h : Calls) (ok : CallsRun code n h) where
     -- a section from its beginning on
-    section_run : (s : TypedScope) → Sited code (first_site s) → (body : Block) (first p : ℕ) → HasAt code.places p (section_code s first body) → HasAt code.prints first (block_prints body) → (f : Frame) (frames : List Frame) (w : World) → Within code n w → Reaches code (at p [] (f ∷ frames) w) (arrive (λ us w'. at f.back (us ++ f.cells) frames w') frames (come_back f.first f.count f.locals (effects h n body w)))
+    section_run : (s : TypedScope) → Sited code (first_site s) → (body : Block) (first p : ℕ) → HasAt code.places p (section_code s first body) → HasAt code.prints first (block_prints body) → (f : Frame) (frames : List Frame) (w : RunState) → Within code n w → Reaches code (at p [] (f ∷ frames) w) (arrive (λ us w'. at f.back (us ++ f.cells) frames w') frames (come_back f.first f.count f.locals (effects h n body w)))
     section_run s sited body first p lies prints f frames w in_ =
         let b : List Placed = block_code (first_site s) first body in
         let last : List Placed = place (first_site s) i.Leave ∷ [] in
@@ -82,9 +82,9 @@ module _ (code : Code) where
         ((block_runs code n h ok (first_site s) sited first body prints).by p [] (f ∷ frames) w refl (has_front code.places p b last lies) in_)
 
     -- An instruction that enters a section leads to what the section does. The meaning may have another store by then, in which the section begins.
-    enclosed_leads : (s : TypedScope) → Sited code (first_site s) → (body : Block) (first : ℕ) (e : EntryPoint) → HasAt code.places e.place (section_code s first body) → HasAt code.prints first (block_prints body) → (called : Called) (vs : List Value) (q : ℕ) (cells0 cells : List Value) (frames : List Frame) (w : World) (u : Store) → Within code n (record w { store = u }) → Leads code w (enter e called vs cells (core_at q cells0 frames w.store) u) (arrive (λ us w'. at (q + 1) (us ++ cells) frames w') frames (enclosed e.given e.others (effects h n body) vs e.yielding (record w { store = u })))
+    enclosed_leads : (s : TypedScope) → Sited code (first_site s) → (body : Block) (first : ℕ) (e : EntryPoint) → HasAt code.places e.place (section_code s first body) → HasAt code.prints first (block_prints body) → (called : Called) (vs : List Value) (q : ℕ) (cells0 cells : List Value) (frames : List Frame) (w : RunState) (u : Store) → Within code n (record w { store = u }) → Leads code w (enter e called vs cells (core_at q cells0 frames w.store) u) (arrive (λ us w'. at (q + 1) (us ++ cells) frames w') frames (enclosed e.given e.others (effects h n body) vs e.yielding (record w { store = u })))
     enclosed_leads s sited body first e lies prints called vs q cells0 cells frames w u in_ =
-        let w1 : World = record w { store = u } in
+        let w1 : RunState = record w { store = u } in
         needed_leads code (opened e.given e.others vs) (λ variables. enter_with variables e called cells (core_at q cells0 frames w.store) u) w w1 (λ us w'. at (q + 1) (us ++ cells) frames w') frames (λ ls w. come_back (length e.given) e.yielding w.store.locals (effects h n body (with_locals ls w))) (λ ls known.
         let f : Frame = record { back = q + 1; cells = cells; locals = u.locals; first = length e.given; count = e.yielding; called = called } in
         let v : Store = record u { locals = ls } in
@@ -94,7 +94,7 @@ module _ (code : Code) where
   -- ## Calls and events of a program
 
   module _ (p : Program) (linked : Linked code p) where
-    routine_leads : (n : ℕ) → CallsRun code n (calls p n) → (l : Line) (routine cell count : ℕ) (vs : List Value) (o : Option Routine) (e : Option EntryPoint) → slice_get code.routines routine ≡ e → RoutineAt code p o e → (q : ℕ) (cells : List Value) (frames : List Frame) (w : World) → length cells ≡ cell → Within code n w → Leads code w (act code l (i.Call routine cell) (core_at q (onto vs cells) frames w.store)) (arrive (λ us w'. at (q + 1) (us ++ cells) frames w') frames (routine_called o (calls p n) n vs count w))
+    routine_leads : (n : ℕ) → CallsRun code n (calls p n) → (l : Line) (routine cell count : ℕ) (vs : List Value) (o : Option Routine) (e : Option EntryPoint) → slice_get code.routines routine ≡ e → RoutineAt code p o e → (q : ℕ) (cells : List Value) (frames : List Frame) (w : RunState) → length cells ≡ cell → Within code n w → Leads code w (act code l (i.Call routine cell) (core_at q (onto vs cells) frames w.store)) (arrive (λ us w'. at (q + 1) (us ++ cells) frames w') frames (routine_called o (calls p n) n vs count w))
     routine_leads n ok l routine cell count vs None e known link q cells frames w high in_ = whatever
     routine_leads n ok l routine cell count vs (Some r) None known link q cells frames w high in_ = absurd link
     routine_leads n ok l routine cell count vs (Some r) (Some e) known link q cells frames w high in_ = sides (count == length r.yielding) refl
@@ -105,7 +105,7 @@ module _ (code : Code) where
         entry : EntryPoint
         entry = routine_entry link.begins r
 
-        k : List Value → World → MachineState
+        k : List Value → RunState → MachineState
         k us w' = at (q + 1) (us ++ cells) frames w'
 
         -- the instruction finds the section, and as many values as it takes
@@ -128,17 +128,17 @@ module _ (code : Code) where
             (opens (opened r.given (r.yielding ++ r.others) vs) refl)
 
     -- an event yields nothing
-    nothing_yielded : (w : World) (m : Moved) (q : ℕ) (cells : List Value) (frames : List Frame) (o : Outcome (List Value)) → IfWentOn (AsWanted 0) o → Leads code w m (arrive (λ us w'. at q (us ++ cells) frames w') frames o) → Leads code w m (arrive (λ (u : Unit {0}) w'. at q cells frames w') frames (then_nothing o))
+    nothing_yielded : (w : RunState) (m : Moved) (q : ℕ) (cells : List Value) (frames : List Frame) (o : Outcome (List Value)) → IfWentOn (AsWanted 0) o → Leads code w m (arrive (λ us w'. at q (us ++ cells) frames w') frames o) → Leads code w m (arrive (λ (u : Unit {0}) w'. at q cells frames w') frames (then_nothing o))
     nothing_yielded w m q cells frames (WentOn [] w') such g = g
     nothing_yielded w m q cells frames (WentOn (v ∷ us) w') such g = absurd (omega (arith, such))
     nothing_yielded w m q cells frames (Left e w') such g = g
 
     -- a section of an event begins
-    begins_leads : (n : ℕ) → CallsRun code n (calls p n) → (cell : ℕ) (b : Beginning) (o : Option Event) (e : Option EntryPoint) → slice_get code.events b.rank ≡ e → EventAt code p o e → (q : ℕ) (cells : List Value) (frames : List Frame) (w : World) → length cells ≡ cell → Within code n (record w { store = b.store }) → Leads code w (fit (slice_get code.events b.rank) (λ e. at_height cell cells (enter e (AnEvent b.rank) b.given cells (core_at q cells frames w.store) b.store))) (arrive (λ (u : Unit {0}) w'. at (q + 1) cells frames w') frames (event_routine o (calls p n) n b.given (record w { store = b.store })))
+    begins_leads : (n : ℕ) → CallsRun code n (calls p n) → (cell : ℕ) (b : Beginning) (o : Option Event) (e : Option EntryPoint) → slice_get code.events b.rank ≡ e → EventAt code p o e → (q : ℕ) (cells : List Value) (frames : List Frame) (w : RunState) → length cells ≡ cell → Within code n (record w { store = b.store }) → Leads code w (fit (slice_get code.events b.rank) (λ e. at_height cell cells (enter e (AnEvent b.rank) b.given cells (core_at q cells frames w.store) b.store))) (arrive (λ (u : Unit {0}) w'. at (q + 1) cells frames w') frames (event_routine o (calls p n) n b.given (record w { store = b.store })))
     begins_leads n ok cell b None e known link q cells frames w high in_ = whatever
     begins_leads n ok cell b (Some v) None known link q cells frames w high in_ = absurd link
     begins_leads n ok cell b (Some v) (Some e) known link q cells frames w high in_ =
-        let w1 : World = record w { store = b.store } in
+        let w1 : RunState = record w { store = b.store } in
         let core : Core = core_at q cells frames w.store in
         let entry : EntryPoint = event_entry link.begins v in
         subst (λ m. Leads code w m (arrive (λ (u : Unit {0}) w'. at (q + 1) cells frames w') frames (event_routine (Some v) (calls p n) n b.given w1))) (sym (
@@ -149,22 +149,22 @@ module _ (code : Code) where
         (enclosed_leads n (calls p n) ok (event_scope p v) linked.setting v.body link.first entry link.lies link.prints (AnEvent b.rank) b.given q cells cells frames w b.store in_))
 
     -- the program says the same once an event has begun, and each member of a set lives
-    begun_within : (n : ℕ) (w : World) (c : Coming) (b : Beginning) → next_event w.store ≡ Some c → event_begun c ≡ Ok b → Within code n w → Within code n (record w { store = b.store })
+    begun_within : (n : ℕ) (w : RunState) (c : Coming) (b : Beginning) → next_event w.store ≡ Some c → event_begun c ≡ Ok b → Within code n w → Within code n (record w { store = b.store })
     begun_within n w c b e f in_ =
         let came : ComingSame w.store c = subst (Where (ComingSame w.store)) e (event_same w.store) in
         let began : BeginningSame c.store b = subst (Only (BeginningSame c.store)) f (begun_same c) in
         within_store {w = w} {s = b.store} in_ (lasts_then w.store c.store b.store (lasts_so w.store c.store came) (lasts_so c.store b.store began))
 
     -- where no notice is pending the program would go wrong
-    next_leads : {B : Type 0} (cell : ℕ) (core : Core) (o : Option Coming) (w : World) (k : B → World → MachineState) (frames : List Frame) (f : Coming → Part B) → ((c : Coming) → o ≡ Some c → Leads code w (take_event code cell c core) (arrive k frames (f c w))) → Leads code w (take_next code cell o core) (arrive k frames (outcome_then (needed o w) f))
+    next_leads : {B : Type 0} (cell : ℕ) (core : Core) (o : Option Coming) (w : RunState) (k : B → RunState → MachineState) (frames : List Frame) (f : Coming → Part B) → ((c : Coming) → o ≡ Some c → Leads code w (take_event code cell c core) (arrive k frames (f c w))) → Leads code w (take_next code cell o core) (arrive k frames (outcome_then (needed o w) f))
     next_leads cell core None w k frames f h = whatever
     next_leads cell core (Some c) w k frames f h = h c refl
 
     -- the event that comes next; a fault has the line of its routine
-    event_leads : (n : ℕ) → CallsRun code n (calls p n) → (l : Line) (cell q : ℕ) (cells : List Value) (frames : List Frame) (w : World) → length cells ≡ cell → Within code n w → Leads code w (act code l (i.TakeEvent cell) (core_at q cells frames w.store)) (arrive (λ (u : Unit {0}) w'. at (q + 1) cells frames w') frames (event_taken p.events (calls p n) n w))
+    event_leads : (n : ℕ) → CallsRun code n (calls p n) → (l : Line) (cell q : ℕ) (cells : List Value) (frames : List Frame) (w : RunState) → length cells ≡ cell → Within code n w → Leads code w (act code l (i.TakeEvent cell) (core_at q cells frames w.store)) (arrive (λ (u : Unit {0}) w'. at (q + 1) cells frames w') frames (event_taken p.events (calls p n) n w))
     event_leads n ok l cell q cells frames w high in_ =
         let core : Core = core_at q cells frames w.store in
-        let k : Unit {0} → World → MachineState = λ u w'. at (q + 1) cells frames w' in
+        let k : Unit {0} → RunState → MachineState = λ u w'. at (q + 1) cells frames w' in
         next_leads cell core (next_event w.store) w k frames (λ c. begin c (λ b. event_routine (slice_get p.events b.rank) (calls p n) n b.given)) (λ c came.
         did_leads code c.ranked.said.line (event_begun c) (λ b. fit (slice_get code.events b.rank) (λ e. at_height cell cells (enter e (AnEvent b.rank) b.given cells core b.store))) w k frames (λ b w. event_routine (slice_get p.events b.rank) (calls p n) n b.given (record w { store = b.store })) (λ b began.
         begins_leads n ok cell b (slice_get p.events b.rank) (slice_get code.events b.rank) refl (linked.events b.rank) q cells frames w high (begun_within n w c b came began in_)))

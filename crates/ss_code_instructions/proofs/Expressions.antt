@@ -6,14 +6,14 @@ use Rattle.ss_base.specs.declared.value.Value.{Value}
 use Rattle.ss_base.specs.declared.value.Value.TheVariants.{Whole}
 use Rattle.std.specs.Prelude.{pos}
 use Rattle.ss_program.specs.Program.{Expression, Constant, Fetch, Attribute, OfSystemSet, OfSet, OfMember, Clock, TimeOf, Figure, FigureOf, Signed, Unary, Calculate}
-use Rattle.ss_meaning.specs.Values.{Trouble, Fails, Misfit, if_ok, calculated, operator_of, signed, applied}
+use Rattle.ss_meaning.specs.Values.{Failure, Fails, TypeError, if_ok, calculated, operator_of, signed, applied}
 use Rattle.ss_meaning.specs.Store.{Store}
 use Rattle.ss_meaning.specs.Entities.{attribute, time_of}
 use Rattle.ss_meaning.specs.Sets.{of_set, of_member}
 use Rattle.ss_meaning.specs.Events.{clock}
 use Rattle.ss_meaning.specs.Statistics.{figure}
 use Rattle.ss_meaning.specs.Expressions.{value}
-use Rattle.ss_meaning.specs.Parts.{World, Part, outcome_then, looked, look}
+use Rattle.ss_meaning.specs.Parts.{RunState, Part, outcome_then, looked, look}
 use Rattle.ss_code_instructions.specs.Instructions.{Operand, Target, Instruction, Placed}
 use Rattle.ss_code_instructions.specs.Instructions as i
 use Rattle.ss_code_instructions.specs.States.{Frame, core_at, with_operand_value, with_values, deliver}
@@ -23,7 +23,7 @@ use Rattle.ss_code_instructions.proofs.Steps.{Reaches, at, arrive}
 use Rattle.ss_code_instructions.proofs.Parts.{Leads, step_leads, Runs, same, put_on, went, look_then, alike}
 use Rattle.ss_code_instructions.proofs.Operands.{on, Tops, put_then, computes, held, reads, reads_both, Evaluates, leaf_runs, operand_runs, one_join, two_join}
 
-if_ok_ok : {A : Type 0} (r : OkOr A Trouble) → if_ok r Ok ≡ r
+if_ok_ok : {A : Type 0} (r : OkOr A Failure) → if_ok r Ok ≡ r
 if_ok_ok (Ok a) = refl
 if_ok_ok (Err t) = refl
 
@@ -36,7 +36,7 @@ module _ (code : Code) (n : ℕ) where
   Leaves t to e = Runs code n (height t) same (expression_code t to e) (on to) (λ w. outcome_then (look t.line (value e) w) (put_then t.line to))
 
   -- one instruction that computes a value without operands
-  none_runs : (t : Site) (to : Target) (x : Instruction) (f : Store → OkOr Value Trouble) → Tops to (height t) → is_due x ≡ false → ((p : ℕ) (cells : List Value) (frames : List Frame) (s : Store) → act code t.line x (core_at p cells frames s) ≡ deliver t.line to (f s) cells (core_at p cells frames s)) → Runs code n (height t) same (place t x ∷ []) (on to) (λ w. outcome_then (look t.line f w) (put_then t.line to))
+  none_runs : (t : Site) (to : Target) (x : Instruction) (f : Store → OkOr Value Failure) → Tops to (height t) → is_due x ≡ false → ((p : ℕ) (cells : List Value) (frames : List Frame) (s : Store) → act code t.line x (core_at p cells frames s) ≡ deliver t.line to (f s) cells (core_at p cells frames s)) → Runs code n (height t) same (place t x ∷ []) (on to) (λ w. outcome_then (look t.line f w) (put_then t.line to))
   none_runs t to x f tops calm acts = record {
     by = λ p cells frames w high has in_.
         step_leads code (place t x) (core_at p cells frames w.store) w _ _ has.0 calm (acts p cells frames w.store)
@@ -44,12 +44,12 @@ module _ (code : Code) (n : ℕ) where
   }
 
   -- one instruction that computes a value from that of an operand
-  one_runs : (t : Site) (to : Target) (e : Expression) (make : Operand → Instruction) (f : Value → Store → OkOr Value Trouble) → Tops to (height t) → Evaluates code n t e → ((x : Operand) → is_due (make x) ≡ false) → ((x : Operand) (p : ℕ) (cells : List Value) (frames : List Frame) (s : Store) → act code t.line (make x) (core_at p cells frames s) ≡ with_operand_value x s cells (λ v below. deliver t.line to (f v s) below (core_at p cells frames s))) → Runs code n (height t) same (one_operand t e (expression_code t (next t) e) make) (on to) (λ w. outcome_then (look t.line (λ s. if_ok (value e s) (λ v. f v s)) w) (put_then t.line to))
+  one_runs : (t : Site) (to : Target) (e : Expression) (make : Operand → Instruction) (f : Value → Store → OkOr Value Failure) → Tops to (height t) → Evaluates code n t e → ((x : Operand) → is_due (make x) ≡ false) → ((x : Operand) (p : ℕ) (cells : List Value) (frames : List Frame) (s : Store) → act code t.line (make x) (core_at p cells frames s) ≡ with_operand_value x s cells (λ v below. deliver t.line to (f v s) below (core_at p cells frames s))) → Runs code n (height t) same (one_operand t e (expression_code t (next t) e) make) (on to) (λ w. outcome_then (look t.line (λ s. if_ok (value e s) (λ v. f v s)) w) (put_then t.line to))
   one_runs t to e make f tops r calm acts = record {
     by = λ p cells frames w high has in_.
         let c = operand_code t e in
         let x : Placed = place (after t e) (make (operand t e)) in
-        let k = λ (v : Value) (w' : World). at (p + length (c ++ x ∷ [])) (on to v cells) frames w' in
+        let k = λ (v : Value) (w' : RunState). at (p + length (c ++ x ∷ [])) (on to v cells) frames w' in
         subst (λ o. Reaches code (at p cells frames w) (arrive k frames o)) (look_then t.line (value e w.store) f (put_then t.line to) w)
         (one_join code n t e r (x ∷ []) k (λ v w. outcome_then (look t.line (f v) w) (put_then t.line to)) p cells frames w high has in_ (λ v q has'.
         step_leads code x (core_at (p + length c) (held (leaf e) v cells) frames w.store) w _ _ has'.0 (calm (operand t e))
@@ -60,13 +60,13 @@ module _ (code : Code) (n : ℕ) where
   }
 
   -- and from those of two operands
-  two_runs : (t : Site) (to : Target) (a b : Expression) (make : (x y : Operand) → Instruction) (f : Value → Value → Store → OkOr Value Trouble) → Tops to (height t) → Evaluates code n t a → Evaluates code n (after t a) b → ((x y : Operand) → is_due (make x y) ≡ false) → ((x y : Operand) (p : ℕ) (cells : List Value) (frames : List Frame) (s : Store) → act code t.line (make x y) (core_at p cells frames s) ≡ with_values x y s cells (λ v w below. deliver t.line to (f v w s) below (core_at p cells frames s))) → Runs code n (height t) same (operand_code t a ++ one_operand (after t a) b (expression_code (after t a) (next (after t a)) b) (make (operand t a))) (on to) (λ w. outcome_then (look t.line (λ s. if_ok (value a s) (λ x. if_ok (value b s) (λ y. f x y s))) w) (put_then t.line to))
+  two_runs : (t : Site) (to : Target) (a b : Expression) (make : (x y : Operand) → Instruction) (f : Value → Value → Store → OkOr Value Failure) → Tops to (height t) → Evaluates code n t a → Evaluates code n (after t a) b → ((x y : Operand) → is_due (make x y) ≡ false) → ((x y : Operand) (p : ℕ) (cells : List Value) (frames : List Frame) (s : Store) → act code t.line (make x y) (core_at p cells frames s) ≡ with_values x y s cells (λ v w below. deliver t.line to (f v w s) below (core_at p cells frames s))) → Runs code n (height t) same (operand_code t a ++ one_operand (after t a) b (expression_code (after t a) (next (after t a)) b) (make (operand t a))) (on to) (λ w. outcome_then (look t.line (λ s. if_ok (value a s) (λ x. if_ok (value b s) (λ y. f x y s))) w) (put_then t.line to))
   two_runs t to a b make f tops ra rb calm acts = record {
     by = λ p cells frames w high has in_.
         let ca = operand_code t a in
         let cb = operand_code (after t a) b in
         let x : Placed = place (after (after t a) b) (make (operand t a) (operand (after t a) b)) in
-        let k = λ (v : Value) (w' : World). at (p + length (ca ++ (cb ++ x ∷ []))) (on to v cells) frames w' in
+        let k = λ (v : Value) (w' : RunState). at (p + length (ca ++ (cb ++ x ∷ []))) (on to v cells) frames w' in
         let len : p + length ca + length cb + 1 ≡ p + length (ca ++ (cb ++ x ∷ [])) = omega (arith, length-append ca (cb ++ x ∷ []), length-append cb (x ∷ [])) in
         subst (λ o. Reaches code (at p cells frames w) (arrive k frames o)) (both_looks t.line (value a w.store) (value b) f (put_then t.line to) w)
         (two_join code n t a b ra rb (x ∷ []) k (λ v u w. outcome_then (look t.line (f v u) w) (put_then t.line to)) p cells frames w high has in_ (λ v u q r has'.
@@ -77,10 +77,10 @@ module _ (code : Code) (n : ℕ) where
         (computes code t.line to (f v u w.store) (p + length ca + length cb) cells (held (leaf b) u (held (leaf a) v cells)) frames w (subst (Tops to) (sym high) tops)))));
   }
     where
-      both_looks : {B : Type 0} (l : Line) (r : OkOr Value Trouble) (g : Store → OkOr Value Trouble) (f : Value → Value → Store → OkOr Value Trouble) (go : Value → Part B) (w : World) → outcome_then (looked l r w) (λ x w. outcome_then (look l g w) (λ y w. outcome_then (look l (f x y) w) go)) ≡ outcome_then (looked l (if_ok r (λ x. if_ok (g w.store) (λ y. f x y w.store))) w) go
+      both_looks : {B : Type 0} (l : Line) (r : OkOr Value Failure) (g : Store → OkOr Value Failure) (f : Value → Value → Store → OkOr Value Failure) (go : Value → Part B) (w : RunState) → outcome_then (looked l r w) (λ x w. outcome_then (look l g w) (λ y w. outcome_then (look l (f x y) w) go)) ≡ outcome_then (looked l (if_ok r (λ x. if_ok (g w.store) (λ y. f x y w.store))) w) go
       both_looks l (Ok x) g f go w = look_then l (g w.store) (f x) go w
       both_looks l (Err (Fails kind)) g f go w = refl
-      both_looks l (Err Misfit) g f go w = refl
+      both_looks l (Err TypeError) g f go w = refl
 
   -- the value of a look that is copied as it is
   copied : (t : Site) (to : Target) (e : Expression) {c : List Placed} → Runs code n (height t) same c (on to) (λ w. outcome_then (look t.line (λ s. if_ok (value e s) (λ v. Ok v)) w) (put_then t.line to)) → Runs code n (height t) same c (on to) (λ w. outcome_then (look t.line (value e) w) (put_then t.line to))

@@ -3,7 +3,7 @@ use Rattle.std.proofs.Common.{◌≡◌, ℕ, ◌+◌, ◌-◌, Bool, true, fals
 use Rattle.ss_base.specs.declared.value.Value.{Value}
 use Rattle.ss_program.specs.Program.{Head, Phrase}
 use Rattle.ss_meaning.specs.Loops.{Turn, GoesOn, IsFound, phrases, over}
-use Rattle.ss_meaning.specs.Parts.{World, WentOn, Part, outcome_then, then_nothing, choose}
+use Rattle.ss_meaning.specs.Parts.{RunState, WentOn, Part, outcome_then, then_nothing, choose}
 use Rattle.ss_code_instructions.specs.Instructions.{Placed, Jump}
 use Rattle.ss_code_instructions.specs.States.{Frame}
 use Rattle.ss_code_instructions.specs.Machine.{Code}
@@ -50,7 +50,7 @@ module _ (code : Code) (n : ℕ) (t : Site) (head : Head) (fr : ForRuns code n t
         (λ b w' k. ends (p + size) end cells frames w' len b);
   }
     where
-      ends : (p end : ℕ) (cells : List Value) (frames : List Frame) (w : World) → p ≡ end + 2 → (b : Bool) → Reaches code (at (past_loop 1 b end) cells frames w) (Comes (at p cells frames w))
+      ends : (p end : ℕ) (cells : List Value) (frames : List Frame) (w : RunState) → p ≡ end + 2 → (b : Bool) → Reaches code (at (past_loop 1 b end) cells frames w) (Comes (at p cells frames w))
       ends p end cells frames w len true = let e : p ≡ end + 1 + 1 = omega (arith, len) in subst (λ q. Reaches code (at q cells frames w) (Comes (at p cells frames w))) e here
       ends p end cells frames w len false = subst (λ q. Reaches code (at q cells frames w) (Comes (at p cells frames w))) len here
 
@@ -65,7 +65,7 @@ module _ (code : Code) (n : ℕ) (t : Site) (head : Head) (fr : ForRuns code n t
     abbrev both_sides : List Placed
     both_sides = cb ++ (place t (Jump (length ca + 1)) ∷ side)
 
-    sides : (p end all : ℕ) (cells : List Value) (frames : List Frame) (w : World) → p ≡ end + 2 → p + length cb + 2 + length ca ≡ all → HasAt code.places p both_sides → length cells ≡ height t → Within code n w → (b : Bool) → Reaches code (at (past_loop (length cb + 3) b end) cells frames w) (arrive (λ o w'. at all cells frames w') frames (choose b ma mb w))
+    sides : (p end all : ℕ) (cells : List Value) (frames : List Frame) (w : RunState) → p ≡ end + 2 → p + length cb + 2 + length ca ≡ all → HasAt code.places p both_sides → length cells ≡ height t → Within code n w → (b : Bool) → Reaches code (at (past_loop (length cb + 3) b end) cells frames w) (arrive (λ o w'. at all cells frames w') frames (choose b ma mb w))
     sides p end all cells frames w e len h high in_ true =
         let after : List Placed = place t (Jump (length ca + 1)) ∷ side in
         let h2 = has_back code.places (p + length cb + 1) (forget_to t u) ca (has_back code.places p cb after h).1 in

@@ -2,7 +2,7 @@
 use Rattle.std.proofs.Common.{◌≡◌, ℕ, suc, ◌+◌, List, ◌++◌, length, Option, Some, None, refl, subst, arith, length-append}
 use Rattle.ss_base.specs.declared.value.Value.{Value}
 use Rattle.ss_meaning.specs.Store.{Store}
-use Rattle.ss_meaning.specs.Parts.{World, Outcome, WentOn, Left, Part, outcome_then, needed}
+use Rattle.ss_meaning.specs.Parts.{RunState, Outcome, WentOn, Left, Part, outcome_then, needed}
 use Rattle.ss_code_instructions.specs.Instructions.{Placed}
 use Rattle.ss_code_instructions.specs.States.{Frame, MachineState, Moved, fit}
 use Rattle.ss_code_instructions.specs.Machine.{Code}
@@ -13,11 +13,11 @@ use Rattle.ss_code_instructions.proofs.Parts.{Within, within_on, Leads, whatever
 -- ## Worlds
 
 -- with a tick less
-pub within_ticked : {code : Code} {n t : ℕ} {w : World} → Within code (suc n) w → w.ticks ≡ suc t → Within code n (ticked t w)
+pub within_ticked : {code : Code} {n t : ℕ} {w : RunState} → Within code (suc n) w → w.ticks ≡ suc t → Within code n (ticked t w)
 within_ticked i e = record { ticks = omega (arith, i.ticks, e); says = i.says }
 
 -- with another store, in which the program says the same, and each member of a set goes on to live
-pub within_store : {code : Code} {n : ℕ} {w : World} {s : Store} → Within code n w → Lasts w.store s → Within code n (record w { store = s })
+pub within_store : {code : Code} {n : ℕ} {w : RunState} {s : Store} → Within code n w → Lasts w.store s → Within code n (record w { store = s })
 within_store {code} {w} {s} i e = record { ticks = i.ticks; says = suits_on code w.store s e i.says }
 
 -- ## A part, and what follows
@@ -28,12 +28,12 @@ IfWentOn P (WentOn a w) = P a
 IfWentOn P (Left e w) = Unit {0}
 
 -- where the value of a part has a property
-pub join_such : {A B : Type 0} {code : Code} (P : A → Type 0) (s : MachineState) (k : A → World → MachineState) (k' : B → World → MachineState) (frames : List Frame) (r : Outcome A) (f : A → Part B) → IfWentOn P r → Reaches code s (arrive k frames r) → ((a : A) (w : World) → P a → Kept s (k a w) → Reaches code (k a w) (arrive k' frames (f a w))) → Reaches code s (arrive k' frames (outcome_then r f))
+pub join_such : {A B : Type 0} {code : Code} (P : A → Type 0) (s : MachineState) (k : A → RunState → MachineState) (k' : B → RunState → MachineState) (frames : List Frame) (r : Outcome A) (f : A → Part B) → IfWentOn P r → Reaches code s (arrive k frames r) → ((a : A) (w : RunState) → P a → Kept s (k a w) → Reaches code (k a w) (arrive k' frames (f a w))) → Reaches code s (arrive k' frames (outcome_then r f))
 join_such P s k k' frames r f such g h = join_known s k k' frames r f g (λ a w e q. h a w (subst (IfWentOn P) e such) q)
 
 module _ (code : Code) (n h : ℕ) where
   -- one part after another, where the value of the first has a property
-  pub seq_such : {A B : Type 0} {before : List Value → List Value} {c1 c2 : List Placed} {mid : A → List Value → List Value} {land : B → ℕ → ℕ} {after : B → List Value → List Value} {m1 : Part A} {m2 : A → Part B} (P : A → Type 0) → ((w : World) → IfWentOn P (m1 w)) → Runs code n h before c1 mid m1 → ((a : A) → P a → Lands code n h (mid a) c2 land after (m2 a)) → Lands code n h before (c1 ++ c2) land after (λ w. outcome_then (m1 w) m2)
+  pub seq_such : {A B : Type 0} {before : List Value → List Value} {c1 c2 : List Placed} {mid : A → List Value → List Value} {land : B → ℕ → ℕ} {after : B → List Value → List Value} {m1 : Part A} {m2 : A → Part B} (P : A → Type 0) → ((w : RunState) → IfWentOn P (m1 w)) → Runs code n h before c1 mid m1 → ((a : A) → P a → Lands code n h (mid a) c2 land after (m2 a)) → Lands code n h before (c1 ++ c2) land after (λ w. outcome_then (m1 w) m2)
   seq_such {before = before} {c1 = c1} {c2 = c2} {mid = mid} {land = land} {after = after} {m1 = m1} {m2 = m2} P such r1 r2 = record {
     by = λ place cells frames w high has in_.
         let len : place + length c1 + length c2 ≡ place + length (c1 ++ c2) = omega (arith, length-append c1 c2) in
@@ -45,6 +45,6 @@ module _ (code : Code) (n h : ℕ) where
 
 module _ (code : Code) where
   -- an instruction that needs what has to be there; the meaning may have another store by then
-  pub needed_leads : {A B : Type 0} (o : Option A) (go : A → Moved) (w w' : World) (k : B → World → MachineState) (frames : List Frame) (f : A → Part B) → ((a : A) → o ≡ Some a → Leads code w (go a) (arrive k frames (f a w'))) → Leads code w (fit o go) (arrive k frames (outcome_then (needed o w') f))
+  pub needed_leads : {A B : Type 0} (o : Option A) (go : A → Moved) (w w' : RunState) (k : B → RunState → MachineState) (frames : List Frame) (f : A → Part B) → ((a : A) → o ≡ Some a → Leads code w (go a) (arrive k frames (f a w'))) → Leads code w (fit o go) (arrive k frames (outcome_then (needed o w') f))
   needed_leads (Some a) go w w' k frames f h = h a refl
   needed_leads None go w w' k frames f h = whatever

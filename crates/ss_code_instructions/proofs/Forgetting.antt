@@ -1,7 +1,7 @@
 -- Cells that are forgotten.
 use Rattle.std.proofs.Common.{◌≡◌, ℕ, zero, suc, ◌+◌, ◌-◌, List, [], ◌∷◌, ◌++◌, length, Some, refl, ap, ◌∙◌, subst, arith}
 use Rattle.ss_base.specs.declared.value.Value.{Value}
-use Rattle.ss_meaning.specs.Parts.{World}
+use Rattle.ss_meaning.specs.Parts.{RunState}
 use Rattle.ss_code_instructions.specs.Instructions as i
 use Rattle.ss_code_instructions.specs.States.{Frame, core_at, take_off, TakenOff, fit, onward}
 use Rattle.ss_code_instructions.specs.Machine.{Code}
@@ -21,7 +21,7 @@ taken_off [] cells vs = (vs, refl)
 taken_off (v ∷ more) cells vs = taken_off more cells (v ∷ vs)
 
 module _ (code : Code) (n : ℕ) where
-  pub forget_run : (u : Site) (count q : ℕ) (more cells : List Value) (frames : List Frame) (w : World) → count ≡ length more → HasAt code.places q (forget u count) → Reaches code (at q (more ++ cells) frames w) (Comes (at (q + length (forget u count)) cells frames w))
+  pub forget_run : (u : Site) (count q : ℕ) (more cells : List Value) (frames : List Frame) (w : RunState) → count ≡ length more → HasAt code.places q (forget u count) → Reaches code (at q (more ++ cells) frames w) (Comes (at (q + length (forget u count)) cells frames w))
   forget_run u zero q [] cells frames w e has =
       let z : q ≡ q + 0 = omega arith in subst (λ j. Reaches code (at q cells frames w) (Comes (at j cells frames w))) z here
   forget_run u zero q (v ∷ more) cells frames w e has = absurd (omega (arith, e))

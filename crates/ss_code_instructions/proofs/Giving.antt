@@ -4,10 +4,10 @@ use Rattle.std.specs.Prelude.{Result as OkOr}
 use Rattle.ss_base.specs.declared.line.Line.{Line}
 use Rattle.ss_base.specs.declared.value.Value.{Value}
 use Rattle.ss_program.specs.Program.{Expression}
-use Rattle.ss_meaning.specs.Values.{Trouble, Fails, Misfit, turned}
+use Rattle.ss_meaning.specs.Values.{Failure, Fails, TypeError, turned}
 use Rattle.ss_meaning.specs.Store.{Store}
 use Rattle.ss_meaning.specs.Expressions.{value, values}
-use Rattle.ss_meaning.specs.Parts.{World, looked, look}
+use Rattle.ss_meaning.specs.Parts.{RunState, looked, look}
 use Rattle.ss_code_instructions.specs.Instructions.{Placed}
 use Rattle.ss_code_instructions.specs.States.{Frame, MachineState}
 use Rattle.ss_code_instructions.specs.Machine.{Code}
@@ -19,15 +19,15 @@ use Rattle.ss_code_instructions.proofs.Expressions.{value_runs}
 
 module _ (code : Code) (n : ℕ) where
   -- a look whose result is turned
-  pub turned_runs : {A B : Type 0} {h : ℕ} {before : List Value → List Value} {c : List Placed} (after : B → List Value → List Value) (f : A → B) (l : Line) (g : Store → OkOr A Trouble) → Runs code n h before c (λ a. after (f a)) (look l g) → Runs code n h before c after (look l (λ s. turned f (g s)))
+  pub turned_runs : {A B : Type 0} {h : ℕ} {before : List Value → List Value} {c : List Placed} (after : B → List Value → List Value) (f : A → B) (l : Line) (g : Store → OkOr A Failure) → Runs code n h before c (λ a. after (f a)) (look l g) → Runs code n h before c after (look l (λ s. turned f (g s)))
   turned_runs {A} {before = before} {c = c} after f l g r = record {
     by = λ p cells frames w high has in_. by (at p (before cells) frames w) (p + length c) cells frames w (g w.store) (r.by p cells frames w high has in_);
   }
     where
-      by : (s : MachineState) (q : ℕ) (cells : List Value) (frames : List Frame) (w : World) (o : OkOr A Trouble) → Reaches code s (arrive (λ a w'. at q (after (f a) cells) frames w') frames (looked l o w)) → Reaches code s (arrive (λ b w'. at q (after b cells) frames w') frames (looked l (turned f o) w))
+      by : (s : MachineState) (q : ℕ) (cells : List Value) (frames : List Frame) (w : RunState) (o : OkOr A Failure) → Reaches code s (arrive (λ a w'. at q (after (f a) cells) frames w') frames (looked l o w)) → Reaches code s (arrive (λ b w'. at q (after b cells) frames w') frames (looked l (turned f o) w))
       by s q cells frames w (Ok a) r = r
       by s q cells frames w (Err (Fails kind)) r = r
-      by s q cells frames w (Err Misfit) r = r
+      by s q cells frames w (Err TypeError) r = r
 
   pub values_run : (t : Site) (es : List Expression) → Runs code n (height t) same (values_code t es) onto (look t.line (values es))
   values_run t [] = none code n (height t) {after = onto} []

@@ -4,7 +4,7 @@ use Rattle.ss_base.specs.declared.value.Value.{Value}
 use Rattle.ss_program.specs.declared.expression.Variable.{Variable}
 use Rattle.ss_program.specs.Program.{Expression, SetOwner, TheSystem, Entity, Start, Head, Numbers, Each, Members}
 use Rattle.ss_meaning.specs.Loops.{Turn, over}
-use Rattle.ss_meaning.specs.Parts.{World, Part}
+use Rattle.ss_meaning.specs.Parts.{RunState, Part}
 use Rattle.ss_code_instructions.specs.Instructions.{Placed}
 use Rattle.ss_code_instructions.specs.Instructions as i
 use Rattle.ss_code_instructions.specs.States.{Frame}
@@ -80,7 +80,7 @@ module _ (code : Code) (n : ℕ) (t : Site) where
   abbrev pub ForRuns : Head → Type 0
   ForRuns head =
       (turn : List Placed) (m : Part Turn) (found : ℕ) → Lands code n (height (in_loop t head)) same turn (leads found) done m →
-      (p end : ℕ) (cells : List Value) (frames : List Frame) (w : World) → length cells ≡ height t → HasAt code.places p (for_code t head turn) →
+      (p end : ℕ) (cells : List Value) (frames : List Frame) (w : RunState) → length cells ≡ height t → HasAt code.places p (for_code t head turn) →
       p + length (for_code t head turn) ≡ end + 2 → HasAt code.places (end + found) (forget_to t (in_loop t head)) → Within code n w →
       Reaches code (at p cells frames w) (arrive (λ b w'. at (past_loop found b end) cells frames w') frames (over n t.line head m w))
 

@@ -12,7 +12,7 @@ use Rattle.ss_meaning.specs.Values.{if_ok, sure, calculated, operator_of}
 use Rattle.ss_meaning.specs.Store.{fetched}
 use Rattle.ss_meaning.specs.Places.{InVariable, InCount, assigned_variable}
 use Rattle.ss_meaning.specs.Expressions.{value}
-use Rattle.ss_meaning.specs.Parts.{World, Part, outcome_then, looked, look, settle, write}
+use Rattle.ss_meaning.specs.Parts.{RunState, Part, outcome_then, looked, look, settle, write}
 use Rattle.ss_meaning.specs.Statements.{give_to, change_by}
 use Rattle.ss_code_instructions.specs.Instructions.{Held, Taken, Placed, Target as To}
 use Rattle.ss_code_instructions.specs.Instructions as i
@@ -48,7 +48,7 @@ module _ (code : Code) (n : ℕ) where
             let ce : List Placed = operand_code t e in
             let last : Placed = place (after t e) (i.Keep (operand t e) x) in
             let end : p + length ce + 1 ≡ p + length (ce ++ last ∷ []) = omega (arith, length-append ce (last ∷ [])) in
-            let ends : Unit {0} → World → MachineState = λ o w'. at (p + length (ce ++ last ∷ [])) cells frames w' in
+            let ends : Unit {0} → RunState → MachineState = λ o w'. at (p + length (ce ++ last ∷ [])) cells frames w' in
             one_join code n t e (evaluates code n t e) (last ∷ []) ends (write t.line (InVariable x)) p cells frames w high has in_ (λ v found has'.
             step_leads code last (core_at (p + length ce) (held (leaf e) v cells) frames w.store) w _ _ has'.0 refl
             (reads t e v w.store cells (λ v below. did t.line (assigned_variable x v w.store) (λ s. onward below (core_at (p + length ce) (held (leaf e) v cells) frames w.store) s)) high found)
@@ -77,7 +77,7 @@ module _ (code : Code) (n : ℕ) where
         let ce : List Placed = operand_code t e in
         let last : Placed = place (after t e) (i.Calculate (operator_of sign) (Held x) (operand t e) to) in
         let end : p + length ce + 1 ≡ p + length (ce ++ last ∷ []) = omega (arith, length-append ce (last ∷ [])) in
-        let k : Value → World → MachineState = λ v w'. at (p + length (ce ++ last ∷ [])) (on to v cells) frames w' in
+        let k : Value → RunState → MachineState = λ v w'. at (p + length (ce ++ last ∷ [])) (on to v cells) frames w' in
         subst (λ o. Reaches code (at p cells frames w) (arrive k frames o)) (sym (then_then (look t.line (value e) w) (λ y. look t.line (λ s. if_ok (sure (fetched x s)) (λ v. calculated (operator_of sign) v y))) (put_then t.line to)))
         (one_join code n t e (evaluates code n t e) (last ∷ []) k (λ y w. outcome_then (look t.line (λ s. if_ok (sure (fetched x s)) (λ v. calculated (operator_of sign) v y)) w) (put_then t.line to)) p cells frames w high has in_ (λ y found has'.
         step_leads code last (core_at (p + length ce) (held (leaf e) y cells) frames w.store) w _ _ has'.0 refl
@@ -86,7 +86,7 @@ module _ (code : Code) (n : ℕ) where
         (sum_leads (fetched x w.store) y (p + length ce) cells (held (leaf e) y cells) frames w (subst (Tops to) (sym high) tops)))));
   }
     where
-      sum_leads : (o : Option Value) (y : Value) (p : ℕ) (cells cells0 : List Value) (frames : List Frame) (w : World) → Tops to (length cells) → Leads code w (deliver t.line to (calculated (operator_of sign) (or_zero o) y) cells (core_at p cells0 frames w.store)) (arrive (λ v w'. at (p + 1) (on to v cells) frames w') frames (outcome_then (looked t.line (if_ok (sure o) (λ v. calculated (operator_of sign) v y)) w) (put_then t.line to)))
+      sum_leads : (o : Option Value) (y : Value) (p : ℕ) (cells cells0 : List Value) (frames : List Frame) (w : RunState) → Tops to (length cells) → Leads code w (deliver t.line to (calculated (operator_of sign) (or_zero o) y) cells (core_at p cells0 frames w.store)) (arrive (λ v w'. at (p + 1) (on to v cells) frames w') frames (outcome_then (looked t.line (if_ok (sure o) (λ v. calculated (operator_of sign) v y)) w) (put_then t.line to)))
       sum_leads None y p cells cells0 frames w h = whatever
       sum_leads (Some v) y p cells cells0 frames w h = computes code t.line to (calculated (operator_of sign) v y) p cells cells0 frames w h
 

@@ -4,10 +4,10 @@ use Rattle.std.specs.Prelude.{Result as OkOr}
 use Rattle.ss_base.specs.declared.line.Line.{Line}
 use Rattle.ss_base.specs.declared.value.Value.{Value}
 use Rattle.ss_program.specs.Program.{Expression, SetOwner, TheSystem, Entity}
-use Rattle.ss_meaning.specs.Values.{Trouble, Fails, Misfit, if_ok, turned, sure}
+use Rattle.ss_meaning.specs.Values.{Failure, Fails, TypeError, if_ok, turned, sure}
 use Rattle.ss_meaning.specs.Store.{Store}
 use Rattle.ss_meaning.specs.Expressions.{value, value_if_any, owner_value}
-use Rattle.ss_meaning.specs.Parts.{World, WentOn, Part, outcome_then, looked, look}
+use Rattle.ss_meaning.specs.Parts.{RunState, WentOn, Part, outcome_then, looked, look}
 use Rattle.ss_code_instructions.specs.Instructions.{Operand, Bearer, Instruction, Placed}
 use Rattle.ss_code_instructions.specs.States.{Frame, MachineState, Moved, To, did, fit, core_at, with_operand_value, with_values, with_bearer}
 use Rattle.ss_code_instructions.specs.Machine.{Code, act, is_due}
@@ -35,7 +35,7 @@ pub record Found (t : Site) (o : Option Expression) (s : Store) (x : Option Valu
 
 module _ (code : Code) (n : ℕ) where
   -- an owner, or the entity of a statistic, and what follows
-  pub bearer_join : {B : Type 0} (t : Site) (o : Option Expression) (rest : List Placed) (k : B → World → MachineState) (go : Option Value → Part B) (p : ℕ) (cells : List Value) (frames : List Frame) (w : World) → length cells ≡ height t → HasAt code.places p (bearer_code t o ++ rest) → Within code n w → ((x : Option Value) (on_top : List Value → List Value) → value_if_any o w.store ≡ Ok x → Found t o w.store x on_top → HasAt code.places (p + length (bearer_code t o)) rest → Reaches code (at (p + length (bearer_code t o)) (on_top cells) frames w) (arrive k frames (go x w))) → Reaches code (at p cells frames w) (arrive k frames (outcome_then (look t.line (value_if_any o) w) go))
+  pub bearer_join : {B : Type 0} (t : Site) (o : Option Expression) (rest : List Placed) (k : B → RunState → MachineState) (go : Option Value → Part B) (p : ℕ) (cells : List Value) (frames : List Frame) (w : RunState) → length cells ≡ height t → HasAt code.places p (bearer_code t o ++ rest) → Within code n w → ((x : Option Value) (on_top : List Value → List Value) → value_if_any o w.store ≡ Ok x → Found t o w.store x on_top → HasAt code.places (p + length (bearer_code t o)) rest → Reaches code (at (p + length (bearer_code t o)) (on_top cells) frames w) (arrive k frames (go x w))) → Reaches code (at p cells frames w) (arrive k frames (outcome_then (look t.line (value_if_any o) w) go))
   bearer_join t None rest k go p cells frames w high has in_ f =
       let e : p ≡ p + 0 = omega arith in
       subst (λ q. Reaches code (at q cells frames w) (arrive k frames (go None w))) (sym e)
@@ -49,7 +49,7 @@ module _ (code : Code) (n : ℕ) where
   -- ## Instructions that look and go on, or jump
 
   -- one operand, and an instruction that looks at it
-  pub one_lands : {A : Type 0} (t : Site) (e : Expression) (make : Operand → Instruction) (land : A → ℕ → ℕ) (f : Value → Store → OkOr A Trouble) (go : ℕ → List Value → List Frame → Store → Value → List Value → Moved) → ((x : Operand) → is_due (make x) ≡ false) → ((x : Operand) (p : ℕ) (cells : List Value) (frames : List Frame) (s : Store) → act code t.line (make x) (core_at p cells frames s) ≡ with_operand_value x s cells (go p cells frames s)) → ((p : ℕ) (cells : List Value) (frames : List Frame) (s : Store) (v : Value) (below : List Value) → go p cells frames s v below ≡ did t.line (f v s) (λ a. To (core_at (land a (p + 1)) below frames s))) → Lands code n (height t) same (with_operand t e make) land done (look t.line (λ s. if_ok (value e s) (λ v. f v s)))
+  pub one_lands : {A : Type 0} (t : Site) (e : Expression) (make : Operand → Instruction) (land : A → ℕ → ℕ) (f : Value → Store → OkOr A Failure) (go : ℕ → List Value → List Frame → Store → Value → List Value → Moved) → ((x : Operand) → is_due (make x) ≡ false) → ((x : Operand) (p : ℕ) (cells : List Value) (frames : List Frame) (s : Store) → act code t.line (make x) (core_at p cells frames s) ≡ with_operand_value x s cells (go p cells frames s)) → ((p : ℕ) (cells : List Value) (frames : List Frame) (s : Store) (v : Value) (below : List Value) → go p cells frames s v below ≡ did t.line (f v s) (λ a. To (core_at (land a (p + 1)) below frames s))) → Lands code n (height t) same (with_operand t e make) land done (look t.line (λ s. if_ok (value e s) (λ v. f v s)))
   one_lands t e make land f go calm acts goes = record {
     by = λ p cells frames w high has in_.
         let c = operand_code t e in
@@ -67,7 +67,7 @@ module _ (code : Code) (n : ℕ) where
   }
 
   -- two operands
-  pub two_lands : {A : Type 0} (t : Site) (a b : Expression) (make : (x y : Operand) → Instruction) (land : A → ℕ → ℕ) (f : Value → Value → Store → OkOr A Trouble) (go : ℕ → List Value → List Frame → Store → Value → Value → List Value → Moved) → ((x y : Operand) → is_due (make x y) ≡ false) → ((x y : Operand) (p : ℕ) (cells : List Value) (frames : List Frame) (s : Store) → act code t.line (make x y) (core_at p cells frames s) ≡ with_values x y s cells (go p cells frames s)) → ((p : ℕ) (cells : List Value) (frames : List Frame) (s : Store) (v u : Value) (below : List Value) → go p cells frames s v u below ≡ did t.line (f v u s) (λ a. To (core_at (land a (p + 1)) below frames s))) → Lands code n (height t) same (operand_code t a ++ with_operand (after t a) b (make (operand t a))) land done (look t.line (λ s. if_ok (value a s) (λ x. if_ok (value b s) (λ y. f x y s))))
+  pub two_lands : {A : Type 0} (t : Site) (a b : Expression) (make : (x y : Operand) → Instruction) (land : A → ℕ → ℕ) (f : Value → Value → Store → OkOr A Failure) (go : ℕ → List Value → List Frame → Store → Value → Value → List Value → Moved) → ((x y : Operand) → is_due (make x y) ≡ false) → ((x y : Operand) (p : ℕ) (cells : List Value) (frames : List Frame) (s : Store) → act code t.line (make x y) (core_at p cells frames s) ≡ with_values x y s cells (go p cells frames s)) → ((p : ℕ) (cells : List Value) (frames : List Frame) (s : Store) (v u : Value) (below : List Value) → go p cells frames s v u below ≡ did t.line (f v u s) (λ a. To (core_at (land a (p + 1)) below frames s))) → Lands code n (height t) same (operand_code t a ++ with_operand (after t a) b (make (operand t a))) land done (look t.line (λ s. if_ok (value a s) (λ x. if_ok (value b s) (λ y. f x y s))))
   two_lands t a b make land f go calm acts goes = record {
     by = λ p cells frames w high has in_.
         let ca = operand_code t a in
@@ -86,13 +86,13 @@ module _ (code : Code) (n : ℕ) where
         onwards (subst (λ q. Reaches code (at (land a q) cells frames w) (Comes (at (land a (p + length all)) cells frames w))) (sym end) here))))));
   }
     where
-      both_looks : {A : Type 0} (l : Line) (r : OkOr Value Trouble) (g : Store → OkOr Value Trouble) (f : Value → Value → Store → OkOr A Trouble) (w : World) → outcome_then (looked l r w) (λ x w. outcome_then (look l g w) (λ y. look l (f x y))) ≡ looked l (if_ok r (λ x. if_ok (g w.store) (λ y. f x y w.store))) w
+      both_looks : {A : Type 0} (l : Line) (r : OkOr Value Failure) (g : Store → OkOr Value Failure) (f : Value → Value → Store → OkOr A Failure) (w : RunState) → outcome_then (looked l r w) (λ x w. outcome_then (look l g w) (λ y. look l (f x y))) ≡ looked l (if_ok r (λ x. if_ok (g w.store) (λ y. f x y w.store))) w
       both_looks l (Ok x) g f w = looks_then l (g w.store) (f x) w
       both_looks l (Err (Fails kind)) g f w = refl
-      both_looks l (Err Misfit) g f w = refl
+      both_looks l (Err TypeError) g f w = refl
 
   -- an owner, and an instruction that looks at its set
-  pub owner_lands : {A : Type 0} (t : Site) (o : SetOwner) (make : Bearer → Instruction) (land : A → ℕ → ℕ) (f : Option Value → Store → OkOr A Trouble) (go : ℕ → List Value → List Frame → Store → Option Value → List Value → Moved) → ((x : Bearer) → is_due (make x) ≡ false) → ((x : Bearer) (p : ℕ) (cells : List Value) (frames : List Frame) (s : Store) → act code t.line (make x) (core_at p cells frames s) ≡ with_bearer x s cells (go p cells frames s)) → ((p : ℕ) (cells : List Value) (frames : List Frame) (s : Store) (v : Option Value) (below : List Value) → go p cells frames s v below ≡ did t.line (f v s) (λ a. To (core_at (land a (p + 1)) below frames s))) → Lands code n (height t) same (with_owner t o make) land done (look t.line (λ s. if_ok (owner_value o s) (λ v. f v s)))
+  pub owner_lands : {A : Type 0} (t : Site) (o : SetOwner) (make : Bearer → Instruction) (land : A → ℕ → ℕ) (f : Option Value → Store → OkOr A Failure) (go : ℕ → List Value → List Frame → Store → Option Value → List Value → Moved) → ((x : Bearer) → is_due (make x) ≡ false) → ((x : Bearer) (p : ℕ) (cells : List Value) (frames : List Frame) (s : Store) → act code t.line (make x) (core_at p cells frames s) ≡ with_bearer x s cells (go p cells frames s)) → ((p : ℕ) (cells : List Value) (frames : List Frame) (s : Store) (v : Option Value) (below : List Value) → go p cells frames s v below ≡ did t.line (f v s) (λ a. To (core_at (land a (p + 1)) below frames s))) → Lands code n (height t) same (with_owner t o make) land done (look t.line (λ s. if_ok (owner_value o s) (λ v. f v s)))
   owner_lands t o make land f go calm acts goes = record {
     by = λ p cells frames w high has in_.
         let e = expression_of o in

@@ -5,9 +5,9 @@ use Rattle.ss_base.specs.declared.value.Value.{Value}
 use Rattle.ss_base.specs.declared.words.PhraseKind.{PhraseKind}
 use Rattle.ss_base.specs.declared.words.PhraseKind.TheVariants as kinds
 use Rattle.ss_program.specs.Program.{Condition, Phrase, Guard}
-use Rattle.ss_meaning.specs.Values.{Trouble, Fails, Misfit, if_ok}
+use Rattle.ss_meaning.specs.Values.{Failure, Fails, TypeError, if_ok}
 use Rattle.ss_meaning.specs.Expressions.{holds, all_pass}
-use Rattle.ss_meaning.specs.Parts.{World, WentOn, Part, outcome_then, choose, looked, look, Again, Over, loop}
+use Rattle.ss_meaning.specs.Parts.{RunState, WentOn, Part, outcome_then, choose, looked, look, Again, Over, loop}
 use Rattle.ss_meaning.specs.Loops.{Turn, GoesOn, EndsLoop, IsFound, phrase, phrases, guarded_turn, guarded}
 use Rattle.ss_code_instructions.specs.Instructions.{Placed}
 use Rattle.ss_code_instructions.specs.Instructions as i
@@ -31,7 +31,7 @@ past_loop found false end = end + 2
 past_loop found true end = end + found + 1
 
 -- one step that leads to a place named otherwise
-pub leap : (code : Code) (x : Placed) (p q q' : ℕ) (cells cells' : List Value) (frames : List Frame) (w : World) (r : Goal) → slice_get code.places p ≡ Some x → is_due x.instruction ≡ false → act code x.line x.instruction (core_at p cells frames w.store) ≡ To (core_at q cells' frames w.store) → q ≡ q' → Reaches code (at q' cells' frames w) r → Reaches code (at p cells frames w) r
+pub leap : (code : Code) (x : Placed) (p q q' : ℕ) (cells cells' : List Value) (frames : List Frame) (w : RunState) (r : Goal) → slice_get code.places p ≡ Some x → is_due x.instruction ≡ false → act code x.line x.instruction (core_at p cells frames w.store) ≡ To (core_at q cells' frames w.store) → q ≡ q' → Reaches code (at q' cells' frames w) r → Reaches code (at p cells frames w) r
 leap code x p q q' cells cells' frames w r has calm e same f =
     step_leads code x (core_at p cells frames w.store) w (To (core_at q cells' frames w.store)) r has calm e (onwards (subst (λ j. Reaches code (at j cells' frames w) r) (sym same) f))
 
@@ -56,13 +56,13 @@ module _ (code : Code) (n : ℕ) (t : Site) where
       each = λ c w in_. onwards (turn_run w in_);
     }
       where
-        last : (b : Bool) (w : World) → slice_get code.places (p + 1 + length cb + length again_code) ≡ Some repeat → Reaches code (at (past 1 b (p + 1 + length cb + length again_code)) cells frames w) (arrive (turned {C = Unit {0}} {A = Unit {0}} done p (λ u. end) cells frames) frames (choose b (WentOn (Again tt)) (WentOn (Over tt)) w))
+        last : (b : Bool) (w : RunState) → slice_get code.places (p + 1 + length cb + length again_code) ≡ Some repeat → Reaches code (at (past 1 b (p + 1 + length cb + length again_code)) cells frames w) (arrive (turned {C = Unit {0}} {A = Unit {0}} done p (λ u. end) cells frames) frames (choose b (WentOn (Again tt)) (WentOn (Over tt)) w))
         last true w h =
             let back : p + 1 + length cb + length again_code - (length cb + length again_code + 1) ≡ p = omega arith in
             leap code repeat (p + 1 + length cb + length again_code) _ p cells cells frames w _ h refl refl back here
         last false w h = subst (λ j. Reaches code (at (p + 1 + length cb + length again_code + 1) cells frames w) (Comes (at j cells frames w))) len here
 
-        turn_run : (w : World) → Within code n w → Reaches code (at (p + 1) cells frames w) (arrive (turned {C = Unit {0}} {A = Unit {0}} done p (λ u. end) cells frames) frames (guarded_turn t.line gs mb tt w))
+        turn_run : (w : RunState) → Within code n w → Reaches code (at (p + 1) cells frames w) (arrive (turned {C = Unit {0}} {A = Unit {0}} done p (λ u. end) cells frames) frames (guarded_turn t.line gs mb tt w))
         turn_run w in_ =
             let p2 = p + 1 + length cb in
             let h2 = has_back code.places (p + 1) cb _ has.1 in
@@ -87,7 +87,7 @@ module _ (code : Code) (n : ℕ) (t : Site) where
           (λ b w' k. sides p end cells frames w' high (has_back code.places p0 ct _ has) len (within_on in_ k) b);
     }
       where
-        sides : (p end : ℕ) (cells : List Value) (frames : List Frame) (w : World) → length cells ≡ height t → HasAt code.places p turn_code → p + 1 + length cb + length again_code + 1 ≡ end → Within code n w → (b : Bool) → Reaches code (at (past (length cb + length again_code + 2) b p) cells frames w) (arrive (λ u w'. at end cells frames w') frames (choose b (loop n (guarded_turn t.line gs mb) tt) (WentOn tt) w))
+        sides : (p end : ℕ) (cells : List Value) (frames : List Frame) (w : RunState) → length cells ≡ height t → HasAt code.places p turn_code → p + 1 + length cb + length again_code + 1 ≡ end → Within code n w → (b : Bool) → Reaches code (at (past (length cb + length again_code + 2) b p) cells frames w) (arrive (λ u w'. at end cells frames w') frames (choose b (loop n (guarded_turn t.line gs mb) tt) (WentOn tt) w))
         sides p end cells frames w high h len in_ true =
             let below : n ≤ suc n = omega arith in
             loop_run code (guarded_turns p end cells frames high h len) n below tt w in_.ticks in_.says
@@ -109,16 +109,16 @@ module _ (code : Code) (n : ℕ) (t : Site) where
           (λ b w' k. sides (p + length c) end cells frames w' high len (has_back code.places p c rest has) (within_on in_ k) b);
     }
       where
-        sides : (p end : ℕ) (cells : List Value) (frames : List Frame) (w : World) → length cells ≡ height t → p + length rest ≡ end → HasAt code.places p rest → Within code n w → (b : Bool) → Reaches code (at (past skip b p) cells frames w) (arrive (λ t w'. at (leads found t end) cells frames w') frames (choose b m (WentOn other) w))
+        sides : (p end : ℕ) (cells : List Value) (frames : List Frame) (w : RunState) → length cells ≡ height t → p + length rest ≡ end → HasAt code.places p rest → Within code n w → (b : Bool) → Reaches code (at (past skip b p) cells frames w) (arrive (λ t w'. at (leads found t end) cells frames w') frames (choose b m (WentOn other) w))
         sides p end cells frames w high len h in_ true = subst (λ e. Reaches code (at p cells frames w) (arrive (λ t w'. at (leads found t e) cells frames w') frames (m w))) len (rr.by p cells frames w high h in_)
         sides p end cells frames w high len h in_ false =
             subst (λ e. Reaches code (at (p + skip) cells frames w) (Comes (at e cells frames w))) (q p ∙ ap (leads found other) len) here
 
-    swapped : (r : OkOr Bool Trouble) (m other : Part Turn) (w : World) → outcome_then (looked t.line (if_ok r (λ b. Ok (not b))) w) (λ b. choose b m other) ≡ outcome_then (looked t.line r w) (λ b. choose b other m)
+    swapped : (r : OkOr Bool Failure) (m other : Part Turn) (w : RunState) → outcome_then (looked t.line (if_ok r (λ b. Ok (not b))) w) (λ b. choose b m other) ≡ outcome_then (looked t.line r w) (λ b. choose b other m)
     swapped (Ok true) m other w = refl
     swapped (Ok false) m other w = refl
     swapped (Err (Fails k)) m other w = refl
-    swapped (Err Misfit) m other w = refl
+    swapped (Err TypeError) m other w = refl
 
     phrase_lands : (kind : PhraseKind) (c : Condition) {rest : List Placed} {m : Part Turn} → Lands code n (height t) same rest (leads found) done m → Lands code n (height t) same (phrase_code t (length rest) kind c ++ rest) (leads found) done (λ w. outcome_then (look t.line (holds c) w) (λ b. phrase kind b m))
     phrase_lands kinds.With c {rest = rest} r = tested (length rest) GoesOn (λ p. refl) (condition_lands code n t (length rest) c) r

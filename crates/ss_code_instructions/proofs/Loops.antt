@@ -2,7 +2,7 @@
 use Rattle.std.proofs.Common.{◌≡◌, ℕ, zero, suc, ◌≤◌, true, List, ◌++◌, Some, arith}
 use Rattle.std.specs.Prelude.{slice_get}
 use Rattle.ss_base.specs.declared.value.Value.{Value}
-use Rattle.ss_meaning.specs.Parts.{World, Outcome, WentOn, Left, Part, outcome_then, Next, Again, Over, go_on, loop}
+use Rattle.ss_meaning.specs.Parts.{RunState, Outcome, WentOn, Left, Part, outcome_then, Next, Again, Over, go_on, loop}
 use Rattle.ss_code_instructions.specs.Instructions.{Placed}
 use Rattle.ss_code_instructions.specs.States.{Frame, MachineState, Moved, core_at}
 use Rattle.ss_code_instructions.specs.Machine.{Code, act, is_due}
@@ -12,7 +12,7 @@ use Rattle.ss_code_instructions.proofs.Steps.{Goal, Comes, Reaches, here, reache
 use Rattle.ss_code_instructions.proofs.Parts.{Within, Leads, onwards, writes, with_core, ticked, tick_run, out_run}
 
 -- what an instruction leads to, and then where the machine goes from there
-leads_on : {code : Code} (w : World) (m : Moved) (x : MachineState) (r : Goal) → Endures w.store m → Leads code w m (Comes x) → (x.ticks ≤ w.ticks → Lasts w.store x.core.store → Reaches code x r) → Leads code w m r
+leads_on : {code : Code} (w : RunState) (m : Moved) (x : MachineState) (r : Goal) → Endures w.store m → Leads code w m (Comes x) → (x.ticks ≤ w.ticks → Lasts w.store x.core.store → Reaches code x r) → Leads code w m r
 leads_on w m x r q (onwards {c = c} f) h =
     let t : Kept (with_core c w) x = kept f in
     let lasts : Lasts w.store x.core.store = lasts_then w.store c.store x.core.store q t.same in
@@ -23,12 +23,12 @@ leads_on w m x r q (writes {bytes = bytes} {c = c} f) h =
     writes (reaches_on f (h t.fewer lasts))
 
 -- where a part leads, if another one follows it
-pub leads_join : {A B : Type 0} {code : Code} (w : World) (m : Moved) (k : A → World → MachineState) (k' : B → World → MachineState) (frames : List Frame) (o : Outcome A) (f : A → Part B) → Endures w.store m → Leads code w m (arrive k frames o) → ((a : A) (w' : World) → (k a w').ticks ≤ w.ticks → Lasts w.store (k a w').core.store → Reaches code (k a w') (arrive k' frames (f a w'))) → Leads code w m (arrive k' frames (outcome_then o f))
+pub leads_join : {A B : Type 0} {code : Code} (w : RunState) (m : Moved) (k : A → RunState → MachineState) (k' : B → RunState → MachineState) (frames : List Frame) (o : Outcome A) (f : A → Part B) → Endures w.store m → Leads code w m (arrive k frames o) → ((a : A) (w' : RunState) → (k a w').ticks ≤ w.ticks → Lasts w.store (k a w').core.store → Reaches code (k a w') (arrive k' frames (f a w'))) → Leads code w m (arrive k' frames (outcome_then o f))
 leads_join w m k k' frames (Left e w') f q g h = g
 leads_join w m k k' frames (WentOn a w') f q g h = leads_on w m (k a w') (arrive k' frames (f a w')) q g (h a w')
 
 -- where a turn leads: to where the next one begins, or to an end of the loop
-abbrev pub turned : {C A : Type 0} → (C → List Value → List Value) → ℕ → (A → ℕ) → List Value → List Frame → Next C A → World → MachineState
+abbrev pub turned : {C A : Type 0} → (C → List Value → List Value) → ℕ → (A → ℕ) → List Value → List Frame → Next C A → RunState → MachineState
 turned hold p to cells frames (Again c) w = at p (hold c cells) frames w
 turned hold p to cells frames (Over a) w = at (to a) cells frames w
 
@@ -38,24 +38,24 @@ module _ (code : Code) where
     pub head : Placed
     pub has : slice_get code.places p ≡ Some head
     pub due : is_due head.instruction ≡ true
-    pub each : (c : C) (w : World) → Within code n w → Leads code w (act code head.line head.instruction (core_at p (hold c cells) frames w.store)) (arrive (turned hold p to cells frames) frames (turn c w))
+    pub each : (c : C) (w : RunState) → Within code n w → Leads code w (act code head.line head.instruction (core_at p (hold c cells) frames w.store)) (arrive (turned hold p to cells frames) frames (turn c w))
 
   module _ {C A : Type 0} {n p : ℕ} {hold : C → List Value → List Value} {to : A → ℕ} {cells : List Value} {frames : List Frame} {turn : C → Part (Next C A)} (t : Turns n p hold to cells frames turn) where
     -- after a turn
-    again_run : (rest : C → Part A) (w : World) → ((c : C) → Reaches code (at p (hold c cells) frames w) (arrive (λ a w'. at (to a) cells frames w') frames (rest c w))) → (o : Next C A) → Reaches code (turned hold p to cells frames o w) (arrive (λ a w'. at (to a) cells frames w') frames (go_on rest o w))
+    again_run : (rest : C → Part A) (w : RunState) → ((c : C) → Reaches code (at p (hold c cells) frames w) (arrive (λ a w'. at (to a) cells frames w') frames (rest c w))) → (o : Next C A) → Reaches code (turned hold p to cells frames o w) (arrive (λ a w'. at (to a) cells frames w') frames (go_on rest o w))
     again_run rest w next (Again c) = next c
     again_run rest w next (Over a) = here
 
-    fewer_at : (o : Next C A) (w : World) (j : ℕ) → (turned hold p to cells frames o w).ticks ≤ j → w.ticks ≤ j
+    fewer_at : (o : Next C A) (w : RunState) (j : ℕ) → (turned hold p to cells frames o w).ticks ≤ j → w.ticks ≤ j
     fewer_at (Again c) w j h = h
     fewer_at (Over a) w j h = h
 
-    same_at : (o : Next C A) (w w' : World) → Lasts w.store (turned hold p to cells frames o w').core.store → Lasts w.store w'.store
+    same_at : (o : Next C A) (w w' : RunState) → Lasts w.store (turned hold p to cells frames o w').core.store → Lasts w.store w'.store
     same_at (Again c) w w' h = h
     same_at (Over a) w w' h = h
 
     -- The turns. Each has a tick less than there was before it, since its first instruction takes one.
-    pub loop_run : (k : ℕ) → k ≤ suc n → (c : C) (w : World) → w.ticks ≤ k → Suits code w.store → Reaches code (at p (hold c cells) frames w) (arrive (λ a w'. at (to a) cells frames w') frames (loop k turn c w))
+    pub loop_run : (k : ℕ) → k ≤ suc n → (c : C) (w : RunState) → w.ticks ≤ k → Suits code w.store → Reaches code (at p (hold c cells) frames w) (arrive (λ a w'. at (to a) cells frames w') frames (loop k turn c w))
     loop_run zero lek c w le says =
         out_run code {A = A} t.head (core_at p (hold c cells) frames w.store) frames w (λ a w'. at (to a) cells frames w') t.has t.due le
     loop_run (suc k) lek c w le says =

@@ -5,11 +5,11 @@ use Rattle.std.specs.Prelude.{slice_get, Result as OkOr, if◌then◌else◌}
 use Rattle.ss_base.specs.declared.fault.FaultKind.{FaultKind}
 use Rattle.ss_base.specs.declared.value.Value.{Value}
 use Rattle.ss_program.specs.Program.{Expression, Constant, Fetch, Attribute, OfSystemSet, OfSet, OfMember, Clock, TimeOf, Figure, FigureOf, Signed, Unary, Calculate, SetOwner}
-use Rattle.ss_meaning.specs.Values.{Trouble, Fails, Misfit, if_ok, turned}
+use Rattle.ss_meaning.specs.Values.{Failure, Fails, TypeError, if_ok, turned}
 use Rattle.ss_meaning.specs.Store.{Store, fetched}
 use Rattle.ss_meaning.specs.Sets.{member}
 use Rattle.ss_meaning.specs.Expressions.{value, looked_at, member_value, owner_value}
-use Rattle.ss_meaning.specs.Parts.{World, Part, outcome_then, looked, look}
+use Rattle.ss_meaning.specs.Parts.{RunState, Part, outcome_then, looked, look}
 use Rattle.ss_code_instructions.specs.Instructions.{Operand, Bearer, Instruction, Placed, Constant as AConstant, Held, LookMember}
 use Rattle.ss_code_instructions.specs.States.{Frame, MachineState, Moved, did, fit, core_at, onward, cell_at, or_zero, with_operand_value, with_bearer}
 use Rattle.ss_code_instructions.specs.Machine.{Code, act, is_due}
@@ -74,11 +74,11 @@ still t (Some (Unary op e)) q = absurd cc
 still t (Some (Calculate op a b)) q = absurd cc
 
 -- an operation on a member and an owner looks at the member first
-abbrev pub LooksFirst : {A : Type 0} → (set : ℕ) → (Value → Option Value → Store → OkOr A Trouble) → Type 0
+abbrev pub LooksFirst : {A : Type 0} → (set : ℕ) → (Value → Option Value → Store → OkOr A Failure) → Type 0
 LooksFirst set op = (v : Value) (o : Option Value) (s : Store) (kind : FaultKind) → member set v s ≡ Err (Fails kind) → op v o s ≡ Err (Fails kind)
 
 module _ (code : Code) (n : ℕ) where
-  pub member_owner_run : {A B : Type 0} (t : Site) (set : ℕ) (e : Expression) (o : SetOwner) (make : Operand → Bearer → Instruction) (op : Value → Option Value → Store → OkOr A Trouble) (next : ℕ → List Value → List Frame → Store → List Value → A → Moved) (k : B → World → MachineState) (go : A → Part B) → LooksFirst set op → ((x : Operand) (y : Bearer) → is_due (make x y) ≡ false) → ((x : Operand) (y : Bearer) (p : ℕ) (cells : List Value) (frames : List Frame) (s : Store) → act code t.line (make x y) (core_at p cells frames s) ≡ with_bearer y s cells (λ u above. with_operand_value x s above (λ v below. did t.line (op v u s) (next p cells frames s below)))) → (p : ℕ) (cells : List Value) (frames : List Frame) (w : World) → length cells ≡ height t → HasAt code.places p (looked_code t (may_fault (expression_of o)) e (LookMember set) ++ with_owner (after t e) o (make (operand t e))) → Within code n w → ((q : ℕ) (cells0 : List Value) (a : A) → q + 1 ≡ p + length (looked_code t (may_fault (expression_of o)) e (LookMember set) ++ with_owner (after t e) o (make (operand t e))) → Leads code w (next q cells0 frames w.store cells a) (arrive k frames (go a w))) → Reaches code (at p cells frames w) (arrive k frames (outcome_then (look t.line (member_value set e) w) (λ v w. outcome_then (look t.line (owner_value o) w) (λ u w. outcome_then (look t.line (op v u) w) go))))
+  pub member_owner_run : {A B : Type 0} (t : Site) (set : ℕ) (e : Expression) (o : SetOwner) (make : Operand → Bearer → Instruction) (op : Value → Option Value → Store → OkOr A Failure) (next : ℕ → List Value → List Frame → Store → List Value → A → Moved) (k : B → RunState → MachineState) (go : A → Part B) → LooksFirst set op → ((x : Operand) (y : Bearer) → is_due (make x y) ≡ false) → ((x : Operand) (y : Bearer) (p : ℕ) (cells : List Value) (frames : List Frame) (s : Store) → act code t.line (make x y) (core_at p cells frames s) ≡ with_bearer y s cells (λ u above. with_operand_value x s above (λ v below. did t.line (op v u s) (next p cells frames s below)))) → (p : ℕ) (cells : List Value) (frames : List Frame) (w : RunState) → length cells ≡ height t → HasAt code.places p (looked_code t (may_fault (expression_of o)) e (LookMember set) ++ with_owner (after t e) o (make (operand t e))) → Within code n w → ((q : ℕ) (cells0 : List Value) (a : A) → q + 1 ≡ p + length (looked_code t (may_fault (expression_of o)) e (LookMember set) ++ with_owner (after t e) o (make (operand t e))) → Leads code w (next q cells0 frames w.store cells a) (arrive k frames (go a w))) → Reaches code (at p cells frames w) (arrive k frames (outcome_then (look t.line (member_value set e) w) (λ v w. outcome_then (look t.line (owner_value o) w) (λ u w. outcome_then (look t.line (op v u) w) go))))
   member_owner_run {A} {B} t set e o make op next k go first calm acts p cells frames w high has in_ f = by (may_fault y) refl has f
     where
       y : Option Expression
@@ -107,9 +107,9 @@ module _ (code : Code) (n : ℕ) where
           works v u on_top r found (q + length (bearer_code (after t e) y)) h'.0 (λ cells0 a. g (q + length (bearer_code (after t e) y)) cells0 a len)))
 
       -- after the member was evaluated, where it is not looked at before
-      unlooked : (v : Value) → value e w.store ≡ Ok v → may_fault y ≡ false → (m : OkOr ℤ Trouble) → member set v w.store ≡ m → HasAt code.places (p + length c) (bearer_code (after t e) y ++ last ∷ []) → ((j : ℕ) (cells0 : List Value) (a : A) → j + 1 ≡ p + length c + length (bearer_code (after t e) y) + 1 → Leads code w (next j cells0 frames w.store cells a) (arrive k frames (go a w))) → Reaches code (at (p + length c) (held (leaf e) v cells) frames w) (arrive k frames (outcome_then (looked t.line (turned (λ n. v) m) w) (λ v w. outcome_then (look t.line (owner_value o) w) (λ u w. outcome_then (look t.line (op v u) w) go))))
+      unlooked : (v : Value) → value e w.store ≡ Ok v → may_fault y ≡ false → (m : OkOr ℤ Failure) → member set v w.store ≡ m → HasAt code.places (p + length c) (bearer_code (after t e) y ++ last ∷ []) → ((j : ℕ) (cells0 : List Value) (a : A) → j + 1 ≡ p + length c + length (bearer_code (after t e) y) + 1 → Leads code w (next j cells0 frames w.store cells a) (arrive k frames (go a w))) → Reaches code (at (p + length c) (held (leaf e) v cells) frames w) (arrive k frames (outcome_then (looked t.line (turned (λ n. v) m) w) (λ v w. outcome_then (look t.line (owner_value o) w) (λ u w. outcome_then (look t.line (op v u) w) go))))
       unlooked v r q (Ok x) z h g = owned v r (p + length c) _ refl h g
-      unlooked v r q (Err Misfit) z h g = free
+      unlooked v r q (Err TypeError) z h g = free
       unlooked v r q (Err (Fails kind)) z h g =
           let s = still (after t e) y q in
           let h' : HasAt code.places (p + length c) (last ∷ []) = subst (λ b. HasAt code.places (p + length c) (b ++ last ∷ [])) s.empty h in
@@ -128,10 +128,10 @@ module _ (code : Code) (n : ℕ) where
           (one_join code n t e (evaluates code n t e) rest k (λ v w. outcome_then (look t.line (λ s. turned (λ n. v) (member set v s)) w) (λ v w. outcome_then (look t.line (owner_value o) w) (λ u w. outcome_then (look t.line (op v u) w) go))) p cells frames w high h in_ (λ v r h'.
           unlooked v r q (member set v w.store) refl h' (λ j cells0 a m. g j cells0 a (m ∙ len))))
         where
-          member_then : (r : OkOr Value Trouble) → outcome_then (looked t.line r w) (λ v w. outcome_then (look t.line (λ s. turned (λ n. v) (member set v s)) w) (λ v w. outcome_then (look t.line (owner_value o) w) (λ u w. outcome_then (look t.line (op v u) w) go))) ≡ outcome_then (looked t.line (if_ok r (looked_at (λ x. member set x w.store))) w) (λ v w. outcome_then (look t.line (owner_value o) w) (λ u w. outcome_then (look t.line (op v u) w) go))
+          member_then : (r : OkOr Value Failure) → outcome_then (looked t.line r w) (λ v w. outcome_then (look t.line (λ s. turned (λ n. v) (member set v s)) w) (λ v w. outcome_then (look t.line (owner_value o) w) (λ u w. outcome_then (look t.line (op v u) w) go))) ≡ outcome_then (looked t.line (if_ok r (looked_at (λ x. member set x w.store))) w) (λ v w. outcome_then (look t.line (owner_value o) w) (λ u w. outcome_then (look t.line (op v u) w) go))
           member_then (Ok v) = refl
           member_then (Err (Fails kind)) = refl
-          member_then (Err Misfit) = refl
+          member_then (Err TypeError) = refl
       by true q h g =
           let rest = with_owner (after t e) o (make (operand t e)) in
           let look_ : Placed = place (after t e) (LookMember set (stay (operand t e))) in
@@ -148,7 +148,7 @@ module _ (code : Code) (n : ℕ) where
           (did_leads code t.line (member set v w.store) _ w k frames (λ n w. outcome_then (look t.line (owner_value o) w) (λ u w. outcome_then (look t.line (op v u) w) go)) (λ m z.
           onwards (owned v r (p + length c + 1) (p + length (front ++ rest)) len h1 (λ j cells0 a s. g j cells0 a s)))))))
         where
-          member_then : (r : OkOr Value Trouble) → outcome_then (looked t.line r w) (λ v w. outcome_then (look t.line (λ s. turned (λ n. v) (member set v s)) w) (λ v w. outcome_then (look t.line (owner_value o) w) (λ u w. outcome_then (look t.line (op v u) w) go))) ≡ outcome_then (looked t.line (if_ok r (looked_at (λ x. member set x w.store))) w) (λ v w. outcome_then (look t.line (owner_value o) w) (λ u w. outcome_then (look t.line (op v u) w) go))
+          member_then : (r : OkOr Value Failure) → outcome_then (looked t.line r w) (λ v w. outcome_then (look t.line (λ s. turned (λ n. v) (member set v s)) w) (λ v w. outcome_then (look t.line (owner_value o) w) (λ u w. outcome_then (look t.line (op v u) w) go))) ≡ outcome_then (looked t.line (if_ok r (looked_at (λ x. member set x w.store))) w) (λ v w. outcome_then (look t.line (owner_value o) w) (λ u w. outcome_then (look t.line (op v u) w) go))
           member_then (Ok v) = refl
           member_then (Err (Fails kind)) = refl
-          member_then (Err Misfit) = refl
+          member_then (Err TypeError) = refl

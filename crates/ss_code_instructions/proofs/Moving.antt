@@ -4,7 +4,7 @@ use Rattle.std.specs.Prelude.{Result, if◌then◌else◌}
 use Rattle.ss_base.specs.declared.line.Line.{Line}
 use Rattle.ss_base.specs.declared.value.Value.{Value}
 use Rattle.ss_base.specs.declared.value.Value.TheVariants.{Whole, Text}
-use Rattle.ss_meaning.specs.Values.{Trouble, Fails, Misfit}
+use Rattle.ss_meaning.specs.Values.{Failure, Fails, TypeError}
 use Rattle.ss_meaning.specs.Store.{Store, fetched}
 use Rattle.ss_meaning.specs.Sets.{Filing as Position, ByRule, Foremost, Hindmost, JustBefore, JustAfter}
 use Rattle.ss_code_instructions.specs.Instructions.{Operand, Constant, Held, Taken, Stays, Bearer, FilingPlace, First, Last, Ranked, Before, After}
@@ -20,15 +20,15 @@ module _ (Good : Core → Type 0) where
   Every (Rest f) = Unit {0}
   Every Stuck = Unit {0}
 
-  pub did_only : {A : Type 0} (P : A → Type 0) (l : Line) (r : Result A Trouble) (go : A → Moved) → Only P r → ((a : A) → P a → Every (go a)) → Every (did l r go)
+  pub did_only : {A : Type 0} (P : A → Type 0) (l : Line) (r : Result A Failure) (go : A → Moved) → Only P r → ((a : A) → P a → Every (go a)) → Every (did l r go)
   did_only P l (Ok a) go p h = h a p
   did_only P l (Err (Fails kind)) go p h = tt
-  did_only P l (Err Misfit) go p h = tt
+  did_only P l (Err TypeError) go p h = tt
 
-  pub did_any : {A : Type 0} (l : Line) (r : Result A Trouble) (go : A → Moved) → ((a : A) → Every (go a)) → Every (did l r go)
+  pub did_any : {A : Type 0} (l : Line) (r : Result A Failure) (go : A → Moved) → ((a : A) → Every (go a)) → Every (did l r go)
   did_any l (Ok a) go h = h a
   did_any l (Err (Fails kind)) go h = tt
-  did_any l (Err Misfit) go h = tt
+  did_any l (Err TypeError) go h = tt
 
   pub fit_any : {A : Type 0} (o : Option A) (go : A → Moved) → ((a : A) → Every (go a)) → Every (fit o go)
   fit_any None go h = tt

@@ -8,11 +8,11 @@ use Rattle.ss_base.specs.declared.layout.Mode.{Mode}
 use Rattle.ss_base.specs.declared.value.Value.{Value}
 use Rattle.ss_program.specs.declared.expression.Variable.{Variable}
 use Rattle.ss_program.specs.Program.{Expression, Constant, Fetch, Attribute, OfSystemSet, OfSet, OfMember, Clock, TimeOf, Figure, FigureOf, Signed, Unary, Calculate}
-use Rattle.ss_meaning.specs.Values.{Trouble, Fails, Misfit, turned, sure, where_fit}
+use Rattle.ss_meaning.specs.Values.{Failure, Fails, TypeError, turned, sure, where_fit}
 use Rattle.ss_meaning.specs.Store.{Store, fetched}
 use Rattle.ss_meaning.specs.Places.{assigned_variable}
 use Rattle.ss_meaning.specs.Expressions.{value}
-use Rattle.ss_meaning.specs.Parts.{World, WentOn, Part, outcome_then, looked, look, settle, change, settle_with}
+use Rattle.ss_meaning.specs.Parts.{RunState, WentOn, Part, outcome_then, looked, look, settle, change, settle_with}
 use Rattle.ss_code_instructions.specs.Instructions.{Operand, Held, Taken, Stays, Target, Into, Onto, Placed}
 use Rattle.ss_code_instructions.specs.Instructions as i
 use Rattle.ss_code_instructions.specs.States.{Frame, MachineState, Moved, did, core_at, or_zero, with_operand_value, with_values, lies_above, Written, deliver, deliver_with, onward}
@@ -42,28 +42,28 @@ abbrev pub put_then : Line → Target → Value → Part Value
 put_then l to v w = outcome_then (put_part l to v w) (λ _. WentOn v)
 
 -- a value that an instruction leaves at a target
-pub delivers : (code : Code) (l : Line) (to : Target) (r : OkOr (Value × Store) Trouble) (p : ℕ) (cells cells0 : List Value) (frames : List Frame) (w : World) → Tops to (length cells) → Leads code w (deliver_with l to r cells (core_at p cells0 frames w.store)) (arrive (λ v w'. at (p + 1) (on to v cells) frames w') frames (outcome_then (outcome_then (looked l r w) settle_with) (put_then l to)))
+pub delivers : (code : Code) (l : Line) (to : Target) (r : OkOr (Value × Store) Failure) (p : ℕ) (cells cells0 : List Value) (frames : List Frame) (w : RunState) → Tops to (length cells) → Leads code w (deliver_with l to r cells (core_at p cells0 frames w.store)) (arrive (λ v w'. at (p + 1) (on to v cells) frames w') frames (outcome_then (outcome_then (looked l r w) settle_with) (put_then l to)))
 delivers code l to (Err (Fails kind)) p cells cells0 frames w h = breaks
-delivers code l to (Err Misfit) p cells cells0 frames w h = whatever
+delivers code l to (Err TypeError) p cells cells0 frames w h = whatever
 delivers code l (Into x) (Ok b) p cells cells0 frames w h = written (assigned_variable x b.0 b.1)
   where
-    written : (o : OkOr Store Trouble) → Leads code w (did {A = Written} l (turned {B = Written} (λ t. record { cells = cells; store = t }) o) (λ q. onward q.cells (core_at p cells0 frames w.store) q.store)) (arrive (λ v w'. at (p + 1) cells frames w') frames (outcome_then (outcome_then (looked l o (record w { store = b.1 })) settle) (λ _. WentOn b.0)))
+    written : (o : OkOr Store Failure) → Leads code w (did {A = Written} l (turned {B = Written} (λ t. record { cells = cells; store = t }) o) (λ q. onward q.cells (core_at p cells0 frames w.store) q.store)) (arrive (λ v w'. at (p + 1) cells frames w') frames (outcome_then (outcome_then (looked l o (record w { store = b.1 })) settle) (λ _. WentOn b.0)))
     written (Ok t) = onwards here
     written (Err (Fails kind)) = breaks
-    written (Err Misfit) = whatever
+    written (Err TypeError) = whatever
 delivers code l (Onto k) (Ok b) p cells cells0 frames w h =
     subst (λ t. Leads code w (did {A = Written} l (where_fit {A = Written} t (Ok (record { cells = b.0 ∷ cells; store = b.1 }))) (λ q. onward q.cells (core_at p cells0 frames w.store) q.store)) (Comes (at (p + 1) (b.0 ∷ cells) frames (record w { store = b.1 })))) (sym (eq-eqb (length cells) k h)) (onwards here)
 
 -- where the store stays
-pub computes : (code : Code) (l : Line) (to : Target) (r : OkOr Value Trouble) (p : ℕ) (cells cells0 : List Value) (frames : List Frame) (w : World) → Tops to (length cells) → Leads code w (deliver l to r cells (core_at p cells0 frames w.store)) (arrive (λ v w'. at (p + 1) (on to v cells) frames w') frames (outcome_then (looked l r w) (put_then l to)))
+pub computes : (code : Code) (l : Line) (to : Target) (r : OkOr Value Failure) (p : ℕ) (cells cells0 : List Value) (frames : List Frame) (w : RunState) → Tops to (length cells) → Leads code w (deliver l to r cells (core_at p cells0 frames w.store)) (arrive (λ v w'. at (p + 1) (on to v cells) frames w') frames (outcome_then (looked l r w) (put_then l to)))
 computes code l to r p cells cells0 frames w h =
     subst (λ o. Leads code w (deliver l to r cells (core_at p cells0 frames w.store)) (arrive (λ v w'. at (p + 1) (on to v cells) frames w') frames (outcome_then o (put_then l to)))) (back r)
     (delivers code l to (turned {B = Value × Store} (λ v. (v, w.store)) r) p cells cells0 frames w h)
   where
-    back : (r : OkOr Value Trouble) → outcome_then (looked l (turned {B = Value × Store} (λ v. (v, w.store)) r) w) settle_with ≡ looked l r w
+    back : (r : OkOr Value Failure) → outcome_then (looked l (turned {B = Value × Store} (λ v. (v, w.store)) r) w) settle_with ≡ looked l r w
     back (Ok v) = refl
     back (Err (Fails kind)) = refl
-    back (Err Misfit) = refl
+    back (Err TypeError) = refl
 
 -- ## Operands
 
@@ -187,10 +187,10 @@ reads_both t a b x y s cells go h p q =
 -- ## Evaluating operands
 
 -- a look, and what follows where it gives a value
-pub join_look : {A B : Type 0} {code : Code} (s : MachineState) (k : A → World → MachineState) (k' : B → World → MachineState) (frames : List Frame) (l : Line) (r : OkOr A Trouble) (w : World) (f : A → Part B) → Reaches code s (arrive k frames (looked l r w)) → ((a : A) → r ≡ Ok a → Reaches code (k a w) (arrive k' frames (f a w))) → Reaches code s (arrive k' frames (outcome_then (looked l r w) f))
+pub join_look : {A B : Type 0} {code : Code} (s : MachineState) (k : A → RunState → MachineState) (k' : B → RunState → MachineState) (frames : List Frame) (l : Line) (r : OkOr A Failure) (w : RunState) (f : A → Part B) → Reaches code s (arrive k frames (looked l r w)) → ((a : A) → r ≡ Ok a → Reaches code (k a w) (arrive k' frames (f a w))) → Reaches code s (arrive k' frames (outcome_then (looked l r w) f))
 join_look s k k' frames l (Ok a) w f g h = reaches_on g (h a refl)
 join_look s k k' frames l (Err (Fails kind)) w f g h = g
-join_look s k k' frames l (Err Misfit) w f g h = free
+join_look s k k' frames l (Err TypeError) w f g h = free
 
 -- a constant and a variable have no fault
 leaf_fine : (e : Expression) (x : Operand) (s : Store) (kind : FaultKind) → leaf e ≡ Some x → value e s ≡ Err (Fails kind) → ⊥
@@ -224,10 +224,10 @@ module _ (code : Code) (n : ℕ) where
         subst (λ p. Reaches code (at place cells frames w) (arrive (λ v w'. at p cells frames w') frames (look t.line (value e) w))) p (comes place cells frames w (value e w.store) refl);
   }
     where
-      comes : (place : ℕ) (cells : List Value) (frames : List Frame) (w : World) (r : OkOr Value Trouble) → value e w.store ≡ r → Reaches code (at place cells frames w) (arrive (λ v w'. at place cells frames w') frames (looked t.line r w))
+      comes : (place : ℕ) (cells : List Value) (frames : List Frame) (w : RunState) (r : OkOr Value Failure) → value e w.store ≡ r → Reaches code (at place cells frames w) (arrive (λ v w'. at place cells frames w') frames (looked t.line r w))
       comes place cells frames w (Ok v) p = here
       comes place cells frames w (Err (Fails kind)) p = absurd (leaf_fine e x w.store kind q p)
-      comes place cells frames w (Err Misfit) p = free
+      comes place cells frames w (Err TypeError) p = free
 
   pub operand_runs : (t : Site) (e : Expression) → Runs code n (height t) same (expression_code t (next t) e) put_on (look t.line (value e)) → Evaluates t e
   operand_runs t e r = by (leaf e) refl
@@ -237,14 +237,14 @@ module _ (code : Code) (n : ℕ) where
       by None q = r
 
   -- an operand, and what follows
-  pub one_join : {B : Type 0} (t : Site) (e : Expression) → Evaluates t e → (rest : List Placed) (k : B → World → MachineState) (go : Value → Part B) (place : ℕ) (cells : List Value) (frames : List Frame) (w : World) → length cells ≡ height t → HasAt code.places place (operand_code t e ++ rest) → Within code n w → ((v : Value) → value e w.store ≡ Ok v → HasAt code.places (place + length (operand_code t e)) rest → Reaches code (at (place + length (operand_code t e)) (held (leaf e) v cells) frames w) (arrive k frames (go v w))) → Reaches code (at place cells frames w) (arrive k frames (outcome_then (look t.line (value e) w) go))
+  pub one_join : {B : Type 0} (t : Site) (e : Expression) → Evaluates t e → (rest : List Placed) (k : B → RunState → MachineState) (go : Value → Part B) (place : ℕ) (cells : List Value) (frames : List Frame) (w : RunState) → length cells ≡ height t → HasAt code.places place (operand_code t e ++ rest) → Within code n w → ((v : Value) → value e w.store ≡ Ok v → HasAt code.places (place + length (operand_code t e)) rest → Reaches code (at (place + length (operand_code t e)) (held (leaf e) v cells) frames w) (arrive k frames (go v w))) → Reaches code (at place cells frames w) (arrive k frames (outcome_then (look t.line (value e) w) go))
   one_join t e r rest k go place cells frames w high has in_ f =
       join_look (at place cells frames w) (λ v w'. at (place + length (operand_code t e)) (held (leaf e) v cells) frames w') k frames t.line (value e w.store) w go
       (r.by place cells frames w high (has_front code.places place (operand_code t e) rest has) in_)
       (λ v q. f v q (has_back code.places place (operand_code t e) rest has))
 
   -- two operands, and what follows
-  pub two_join : {B : Type 0} (t : Site) (a b : Expression) → Evaluates t a → Evaluates (after t a) b → (rest : List Placed) (k : B → World → MachineState) (go : Value → Value → Part B) (place : ℕ) (cells : List Value) (frames : List Frame) (w : World) → length cells ≡ height t → HasAt code.places place (operand_code t a ++ (operand_code (after t a) b ++ rest)) → Within code n w → ((x y : Value) → value a w.store ≡ Ok x → value b w.store ≡ Ok y → HasAt code.places (place + length (operand_code t a) + length (operand_code (after t a) b)) rest → Reaches code (at (place + length (operand_code t a) + length (operand_code (after t a) b)) (held (leaf b) y (held (leaf a) x cells)) frames w) (arrive k frames (go x y w))) → Reaches code (at place cells frames w) (arrive k frames (outcome_then (look t.line (value a) w) (λ x w. outcome_then (look t.line (value b) w) (go x))))
+  pub two_join : {B : Type 0} (t : Site) (a b : Expression) → Evaluates t a → Evaluates (after t a) b → (rest : List Placed) (k : B → RunState → MachineState) (go : Value → Value → Part B) (place : ℕ) (cells : List Value) (frames : List Frame) (w : RunState) → length cells ≡ height t → HasAt code.places place (operand_code t a ++ (operand_code (after t a) b ++ rest)) → Within code n w → ((x y : Value) → value a w.store ≡ Ok x → value b w.store ≡ Ok y → HasAt code.places (place + length (operand_code t a) + length (operand_code (after t a) b)) rest → Reaches code (at (place + length (operand_code t a) + length (operand_code (after t a) b)) (held (leaf b) y (held (leaf a) x cells)) frames w) (arrive k frames (go x y w))) → Reaches code (at place cells frames w) (arrive k frames (outcome_then (look t.line (value a) w) (λ x w. outcome_then (look t.line (value b) w) (go x))))
   two_join t a b ra rb rest k go place cells frames w high has in_ f =
       one_join t a ra (operand_code (after t a) b ++ rest) k (λ x w. outcome_then (look t.line (value b) w) (go x)) place cells frames w high has in_ (λ x p has'.
       one_join (after t a) b rb rest k (go x) (place + length (operand_code t a)) (held (leaf a) x cells) frames w (held_height t a x cells high) has' in_ (λ y q has''. f x y p q has''))

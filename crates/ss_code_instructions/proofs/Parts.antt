@@ -5,9 +5,9 @@ use Rattle.std.specs.Prelude.{slice_get, Result as OkOr}
 use Rattle.ss_base.specs.declared.fault.FaultKind.{FaultKind}
 use Rattle.ss_base.specs.declared.line.Line.{Line}
 use Rattle.ss_base.specs.declared.value.Value.{Value}
-use Rattle.ss_meaning.specs.Values.{Trouble, Fails, Misfit, if_ok, turned, sure}
+use Rattle.ss_meaning.specs.Values.{Failure, Fails, TypeError, if_ok, turned, sure}
 use Rattle.ss_meaning.specs.Store.{Store}
-use Rattle.ss_meaning.specs.Parts.{World, OutOfTicks, Outcome, WentOn, Left, Part, outcome_then, looked, look, settle, change, tick_from, take_tick}
+use Rattle.ss_meaning.specs.Parts.{RunState, OutOfTicks, Outcome, WentOn, Left, Part, outcome_then, looked, look, settle, change, tick_from, take_tick}
 use Rattle.ss_meaning.specs.Meaning.{Ended, Fault, Paused, run_at}
 use Rattle.ss_code_instructions.specs.Instructions.{Placed}
 use Rattle.ss_code_instructions.specs.States.{Frame, Core, MachineState, Done, Breaks, Moved, To, Sends, Rest, Stuck, did, fit, at_height, core_at}
@@ -15,24 +15,24 @@ use Rattle.ss_code_instructions.specs.Machine.{Code, act, is_due, with_rest, whe
 use Rattle.ss_code_instructions.proofs.Keeping.{Suits, suits_on}
 use Rattle.ss_code_instructions.proofs.Steps.{HasAt, has_front, has_back, Goal, Comes, Finishes, Free, Reaches, here, over, free, more, Kept, at, arrive, join}
 
--- a world with at most n ticks, in which the program says what its code says, and each member of a set lives
-pub record Within (code : Code) (n : ℕ) (w : World) : Type 0 where
+-- a run state with at most n ticks, in which the program says what its code says, and each member of a set lives
+pub record Within (code : Code) (n : ℕ) (w : RunState) : Type 0 where
   pub ticks : w.ticks ≤ n
   pub says : Suits code w.store
 
-pub within_on : {code : Code} {n p q : ℕ} {cells cells' : List Value} {frames frames' : List Frame} {w w' : World} → Within code n w → Kept (at p cells frames w) (at q cells' frames' w') → Within code n w'
+pub within_on : {code : Code} {n p q : ℕ} {cells cells' : List Value} {frames frames' : List Frame} {w w' : RunState} → Within code n w → Kept (at p cells frames w) (at q cells' frames' w') → Within code n w'
 within_on {code} {w} {w'} i k = record { ticks = omega (arith, i.ticks, k.fewer); says = suits_on code w.store w'.store k.same i.says }
 
-abbrev pub with_core : Core → World → MachineState
+abbrev pub with_core : Core → RunState → MachineState
 with_core c w = record { core = c; report = w.report; ticks = w.ticks }
 
-abbrev pub ticked : ℕ → World → World
+abbrev pub ticked : ℕ → RunState → RunState
 ticked t w = record w { ticks = t }
 
 -- ## One instruction
 
--- what an instruction does leads to a goal, in a world whose tick was taken, if one is due
-pub data Leads (code : Code) (w : World) : Moved → Goal → Type 0 where
+-- what an instruction does leads to a goal, in a run state whose tick was taken, if one is due
+pub data Leads (code : Code) (w : RunState) : Moved → Goal → Type 0 where
   onwards : {c : Core} {g : Goal} → Reaches code (with_core c w) g → Leads code w (To c) g
   writes : {bytes : List ℕ} {c : Core} {g : Goal} → Reaches code (with_core c (record w { report = w.report ++ bytes })) g → Leads code w (Sends bytes c) g
   ends : Leads code w (Rest Done) (Finishes (run_at Ended w))
@@ -41,11 +41,11 @@ pub data Leads (code : Code) (w : World) : Moved → Goal → Type 0 where
 
 module _ (code : Code) where
   -- a step without a tick
-  stepped : (x : Placed) (c : Core) (w : World) (m : Moved) → slice_get code.places c.place ≡ Some x → is_due x.instruction ≡ false → act code x.line x.instruction c ≡ m → step_at (slice_get code.places c.place) code (with_core c w) ≡ with_rest w.report w.ticks m
+  stepped : (x : Placed) (c : Core) (w : RunState) (m : Moved) → slice_get code.places c.place ≡ Some x → is_due x.instruction ≡ false → act code x.line x.instruction c ≡ m → step_at (slice_get code.places c.place) code (with_core c w) ≡ with_rest w.report w.ticks m
   stepped x c w m has calm e =
       ap (λ o. step_at o code (with_core c w)) has ∙ ap (λ b. when_due b w.report w.ticks (act code x.line x.instruction c)) calm ∙ ap (with_rest w.report w.ticks) e
 
-  pub step_leads : (x : Placed) (c : Core) (w : World) (m : Moved) (g : Goal) → slice_get code.places c.place ≡ Some x → is_due x.instruction ≡ false → act code x.line x.instruction c ≡ m → Leads code w m g → Reaches code (with_core c w) g
+  pub step_leads : (x : Placed) (c : Core) (w : RunState) (m : Moved) (g : Goal) → slice_get code.places c.place ≡ Some x → is_due x.instruction ≡ false → act code x.line x.instruction c ≡ m → Leads code w m g → Reaches code (with_core c w) g
   step_leads x c w m g has calm e (onwards r) = more (stepped x c w m has calm e) r
   step_leads x c w m g has calm e (writes r) = more (stepped x c w m has calm e) r
   step_leads x c w m g has calm e ends = over (stepped x c w m has calm e)
@@ -53,23 +53,23 @@ module _ (code : Code) where
   step_leads x c w m g has calm e whatever = free
 
   -- a step with a tick
-  due_stepped : (x : Placed) (c : Core) (w : World) (t : ℕ) (m : Moved) → slice_get code.places c.place ≡ Some x → is_due x.instruction ≡ true → act code x.line x.instruction c ≡ m → step_at (slice_get code.places c.place) code (with_core c (ticked (suc t) w)) ≡ with_rest w.report t m
+  due_stepped : (x : Placed) (c : Core) (w : RunState) (t : ℕ) (m : Moved) → slice_get code.places c.place ≡ Some x → is_due x.instruction ≡ true → act code x.line x.instruction c ≡ m → step_at (slice_get code.places c.place) code (with_core c (ticked (suc t) w)) ≡ with_rest w.report t m
   due_stepped x c w t m has due e =
       ap (λ o. step_at o code (with_core c (ticked (suc t) w))) has ∙ ap (λ b. when_due b w.report (suc t) (act code x.line x.instruction c)) due ∙ ap (with_rest w.report t) e
 
-  due_leads : (x : Placed) (c : Core) (w : World) (t : ℕ) (m : Moved) (g : Goal) → slice_get code.places c.place ≡ Some x → is_due x.instruction ≡ true → act code x.line x.instruction c ≡ m → Leads code (ticked t w) m g → Reaches code (with_core c (ticked (suc t) w)) g
+  due_leads : (x : Placed) (c : Core) (w : RunState) (t : ℕ) (m : Moved) (g : Goal) → slice_get code.places c.place ≡ Some x → is_due x.instruction ≡ true → act code x.line x.instruction c ≡ m → Leads code (ticked t w) m g → Reaches code (with_core c (ticked (suc t) w)) g
   due_leads x c w t m g has due e (onwards r) = more (due_stepped x c w t m has due e) r
   due_leads x c w t m g has due e (writes r) = more (due_stepped x c w t m has due e) r
   due_leads x c w t m g has due e ends = over (due_stepped x c w t m has due e)
   due_leads x c w t m g has due e breaks = over (due_stepped x c w t m has due e)
   due_leads x c w t m g has due e whatever = free
 
-  pauses_at : (x : Placed) (c : Core) (w : World) → slice_get code.places c.place ≡ Some x → is_due x.instruction ≡ true → Reaches code (with_core c (ticked 0 w)) (Finishes (run_at Paused (ticked 0 w)))
+  pauses_at : (x : Placed) (c : Core) (w : RunState) → slice_get code.places c.place ≡ Some x → is_due x.instruction ≡ true → Reaches code (with_core c (ticked 0 w)) (Finishes (run_at Paused (ticked 0 w)))
   pauses_at x c w has due =
       over (ap (λ o. step_at o code (with_core c (ticked 0 w))) has ∙ ap (λ b. when_due b w.report 0 (act code x.line x.instruction c)) due)
 
   -- a part that begins with a tick: the instruction pauses where none is left, and otherwise takes it
-  pub tick_run : {A : Type 0} (x : Placed) (c : Core) (frames : List Frame) (w : World) (k : A → World → MachineState) (m : Part A) → slice_get code.places c.place ≡ Some x → is_due x.instruction ≡ true → ((t : ℕ) → w.ticks ≡ suc t → Leads code (ticked t w) (act code x.line x.instruction c) (arrive k frames (m (ticked t w)))) → Reaches code (with_core c w) (arrive k frames (take_tick m w))
+  pub tick_run : {A : Type 0} (x : Placed) (c : Core) (frames : List Frame) (w : RunState) (k : A → RunState → MachineState) (m : Part A) → slice_get code.places c.place ≡ Some x → is_due x.instruction ≡ true → ((t : ℕ) → w.ticks ≡ suc t → Leads code (ticked t w) (act code x.line x.instruction c) (arrive k frames (m (ticked t w)))) → Reaches code (with_core c w) (arrive k frames (take_tick m w))
   tick_run {A} x c frames w k m has due h = from w.ticks h
     where
       from : (n : ℕ) → ((t : ℕ) → n ≡ suc t → Leads code (ticked t w) (act code x.line x.instruction c) (arrive k frames (m (ticked t w)))) → Reaches code (with_core c (ticked n w)) (arrive k frames (tick_from n m (ticked n w)))
@@ -77,18 +77,18 @@ module _ (code : Code) where
       from (suc t) h = due_leads x c w t (act code x.line x.instruction c) _ has due refl (h t refl)
 
   -- where no tick is left
-  pub out_run : {A : Type 0} (x : Placed) (c : Core) (frames : List Frame) (w : World) (k : A → World → MachineState) → slice_get code.places c.place ≡ Some x → is_due x.instruction ≡ true → w.ticks ≤ 0 → Reaches code (with_core c w) (arrive k frames (Left OutOfTicks w))
+  pub out_run : {A : Type 0} (x : Placed) (c : Core) (frames : List Frame) (w : RunState) (k : A → RunState → MachineState) → slice_get code.places c.place ≡ Some x → is_due x.instruction ≡ true → w.ticks ≤ 0 → Reaches code (with_core c w) (arrive k frames (Left OutOfTicks w))
   out_run x c frames w k has due le =
       let e : w.ticks ≡ 0 = omega (arith, le) in
       subst (λ t. Reaches code (with_core c (ticked t w)) (Finishes (run_at Paused (ticked t w)))) (sym e) (pauses_at x c w has due)
 
   -- what an instruction does where it looks as a part does
-  pub did_leads : {A B : Type 0} (l : Line) (r : OkOr A Trouble) (go : A → Moved) (w : World) (k : B → World → MachineState) (frames : List Frame) (f : A → Part B) → ((a : A) → r ≡ Ok a → Leads code w (go a) (arrive k frames (f a w))) → Leads code w (did l r go) (arrive k frames (outcome_then (looked l r w) f))
+  pub did_leads : {A B : Type 0} (l : Line) (r : OkOr A Failure) (go : A → Moved) (w : RunState) (k : B → RunState → MachineState) (frames : List Frame) (f : A → Part B) → ((a : A) → r ≡ Ok a → Leads code w (go a) (arrive k frames (f a w))) → Leads code w (did l r go) (arrive k frames (outcome_then (looked l r w) f))
   did_leads l (Ok a) go w k frames f h = h a refl
   did_leads l (Err (Fails kind)) go w k frames f h = breaks
-  did_leads l (Err Misfit) go w k frames f h = whatever
+  did_leads l (Err TypeError) go w k frames f h = whatever
 
-  pub fit_leads : {A B : Type 0} (l : Line) (o : Option A) (go : A → Moved) (w : World) (k : B → World → MachineState) (frames : List Frame) (f : A → Part B) → ((a : A) → o ≡ Some a → Leads code w (go a) (arrive k frames (f a w))) → Leads code w (fit o go) (arrive k frames (outcome_then (looked l (sure o) w) f))
+  pub fit_leads : {A B : Type 0} (l : Line) (o : Option A) (go : A → Moved) (w : RunState) (k : B → RunState → MachineState) (frames : List Frame) (f : A → Part B) → ((a : A) → o ≡ Some a → Leads code w (go a) (arrive k frames (f a w))) → Leads code w (fit o go) (arrive k frames (outcome_then (looked l (sure o) w) f))
   fit_leads l (Some a) go w k frames f h = h a refl
   fit_leads l None go w k frames f h = whatever
 
@@ -117,7 +117,7 @@ onto (v ∷ vs) cells = onto vs (v ∷ cells)
 -- Wherever the code c lies, above h cells and with at most n ticks, it does what m does, and ends where `land` says, counted from its end.
 -- It finds what `before` puts on these cells, and leaves what `after` puts there.
 pub record Lands {A : Type 0} (code : Code) (n h : ℕ) (before : List Value → List Value) (c : List Placed) (land : A → ℕ → ℕ) (after : A → List Value → List Value) (m : Part A) : Type 0 where
-  pub by : (place : ℕ) (cells : List Value) (frames : List Frame) (w : World) → length cells ≡ h → HasAt code.places place c → Within code n w → Reaches code (at place (before cells) frames w) (arrive (λ a w'. at (land a (place + length c)) (after a cells) frames w') frames (m w))
+  pub by : (place : ℕ) (cells : List Value) (frames : List Frame) (w : RunState) → length cells ≡ h → HasAt code.places place c → Within code n w → Reaches code (at place (before cells) frames w) (arrive (λ a w'. at (land a (place + length c)) (after a cells) frames w') frames (m w))
 
 -- at its end
 abbrev pub at_end : {A : Type 0} → A → ℕ → ℕ
@@ -136,26 +136,26 @@ pub then_then : {A B D : Type 0} (o : Outcome A) (f : A → Part B) (g : B → P
 then_then (WentOn a w) f g = refl
 then_then (Left e w) f g = refl
 
-pub looks_then : {A B : Type 0} (l : Line) (r : OkOr A Trouble) (g : A → Store → OkOr B Trouble) (w : World) → outcome_then (looked l r w) (λ a. look l (g a)) ≡ looked l (if_ok r (λ a. g a w.store)) w
+pub looks_then : {A B : Type 0} (l : Line) (r : OkOr A Failure) (g : A → Store → OkOr B Failure) (w : RunState) → outcome_then (looked l r w) (λ a. look l (g a)) ≡ looked l (if_ok r (λ a. g a w.store)) w
 looks_then l (Ok a) g w = refl
 looks_then l (Err (Fails k)) g w = refl
-looks_then l (Err Misfit) g w = refl
+looks_then l (Err TypeError) g w = refl
 
-pub looked_then : {A B D : Type 0} (l : Line) (r : OkOr A Trouble) (g : A → OkOr B Trouble) (f : B → Part D) (w : World) → outcome_then (looked l r w) (λ a w. outcome_then (looked l (g a) w) f) ≡ outcome_then (looked l (if_ok r g) w) f
+pub looked_then : {A B D : Type 0} (l : Line) (r : OkOr A Failure) (g : A → OkOr B Failure) (f : B → Part D) (w : RunState) → outcome_then (looked l r w) (λ a w. outcome_then (looked l (g a) w) f) ≡ outcome_then (looked l (if_ok r g) w) f
 looked_then l (Ok a) g f w = refl
 looked_then l (Err (Fails k)) g f w = refl
-looked_then l (Err Misfit) g f w = refl
+looked_then l (Err TypeError) g f w = refl
 
 -- two looks in turn, each at the present store
-pub look_then : {A B D : Type 0} (l : Line) (r : OkOr A Trouble) (g : A → Store → OkOr B Trouble) (f : B → Part D) (w : World) → outcome_then (looked l r w) (λ a w. outcome_then (look l (g a) w) f) ≡ outcome_then (looked l (if_ok r (λ a. g a w.store)) w) f
+pub look_then : {A B D : Type 0} (l : Line) (r : OkOr A Failure) (g : A → Store → OkOr B Failure) (f : B → Part D) (w : RunState) → outcome_then (looked l r w) (λ a w. outcome_then (look l (g a) w) f) ≡ outcome_then (looked l (if_ok r (λ a. g a w.store)) w) f
 look_then l (Ok a) g f w = refl
 look_then l (Err (Fails k)) g f w = refl
-look_then l (Err Misfit) g f w = refl
+look_then l (Err TypeError) g f w = refl
 
-pub turned_then : {A B D : Type 0} (l : Line) (r : OkOr A Trouble) (g : A → B) (m : B → Part D) (w : World) → outcome_then (looked l r w) (λ a. m (g a)) ≡ outcome_then (looked l (turned g r) w) m
+pub turned_then : {A B D : Type 0} (l : Line) (r : OkOr A Failure) (g : A → B) (m : B → Part D) (w : RunState) → outcome_then (looked l r w) (λ a. m (g a)) ≡ outcome_then (looked l (turned g r) w) m
 turned_then l (Ok a) g m w = refl
 turned_then l (Err (Fails k)) g m w = refl
-turned_then l (Err Misfit) g m w = refl
+turned_then l (Err TypeError) g m w = refl
 
 module _ (code : Code) (n h : ℕ) where
   -- one part after another
@@ -170,13 +170,13 @@ module _ (code : Code) (n h : ℕ) where
   }
 
   -- a part that is equal to another lands as it does
-  pub alike : {A : Type 0} {before : List Value → List Value} {c : List Placed} {land : A → ℕ → ℕ} {after : A → List Value → List Value} {m m' : Part A} → ((w : World) → m w ≡ m' w) → Lands code n h before c land after m → Lands code n h before c land after m'
+  pub alike : {A : Type 0} {before : List Value → List Value} {c : List Placed} {land : A → ℕ → ℕ} {after : A → List Value → List Value} {m m' : Part A} → ((w : RunState) → m w ≡ m' w) → Lands code n h before c land after m → Lands code n h before c land after m'
   alike {before = before} {c = c} {land = land} {after = after} e r = record {
     by = λ place cells frames w high has in_. subst (λ o. Reaches code (at place (before cells) frames w) (arrive (λ a w'. at (land a (place + length c)) (after a cells) frames w') frames o)) (e w) (r.by place cells frames w high has in_);
   }
 
   -- one look after another
-  pub seq_look : {A B : Type 0} {before : List Value → List Value} {c1 c2 : List Placed} {mid : A → List Value → List Value} {land : B → ℕ → ℕ} {after : B → List Value → List Value} (l : Line) (f : Store → OkOr A Trouble) (g : A → Store → OkOr B Trouble) → Runs code n h before c1 mid (look l f) → ((a : A) → Lands code n h (mid a) c2 land after (look l (g a))) → Lands code n h before (c1 ++ c2) land after (look l (λ s. if_ok (f s) (λ a. g a s)))
+  pub seq_look : {A B : Type 0} {before : List Value → List Value} {c1 c2 : List Placed} {mid : A → List Value → List Value} {land : B → ℕ → ℕ} {after : B → List Value → List Value} (l : Line) (f : Store → OkOr A Failure) (g : A → Store → OkOr B Failure) → Runs code n h before c1 mid (look l f) → ((a : A) → Lands code n h (mid a) c2 land after (look l (g a))) → Lands code n h before (c1 ++ c2) land after (look l (λ s. if_ok (f s) (λ a. g a s)))
   seq_look l f g r1 r2 = alike (λ w. looks_then l (f w.store) g w) (seq r1 r2)
 
   -- code that lands does so above further cells
@@ -190,7 +190,7 @@ module _ (code : Code) (n h : ℕ) where
   }
 
   -- one instruction that looks at the store, and where it leads
-  pub look_lands : {A : Type 0} (x : Placed) (before : List Value → List Value) (land : A → ℕ → ℕ) (after : A → List Value → List Value) (f : Store → OkOr A Trouble) → is_due x.instruction ≡ false → ((place : ℕ) (cells : List Value) (frames : List Frame) (s : Store) → length cells ≡ h → act code x.line x.instruction (core_at place (before cells) frames s) ≡ did x.line (f s) (λ a. To (core_at (land a (place + 1)) (after a cells) frames s))) → Lands code n h before (x ∷ []) land after (look x.line f)
+  pub look_lands : {A : Type 0} (x : Placed) (before : List Value → List Value) (land : A → ℕ → ℕ) (after : A → List Value → List Value) (f : Store → OkOr A Failure) → is_due x.instruction ≡ false → ((place : ℕ) (cells : List Value) (frames : List Frame) (s : Store) → length cells ≡ h → act code x.line x.instruction (core_at place (before cells) frames s) ≡ did x.line (f s) (λ a. To (core_at (land a (place + 1)) (after a cells) frames s))) → Lands code n h before (x ∷ []) land after (look x.line f)
   look_lands x before land after f calm e = alike (λ w. went (look x.line f w)) (record {
     by = λ place cells frames w high has in_.
         step_leads code x (core_at place (before cells) frames w.store) w _ _ has.0 calm (e place cells frames w.store high)
@@ -198,7 +198,7 @@ module _ (code : Code) (n h : ℕ) where
   })
 
   -- one instruction that changes the store as it looked
-  pub change_runs : (x : Placed) (before : List Value → List Value) (after : Unit {0} → List Value → List Value) (f : Store → OkOr Store Trouble) → is_due x.instruction ≡ false → ((place : ℕ) (cells : List Value) (frames : List Frame) (s : Store) → length cells ≡ h → act code x.line x.instruction (core_at place (before cells) frames s) ≡ did x.line (f s) (λ s'. To (core_at (place + 1) (after tt cells) frames s'))) → Runs code n h before (x ∷ []) after (change x.line f)
+  pub change_runs : (x : Placed) (before : List Value → List Value) (after : Unit {0} → List Value → List Value) (f : Store → OkOr Store Failure) → is_due x.instruction ≡ false → ((place : ℕ) (cells : List Value) (frames : List Frame) (s : Store) → length cells ≡ h → act code x.line x.instruction (core_at place (before cells) frames s) ≡ did x.line (f s) (λ s'. To (core_at (place + 1) (after tt cells) frames s'))) → Runs code n h before (x ∷ []) after (change x.line f)
   change_runs x before after f calm e = record {
     by = λ place cells frames w high has in_.
         step_leads code x (core_at place (before cells) frames w.store) w _ _ has.0 calm (e place cells frames w.store high)

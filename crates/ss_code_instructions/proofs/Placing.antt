@@ -6,12 +6,12 @@ use Rattle.ss_base.specs.declared.layout.Discipline.TheVariants as disciplines
 use Rattle.ss_base.specs.declared.value.Value.{Value}
 use Rattle.ss_world.specs.Disciplines.{filed}
 use Rattle.ss_program.specs.Program.{Expression, SetOwner, Position, ByDiscipline, AsFirst, AsLast, BeforeMember, AfterMember}
-use Rattle.ss_meaning.specs.Values.{Trouble, Fails, Misfit, if_ok, turned, due, sure, where_fit}
+use Rattle.ss_meaning.specs.Values.{Failure, Fails, TypeError, if_ok, turned, due, sure, where_fit}
 use Rattle.ss_meaning.specs.Store.{Store, Setting}
 use Rattle.ss_meaning.specs.Sets.{Filing, ByRule, Foremost, Hindmost, JustBefore, JustAfter, member, owner_number, recounted, is_fit, filed_by, filed_in}
 use Rattle.ss_meaning.specs.Expressions.{value, looked_at, member_value, owner_value}
 use Rattle.ss_meaning.specs.Meaning.{setting_of}
-use Rattle.ss_meaning.specs.Parts.{World, Part, outcome_then, looked, look, settle, change}
+use Rattle.ss_meaning.specs.Parts.{RunState, Part, outcome_then, looked, look, settle, change}
 use Rattle.ss_meaning.specs.Statements.{file}
 use Rattle.ss_code_instructions.specs.Instructions.{Operand, Bearer, Placed}
 use Rattle.ss_code_instructions.specs.Instructions as i
@@ -42,25 +42,25 @@ position_by (Some disciplines.Lifo) = Foremost
 position_by (Some (disciplines.Ranked keys)) = ByRule
 
 -- that is where the discipline has it
-by_rule : (d : Option Discipline) (set : ℕ) (x : Value) (o : Option Value) (s : Store) → slice_get s.scene.setting.disciplines set ≡ d → filed_in ByRule set x o s ≡ filed_in (position_by d) set x o s
+by_rule : (d : Option Discipline) (set : ℕ) (x : Value) (o : Option Value) (s : Store) → slice_get s.world.setting.disciplines set ≡ d → filed_in ByRule set x o s ≡ filed_in (position_by d) set x o s
 by_rule None set x o s q = refl
 by_rule (Some (disciplines.Ranked keys)) set x o s q = refl
 by_rule (Some disciplines.Fifo) set x o s q = at_end (member set x s) (owner_number set o s)
   where
-    at_end : (n m : OkOr ℤ Trouble) → if_ok n (λ n. if_ok m (λ m. if_ok (filed_by ByRule set m n s) (recounted set m s))) ≡ if_ok n (λ n. if_ok m (λ m. if_ok (filed_by Hindmost set m n s) (recounted set m s)))
+    at_end : (n m : OkOr ℤ Failure) → if_ok n (λ n. if_ok m (λ m. if_ok (filed_by ByRule set m n s) (recounted set m s))) ≡ if_ok n (λ n. if_ok m (λ m. if_ok (filed_by Hindmost set m n s) (recounted set m s)))
     at_end (Err t) m = refl
     at_end (Ok n) (Err t) = refl
-    at_end (Ok n) (Ok m) = ap (λ d. if_ok (if_ok (sure d) (λ d. where_fit (is_fit s.scene.heap.layout set d) (due (filed s.scene.heap d set m n)))) (recounted set m s)) q
+    at_end (Ok n) (Ok m) = ap (λ d. if_ok (if_ok (sure d) (λ d. where_fit (is_fit s.world.heap.layout set d) (due (filed s.world.heap d set m n)))) (recounted set m s)) q
 by_rule (Some disciplines.Lifo) set x o s q = at_front (member set x s) (owner_number set o s)
   where
-    at_front : (n m : OkOr ℤ Trouble) → if_ok n (λ n. if_ok m (λ m. if_ok (filed_by ByRule set m n s) (recounted set m s))) ≡ if_ok n (λ n. if_ok m (λ m. if_ok (filed_by Foremost set m n s) (recounted set m s)))
+    at_front : (n m : OkOr ℤ Failure) → if_ok n (λ n. if_ok m (λ m. if_ok (filed_by ByRule set m n s) (recounted set m s))) ≡ if_ok n (λ n. if_ok m (λ m. if_ok (filed_by Foremost set m n s) (recounted set m s)))
     at_front (Err t) m = refl
     at_front (Ok n) (Err t) = refl
-    at_front (Ok n) (Ok m) = ap (λ d. if_ok (if_ok (sure d) (λ d. where_fit (is_fit s.scene.heap.layout set d) (due (filed s.scene.heap d set m n)))) (recounted set m s)) q
+    at_front (Ok n) (Ok m) = ap (λ d. if_ok (if_ok (sure d) (λ d. where_fit (is_fit s.world.heap.layout set d) (due (filed s.world.heap d set m n)))) (recounted set m s)) q
 
 module _ (code : Code) (n : ℕ) where
   -- a member that is looked at, and what follows
-  looked_join : {B : Type 0} (t : Site) (set : ℕ) (e : Expression) (rest : List Placed) (k : B → World → MachineState) (go : Value → Part B) (p : ℕ) (cells : List Value) (frames : List Frame) (w : World) → length cells ≡ height t → HasAt code.places p (member_code t true set e ++ rest) → Within code n w → ((v : Value) → value e w.store ≡ Ok v → HasAt code.places (p + length (member_code t true set e)) rest → Reaches code (at (p + length (member_code t true set e)) (held (leaf e) v cells) frames w) (arrive k frames (go v w))) → Reaches code (at p cells frames w) (arrive k frames (outcome_then (look t.line (member_value set e) w) go))
+  looked_join : {B : Type 0} (t : Site) (set : ℕ) (e : Expression) (rest : List Placed) (k : B → RunState → MachineState) (go : Value → Part B) (p : ℕ) (cells : List Value) (frames : List Frame) (w : RunState) → length cells ≡ height t → HasAt code.places p (member_code t true set e ++ rest) → Within code n w → ((v : Value) → value e w.store ≡ Ok v → HasAt code.places (p + length (member_code t true set e)) rest → Reaches code (at (p + length (member_code t true set e)) (held (leaf e) v cells) frames w) (arrive k frames (go v w))) → Reaches code (at p cells frames w) (arrive k frames (outcome_then (look t.line (member_value set e) w) go))
   looked_join t set e rest k go p cells frames w high has in_ f =
       let c : List Placed = operand_code t e in
       let look_ : Placed = place (after t e) (i.LookMember set (stay (operand t e))) in
@@ -76,33 +76,33 @@ module _ (code : Code) (n : ℕ) where
       (did_leads code t.line (member set v w.store) _ w k frames (λ n. go v) (λ m z.
       onwards (subst (λ j. Reaches code (at j (held (leaf e) v cells) frames w) (arrive k frames (go v w))) (sym end) (f v r h1)))))))
     where
-      member_then : (r : OkOr Value Trouble) → outcome_then (looked t.line r w) (λ v w. outcome_then (looked t.line (turned (λ n. v) (member set v w.store)) w) go) ≡ outcome_then (looked t.line (if_ok r (looked_at (λ x. member set x w.store))) w) go
+      member_then : (r : OkOr Value Failure) → outcome_then (looked t.line r w) (λ v w. outcome_then (looked t.line (turned (λ n. v) (member set v w.store)) w) go) ≡ outcome_then (looked t.line (if_ok r (looked_at (λ x. member set x w.store))) w) go
       member_then (Ok v) = refl
       member_then (Err (Fails kind)) = refl
-      member_then (Err Misfit) = refl
+      member_then (Err TypeError) = refl
 
   -- ## Where no other member is beside it
 
-  alone_runs : (t : Site) (set : ℕ) (e : Expression) (o : SetOwner) (f : i.FilingPlace) (g : Filing) → ((x : Operand) (y : Bearer) (p : ℕ) (cells : List Value) (frames : List Frame) (s : Store) → act code t.line (i.File f set x y) (core_at p cells frames s) ≡ with_bearer y s cells (λ u above. with_operand_value x s above (λ v below. did t.line (filed_in g set v u s) (λ u. onward below (core_at p cells frames s) u)))) → (p : ℕ) (cells : List Value) (frames : List Frame) (w : World) → length cells ≡ height t → HasAt code.places p (looked_code t (may_fault (expression_of o)) e (i.LookMember set) ++ with_owner (after t e) o (i.File f set (operand t e))) → Within code n w → Reaches code (at p cells frames w) (arrive (λ (u : Unit {0}) w'. at (p + length (looked_code t (may_fault (expression_of o)) e (i.LookMember set) ++ with_owner (after t e) o (i.File f set (operand t e)))) cells frames w') frames (outcome_then (look t.line (member_value set e) w) (λ v w. outcome_then (look t.line (owner_value o) w) (λ u. change t.line (filed_in g set v u)))))
+  alone_runs : (t : Site) (set : ℕ) (e : Expression) (o : SetOwner) (f : i.FilingPlace) (g : Filing) → ((x : Operand) (y : Bearer) (p : ℕ) (cells : List Value) (frames : List Frame) (s : Store) → act code t.line (i.File f set x y) (core_at p cells frames s) ≡ with_bearer y s cells (λ u above. with_operand_value x s above (λ v below. did t.line (filed_in g set v u s) (λ u. onward below (core_at p cells frames s) u)))) → (p : ℕ) (cells : List Value) (frames : List Frame) (w : RunState) → length cells ≡ height t → HasAt code.places p (looked_code t (may_fault (expression_of o)) e (i.LookMember set) ++ with_owner (after t e) o (i.File f set (operand t e))) → Within code n w → Reaches code (at p cells frames w) (arrive (λ (u : Unit {0}) w'. at (p + length (looked_code t (may_fault (expression_of o)) e (i.LookMember set) ++ with_owner (after t e) o (i.File f set (operand t e)))) cells frames w') frames (outcome_then (look t.line (member_value set e) w) (λ v w. outcome_then (look t.line (owner_value o) w) (λ u. change t.line (filed_in g set v u)))))
   alone_runs t set e o f g acts p cells frames w high has in_ =
       let all : List Placed = looked_code t (may_fault (expression_of o)) e (i.LookMember set) ++ with_owner (after t e) o (i.File f set (operand t e)) in
-      let ends : Unit {0} → World → MachineState = λ u w'. at (p + length all) cells frames w' in
+      let ends : Unit {0} → RunState → MachineState = λ u w'. at (p + length all) cells frames w' in
       let next : ℕ → List Value → List Frame → Store → List Value → Store → Moved = λ p cells frames s below u. onward below (core_at p cells frames s) u in
       member_owner_run code n {A = Store} {B = Unit {0}} t set e o (i.File f set) (filed_in g set) next ends settle (filed_first_looks g set) (λ x y. refl) acts p cells frames w high has in_ (λ q cells0 u end.
       onwards (subst (λ j. Reaches code (at (q + 1) cells frames (record w { store = u })) (Comes (at j cells frames (record w { store = u })))) end here))
 
   -- by the discipline of the set
-  rule_is : (t : Site) (set : ℕ) (o : SetOwner) (d : Option Discipline) (w : World) (r : OkOr Value Trouble) → slice_get w.store.scene.setting.disciplines set ≡ d → outcome_then (looked t.line r w) (λ v w. outcome_then (look t.line (owner_value o) w) (λ u. change t.line (filed_in (position_by d) set v u))) ≡ outcome_then (looked t.line r w) (λ v w. outcome_then (look t.line (owner_value o) w) (λ u. change t.line (filed_in ByRule set v u)))
+  rule_is : (t : Site) (set : ℕ) (o : SetOwner) (d : Option Discipline) (w : RunState) (r : OkOr Value Failure) → slice_get w.store.world.setting.disciplines set ≡ d → outcome_then (looked t.line r w) (λ v w. outcome_then (look t.line (owner_value o) w) (λ u. change t.line (filed_in (position_by d) set v u))) ≡ outcome_then (looked t.line r w) (λ v w. outcome_then (look t.line (owner_value o) w) (λ u. change t.line (filed_in ByRule set v u)))
   rule_is t set o d w (Err (Fails kind)) q = refl
-  rule_is t set o d w (Err Misfit) q = refl
+  rule_is t set o d w (Err TypeError) q = refl
   rule_is t set o d w (Ok v) q = by (owner_value o w.store)
     where
-      by : (r : OkOr (Option Value) Trouble) → outcome_then (looked t.line r w) (λ u. change t.line (filed_in (position_by d) set v u)) ≡ outcome_then (looked t.line r w) (λ u. change t.line (filed_in ByRule set v u))
+      by : (r : OkOr (Option Value) Failure) → outcome_then (looked t.line r w) (λ u. change t.line (filed_in (position_by d) set v u)) ≡ outcome_then (looked t.line r w) (λ u. change t.line (filed_in ByRule set v u))
       by (Err (Fails kind)) = refl
-      by (Err Misfit) = refl
+      by (Err TypeError) = refl
       by (Ok u) = ap (λ z. outcome_then (looked t.line z w) settle) (sym (by_rule d set v u w.store q))
 
-  ruled_runs : (t : Site) (set : ℕ) (e : Expression) (o : SetOwner) (d : Option Discipline) (p : ℕ) (cells : List Value) (frames : List Frame) (w : World) → slice_get w.store.scene.setting.disciplines set ≡ d → length cells ≡ height t → HasAt code.places p (looked_code t (may_fault (expression_of o)) e (i.LookMember set) ++ with_owner (after t e) o (i.File (filing_by d) set (operand t e))) → Within code n w → Reaches code (at p cells frames w) (arrive (λ (u : Unit {0}) w'. at (p + length (looked_code t (may_fault (expression_of o)) e (i.LookMember set) ++ with_owner (after t e) o (i.File (filing_by d) set (operand t e)))) cells frames w') frames (outcome_then (look t.line (member_value set e) w) (λ v w. outcome_then (look t.line (owner_value o) w) (λ u. change t.line (filed_in ByRule set v u)))))
+  ruled_runs : (t : Site) (set : ℕ) (e : Expression) (o : SetOwner) (d : Option Discipline) (p : ℕ) (cells : List Value) (frames : List Frame) (w : RunState) → slice_get w.store.world.setting.disciplines set ≡ d → length cells ≡ height t → HasAt code.places p (looked_code t (may_fault (expression_of o)) e (i.LookMember set) ++ with_owner (after t e) o (i.File (filing_by d) set (operand t e))) → Within code n w → Reaches code (at p cells frames w) (arrive (λ (u : Unit {0}) w'. at (p + length (looked_code t (may_fault (expression_of o)) e (i.LookMember set) ++ with_owner (after t e) o (i.File (filing_by d) set (operand t e)))) cells frames w') frames (outcome_then (look t.line (member_value set e) w) (λ v w. outcome_then (look t.line (owner_value o) w) (λ u. change t.line (filed_in ByRule set v u)))))
   ruled_runs t set e o d p cells frames w q high has in_ =
       subst (λ z. Reaches code (at p cells frames w) (arrive (λ (u : Unit {0}) w'. at (p + length (looked_code t (may_fault (expression_of o)) e (i.LookMember set) ++ with_owner (after t e) o (i.File (filing_by d) set (operand t e)))) cells frames w') frames z)) (rule_is t set o d w (member_value set e w.store) q)
       (alone_runs t set e o (filing_by d) (position_by d) (acts d) p cells frames w high has in_)
@@ -115,7 +115,7 @@ module _ (code : Code) (n : ℕ) where
 
   -- ## Directly before or after another member
 
-  beside_runs : (t : Site) (set : ℕ) (e y : Expression) (o : SetOwner) (f : Operand → i.FilingPlace) (g : Value → Filing) → ((x z : Operand) (b : Bearer) (p : ℕ) (cells : List Value) (frames : List Frame) (s : Store) → act code t.line (i.File (f z) set x b) (core_at p cells frames s) ≡ with_bearer b s cells (λ u over. with_operand_value z s over (λ k above. with_operand_value x s above (λ v below. did t.line (filed_in (g k) set v u s) (λ u. onward below (core_at p cells frames s) u))))) → (p : ℕ) (cells : List Value) (frames : List Frame) (w : World) → length cells ≡ height t → HasAt code.places p (member_code t true set e ++ (member_code (after t e) true set y ++ with_owner (after (after t e) y) o (i.File (f (operand (after t e) y)) set (operand t e)))) → Within code n w → Reaches code (at p cells frames w) (arrive (λ (u : Unit {0}) w'. at (p + length (member_code t true set e ++ (member_code (after t e) true set y ++ with_owner (after (after t e) y) o (i.File (f (operand (after t e) y)) set (operand t e))))) cells frames w') frames (outcome_then (look t.line (member_value set e) w) (λ v w. outcome_then (look t.line (λ s. turned g (member_value set y s)) w) (λ h w. outcome_then (look t.line (owner_value o) w) (λ u. change t.line (filed_in h set v u))))))
+  beside_runs : (t : Site) (set : ℕ) (e y : Expression) (o : SetOwner) (f : Operand → i.FilingPlace) (g : Value → Filing) → ((x z : Operand) (b : Bearer) (p : ℕ) (cells : List Value) (frames : List Frame) (s : Store) → act code t.line (i.File (f z) set x b) (core_at p cells frames s) ≡ with_bearer b s cells (λ u over. with_operand_value z s over (λ k above. with_operand_value x s above (λ v below. did t.line (filed_in (g k) set v u s) (λ u. onward below (core_at p cells frames s) u))))) → (p : ℕ) (cells : List Value) (frames : List Frame) (w : RunState) → length cells ≡ height t → HasAt code.places p (member_code t true set e ++ (member_code (after t e) true set y ++ with_owner (after (after t e) y) o (i.File (f (operand (after t e) y)) set (operand t e)))) → Within code n w → Reaches code (at p cells frames w) (arrive (λ (u : Unit {0}) w'. at (p + length (member_code t true set e ++ (member_code (after t e) true set y ++ with_owner (after (after t e) y) o (i.File (f (operand (after t e) y)) set (operand t e))))) cells frames w') frames (outcome_then (look t.line (member_value set e) w) (λ v w. outcome_then (look t.line (λ s. turned g (member_value set y s)) w) (λ h w. outcome_then (look t.line (owner_value o) w) (λ u. change t.line (filed_in h set v u))))))
   beside_runs t set e y o f g acts p cells frames w high has in_ =
       let t1 : Site = after t e in
       let t2 : Site = after t1 y in
@@ -126,7 +126,7 @@ module _ (code : Code) (n : ℕ) where
       let last : Placed = place (after_bearer t2 x) (i.File (f (operand t1 y)) set (operand t e) (bearer t2 x)) in
       let all : List Placed = ce ++ (cy ++ (co ++ last ∷ [])) in
       let end : p + length ce + length cy + length co + 1 ≡ p + length all = omega (arith, length-append ce (cy ++ (co ++ last ∷ [])), length-append cy (co ++ last ∷ []), length-append co (last ∷ [])) in
-      let ends : Unit {0} → World → MachineState = λ u w'. at (p + length all) cells frames w' in
+      let ends : Unit {0} → RunState → MachineState = λ u w'. at (p + length all) cells frames w' in
       let then_ : Value → Filing → Part (Unit {0}) = λ v h w. outcome_then (look t.line (owner_value o) w) (λ u. change t.line (filed_in h set v u)) in
       looked_join t set e (cy ++ (co ++ last ∷ [])) ends (λ v w. outcome_then (look t.line (λ s. turned g (member_value set y s)) w) (then_ v)) p cells frames w high has in_ (λ v found_v has1.
       let c1 : List Value = held (leaf e) v cells in

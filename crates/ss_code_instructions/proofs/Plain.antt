@@ -4,13 +4,13 @@ use Rattle.std.specs.Prelude.{Result as OkOr}
 use Rattle.ss_base.specs.declared.value.Value.{Value}
 use Rattle.ss_program.specs.declared.statement.CountedClass.{CountedClass}
 use Rattle.ss_program.specs.Program.{Expression, Restart}
-use Rattle.ss_meaning.specs.Values.{Trouble, Fails, Misfit, if_ok, empty_lines}
+use Rattle.ss_meaning.specs.Values.{Failure, Fails, TypeError, if_ok, empty_lines}
 use Rattle.ss_meaning.specs.Store.{Store}
 use Rattle.ss_meaning.specs.Entities.{made_all, without}
 use Rattle.ss_meaning.specs.Events.{unscheduled}
 use Rattle.ss_meaning.specs.Statistics.{reset}
 use Rattle.ss_meaning.specs.Expressions.{value, value_if_any}
-use Rattle.ss_meaning.specs.Parts.{World, outcome_then, looked, look, settle, change, send}
+use Rattle.ss_meaning.specs.Parts.{RunState, outcome_then, looked, look, settle, change, send}
 use Rattle.ss_meaning.specs.Statements.{create_every, destroy, cancel, restart_each}
 use Rattle.ss_code_instructions.specs.Instructions.{Operand, Placed, Instruction}
 use Rattle.ss_code_instructions.specs.Instructions as i
@@ -25,13 +25,13 @@ use Rattle.ss_code_instructions.proofs.Looking.{bearer_join}
 
 module _ (code : Code) (n : ℕ) where
   -- an operand, and an instruction that changes the store by it
-  one_changes : (t : Site) (e : Expression) (make : Operand → Instruction) (f : Value → Store → OkOr Store Trouble) → ((x : Operand) → is_due (make x) ≡ false) → ((x : Operand) (p : ℕ) (cells : List Value) (frames : List Frame) (s : Store) → act code t.line (make x) (core_at p cells frames s) ≡ with_operand_value x s cells (λ v below. did t.line (f v s) (λ u. onward below (core_at p cells frames s) u))) → Runs code n (height t) same (with_operand t e make) done (λ w. outcome_then (look t.line (value e) w) (λ v. change t.line (f v)))
+  one_changes : (t : Site) (e : Expression) (make : Operand → Instruction) (f : Value → Store → OkOr Store Failure) → ((x : Operand) → is_due (make x) ≡ false) → ((x : Operand) (p : ℕ) (cells : List Value) (frames : List Frame) (s : Store) → act code t.line (make x) (core_at p cells frames s) ≡ with_operand_value x s cells (λ v below. did t.line (f v s) (λ u. onward below (core_at p cells frames s) u))) → Runs code n (height t) same (with_operand t e make) done (λ w. outcome_then (look t.line (value e) w) (λ v. change t.line (f v)))
   one_changes t e make f calm acts = record {
     by = λ p cells frames w high has in_.
         let ce : List Placed = operand_code t e in
         let last : Placed = place (after t e) (make (operand t e)) in
         let end : p + length ce + 1 ≡ p + length (ce ++ last ∷ []) = omega (arith, length-append ce (last ∷ [])) in
-        let k : Unit {0} → World → MachineState = λ o w'. at (p + length (ce ++ last ∷ [])) cells frames w' in
+        let k : Unit {0} → RunState → MachineState = λ o w'. at (p + length (ce ++ last ∷ [])) cells frames w' in
         one_join code n t e (evaluates code n t e) (last ∷ []) k (λ v. change t.line (f v)) p cells frames w high has in_ (λ v found has'.
         step_leads code last (core_at (p + length ce) (held (leaf e) v cells) frames w.store) w _ _ has'.0 (calm (operand t e))
         (acts (operand t e) (p + length ce) (held (leaf e) v cells) frames w.store
@@ -53,7 +53,7 @@ module _ (code : Code) (n : ℕ) where
         let ce : List Placed = operand_code t e in
         let last : Placed = place (after t e) (i.Skip (operand t e)) in
         let end : p + length ce + 1 ≡ p + length (ce ++ last ∷ []) = omega (arith, length-append ce (last ∷ [])) in
-        let k : Unit {0} → World → MachineState = λ o w'. at (p + length (ce ++ last ∷ [])) cells frames w' in
+        let k : Unit {0} → RunState → MachineState = λ o w'. at (p + length (ce ++ last ∷ [])) cells frames w' in
         subst (λ o. Reaches code (at p cells frames w) (arrive k frames o)) (lines_then (value e w.store) w)
         (one_join code n t e (evaluates code n t e) (last ∷ []) k (λ v w. outcome_then (looked t.line (empty_lines v) w) send) p cells frames w high has in_ (λ v found has'.
         step_leads code last (core_at (p + length ce) (held (leaf e) v cells) frames w.store) w _ _ has'.0 refl
@@ -62,10 +62,10 @@ module _ (code : Code) (n : ℕ) where
         writes (subst (λ j. Reaches code (at (p + length ce + 1) cells frames (record w { report = w.report ++ bytes })) (Comes (at j cells frames (record w { report = w.report ++ bytes })))) end here)))));
   }
     where
-      lines_then : (r : OkOr Value Trouble) (w : World) → outcome_then (looked t.line r w) (λ v w. outcome_then (looked t.line (empty_lines v) w) send) ≡ outcome_then (looked t.line (if_ok r empty_lines) w) send
+      lines_then : (r : OkOr Value Failure) (w : RunState) → outcome_then (looked t.line r w) (λ v w. outcome_then (looked t.line (empty_lines v) w) send) ≡ outcome_then (looked t.line (if_ok r empty_lines) w) send
       lines_then (Ok v) w = refl
       lines_then (Err (Fails kind)) w = refl
-      lines_then (Err Misfit) w = refl
+      lines_then (Err TypeError) w = refl
 
   pub creates_run : (t : Site) (cs : List CountedClass) → Runs code n (height t) same (creates_code t cs) done (create_every t.line cs)
   creates_run t [] = none code n (height t) tt
@@ -81,7 +81,7 @@ module _ (code : Code) (n : ℕ) where
         let ce : List Placed = bearer_code t o in
         let last : Placed = place (after_bearer t o) (i.Reset j (bearer t o)) in
         let end : p + length ce + 1 ≡ p + length (ce ++ last ∷ []) = omega (arith, length-append ce (last ∷ [])) in
-        let k : Unit {0} → World → MachineState = λ u w'. at (p + length (ce ++ last ∷ [])) cells frames w' in
+        let k : Unit {0} → RunState → MachineState = λ u w'. at (p + length (ce ++ last ∷ [])) cells frames w' in
         bearer_join code n t o (last ∷ []) k (λ x. change t.line (reset j x)) p cells frames w high has in_ (λ x on_top q found has'.
         step_leads code last (core_at (p + length ce) (on_top cells) frames w.store) w _ _ has'.0 refl
         (found.reads cells (λ x below. did t.line (reset j x w.store) (λ u. onward below (core_at (p + length ce) (on_top cells) frames w.store) u)) high)

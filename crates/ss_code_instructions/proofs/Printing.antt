@@ -7,11 +7,11 @@ use Rattle.ss_base.specs.declared.value.Value.{Value}
 use Rattle.ss_program.specs.Item.{Item}
 use Rattle.ss_program.specs.Item.TheVariants.{Is, Mean}
 use Rattle.ss_program.specs.Program.{Expression, PrintItem, AValue, AMean, AMeanOf}
-use Rattle.ss_meaning.specs.Values.{Trouble, Fails, Misfit, if_ok, turned, sure, printed}
+use Rattle.ss_meaning.specs.Values.{Failure, Fails, TypeError, if_ok, turned, sure, printed}
 use Rattle.ss_meaning.specs.Store.{Store}
 use Rattle.ss_meaning.specs.Statistics.{mean}
 use Rattle.ss_meaning.specs.Expressions.{value, mean_shown, shown_items}
-use Rattle.ss_meaning.specs.Parts.{World, outcome_then, looked, look, send}
+use Rattle.ss_meaning.specs.Parts.{RunState, outcome_then, looked, look, send}
 use Rattle.ss_meaning.specs.Statements.{print}
 use Rattle.ss_code_instructions.specs.Instructions.{Stays, Placed, ItemKind, ShowsValue, ShowsMean, ShowsMeanOf, Lines}
 use Rattle.ss_code_instructions.specs.Instructions as i
@@ -32,11 +32,11 @@ use Rattle.ss_code_instructions.proofs.Following.{IfWentOn, seq_such}
 -- ## What items leave in cells
 
 -- a reference to the entity of a mean, which is looked at
-abbrev mean_of_value : (statistic : ℕ) → Expression → Store → OkOr Value Trouble
+abbrev mean_of_value : (statistic : ℕ) → Expression → Store → OkOr Value Failure
 mean_of_value j e s = if_ok (value e s) (λ x. turned (λ (m : ℤ × ℤ). x) (mean j (Some x) s))
 
 -- the values that items take, each mean looked at in its place
-abbrev values_looked : List PrintItem → Store → OkOr (List Value) Trouble
+abbrev values_looked : List PrintItem → Store → OkOr (List Value) Failure
 values_looked [] s = Ok []
 values_looked (AValue e ∷ xs) s = if_ok (value e s) (λ v. turned (λ vs. v ∷ vs) (values_looked xs s))
 values_looked (AMean j ∷ xs) s = if_ok (mean j None s) (λ m. values_looked xs s)
@@ -46,11 +46,11 @@ abbrev AsMany : ℕ → List Value → Type 0
 AsMany k vs = k ≡ length vs
 
 -- one value more
-one_many : {A : Type 0} (k : ℕ) (r : OkOr A Trouble) (f : A → Value) (o : OkOr (List Value) Trouble) → Only (AsMany k) o → Only (AsMany (1 + k)) (if_ok r (λ a. turned (λ vs. f a ∷ vs) o))
+one_many : {A : Type 0} (k : ℕ) (r : OkOr A Failure) (f : A → Value) (o : OkOr (List Value) Failure) → Only (AsMany k) o → Only (AsMany (1 + k)) (if_ok r (λ a. turned (λ vs. f a ∷ vs) o))
 one_many k r f o h =
     each (AsMany (1 + k)) r _ (λ a. made_from (AsMany (1 + k)) (AsMany k) (λ vs. f a ∷ vs) o h (λ vs q. let e : 1 + k ≡ suc (length vs) = omega (arith, q) in e))
 
-none_many : {A : Type 0} (k : ℕ) (r : OkOr A Trouble) (o : OkOr (List Value) Trouble) → Only (AsMany k) o → Only (AsMany (0 + k)) (if_ok r (λ a. o))
+none_many : {A : Type 0} (k : ℕ) (r : OkOr A Failure) (o : OkOr (List Value) Failure) → Only (AsMany k) o → Only (AsMany (0 + k)) (if_ok r (λ a. o))
 none_many k r o h = let e : k ≡ 0 + k = omega arith in each (AsMany (0 + k)) r _ (λ a. subst (λ j. Only (AsMany j) o) e h)
 
 -- they are as many as the items take
@@ -60,10 +60,10 @@ many_looked (AValue e ∷ xs) s = one_many (cells_of_kinds (map item_kind xs)) (
 many_looked (AMean j ∷ xs) s = none_many (cells_of_kinds (map item_kind xs)) (mean j None s) (values_looked xs s) (many_looked xs s)
 many_looked (AMeanOf j e ∷ xs) s = one_many (cells_of_kinds (map item_kind xs)) (mean_of_value j e s) (λ v. v) (values_looked xs s) (many_looked xs s)
 
-looked_such : {A : Type 0} (P : A → Type 0) (l : Line) (r : OkOr A Trouble) (w : World) → Only P r → IfWentOn P (looked l r w)
+looked_such : {A : Type 0} (P : A → Type 0) (l : Line) (r : OkOr A Failure) (w : RunState) → Only P r → IfWentOn P (looked l r w)
 looked_such P l (Ok a) w h = h
 looked_such P l (Err (Fails kind)) w h = tt
-looked_such P l (Err Misfit) w h = tt
+looked_such P l (Err TypeError) w h = tt
 
 -- ## The items that are made of them
 
@@ -72,17 +72,17 @@ before_sure : (x : Item) (o : Option (List Item)) → sure (item_before (Some x)
 before_sure x None = refl
 before_sure x (Some xs) = refl
 
-module _ (s : Store) (ks : List ItemKind) (others : OkOr (List Item) Trouble) where
+module _ (s : Store) (ks : List ItemKind) (others : OkOr (List Item) Failure) where
   -- the items after one are those that are shown
-  abbrev IsShown : OkOr (List Value) Trouble → Type 0
+  abbrev IsShown : OkOr (List Value) Failure → Type 0
   IsShown o = if_ok o (λ vs. sure (values_shown ks vs s)) ≡ others
 
-  value_shown : (r : OkOr Value Trouble) (o : OkOr (List Value) Trouble) → IsShown o → if_ok (if_ok r (λ v. turned (λ vs. v ∷ vs) o)) (λ vs. sure (values_shown (ShowsValue ∷ ks) vs s)) ≡ if_ok (turned Is r) (λ x. turned (λ xs. x ∷ xs) others)
+  value_shown : (r : OkOr Value Failure) (o : OkOr (List Value) Failure) → IsShown o → if_ok (if_ok r (λ v. turned (λ vs. v ∷ vs) o)) (λ vs. sure (values_shown (ShowsValue ∷ ks) vs s)) ≡ if_ok (turned Is r) (λ x. turned (λ xs. x ∷ xs) others)
   value_shown (Err t) o h = refl
   value_shown (Ok v) (Err t) h = ap (turned (λ xs. Is v ∷ xs)) h
   value_shown (Ok v) (Ok vs) h = before_sure (Is v) (values_shown ks vs s) ∙ ap (turned (λ xs. Is v ∷ xs)) h
 
-  mean_alone_shown : (j : ℕ) (o : OkOr (List Value) Trouble) → IsShown o → (r : OkOr (ℤ × ℤ) Trouble) → mean j None s ≡ r → if_ok (if_ok r (λ m. o)) (λ vs. sure (values_shown (ShowsMean j ∷ ks) vs s)) ≡ if_ok (mean_shown r) (λ x. turned (λ xs. x ∷ xs) others)
+  mean_alone_shown : (j : ℕ) (o : OkOr (List Value) Failure) → IsShown o → (r : OkOr (ℤ × ℤ) Failure) → mean j None s ≡ r → if_ok (if_ok r (λ m. o)) (λ vs. sure (values_shown (ShowsMean j ∷ ks) vs s)) ≡ if_ok (mean_shown r) (λ x. turned (λ xs. x ∷ xs) others)
   mean_alone_shown j o h (Err t) e = refl
   mean_alone_shown j (Err t) h (Ok m) e = ap (turned (λ xs. Mean m.0 m.1 ∷ xs)) h
   mean_alone_shown j (Ok vs) h (Ok m) e =
@@ -94,16 +94,16 @@ module _ (s : Store) (ks : List ItemKind) (others : OkOr (List Item) Trouble) wh
       first [] = refl
       first (v ∷ vs) = refl
 
-  mean_of_shown : (j : ℕ) (r : OkOr Value Trouble) (o : OkOr (List Value) Trouble) → IsShown o → if_ok (if_ok (if_ok r (λ x. turned (λ (m : ℤ × ℤ). x) (mean j (Some x) s))) (λ x. turned (λ vs. x ∷ vs) o)) (λ vs. sure (values_shown (ShowsMeanOf j ∷ ks) vs s)) ≡ if_ok (if_ok r (λ x. mean_shown (mean j (Some x) s))) (λ x. turned (λ xs. x ∷ xs) others)
+  mean_of_shown : (j : ℕ) (r : OkOr Value Failure) (o : OkOr (List Value) Failure) → IsShown o → if_ok (if_ok (if_ok r (λ x. turned (λ (m : ℤ × ℤ). x) (mean j (Some x) s))) (λ x. turned (λ vs. x ∷ vs) o)) (λ vs. sure (values_shown (ShowsMeanOf j ∷ ks) vs s)) ≡ if_ok (if_ok r (λ x. mean_shown (mean j (Some x) s))) (λ x. turned (λ xs. x ∷ xs) others)
   mean_of_shown j (Err t) o h = refl
   mean_of_shown j (Ok x) (Err t) h = from (mean j (Some x) s)
     where
-      from : (q : OkOr (ℤ × ℤ) Trouble) → if_ok (if_ok (turned (λ (m : ℤ × ℤ). x) q) (λ x. turned (λ vs. x ∷ vs) (Err t))) (λ vs. sure (values_shown (ShowsMeanOf j ∷ ks) vs s)) ≡ if_ok (mean_shown q) (λ x. turned (λ xs. x ∷ xs) others)
+      from : (q : OkOr (ℤ × ℤ) Failure) → if_ok (if_ok (turned (λ (m : ℤ × ℤ). x) q) (λ x. turned (λ vs. x ∷ vs) (Err t))) (λ vs. sure (values_shown (ShowsMeanOf j ∷ ks) vs s)) ≡ if_ok (mean_shown q) (λ x. turned (λ xs. x ∷ xs) others)
       from (Err u) = refl
       from (Ok m) = ap (turned (λ xs. Mean m.0 m.1 ∷ xs)) h
   mean_of_shown j (Ok x) (Ok vs) h = from (mean j (Some x) s) refl
     where
-      from : (q : OkOr (ℤ × ℤ) Trouble) → mean j (Some x) s ≡ q → if_ok (if_ok (turned (λ (m : ℤ × ℤ). x) q) (λ x. turned (λ vs. x ∷ vs) (Ok vs))) (λ vs. sure (values_shown (ShowsMeanOf j ∷ ks) vs s)) ≡ if_ok (mean_shown q) (λ x. turned (λ xs. x ∷ xs) others)
+      from : (q : OkOr (ℤ × ℤ) Failure) → mean j (Some x) s ≡ q → if_ok (if_ok (turned (λ (m : ℤ × ℤ). x) q) (λ x. turned (λ vs. x ∷ vs) (Ok vs))) (λ vs. sure (values_shown (ShowsMeanOf j ∷ ks) vs s)) ≡ if_ok (mean_shown q) (λ x. turned (λ xs. x ∷ xs) others)
       from (Err u) e = refl
       from (Ok m) e =
           ap (λ q. sure (item_before (mean_item q) (values_shown ks vs s))) e
@@ -118,12 +118,12 @@ items_shown (AMeanOf j e ∷ xs) s = mean_of_shown s (map item_kind xs) (shown_i
 
 -- ## PRINT
 
-if_twice : {A B D : Type 0} (r : OkOr A Trouble) (f : A → OkOr B Trouble) (g : B → OkOr D Trouble) → if_ok (if_ok r f) g ≡ if_ok r (λ a. if_ok (f a) g)
+if_twice : {A B D : Type 0} (r : OkOr A Failure) (f : A → OkOr B Failure) (g : B → OkOr D Failure) → if_ok (if_ok r f) g ≡ if_ok r (λ a. if_ok (f a) g)
 if_twice (Ok a) f g = refl
 if_twice (Err t) f g = refl
 
 -- the lines with the items that kinds and values make
-abbrev lines_shown : List ItemKind → List (List ℕ) → List Value → Store → OkOr (List ℕ) Trouble
+abbrev lines_shown : List ItemKind → List (List ℕ) → List Value → Store → OkOr (List ℕ) Failure
 lines_shown ks pictures vs s = if_ok (sure (values_shown ks vs s)) (λ xs. sure (printed pictures xs))
 
 lines_meant : (xs : List PrintItem) (pictures : List (List ℕ)) (s : Store) → if_ok (values_looked xs s) (λ vs. lines_shown (map item_kind xs) pictures vs s) ≡ if_ok (shown_items xs s) (λ ys. sure (printed pictures ys))
@@ -131,10 +131,10 @@ lines_meant xs pictures s =
     sym (if_twice (values_looked xs s) (λ vs. sure (values_shown (map item_kind xs) vs s)) (λ ys. sure (printed pictures ys)))
     ∙ ap (λ o. if_ok o (λ ys. sure (printed pictures ys))) (items_shown xs s)
 
-then_sent : {A : Type 0} (l : Line) (r : OkOr A Trouble) (g : A → Store → OkOr (List ℕ) Trouble) (w : World) → outcome_then (looked l r w) (λ a w. outcome_then (look l (g a) w) send) ≡ outcome_then (looked l (if_ok r (λ a. g a w.store)) w) send
+then_sent : {A : Type 0} (l : Line) (r : OkOr A Failure) (g : A → Store → OkOr (List ℕ) Failure) (w : RunState) → outcome_then (looked l r w) (λ a w. outcome_then (look l (g a) w) send) ≡ outcome_then (looked l (if_ok r (λ a. g a w.store)) w) send
 then_sent l (Ok a) g w = refl
 then_sent l (Err (Fails k)) g w = refl
-then_sent l (Err Misfit) g w = refl
+then_sent l (Err TypeError) g w = refl
 
 fit_lines : (l : Line) (o : Option (List Item)) (pictures : List (List ℕ)) (go : List ℕ → Moved) → fit o (λ xs. fit (printed pictures xs) go) ≡ did l (if_ok (sure o) (λ xs. sure (printed pictures xs))) go
 fit_lines l None pictures go = refl
@@ -142,7 +142,7 @@ fit_lines l (Some xs) pictures go = fit_did l (printed pictures xs) go
 
 module _ (code : Code) (n : ℕ) where
   -- an instruction that writes the bytes that a look gives
-  pub output_runs : (h : ℕ) (x : Placed) (before : List Value → List Value) (f : Store → OkOr (List ℕ) Trouble) → is_due x.instruction ≡ false → ((p : ℕ) (cells : List Value) (frames : List Frame) (s : Store) → length cells ≡ h → act code x.line x.instruction (core_at p (before cells) frames s) ≡ did x.line (f s) (λ bytes. Sends bytes (core_at (p + 1) cells frames s))) → Runs code n h before (x ∷ []) done (λ w. outcome_then (look x.line f w) send)
+  pub output_runs : (h : ℕ) (x : Placed) (before : List Value → List Value) (f : Store → OkOr (List ℕ) Failure) → is_due x.instruction ≡ false → ((p : ℕ) (cells : List Value) (frames : List Frame) (s : Store) → length cells ≡ h → act code x.line x.instruction (core_at p (before cells) frames s) ≡ did x.line (f s) (λ bytes. Sends bytes (core_at (p + 1) cells frames s))) → Runs code n h before (x ∷ []) done (λ w. outcome_then (look x.line f w) send)
   output_runs h x before f calm e = record {
     by = λ p cells frames w high has in_.
         step_leads code x (core_at p (before cells) frames w.store) w _ _ has.0 calm (e p cells frames w.store high)

@@ -6,7 +6,7 @@ use Rattle.ss_base.specs.declared.value.Value.{Value}
 use Rattle.ss_world.specs.State.{assigned, created, timed}
 use Rattle.ss_program.specs.declared.sections.Subject.{Subject}
 use Rattle.ss_program.specs.declared.sections.Subject.TheVariants.{OfAttribute}
-use Rattle.ss_meaning.specs.Values.{Trouble, turned, due, number_of}
+use Rattle.ss_meaning.specs.Values.{Failure, turned, due, number_of}
 use Rattle.ss_meaning.specs.Store.{Store, with_heap, with_histories}
 use Rattle.ss_meaning.specs.Histories.{all_noting, noted}
 use Rattle.ss_meaning.specs.Entities.{class_at, field_at, entity, is_single, with_new, made_one}
@@ -20,18 +20,18 @@ use Rattle.ss_code_instructions.proofs.Receiving.{Alike, Quietly, get_quietly}
 alike_on : (s t u : Store) → Alike s t → Alike t u → Alike s u
 alike_on s t u a b = (b.0 ∙ a.0, b.1 ∙ a.1, b.2 ∙ a.2)
 
-then_alike : (s t : Store) (r : OkOr Store Trouble) → Alike s t → Only (Alike t) r → Only (Alike s) r
+then_alike : (s t : Store) (r : OkOr Store Failure) → Alike s t → Only (Alike t) r → Only (Alike s) r
 then_alike s t (Ok u) a b = alike_on s t u a b
 then_alike s t (Err e) a b = tt
 
 noted_alike : (subject : Subject) (n : ℤ) (v : Value) (s : Store) → Only (Alike s) (noted subject n v s)
 noted_alike subject n v s =
-    made (Alike s) (with_histories s) (all_noting subject n s.scene.time v s.scene.setting.statistics s.scene.histories) (λ hs. (refl, refl, refl))
+    made (Alike s) (with_histories s) (all_noting subject n s.world.time v s.world.setting.statistics s.world.histories) (λ hs. (refl, refl, refl))
 
 attribute_alike : (class field : ℕ) (x v : Value) (s : Store) → Only (Alike s) (assigned_attribute class field x v s)
 attribute_alike class field x v s =
     each (Alike s) (entity class x s) _ (λ n. fitting (Alike s) (is_of_mode v (field_at class field s)) _
-    (each (Alike s) (due (assigned s.scene.heap class field n v)) _ (λ h. noted_alike (OfAttribute class field) n v (with_heap s h))))
+    (each (Alike s) (due (assigned s.world.heap class field n v)) _ (λ h. noted_alike (OfAttribute class field) n v (with_heap s h))))
 
 endowed_alike : (class field : ℕ) (x : Value) (vs : List Value) (s : Store) → Only (Alike s) (endowed class field x vs s)
 endowed_alike class field x [] s = (refl, refl, refl)
@@ -40,7 +40,7 @@ endowed_alike class field x (v ∷ vs) s =
     then_alike s t (endowed class (field + 1) x vs t) a (endowed_alike class (field + 1) x vs t))
 
 timed_alike : (x : Value) (time : ℤ) (s : Store) → Only (Alike s) (with_notice_time x time s)
-timed_alike x time s = each (Alike s) (number_of x) _ (λ n. made (Alike s) (with_heap s) (due (timed s.scene.heap n time)) (λ h. (refl, refl, refl)))
+timed_alike x time s = each (Alike s) (number_of x) _ (λ n. made (Alike s) (with_heap s) (due (timed s.world.heap n time)) (λ h. (refl, refl, refl)))
 
 prepared_alike : (class : ℕ) (x : Value) (vs : List Value) (time : ℤ) (s : Store) → Only (Alike s) (prepared class x vs time s)
 prepared_alike class x vs time s =
@@ -50,7 +50,7 @@ prepared_alike class x vs time s =
 one_alike : (class : ℕ) (s : Store) → Only (λ (b : Value × Store). Alike s b.1) (made_one class s)
 one_alike class s =
     fitting (λ (b : Value × Store). Alike s b.1) (is_single (class_at class s)) _
-    (made (λ (b : Value × Store). Alike s b.1) (with_new class s) (due (created s.scene.heap class)) (λ b. (refl, refl, refl)))
+    (made (λ (b : Value × Store). Alike s b.1) (with_new class s) (due (created s.world.heap class)) (λ b. (refl, refl, refl)))
 
 notice_alike : (class : ℕ) (vs : List Value) (time : ℤ) (s : Store) → Only (λ (b : Value × Store). Alike s b.1) (made_notice class vs time s)
 notice_alike class vs time s =

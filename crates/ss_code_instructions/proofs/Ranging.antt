@@ -11,12 +11,12 @@ use Rattle.ss_base.specs.declared.value.Value.{Value}
 use Rattle.ss_base.specs.declared.value.Value.TheVariants.{Whole, Text}
 use Rattle.ss_program.specs.declared.expression.Variable.{Variable}
 use Rattle.ss_program.specs.Program.{Expression, Constant, Numbers, Each}
-use Rattle.ss_meaning.specs.Values.{Trouble, Fails, Misfit, if_ok, turned, where_fit, unless_fault}
+use Rattle.ss_meaning.specs.Values.{Failure, Fails, TypeError, if_ok, turned, where_fit, unless_fault}
 use Rattle.ss_meaning.specs.Store.{Store}
 use Rattle.ss_meaning.specs.Entities.{class_at, is_permanent, made_count}
 use Rattle.ss_meaning.specs.Expressions.{value, value_if_any}
 use Rattle.ss_meaning.specs.Loops.{Turn, GoesOn, EndsLoop, IsFound, visit, greatest, Range, items_from, range_items, after_turn, over_items, step_number, range_of, range, indices, over}
-use Rattle.ss_meaning.specs.Parts.{World, Part, outcome_then, looked, look}
+use Rattle.ss_meaning.specs.Parts.{RunState, Part, outcome_then, looked, look}
 use Rattle.ss_code_instructions.specs.Instructions.{Placed}
 use Rattle.ss_code_instructions.specs.Instructions as i
 use Rattle.ss_code_instructions.specs.States.{Frame, MachineState, To, did, cell_at, core_at, past, onward_if, back_if}
@@ -98,7 +98,7 @@ module _ (code : Code) (n : ℕ) (t : Site) (x : Variable) (turn : List Placed) 
     next_has = subst (λ j. slice_get code.places j ≡ Some next_place) len (has_back code.places (p + length take_) turn (next_place ∷ []) turn_has).0
 
     -- what the FOR keeps goes
-    forget : (q to : ℕ) (item : ℤ) (w : World) → HasAt code.places q (forget_to t (number_loop t)) → q + 1 ≡ to → Reaches code (at q (hold_item step limit item cells) frames w) (Comes (at to cells frames w))
+    forget : (q to : ℕ) (item : ℤ) (w : RunState) → HasAt code.places q (forget_to t (number_loop t)) → q + 1 ≡ to → Reaches code (at q (hold_item step limit item cells) frames w) (Comes (at to cells frames w))
     forget q to item w h e =
         let three : suc (suc (suc (height t))) - height t ≡ 3 = three_more (height t) in
         let end : q + length (forget_to t (number_loop t)) ≡ to = omega (arith, one, e) in
@@ -106,7 +106,7 @@ module _ (code : Code) (n : ℕ) (t : Site) (x : Variable) (turn : List Placed) 
         (forget_run code n (number_loop t) (height (number_loop t) - height t) q (Whole step ∷ Whole limit ∷ Whole item ∷ []) cells frames w three h)
 
     -- where the next instruction leads
-    nexts : (item : ℤ) (b : Bool) → has_item (item +ℤ step) limit ≡ b → (w : World) → act code t.line next_place.instruction (core_at end (hold_item step limit item cells) frames w.store) ≡ (if b then back_if far true (hold_item step limit (item +ℤ step) cells) (core_at end (hold_item step limit item cells) frames w.store) else back_if far false (hold_item step limit item cells) (core_at end (hold_item step limit item cells) frames w.store))
+    nexts : (item : ℤ) (b : Bool) → has_item (item +ℤ step) limit ≡ b → (w : RunState) → act code t.line next_place.instruction (core_at end (hold_item step limit item cells) frames w.store) ≡ (if b then back_if far true (hold_item step limit (item +ℤ step) cells) (core_at end (hold_item step limit item cells) frames w.store) else back_if far false (hold_item step limit item cells) (core_at end (hold_item step limit item cells) frames w.store))
     nexts item b q w =
         let c = core_at end (hold_item step limit item cells) frames w.store in
         let back = far in
@@ -118,13 +118,13 @@ module _ (code : Code) (n : ℕ) (t : Site) (x : Variable) (turn : List Placed) 
     abbrev later : ℕ → ℤ → Part Bool
     later k item = over_items (visit t.line x m) (items_from k (int_min limit greatest) step item)
 
-    abbrev ends : Bool → World → MachineState
+    abbrev ends : Bool → RunState → MachineState
     ends b w = at (past_loop found b end) cells frames w
 
     abbrev ItemsRun : ℕ → Type 0
-    ItemsRun k = (item : ℤ) (w : World) → has_item item limit ≡ true → suc w.ticks ≤ k → Within code n w → Reaches code (at p (hold_item step limit item cells) frames w) (arrive ends frames (later k item w))
+    ItemsRun k = (item : ℤ) (w : RunState) → has_item item limit ≡ true → suc w.ticks ≤ k → Within code n w → Reaches code (at p (hold_item step limit item cells) frames w) (arrive ends frames (later k item w))
 
-    next_run : (k : ℕ) → ItemsRun k → (item : ℤ) (w : World) → suc w.ticks ≤ k → Within code n w → (b : Bool) → has_item (item +ℤ step) limit ≡ b → Reaches code (at end (hold_item step limit item cells) frames w) (arrive ends frames (later k (item +ℤ step) w))
+    next_run : (k : ℕ) → ItemsRun k → (item : ℤ) (w : RunState) → suc w.ticks ≤ k → Within code n w → (b : Bool) → has_item (item +ℤ step) limit ≡ b → Reaches code (at end (hold_item step limit item cells) frames w) (arrive ends frames (later k (item +ℤ step) w))
     next_run k again item w lek in_ true q =
         let back : end - (length take_ + length turn) ≡ p = omega (arith, len) in
         leap code next_place end (end - far) p (hold_item step limit item cells) (hold_item step limit (item +ℤ step) cells) frames w _ next_has refl (nexts item true q w) back
@@ -136,7 +136,7 @@ module _ (code : Code) (n : ℕ) (t : Site) (x : Variable) (turn : List Placed) 
         (forget (end + 1) (end + 2) item w over_has last))
 
     -- after a turn
-    after_run : (k : ℕ) → ItemsRun k → (a : Turn) (item : ℤ) (w : World) → suc w.ticks ≤ k → Within code n w → Reaches code (at (leads found a end) (hold_item step limit item cells) frames w) (arrive ends frames (after_turn a (later k (item +ℤ step)) w))
+    after_run : (k : ℕ) → ItemsRun k → (a : Turn) (item : ℤ) (w : RunState) → suc w.ticks ≤ k → Within code n w → Reaches code (at (leads found a end) (hold_item step limit item cells) frames w) (arrive ends frames (after_turn a (later k (item +ℤ step)) w))
     after_run k again GoesOn item w lek in_ = next_run k again item w lek in_ (has_item (item +ℤ step) limit) refl
     after_run k again EndsLoop item w lek in_ = let last : end + 1 + 1 ≡ end + 2 = omega arith in forget (end + 1) (end + 2) item w over_has last
     after_run k again IsFound item w lek in_ = forget (end + found) (end + found + 1) item w found_has refl
@@ -154,7 +154,7 @@ module _ (code : Code) (n : ℕ) (t : Site) (x : Variable) (turn : List Placed) 
         (λ a w'' kept. after_run k (items_run k) a item w'' (let few : suc w''.ticks ≤ k = omega (arith, kept.fewer, fewer, lek) in few) (within_on in' kept))))
 
   -- from the range in its cells
-  pub ranged_run : (b : Range) → Rises b → (p end : ℕ) (cells : List Value) (frames : List Frame) (w : World) → length cells ≡ height t → HasAt code.places p (take_ ++ (turn ++ (next_place ∷ []))) → p + length take_ + length turn ≡ end → length (forget_to t (number_loop t)) ≡ 1 → HasAt code.places (end + 1) (forget_to t (number_loop t)) → HasAt code.places (end + found) (forget_to t (number_loop t)) → Within code n w → Reaches code (at (past (far + 1) (has_item b.first b.limit) p) (hold_range b cells) frames w) (arrive (λ b w'. at (past_loop found b end) cells frames w') frames (over_items (visit t.line x m) (range_items (suc n) b) w))
+  pub ranged_run : (b : Range) → Rises b → (p end : ℕ) (cells : List Value) (frames : List Frame) (w : RunState) → length cells ≡ height t → HasAt code.places p (take_ ++ (turn ++ (next_place ∷ []))) → p + length take_ + length turn ≡ end → length (forget_to t (number_loop t)) ≡ 1 → HasAt code.places (end + 1) (forget_to t (number_loop t)) → HasAt code.places (end + found) (forget_to t (number_loop t)) → Within code n w → Reaches code (at (past (far + 1) (has_item b.first b.limit) p) (hold_range b cells) frames w) (arrive (λ b w'. at (past_loop found b end) cells frames w') frames (over_items (visit t.line x m) (range_items (suc n) b) w))
   ranged_run b up p end cells frames w high has len one f1 f2 in_ = sides (has_item b.first b.limit) refl
     where
       sides : (a : Bool) → has_item b.first b.limit ≡ a → Reaches code (at (past (far + 1) a p) (hold_range b cells) frames w) (arrive (λ b w'. at (past_loop found b end) cells frames w') frames (over_items (visit t.line x m) (range_items (suc n) b) w))
@@ -198,7 +198,7 @@ module _ (code : Code) (n : ℕ) (t : Site) where
       (above_cells code n (height t) (λ s. b ∷ a ∷ s) (suc (suc (height t))) (λ cells e. ap (λ j. suc (suc j)) e) (value_runs code n (above (above t Integer) Integer) e))
       (λ z. begin_lands skip a b z))
     where
-      some_value : (r : OkOr Value Trouble) (w : World) → looked t.line (if_ok r (λ z. range_of a b (Some z))) w ≡ looked t.line (if_ok (turned Some r) (λ z. range_of a b z)) w
+      some_value : (r : OkOr Value Failure) (w : RunState) → looked t.line (if_ok r (λ z. range_of a b (Some z))) w ≡ looked t.line (if_ok (turned Some r) (λ z. range_of a b z)) w
       some_value (Ok v) w = refl
       some_value (Err e) w = refl
 
@@ -225,11 +225,11 @@ rises_of (Whole x) (Whole y) z = by (step_number z)
     unless_ c true q = tt
     unless_ c false q = q
 
-    by : (s : OkOr ℤ Trouble) → Only Rises (if_ok s (λ c. unless_fault (int_lt c (pos 1)) LoopStep (Ok (record { first = x; limit = y; step = c }))))
+    by : (s : OkOr ℤ Failure) → Only Rises (if_ok s (λ c. unless_fault (int_lt c (pos 1)) LoopStep (Ok (record { first = x; limit = y; step = c }))))
     by (Ok c) = unless_ c (int_lt c (pos 1)) refl
     by (Err e) = tt
 
-only_any : {A B : Type 0} (Q : B → Type 0) (r : OkOr A Trouble) (f : A → OkOr B Trouble) → ((a : A) → Only Q (f a)) → Only Q (if_ok r f)
+only_any : {A B : Type 0} (Q : B → Type 0) (r : OkOr A Failure) (f : A → OkOr B Failure) → ((a : A) → Only Q (f a)) → Only Q (if_ok r f)
 only_any Q (Ok a) f h = h a
 only_any Q (Err e) f h = tt
 
@@ -256,7 +256,7 @@ module _ (code : Code) (n : ℕ) (t : Site) (x : Variable) (turn : List Placed) 
       omega (arith, length-append head (turn ++ last), length-append turn last)
 
   -- the turns, from the range in its cells
-  after_begin : (b : Range) → Rises b → (p end : ℕ) (cells : List Value) (frames : List Frame) (w : World) → length cells ≡ height t → HasAt code.places p (turns ++ forget_to t (number_loop t)) → p + length turns ≡ end + 1 → HasAt code.places (end + found) (forget_to t (number_loop t)) → Within code n w → Reaches code (at (past (length turns) (has_item b.first b.limit) p) (hold_range b cells) frames w) (arrive (λ b w'. at (past_loop found b end) cells frames w') frames (over_items (visit t.line x m) (range_items (suc n) b) w))
+  after_begin : (b : Range) → Rises b → (p end : ℕ) (cells : List Value) (frames : List Frame) (w : RunState) → length cells ≡ height t → HasAt code.places p (turns ++ forget_to t (number_loop t)) → p + length turns ≡ end + 1 → HasAt code.places (end + found) (forget_to t (number_loop t)) → Within code n w → Reaches code (at (past (length turns) (has_item b.first b.limit) p) (hold_range b cells) frames w) (arrive (λ b w'. at (past_loop found b end) cells frames w') frames (over_items (visit t.line x m) (range_items (suc n) b) w))
   after_begin b up p end cells frames w high has len found_has in_ =
       let h0 = has_front code.places p turns (forget_to t (number_loop t)) has in
       let h2 = subst (λ j. HasAt code.places j (forget_to t (number_loop t))) len (has_back code.places p turns (forget_to t (number_loop t)) has) in
@@ -264,22 +264,22 @@ module _ (code : Code) (n : ℕ) (t : Site) (x : Variable) (turn : List Placed) 
       subst (λ k. Reaches code (at (past k (has_item b.first b.limit) p) (hold_range b cells) frames w) (arrive (λ b w'. at (past_loop found b end) cells frames w') frames (over_items (visit t.line x m) (range_items (suc n) b) w))) (sym turns_long)
       (ranged_run code n t x turn m found r b up p end cells frames w high h0 size one h2 found_has in_)
 
-  join_rises : (l : Line) (f : Store → OkOr Range Trouble) → ((s : Store) → Only Rises (f s)) → (s : MachineState) (k : Range → World → MachineState) (k' : Bool → World → MachineState) (frames : List Frame) (w : World) (g : Range → Part Bool) → Reaches code s (arrive k frames (look l f w)) → ((b : Range) → Rises b → Reaches code (k b w) (arrive k' frames (g b w))) → Reaches code s (arrive k' frames (outcome_then (look l f w) g))
+  join_rises : (l : Line) (f : Store → OkOr Range Failure) → ((s : Store) → Only Rises (f s)) → (s : MachineState) (k : Range → RunState → MachineState) (k' : Bool → RunState → MachineState) (frames : List Frame) (w : RunState) (g : Range → Part Bool) → Reaches code s (arrive k frames (look l f w)) → ((b : Range) → Rises b → Reaches code (k b w) (arrive k' frames (g b w))) → Reaches code s (arrive k' frames (outcome_then (look l f w) g))
   join_rises l f rises s k k' frames w g reach h = by (f w.store) (rises w.store) reach
     where
-      by : (o : OkOr Range Trouble) → Only Rises o → Reaches code s (arrive k frames (looked l o w)) → Reaches code s (arrive k' frames (outcome_then (looked l o w) g))
+      by : (o : OkOr Range Failure) → Only Rises o → Reaches code s (arrive k frames (looked l o w)) → Reaches code s (arrive k' frames (outcome_then (looked l o w) g))
       by (Ok b) up reach = reaches_on reach (h b up)
       by (Err (Fails kind)) up reach = reach
-      by (Err Misfit) up reach = free
+      by (Err TypeError) up reach = free
 
-  pub each_run : (class p end : ℕ) (cells : List Value) (frames : List Frame) (w : World) → length cells ≡ height t → HasAt code.places p (for_code t (Each x class) turn) → p + length (for_code t (Each x class) turn) ≡ end + 2 → HasAt code.places (end + found) (forget_to t (number_loop t)) → Within code n w → Reaches code (at p cells frames w) (arrive (λ b w'. at (past_loop found b end) cells frames w') frames (over n t.line (Each x class) m w))
+  pub each_run : (class p end : ℕ) (cells : List Value) (frames : List Frame) (w : RunState) → length cells ≡ height t → HasAt code.places p (for_code t (Each x class) turn) → p + length (for_code t (Each x class) turn) ≡ end + 2 → HasAt code.places (end + found) (forget_to t (number_loop t)) → Within code n w → Reaches code (at p cells frames w) (arrive (λ b w'. at (past_loop found b end) cells frames w') frames (over n t.line (Each x class) m w))
   each_run class p end cells frames w high has len found_has in_ =
       let size : p + 1 + length turns ≡ end + 1 = omega (arith, len, length-append turns (forget_to t (number_loop t)), one) in
       join_rises t.line (indices class) (indices_rise class) (at p cells frames w) (λ (b : Range) w'. at (past (length turns) (has_item b.first b.limit) (p + 1)) (hold_range b cells) frames w') (λ b w'. at (past_loop found b end) cells frames w') frames w (λ b. over_items (visit t.line x m) (range_items (suc n) b))
       ((class_lands code n t (length turns) class).by p cells frames w high (has.0, tt) in_)
       (λ b up. after_begin b up (p + 1) end cells frames w high has.1 size found_has in_)
 
-  pub numbers_run : (a b : Expression) (c : Option Expression) (p end : ℕ) (cells : List Value) (frames : List Frame) (w : World) → length cells ≡ height t → HasAt code.places p (for_code t (Numbers x a b c) turn) → p + length (for_code t (Numbers x a b c) turn) ≡ end + 2 → HasAt code.places (end + found) (forget_to t (number_loop t)) → Within code n w → Reaches code (at p cells frames w) (arrive (λ b w'. at (past_loop found b end) cells frames w') frames (over n t.line (Numbers x a b c) m w))
+  pub numbers_run : (a b : Expression) (c : Option Expression) (p end : ℕ) (cells : List Value) (frames : List Frame) (w : RunState) → length cells ≡ height t → HasAt code.places p (for_code t (Numbers x a b c) turn) → p + length (for_code t (Numbers x a b c) turn) ≡ end + 2 → HasAt code.places (end + found) (forget_to t (number_loop t)) → Within code n w → Reaches code (at p cells frames w) (arrive (λ b w'. at (past_loop found b end) cells frames w') frames (over n t.line (Numbers x a b c) m w))
   numbers_run a b c p end cells frames w high has len found_has in_ =
       let ca : List Placed = expression_code t (next t) a in
       let cb : List Placed = expression_code (above t Integer) (next (above t Integer)) b in

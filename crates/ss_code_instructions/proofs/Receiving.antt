@@ -11,12 +11,12 @@ use Rattle.ss_program.specs.declared.expression.Variable.{Variable}
 use Rattle.ss_program.specs.declared.statement.CountedClass.{CountedClass}
 use Rattle.ss_program.specs.declared.expression.Variable.TheVariants.{Global, Local}
 use Rattle.ss_program.specs.Program.{Expression, Constant, Fetch, Clock, Place, ToVariable, ToAttribute, ToCount, InputTarget}
-use Rattle.ss_meaning.specs.Values.{Trouble, Fails, Misfit, if_ok, turned, due, sure}
+use Rattle.ss_meaning.specs.Values.{Failure, Fails, TypeError, if_ok, turned, due, sure}
 use Rattle.ss_meaning.specs.Store.{Store, fetched}
 use Rattle.ss_meaning.specs.Entities.{class_at, entity, is_single, with_new, made_one}
 use Rattle.ss_meaning.specs.Places.{InAttribute, InCount, assigned_attribute}
 use Rattle.ss_meaning.specs.Expressions.{value, looked_at}
-use Rattle.ss_meaning.specs.Parts.{World, WentOn, Part, outcome_then, looked, settle_with, get, write}
+use Rattle.ss_meaning.specs.Parts.{RunState, WentOn, Part, outcome_then, looked, settle_with, get, write}
 use Rattle.ss_meaning.specs.Statements.{give_to, with_input, read_value, read_each}
 use Rattle.ss_code_instructions.specs.Instructions.{Operand, Taken, Instruction, Placed, Target as To}
 use Rattle.ss_code_instructions.specs.Instructions as i
@@ -52,22 +52,22 @@ leaf_later e x s u q a = by (leaf_is e x q)
 
 -- a part that leaves the variables, and what the program says
 abbrev pub Quietly : Part Value → Type 0
-Quietly m = (w w' : World) (z : Value) → m w ≡ WentOn z w' → Alike w.store w'.store
+Quietly m = (w w' : RunState) (z : Value) → m w ≡ WentOn z w' → Alike w.store w'.store
 
-pub get_quietly : (l : Line) (f : Store → OkOr (Value × Store) Trouble) → ((s : Store) → Only (λ (b : Value × Store). Alike s b.1) (f s)) → Quietly (get l f)
+pub get_quietly : (l : Line) (f : Store → OkOr (Value × Store) Failure) → ((s : Store) → Only (λ (b : Value × Store). Alike s b.1) (f s)) → Quietly (get l f)
 get_quietly l f h w w' z e = by (f w.store) (h w.store) e
   where
-    by : (r : OkOr (Value × Store) Trouble) → Only (λ (b : Value × Store). Alike w.store b.1) r → outcome_then (looked l r w) settle_with ≡ WentOn z w' → Alike w.store w'.store
-    by (Ok b) q e = let p : record w { store = b.1 } ≡ w' = cc in subst (λ (v : World). Alike w.store v.store) p q
+    by : (r : OkOr (Value × Store) Failure) → Only (λ (b : Value × Store). Alike w.store b.1) r → outcome_then (looked l r w) settle_with ≡ WentOn z w' → Alike w.store w'.store
+    by (Ok b) q e = let p : record w { store = b.1 } ≡ w' = cc in subst (λ (v : RunState). Alike w.store v.store) p q
     by (Err (Fails kind)) q e = absurd cc
-    by (Err Misfit) q e = absurd cc
+    by (Err TypeError) q e = absurd cc
 
 pub read_quietly : (l : Line) (mode : Mode) → Quietly (get l (read_value mode))
-read_quietly l mode = get_quietly l (read_value mode) (λ s. made (λ (b : Value × Store). Alike s b.1) (with_input s) (due (value_given mode s.scene.input)) (λ g. (refl, refl, refl)))
+read_quietly l mode = get_quietly l (read_value mode) (λ s. made (λ (b : Value × Store). Alike s b.1) (with_input s) (due (value_given mode s.world.input)) (λ g. (refl, refl, refl)))
 
 pub made_quietly : (l : Line) (class : ℕ) → Quietly (get l (made_one class))
 made_quietly l class =
-    get_quietly l (made_one class) (λ s. fitting (λ (b : Value × Store). Alike s b.1) (is_single (class_at class s)) _ (made (λ (b : Value × Store). Alike s b.1) (with_new class s) (due (created s.scene.heap class)) (λ b. (refl, refl, refl))))
+    get_quietly l (made_one class) (λ s. fitting (λ (b : Value × Store). Alike s b.1) (is_single (class_at class s)) _ (made (λ (b : Value × Store). Alike s b.1) (with_new class s) (due (created s.world.heap class)) (λ b. (refl, refl, refl))))
 
 -- an operand later, where variables hold the same
 reads_later : (t : Site) (r : Expression) (v : Value) (s u : Store) (cells : List Value) (go : Value → List Value → Moved) → length cells ≡ height t → value r s ≡ Ok v → Alike s u → with_operand_value (operand t r) u (held (leaf r) v cells) go ≡ go v cells
@@ -86,7 +86,7 @@ top_takes t r v z s u cells go h q a =
 
 module _ (code : Code) (n : ℕ) where
   -- an instruction that gives a value, and may change the store
-  pub get_runs : (t : Site) (to : To) (x : Instruction) (f : Store → OkOr (Value × Store) Trouble) → Tops to (height t) → is_due x ≡ false → ((p : ℕ) (cells : List Value) (frames : List Frame) (s : Store) → act code t.line x (core_at p cells frames s) ≡ deliver_with t.line to (f s) cells (core_at p cells frames s)) → Runs code n (height t) same (place t x ∷ []) (on to) (λ w. outcome_then (get t.line f w) (put_then t.line to))
+  pub get_runs : (t : Site) (to : To) (x : Instruction) (f : Store → OkOr (Value × Store) Failure) → Tops to (height t) → is_due x ≡ false → ((p : ℕ) (cells : List Value) (frames : List Frame) (s : Store) → act code t.line x (core_at p cells frames s) ≡ deliver_with t.line to (f s) cells (core_at p cells frames s)) → Runs code n (height t) same (place t x ∷ []) (on to) (λ w. outcome_then (get t.line f w) (put_then t.line to))
   get_runs t to x f tops calm acts = record {
     by = λ p cells frames w high has in_.
         step_leads code (place t x) (core_at p cells frames w.store) w _ _ has.0 calm (acts p cells frames w.store)
@@ -124,7 +124,7 @@ module _ (code : Code) (n : ℕ) where
         let middle : p + length front ≡ p + length c + 1 = omega (arith, length-append c (look_ ∷ [])) in
         let h0 = has_front code.places p front (s ++ last) has in
         let h1 = subst (λ j. HasAt code.places j (s ++ last)) middle (has_back code.places p front (s ++ last) has) in
-        let ends : Unit {0} → World → MachineState = λ o w'. at (p + length (front ++ (s ++ last))) cells frames w' in
+        let ends : Unit {0} → RunState → MachineState = λ o w'. at (p + length (front ++ (s ++ last))) cells frames w' in
         subst (λ o. Reaches code (at p cells frames w) (arrive ends frames o)) (spot_first t.line class field m (value r w.store) w)
         (one_join code n t r (evaluates code n t r) (look_ ∷ []) ends (placed t.line class field m) p cells frames w high h0 in_ (λ v found has'.
         step_leads code look_ (core_at (p + length c) (held (leaf r) v cells) frames w.store) w _ _ has'.0 refl
@@ -142,15 +142,15 @@ module _ (code : Code) (n : ℕ) where
       placed : Line → (class field : ℕ) → Part Value → Value → Part (Unit {0})
       placed l class field m v w = outcome_then (looked l (entity class v w.store) w) (λ a w. outcome_then (m w) (write l (InAttribute class field v)))
 
-      spot_first : (l : Line) (class field : ℕ) (m : Part Value) (r : OkOr Value Trouble) (w : World) → outcome_then (looked l r w) (placed l class field m) ≡ outcome_then (looked l (turned (InAttribute class field) (if_ok r (looked_at (λ x. entity class x w.store)))) w) (λ q w. outcome_then (m w) (write l q))
+      spot_first : (l : Line) (class field : ℕ) (m : Part Value) (r : OkOr Value Failure) (w : RunState) → outcome_then (looked l r w) (placed l class field m) ≡ outcome_then (looked l (turned (InAttribute class field) (if_ok r (looked_at (λ x. entity class x w.store)))) w) (λ q w. outcome_then (m w) (write l q))
       spot_first l class field m (Err (Fails kind)) w = refl
-      spot_first l class field m (Err Misfit) w = refl
+      spot_first l class field m (Err TypeError) w = refl
       spot_first l class field m (Ok v) w = by (entity class v w.store)
         where
-          by : (k : OkOr ℤ Trouble) → outcome_then (looked l k w) (λ a w. outcome_then (m w) (write l (InAttribute class field v))) ≡ outcome_then (looked l (turned (InAttribute class field) (turned (λ n. v) k)) w) (λ q w. outcome_then (m w) (write l q))
+          by : (k : OkOr ℤ Failure) → outcome_then (looked l k w) (λ a w. outcome_then (m w) (write l (InAttribute class field v))) ≡ outcome_then (looked l (turned (InAttribute class field) (turned (λ n. v) k)) w) (λ q w. outcome_then (m w) (write l q))
           by (Ok a) = refl
           by (Err (Fails kind)) = refl
-          by (Err Misfit) = refl
+          by (Err TypeError) = refl
 
   pub to_place_runs : (t : Site) (p : Place) (mode : Mode) (source : Site → To → List Placed) (m : Part Value) → Quietly m → Sources source t.line m → Runs code n (height t) same (to_place_code t p mode source) done (give_to t.line p m)
   to_place_runs t (ToVariable x) mode source m quiet r = variable_runs code n t x (source t) m (λ to tops. r t to refl tops)

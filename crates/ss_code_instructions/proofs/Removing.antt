@@ -10,12 +10,12 @@ use Rattle.ss_world.specs.Sets.{count_in}
 use Rattle.ss_program.specs.declared.sections.Subject.TheVariants.{OfCount}
 use Rattle.ss_base.specs.declared.words.End.{End}
 use Rattle.ss_program.specs.Program.{Expression, SetOwner, Place}
-use Rattle.ss_meaning.specs.Values.{Trouble, Fails, Misfit, due}
+use Rattle.ss_meaning.specs.Values.{Failure, Fails, TypeError, due}
 use Rattle.ss_meaning.specs.Store.{Store, with_heap, with_histories}
 use Rattle.ss_meaning.specs.Histories.{all_noting}
 use Rattle.ss_meaning.specs.Sets.{member, owner_number, recounted, removed_from, end_removed, removed_at}
 use Rattle.ss_meaning.specs.Expressions.{owner_value}
-use Rattle.ss_meaning.specs.Parts.{World, WentOn, Part, outcome_then, looked, look, settle, get}
+use Rattle.ss_meaning.specs.Parts.{RunState, WentOn, Part, outcome_then, looked, look, settle, get}
 use Rattle.ss_meaning.specs.Statements.{give_to, remove, remove_end}
 use Rattle.ss_code_instructions.specs.Instructions.{Placed}
 use Rattle.ss_code_instructions.specs.Instructions as i
@@ -36,12 +36,12 @@ use Rattle.ss_code_instructions.proofs.Receiving.{Alike, Quietly, Sources, get_q
 pub recounted_alike : (set : ℕ) (owner : ℤ) (s : Store) (h : State) → Only (Alike s) (recounted set owner s h)
 recounted_alike set owner s h =
     each (Alike s) (due (count_in h set owner)) _ (λ n.
-    made (Alike s) (with_histories (with_heap s h)) (all_noting (OfCount set) owner s.scene.time (Whole n) s.scene.setting.statistics s.scene.histories) (λ hs. (refl, refl, refl)))
+    made (Alike s) (with_histories (with_heap s h)) (all_noting (OfCount set) owner s.world.time (Whole n) s.world.setting.statistics s.world.histories) (λ hs. (refl, refl, refl)))
 
 end_quietly : (l : Line) (end : End) (set : ℕ) (o : Option Value) → Quietly (get l (removed_at end set o))
 end_quietly l end set o =
     get_quietly l (removed_at end set o) (λ s.
-    each (λ (b : Value × Store). Alike s b.1) (owner_number set o s) _ (λ m. each (λ (b : Value × Store). Alike s b.1) (due (end_removed end s.scene.heap set m)) _ (λ r.
+    each (λ (b : Value × Store). Alike s b.1) (owner_number set o s) _ (λ m. each (λ (b : Value × Store). Alike s b.1) (due (end_removed end s.world.heap set m)) _ (λ r.
     made_from (λ (b : Value × Store). Alike s b.1) (Alike s) (λ t. (Whole r.0, t)) (recounted set m s r.1) (recounted_alike set m s r.1) (λ t q. q))))
 
 removed_first : (set : ℕ) → LooksFirst set (removed_from set)
@@ -51,7 +51,7 @@ module _ (code : Code) (n : ℕ) where
   pub remove_runs : (t : Site) (set : ℕ) (e : Expression) (o : SetOwner) → Runs code n (height t) same (remove_code t set e o) done (remove t.line set e o)
   remove_runs t set e o = record {
     by = λ p cells frames w high has in_.
-        let ends : Unit {0} → World → MachineState = λ u w'. at (p + length (remove_code t set e o)) cells frames w' in
+        let ends : Unit {0} → RunState → MachineState = λ u w'. at (p + length (remove_code t set e o)) cells frames w' in
         let next : ℕ → List Value → List Frame → Store → List Value → Store → Moved = λ p cells frames s below u. onward below (core_at p cells frames s) u in
         member_owner_run code n {A = Store} {B = Unit {0}} t set e o (λ x y. i.Remove set x y) (removed_from set) next ends settle (removed_first set) (λ x y. refl) (λ x y p cells frames s. refl) p cells frames w high has in_ (λ q cells0 u end.
         onwards (subst (λ j. Reaches code (at (q + 1) cells frames (record w { store = u })) (Comes (at j cells frames (record w { store = u })))) end here));
@@ -66,7 +66,7 @@ module _ (code : Code) (n : ℕ) where
             let c : List Placed = bearer_code u x in
             let last : Placed = place (after_bearer u x) (i.RemoveEnd end set (bearer u x) to) in
             let long : p + length c + 1 ≡ p + length (c ++ last ∷ []) = omega (arith, length-append c (last ∷ [])) in
-            let ends : Value → World → MachineState = λ v w'. at (p + length (c ++ last ∷ [])) (on to v cells) frames w' in
+            let ends : Value → RunState → MachineState = λ v w'. at (p + length (c ++ last ∷ [])) (on to v cells) frames w' in
             let go : Option Value → Part Value = λ y w. outcome_then (get u.line (removed_at end set y) w) (put_then u.line to) in
             subst (λ k. Reaches code (at p cells frames w) (arrive ends frames k)) (sym (then_then (look u.line (owner_value o) w) (λ y. get u.line (removed_at end set y)) (put_then u.line to)))
             (subst (λ r. Reaches code (at p cells frames w) (arrive ends frames (outcome_then (looked u.line r w) go))) (sym (owner_is o w.store))
@@ -80,10 +80,10 @@ module _ (code : Code) (n : ℕ) where
   end_stays : (l : Line) (end : End) (set : ℕ) (o : SetOwner) → Quietly (remove_end l end set o)
   end_stays l end set o w w' z e = by (owner_value o w.store) e
     where
-      by : (r : OkOr (Option Value) Trouble) → outcome_then (looked l r w) (λ o. get l (removed_at end set o)) ≡ WentOn z w' → Alike w.store w'.store
+      by : (r : OkOr (Option Value) Failure) → outcome_then (looked l r w) (λ o. get l (removed_at end set o)) ≡ WentOn z w' → Alike w.store w'.store
       by (Ok x) e = end_quietly l end set x w w' z e
       by (Err (Fails kind)) e = absurd cc
-      by (Err Misfit) e = absurd cc
+      by (Err TypeError) e = absurd cc
 
   pub remove_end_runs : (t : Site) (end : End) (set : ℕ) (p : Place) (o : SetOwner) → Runs code n (height t) same (remove_end_code t end set p o) done (give_to t.line p (remove_end t.line end set o))
   remove_end_runs t end set p o =

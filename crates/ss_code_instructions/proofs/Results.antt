@@ -8,12 +8,12 @@ use Rattle.ss_base.specs.declared.value.Value.{Value}
 use Rattle.ss_program.specs.declared.statement.CountedClass.{CountedClass}
 use Rattle.ss_program.specs.declared.expression.Variable.{Variable}
 use Rattle.ss_program.specs.Program.{Expression, Place, ToVariable, ToAttribute, ToCount}
-use Rattle.ss_meaning.specs.Values.{Trouble, Fails, Misfit, if_ok, turned}
+use Rattle.ss_meaning.specs.Values.{Failure, Fails, TypeError, if_ok, turned}
 use Rattle.ss_meaning.specs.Store.{Store}
 use Rattle.ss_meaning.specs.Entities.{entity}
 use Rattle.ss_meaning.specs.Places.{InAttribute, assigned_attribute}
 use Rattle.ss_meaning.specs.Expressions.{value, looked_at}
-use Rattle.ss_meaning.specs.Parts.{World, WentOn, outcome_then, looked, settle, change, write}
+use Rattle.ss_meaning.specs.Parts.{RunState, WentOn, outcome_then, looked, settle, change, write}
 use Rattle.ss_meaning.specs.Statements.{give_to, give_each}
 use Rattle.ss_code_instructions.specs.Instructions.{Operand, Taken, Placed}
 use Rattle.ss_code_instructions.specs.Instructions as i
@@ -43,15 +43,15 @@ under_takes t m r v z s cells go h q = by (leaf r) refl
     by None f = two_off (height t) v z s cells go h
 
 -- the assignment of an attribute looks at the reference itself
-given_attribute : (l : Line) (class field : ℕ) (z : Value) (r : OkOr Value Trouble) (w : World) → outcome_then (looked l r w) (λ y. change l (assigned_attribute class field y z)) ≡ outcome_then (looked l (turned (InAttribute class field) (if_ok r (looked_at (λ x. entity class x w.store)))) w) (λ p w. outcome_then (WentOn z w) (write l p))
+given_attribute : (l : Line) (class field : ℕ) (z : Value) (r : OkOr Value Failure) (w : RunState) → outcome_then (looked l r w) (λ y. change l (assigned_attribute class field y z)) ≡ outcome_then (looked l (turned (InAttribute class field) (if_ok r (looked_at (λ x. entity class x w.store)))) w) (λ p w. outcome_then (WentOn z w) (write l p))
 given_attribute l class field z (Err (Fails kind)) w = refl
-given_attribute l class field z (Err Misfit) w = refl
+given_attribute l class field z (Err TypeError) w = refl
 given_attribute l class field z (Ok y) w = by (entity class y w.store) refl
   where
-    by : (m : OkOr ℤ Trouble) → entity class y w.store ≡ m → change l (assigned_attribute class field y z) w ≡ outcome_then (looked l (turned (InAttribute class field) (turned (λ (n : ℤ). y) m)) w) (λ p w. outcome_then (WentOn z w) (write l p))
+    by : (m : OkOr ℤ Failure) → entity class y w.store ≡ m → change l (assigned_attribute class field y z) w ≡ outcome_then (looked l (turned (InAttribute class field) (turned (λ (n : ℤ). y) m)) w) (λ p w. outcome_then (WentOn z w) (write l p))
     by (Ok n) e = refl
     by (Err (Fails kind)) e = ap (λ o. outcome_then (looked l o w) settle) (err_first (entity class y w.store) _ (Fails kind) e)
-    by (Err Misfit) e = ap (λ o. outcome_then (looked l o w) settle) (err_first (entity class y w.store) _ Misfit e)
+    by (Err TypeError) e = ap (λ o. outcome_then (looked l o w) settle) (err_first (entity class y w.store) _ TypeError e)
 
 pub results_high : (t : Site) (ps : List Place) → length (results_cells t ps) ≡ length ps + height t
 results_high t [] = let e : length t.cells ≡ 0 + length t.cells = omega arith in e
@@ -80,7 +80,7 @@ module _ (code : Code) (n : ℕ) where
         let c : List Placed = operand_code u r in
         let last : Placed = place (after u r) (i.SetAttribute class field (operand u r) (Taken (height t))) in
         let end : p + length c + 1 ≡ p + length (c ++ last ∷ []) = omega (arith, length-append c (last ∷ [])) in
-        let ends : Unit {0} → World → MachineState = λ o w'. at (p + length (c ++ last ∷ [])) cells frames w' in
+        let ends : Unit {0} → RunState → MachineState = λ o w'. at (p + length (c ++ last ∷ [])) cells frames w' in
         subst (λ o. Reaches code (at p (z ∷ cells) frames w) (arrive ends frames o)) (given_attribute t.line class field z (value r w.store) w)
         (one_join code n u r (evaluates code n u r) (last ∷ []) ends (λ y. change t.line (assigned_attribute class field y z)) p (z ∷ cells) frames w (ap suc high) has in_ (λ y found has'.
         subst (λ j. Reaches code (at (p + length c) (held (leaf r) y (z ∷ cells)) frames w) (arrive (λ o w'. at j cells frames w') frames (change t.line (assigned_attribute class field y z) w))) end

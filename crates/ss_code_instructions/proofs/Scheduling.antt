@@ -12,7 +12,7 @@ use Rattle.ss_meaning.specs.Store.{Store, fetched}
 use Rattle.ss_meaning.specs.Places.{Spot, InVariable, InAttribute, InCount, assigned_attribute}
 use Rattle.ss_meaning.specs.Events.{made_notice, filed_notice, rescheduled}
 use Rattle.ss_meaning.specs.Expressions.{value, values, entity_value, time_value}
-use Rattle.ss_meaning.specs.Parts.{World, Part, outcome_then, look, settle, change, get, write}
+use Rattle.ss_meaning.specs.Parts.{RunState, Part, outcome_then, look, settle, change, get, write}
 use Rattle.ss_meaning.specs.Statements.{schedule_new, schedule}
 use Rattle.ss_code_instructions.specs.Instructions.{Operand, Held, Taken, Stays, Target, Placed}
 use Rattle.ss_code_instructions.specs.Instructions as i
@@ -46,13 +46,13 @@ module _ (code : Code) (n : ℕ) where
   -- ## Steps that both forms share
 
   -- a notice is filed by two operands
-  files : (u : Site) (class : ℕ) (x from : Operand) (y : Value) (time : ℤ) (q to : ℕ) (cells0 cells : List Value) (frames : List Frame) (w : World) → ((go : Value → Value → List Value → Moved) → with_values x from w.store cells0 go ≡ go y (Whole time) cells) → q + 1 ≡ to → slice_get code.places q ≡ Some (place u (i.FileNotice class x from)) → Reaches code (at q cells0 frames w) (arrive (λ (o : Unit {0}) w'. at to cells frames w') frames (change u.line (filed_notice class y time) w))
+  files : (u : Site) (class : ℕ) (x from : Operand) (y : Value) (time : ℤ) (q to : ℕ) (cells0 cells : List Value) (frames : List Frame) (w : RunState) → ((go : Value → Value → List Value → Moved) → with_values x from w.store cells0 go ≡ go y (Whole time) cells) → q + 1 ≡ to → slice_get code.places q ≡ Some (place u (i.FileNotice class x from)) → Reaches code (at q cells0 frames w) (arrive (λ (o : Unit {0}) w'. at to cells frames w') frames (change u.line (filed_notice class y time) w))
   files u class x from y time q to cells0 cells frames w takes e has =
       subst (λ j. Reaches code (at q cells0 frames w) (arrive (λ (o : Unit {0}) w'. at j cells frames w') frames (change u.line (filed_notice class y time) w))) e
       (two_change code n (place u (i.FileNotice class x from)) x from (λ v z s. if_ok (number_of z) (λ t. filed_notice class v t s)) y (Whole time) q cells0 cells frames w refl refl takes has)
 
   -- what stayed of a reference is forgotten
-  forget_held : (t : Site) (r : Expression) (v : Value) (q : ℕ) (cells : List Value) (frames : List Frame) (w : World) → HasAt code.places q (forget_to t (after t r)) → Reaches code (at q (held (leaf r) v cells) frames w) (Comes (at (q + length (forget_to t (after t r))) cells frames w))
+  forget_held : (t : Site) (r : Expression) (v : Value) (q : ℕ) (cells : List Value) (frames : List Frame) (w : RunState) → HasAt code.places q (forget_to t (after t r)) → Reaches code (at q (held (leaf r) v cells) frames w) (Comes (at (q + length (forget_to t (after t r))) cells frames w))
   forget_held t r v q cells frames w has = by (leaf r) has
     where
       site : Option Operand → Site
@@ -81,7 +81,7 @@ module _ (code : Code) (n : ℕ) where
         let last : Placed = place (above u Integer) (i.Reschedule class (operand t e) (height t1) (length given)) in
         let all : List Placed = ce ++ (cv ++ (cw ++ last ∷ [])) in
         let end : p + length ce + length cv + length cw + 1 ≡ p + length all = omega (arith, length-append ce (cv ++ (cw ++ last ∷ [])), length-append cv (cw ++ last ∷ []), length-append cw (last ∷ [])) in
-        let ends : Unit {0} → World → MachineState = λ o w'. at (p + length all) cells frames w' in
+        let ends : Unit {0} → RunState → MachineState = λ o w'. at (p + length all) cells frames w' in
         entity_join code n t class e (cv ++ (cw ++ last ∷ [])) ends (λ x w. outcome_then (look t.line (values given) w) (λ vs w. outcome_then (look t.line (time_value when) w) (λ time. change t.line (rescheduled class x vs time)))) p cells frames w high has in_ (λ x found has1.
         given_join code n t1 given when (last ∷ []) ends (λ vs time. change t.line (rescheduled class x vs time)) (p + length ce) (held (leaf e) x cells) frames w (held_height t e x cells high) has1 in_ (λ vs time many has2.
         let q : ℕ = p + length ce + length cv + length cw in
@@ -101,7 +101,7 @@ module _ (code : Code) (n : ℕ) where
     abbrev making : Target → Placed
     making to = place (above (after_values t1 given) Integer) (i.MakeNotice class (height t1) (length given) to)
 
-    makes : (vs : List Value) (time : ℤ) (to : Target) (q : ℕ) (cells : List Value) (frames : List Frame) (w : World) → length given ≡ length vs → length cells ≡ height t1 → Tops to (suc (height t1)) → slice_get code.places q ≡ Some (making to) → Reaches code (at q (Whole time ∷ onto vs cells) frames w) (arrive (λ x w'. at (q + 1) (on to x (Whole time ∷ cells)) frames w') frames (outcome_then (get t1.line (made_notice class vs time) w) (put_then t1.line to)))
+    makes : (vs : List Value) (time : ℤ) (to : Target) (q : ℕ) (cells : List Value) (frames : List Frame) (w : RunState) → length given ≡ length vs → length cells ≡ height t1 → Tops to (suc (height t1)) → slice_get code.places q ≡ Some (making to) → Reaches code (at q (Whole time ∷ onto vs cells) frames w) (arrive (λ x w'. at (q + 1) (on to x (Whole time ∷ cells)) frames w') frames (outcome_then (get t1.line (made_notice class vs time) w) (put_then t1.line to)))
     makes vs time to q cells frames w many high tops has =
         let c2 : List Value = Whole time ∷ onto vs cells in
         step_leads code (making to) (core_at q c2 frames w.store) w _ _ has refl
@@ -109,7 +109,7 @@ module _ (code : Code) (n : ℕ) where
         (delivers code t1.line to (made_notice class vs time w.store) q (Whole time ∷ cells) c2 frames w (subst (Tops to) (sym (ap suc high)) tops))
 
     -- into a new cell
-    made_above : (vs : List Value) (time : ℤ) (q : ℕ) (cells : List Value) (frames : List Frame) (w : World) → length given ≡ length vs → length cells ≡ height t1 → slice_get code.places q ≡ Some (making (next (above t1 Integer))) → Reaches code (at q (Whole time ∷ onto vs cells) frames w) (arrive (λ x w'. at (q + 1) (x ∷ Whole time ∷ cells) frames w') frames (get t1.line (made_notice class vs time) w))
+    made_above : (vs : List Value) (time : ℤ) (q : ℕ) (cells : List Value) (frames : List Frame) (w : RunState) → length given ≡ length vs → length cells ≡ height t1 → slice_get code.places q ≡ Some (making (next (above t1 Integer))) → Reaches code (at q (Whole time ∷ onto vs cells) frames w) (arrive (λ x w'. at (q + 1) (x ∷ Whole time ∷ cells) frames w') frames (get t1.line (made_notice class vs time) w))
     made_above vs time q cells frames w many high has =
         subst (λ o. Reaches code (at q (Whole time ∷ onto vs cells) frames w) (arrive (λ x w'. at (q + 1) (x ∷ Whole time ∷ cells) frames w') frames o)) (went (get t1.line (made_notice class vs time) w))
         (makes vs time (next (above t1 Integer)) q cells frames w many high refl has)
@@ -119,7 +119,7 @@ module _ (code : Code) (n : ℕ) where
     noticed p vs time w = outcome_then (get t1.line (made_notice class vs time) w) (λ x w. outcome_then (write t1.line p x w) (λ _. change t1.line (filed_notice class x time)))
 
     -- a variable
-    in_variable : (x : Variable) (vs : List Value) (time : ℤ) (q to : ℕ) (cells : List Value) (frames : List Frame) (w : World) → length given ≡ length vs → length cells ≡ height t1 → HasAt code.places q (variable_code (above t1 Integer) x (λ to. making to ∷ []) ++ place (above t1 Integer) (i.FileNotice class (Held x) (Taken (height t1))) ∷ []) → q + length (variable_code (above t1 Integer) x (λ to. making to ∷ [])) + 1 ≡ to → Reaches code (at q (Whole time ∷ onto vs cells) frames w) (arrive (λ (o : Unit {0}) w'. at to cells frames w') frames (noticed (InVariable x) vs time w))
+    in_variable : (x : Variable) (vs : List Value) (time : ℤ) (q to : ℕ) (cells : List Value) (frames : List Frame) (w : RunState) → length given ≡ length vs → length cells ≡ height t1 → HasAt code.places q (variable_code (above t1 Integer) x (λ to. making to ∷ []) ++ place (above t1 Integer) (i.FileNotice class (Held x) (Taken (height t1))) ∷ []) → q + length (variable_code (above t1 Integer) x (λ to. making to ∷ [])) + 1 ≡ to → Reaches code (at q (Whole time ∷ onto vs cells) frames w) (arrive (λ (o : Unit {0}) w'. at to cells frames w') frames (noticed (InVariable x) vs time w))
     in_variable x vs time q to cells frames w many high has e =
         let u : Site = above t1 Integer in
         let filing : Placed = place u (i.FileNotice class (Held x) (Taken (height t1))) in
@@ -132,12 +132,12 @@ module _ (code : Code) (n : ℕ) where
         ∙ ap (λ o. go (or_zero o) (Whole time) cells) holds_) e has'.0)
 
     -- N. of a permanent class
-    in_count : (c : CountedClass) (vs : List Value) (time : ℤ) (q to : ℕ) (cells : List Value) (frames : List Frame) (w : World) → length given ≡ length vs → length cells ≡ height t1 → HasAt code.places q (making (next (above t1 Integer)) ∷ (count_code (above (above t1 Integer) Integer) c (Stays (suc (height t1))) ++ place (above (above t1 Integer) Integer) (i.FileNotice class (Taken (suc (height t1))) (Taken (height t1))) ∷ [])) → q + 4 ≡ to → Reaches code (at q (Whole time ∷ onto vs cells) frames w) (arrive (λ (o : Unit {0}) w'. at to cells frames w') frames (noticed (InCount c) vs time w))
+    in_count : (c : CountedClass) (vs : List Value) (time : ℤ) (q to : ℕ) (cells : List Value) (frames : List Frame) (w : RunState) → length given ≡ length vs → length cells ≡ height t1 → HasAt code.places q (making (next (above t1 Integer)) ∷ (count_code (above (above t1 Integer) Integer) c (Stays (suc (height t1))) ++ place (above (above t1 Integer) Integer) (i.FileNotice class (Taken (suc (height t1))) (Taken (height t1))) ∷ [])) → q + 4 ≡ to → Reaches code (at q (Whole time ∷ onto vs cells) frames w) (arrive (λ (o : Unit {0}) w'. at to cells frames w') frames (noticed (InCount c) vs time w))
     in_count c vs time q to cells frames w many high has e =
         let v : Site = above (above t1 Integer) Integer in
         let counting : List Placed = count_code v c (Stays (suc (height t1))) in
         let filing : Placed = place v (i.FileNotice class (Taken (suc (height t1))) (Taken (height t1))) in
-        let ends : Unit {0} → World → MachineState = λ o w'. at to cells frames w' in
+        let ends : Unit {0} → RunState → MachineState = λ o w'. at to cells frames w' in
         let last : q + 1 + 2 + 1 ≡ to = omega (arith, e) in
         join (at q (Whole time ∷ onto vs cells) frames w) (λ x w'. at (q + 1) (x ∷ Whole time ∷ cells) frames w') ends frames (get t1.line (made_notice class vs time) w) (λ x w. outcome_then (write t1.line (InCount c) x w) (λ _. change t1.line (filed_notice class x time)))
         (made_above vs time q cells frames w many high has.0)
@@ -159,13 +159,13 @@ module _ (code : Code) (n : ℕ) where
         making t1 class given (next (above t1 Integer)) ∷ (place (above (above t1 Integer) Integer) (i.SetAttribute c field (stay (operand t r)) (Stays (suc (height t1))))
         ∷ (place (above (above t1 Integer) Integer) (i.FileNotice class (Taken (suc (height t1))) (Taken (height t1))) ∷ forget_to t t1))
 
-    in_attribute : (c field : ℕ) (v : Value) (vs : List Value) (time : ℤ) (q to : ℕ) (cells : List Value) (frames : List Frame) (w : World) → length given ≡ length vs → length cells ≡ height t → value r w.store ≡ Ok v → HasAt code.places q (attribute_code c field) → q + length (attribute_code c field) ≡ to → Reaches code (at q (Whole time ∷ onto vs (held (leaf r) v cells)) frames w) (arrive (λ (o : Unit {0}) w'. at to cells frames w') frames (noticed t1 class given (InAttribute c field v) vs time w))
+    in_attribute : (c field : ℕ) (v : Value) (vs : List Value) (time : ℤ) (q to : ℕ) (cells : List Value) (frames : List Frame) (w : RunState) → length given ≡ length vs → length cells ≡ height t → value r w.store ≡ Ok v → HasAt code.places q (attribute_code c field) → q + length (attribute_code c field) ≡ to → Reaches code (at q (Whole time ∷ onto vs (held (leaf r) v cells)) frames w) (arrive (λ (o : Unit {0}) w'. at to cells frames w') frames (noticed t1 class given (InAttribute c field v) vs time w))
     in_attribute c field v vs time q to cells frames w many high found has e =
         let l1 : Site = above (above t1 Integer) Integer in
         let c1 : List Value = held (leaf r) v cells in
         let high1 : length c1 ≡ height t1 = held_height t r v cells high in
         let setting : Placed = place l1 (i.SetAttribute c field (stay (operand t r)) (Stays (suc (height t1)))) in
-        let ends : Unit {0} → World → MachineState = λ o w'. at to cells frames w' in
+        let ends : Unit {0} → RunState → MachineState = λ o w'. at to cells frames w' in
         let long : length (attribute_code c field) ≡ suc (suc (suc (length (forget_to t t1)))) = refl in
         let last : q + 1 + 1 + 1 + length (forget_to t t1) ≡ to = omega (arith, e, long) in
         join_known (at q (Whole time ∷ onto vs c1) frames w) (λ x w'. at (q + 1) (x ∷ Whole time ∷ c1) frames w') ends frames (get t.line (made_notice class vs time) w) (λ x w. outcome_then (write t.line (InAttribute c field v) x w) (λ _. change t.line (filed_notice class x time)))
@@ -219,7 +219,7 @@ module _ (code : Code) (n : ℕ) where
         let rest : List Placed = attribute_code t r class given c field in
         let all : List Placed = ce ++ (cv ++ (cw ++ rest)) in
         let end : p + length ce + length cv + length cw + length rest ≡ p + length all = omega (arith, length-append ce (cv ++ (cw ++ rest)), length-append cv (cw ++ rest), length-append cw rest) in
-        let ends : Unit {0} → World → MachineState = λ o w'. at (p + length all) cells frames w' in
+        let ends : Unit {0} → RunState → MachineState = λ o w'. at (p + length all) cells frames w' in
         let later : Spot → Part (Unit {0}) = λ q w. outcome_then (look t.line (values given) w) (λ vs w. outcome_then (look t.line (time_value when) w) (noticed t1 class given q vs)) in
         subst (λ o. Reaches code (at p cells frames w) (arrive ends frames o)) (turned_then t.line (entity_value c r w.store) (InAttribute c field) later w)
         (entity_join code n t c r (cv ++ (cw ++ rest)) ends (λ v. later (InAttribute c field v)) p cells frames w high has in_ (λ v found has1.

@@ -20,7 +20,7 @@ use Rattle.ss_program.specs.WellTyped.{WellTyped, IsSet, field_mode}
 use Rattle.ss_meaning.specs.PendingList.{least_event}
 use Rattle.ss_meaning.specs.Words.{is_ended, value_given}
 use Rattle.ss_meaning.specs.State.{is_made}
-use Rattle.ss_meaning.specs.Values.{Trouble, Fails, Misfit, if_ok, turned, due, unless_fault, line_end, same_mode, number_of, calculated, operator_of, applied, related, empty_lines, printed}
+use Rattle.ss_meaning.specs.Values.{Failure, Fails, TypeError, if_ok, turned, due, unless_fault, line_end, same_mode, number_of, calculated, operator_of, applied, related, empty_lines, printed}
 use Rattle.ss_meaning.specs.Store.{Store, first_values, prepended, taken_by_modes, appended, opened, front, yielded}
 use Rattle.ss_meaning.specs.Entities.{class_at, is_permanent, made_count, entity, attribute, time_of, made_one, made_all, without}
 use Rattle.ss_meaning.specs.Places.{assigned_variable, assigned_attribute}
@@ -164,10 +164,10 @@ fields_said None modes e = absurd cc
 fields_said (Some cl) modes e = (cl, refl)
 
 -- what a mean is shown as
-mean_there : (k : ItemKind) → ((x y : ℤ) → IsOfKind k (Mean x y)) → (r : OkOr (ℤ × ℤ) Trouble) → Fine Any r → There (IsOfKind k) (mean_item r)
+mean_there : (k : ItemKind) → ((x y : ℤ) → IsOfKind k (Mean x y)) → (r : OkOr (ℤ × ℤ) Failure) → Fine Any r → There (IsOfKind k) (mean_item r)
 mean_there k f (Ok m) h = f m.0 m.1
 mean_there k f (Err (Fails kind)) h = f (pos 0) (pos 0)
-mean_there k f (Err Misfit) h = absurd h
+mean_there k f (Err TypeError) h = absurd h
 
 before_there : (k : ItemKind) (ks : List ItemKind) (o : Option Item) (xs : Option (List Item)) → There (IsOfKind k) o → There (AllZip IsOfKind ks) xs → There (AllZip IsOfKind (k ∷ ks)) (item_before o xs)
 before_there k ks None xs h g = absurd h
@@ -191,7 +191,7 @@ module _ (p : Program) (typed : WellTyped p) (code : Code) where
       fit_well p typed code (λ (us : List Value). Hold us (take f.count k.1)) (yielded f.first f.count c.store.locals) (λ vs. To (core_at f.back (vs ++ f.cells) fs (record c.store { locals = f.locals })))
       (yielded_there k.0 k.1 f.first f.count c.store.locals (fits.locals ∙ k.4) k.5 k.6) (λ vs h.
       goes_to p typed code k.2 f.back (take f.count k.1 ++ k.3) (vs ++ f.cells) fs (record c.store { locals = f.locals }) k.9
-      (record { sound = record { globals = fits.sound.globals; scene = fits.sound.scene }; locals = k.7 })
+      (record { sound = record { globals = fits.sound.globals; world = fits.sound.world }; locals = k.7 })
       (both_hold vs f.cells (take f.count k.1) k.3 h k.8) k.10)
 
   module _ (ls : List Mode) where
@@ -202,33 +202,33 @@ module _ (p : Program) (typed : WellTyped p) (code : Code) where
         fit_well p typed code (λ (us : List Value). Hold us (e.given ++ e.others)) (opened e.given e.others vs) _ (opened_there e.given e.others vs given) (λ variables q.
         let f : Frame = record { back = c.place + 1; cells = below; locals = s.locals; first = length e.given; count = e.yielding; called = called } in
         goes_to p typed code (e.given ++ e.others) e.place [] [] (f ∷ c.frames) (record s { locals = variables }) begins.0
-        (record { sound = record { globals = fits.sound.globals; scene = fits.sound.scene }; locals = q }) refl
+        (record { sound = record { globals = fits.sound.globals; world = fits.sound.world }; locals = q }) refl
         (e.given, e.others, ls, rest, refl, refl, begins.1, fits.locals, h, at, k))
 
     -- ## What several instructions do
 
     -- a look, after which the store is the same
-    look_on : {A : Type 0} (l : Line) (r : OkOr A Trouble) (rest : List Mode) (cells : List Value) (c : Core) → Fine Any r → At p code (c.place + 1) ls rest → Fits p ls c.store → Hold cells rest → FramesFit p code ls c.frames → Well (did l r (λ u. onward cells c c.store))
+    look_on : {A : Type 0} (l : Line) (r : OkOr A Failure) (rest : List Mode) (cells : List Value) (c : Core) → Fine Any r → At p code (c.place + 1) ls rest → Fits p ls c.store → Hold cells rest → FramesFit p code ls c.frames → Well (did l r (λ u. onward cells c c.store))
     look_on l r rest cells c fine at fits h k = did_well p typed code Any l r (λ u. onward cells c c.store) fine (λ u e. goes_to p typed code ls (c.place + 1) rest cells c.frames c.store at fits h k)
 
     -- another store
-    change_on : (l : Line) (r : OkOr Store Trouble) (rest : List Mode) (cells : List Value) (c : Core) → Fine (Fits p ls) r → At p code (c.place + 1) ls rest → Hold cells rest → FramesFit p code ls c.frames → Well (did l r (λ s. onward cells c s))
+    change_on : (l : Line) (r : OkOr Store Failure) (rest : List Mode) (cells : List Value) (c : Core) → Fine (Fits p ls) r → At p code (c.place + 1) ls rest → Hold cells rest → FramesFit p code ls c.frames → Well (did l r (λ s. onward cells c s))
     change_on l r rest cells c fine at h k =
         did_well p typed code (Fits p ls) l r (λ s. onward cells c s) fine (λ s fits. goes_to p typed code ls (c.place + 1) rest cells c.frames s at fits h k)
 
     -- a value for a target
-    give_on : (l : Line) (to : Target) (m : Mode) (ms rest : List Mode) (r : OkOr Value Trouble) (cells : List Value) (c : Core) → DeliversTo p code c.place ls ms to m rest → Fine (λ v. mode_of v ≡ m) r → Fits p ls c.store → Hold cells rest → FramesFit p code ls c.frames → Well (deliver l to r cells c)
+    give_on : (l : Line) (to : Target) (m : Mode) (ms rest : List Mode) (r : OkOr Value Failure) (cells : List Value) (c : Core) → DeliversTo p code c.place ls ms to m rest → Fine (λ v. mode_of v ≡ m) r → Fits p ls c.store → Hold cells rest → FramesFit p code ls c.frames → Well (deliver l to r cells c)
     give_on l to m ms rest r cells c d fine fits h k = deliver_well p typed code ls l to m rest d.0 r cells c fine d.1 d.2 fits h k
 
-    give_with : (l : Line) (to : Target) (m : Mode) (ms rest : List Mode) (r : OkOr (Value × Store) Trouble) (cells : List Value) (c : Core) → DeliversTo p code c.place ls ms to m rest → Fine (λ (b : Value × Store). (mode_of b.0 ≡ m) × Fits p ls b.1) r → Hold cells rest → FramesFit p code ls c.frames → Well (deliver_with l to r cells c)
+    give_with : (l : Line) (to : Target) (m : Mode) (ms rest : List Mode) (r : OkOr (Value × Store) Failure) (cells : List Value) (c : Core) → DeliversTo p code c.place ls ms to m rest → Fine (λ (b : Value × Store). (mode_of b.0 ≡ m) × Fits p ls b.1) r → Hold cells rest → FramesFit p code ls c.frames → Well (deliver_with l to r cells c)
     give_with l to m ms rest r cells c d fine h k = delivered_well p typed code ls l to m rest d.0 r cells c fine d.1 d.2 h k
 
     -- a time to schedule for
-    time_well : (l : Line) (to : Target) (ms rest : List Mode) (r : OkOr ℤ Trouble) (cells : List Value) (c : Core) → DeliversTo p code c.place ls ms to Integer rest → Fine (λ z. Unit {0}) r → Fits p ls c.store → Hold cells rest → FramesFit p code ls c.frames → Well (deliver l to (turned Whole r) cells c)
+    time_well : (l : Line) (to : Target) (ms rest : List Mode) (r : OkOr ℤ Failure) (cells : List Value) (c : Core) → DeliversTo p code c.place ls ms to Integer rest → Fine (λ z. Unit {0}) r → Fits p ls c.store → Hold cells rest → FramesFit p code ls c.frames → Well (deliver l to (turned Whole r) cells c)
     time_well l to ms rest r cells c d fine fits h k = give_on l to Integer ms rest (turned Whole r) cells c d (fine_turned (λ v. mode_of v ≡ Integer) Whole r fine (λ z u. refl)) fits h k
 
     -- a walk begins
-    begin_well : (l : Line) (skip : ℕ) (r : OkOr Walk Trouble) (rest : List Mode) (cells : List Value) (c : Core) → Fine Any r → At p code (c.place + 1) ls (Integer ∷ Integer ∷ rest) × At p code (c.place + 1 + skip) ls (Integer ∷ Integer ∷ rest) → Fits p ls c.store → Hold cells rest → FramesFit p code ls c.frames → Well (begin_walk l skip r cells c)
+    begin_well : (l : Line) (skip : ℕ) (r : OkOr Walk Failure) (rest : List Mode) (cells : List Value) (c : Core) → Fine Any r → At p code (c.place + 1) ls (Integer ∷ Integer ∷ rest) × At p code (c.place + 1 + skip) ls (Integer ∷ Integer ∷ rest) → Fits p ls c.store → Hold cells rest → FramesFit p code ls c.frames → Well (begin_walk l skip r cells c)
     begin_well l skip r rest cells c fine at fits h k =
         did_well p typed code Any l r _ fine (λ w e. ways_well p typed code ls skip (not (is_none w.member)) (Integer ∷ Integer ∷ rest) (walk_cells w cells) c at fits (ap (λ l. Integer ∷ Integer ∷ l) h) k)
 
@@ -243,7 +243,7 @@ module _ (p : Program) (typed : WellTyped p) (code : Code) where
         by true = tt
         by false = fine_turned {B = Walk} Any walked (coming_in reverse set x s) (coming_fine p typed ls reverse set x s q fits) (λ a u. tt)
 
-    begun_walk_fine : (reverse : Bool) (set : ℕ) (r : OkOr ℤ Trouble) (s : Store) → Fine Any r → IsSet p set → Fits p ls s → Fine Any (if_ok r (λ x. walk_at reverse set x s))
+    begun_walk_fine : (reverse : Bool) (set : ℕ) (r : OkOr ℤ Failure) (s : Store) → Fine Any r → IsSet p set → Fits p ls s → Fine Any (if_ok r (λ x. walk_at reverse set x s))
     begun_walk_fine reverse set r s fine q fits = fine_then Any r (λ x. walk_at reverse set x s) fine (λ x u. walk_fine reverse set x s q fits)
 
     -- a walk goes on, or stays where it is
@@ -294,9 +294,9 @@ module _ (p : Program) (typed : WellTyped p) (code : Code) where
 
     -- the event that comes next
     coming : (s : Store) (n : Coming) → next_event s ≡ Some n → Fits p ls s → ComingAs p typed ls n
-    coming s n e fits = by (least_event s.scene.pending) refl e
+    coming s n e fits = by (least_event s.world.pending) refl e
       where
-        by : (o : Option (ℤ × ℤ)) → least_event s.scene.pending ≡ o → coming_with o s ≡ Some n → ComingAs p typed ls n
+        by : (o : Option (ℤ × ℤ)) → least_event s.world.pending ≡ o → coming_with o s ≡ Some n → ComingAs p typed ls n
         by None q f = absurd cc
         by (Some k) q f = subst (There (ComingAs p typed ls)) e (next_event_there p typed ls s (ap is_some q) fits)
 
@@ -356,7 +356,7 @@ module _ (p : Program) (typed : WellTyped p) (code : Code) where
           bearer_well p typed code ls of ms g.1.0 c.store c.cells _ g.1.1 fits q (λ o below e h. look_on l (mean j o c.store) g.1.0 below c (mean_fine p typed ls j o c.store (asked p typed ls j of o g.0 e) fits) g.1.2 fits h k)
       act_well l (i.LookCount class) c ms g fits q k =
           look_on l (assignable_count class c.store) ms c.cells c
-          (fit_fine Any (is_permanent (class_at class c.store)) (unless_fault (is_made c.store.scene.heap class) CreatedTwice (Ok tt)) (permanent_here p typed ls c.store class fits g.0) (unless_fine Any (is_made c.store.scene.heap class) CreatedTwice (Ok tt) (λ e. tt))) g.1 fits q k
+          (fit_fine Any (is_permanent (class_at class c.store)) (unless_fault (is_made c.store.world.heap class) CreatedTwice (Ok tt)) (permanent_here p typed ls c.store class fits g.0) (unless_fine Any (is_made c.store.world.heap class) CreatedTwice (Ok tt) (λ e. tt))) g.1 fits q k
       act_well l (i.SetAttribute class field x from) c ms g fits q k =
           both_well p typed code ls x from Integer g.0 ms g.2.0 c.store c.cells _ g.2.1 fits q (λ v w below hv hw h.
           change_on l (assigned_attribute class field v w c.store) g.2.0 below c (attribute_assigned_fine p typed ls class field g.0 v w c.store g.1 hv hw fits) g.2.2 h k)
@@ -371,7 +371,7 @@ module _ (p : Program) (typed : WellTyped p) (code : Code) where
           both_well p typed code ls left right g.0 g.0 ms g.1.0 c.store c.cells _ g.1.1 fits q (λ v w below hv hw h.
           fit_well p typed code Any (related relation v w) _ (related_there relation v w g.0 hv hw) (λ b e. ways_well p typed code ls skip b g.1.0 below c g.1.2 fits h k))
       act_well l (i.UnlessEnded negated skip) c ms g fits q k =
-          did_well p typed code Any l (due (is_ended c.store.scene.input)) _ (any_due (is_ended c.store.scene.input)) (λ b e. ways_well p typed code ls skip (not_if negated b) ms c.cells c g fits q k)
+          did_well p typed code Any l (due (is_ended c.store.world.input)) _ (any_due (is_ended c.store.world.input)) (λ b e. ways_well p typed code ls skip (not_if negated b) ms c.cells c g fits q k)
       act_well l (i.UnlessEmpty negated set owner skip) c ms g fits q k =
           bearer_well p typed code ls owner ms g.1.0 c.store c.cells _ g.1.1 fits q (λ o below e h.
           did_well p typed code Any l (is_empty set o c.store) _ (is_empty_fine p typed ls set o c.store (owner_ok p typed ls set owner o g.0 e) fits) (λ b u. ways_well p typed code ls skip (not_if negated b) g.1.0 below c g.1.2 fits h k))
@@ -461,7 +461,7 @@ module _ (p : Program) (typed : WellTyped p) (code : Code) where
       act_well l (i.NextEvent back) c ms g fits q k = back_well p typed code ls back (is_awaited c.store) ms c.cells c g.0 g.1.at fits q k
       act_well l (i.Read m to) c ms g fits q k =
           give_with l to m ms ms (read_value m c.store) c.cells c g
-          (fine_turned (λ (b : Value × Store). (mode_of b.0 ≡ m) × Fits p ls b.1) (with_input c.store) (due (value_given m c.store.scene.input)) (word_fine m c.store) (λ r e. (e, input_fits p typed ls true c.store r.rest fits))) q k
+          (fine_turned (λ (b : Value × Store). (mode_of b.0 ≡ m) × Fits p ls b.1) (with_input c.store) (due (value_given m c.store.world.input)) (word_fine m c.store) (λ r e. (e, input_fits p typed ls true c.store r.rest fits))) q k
       act_well l (i.Print lines h) c ms g fits q k =
           subst (λ o. Well (fit o (λ x. print_lines x h c))) (sym g.1)
           (block_well p typed code (cells_of_kinds g.0.items) h g.2.0 ms g.2.2.0 c.cells _ g.2.2.1 (kinds_many p g.0.items g.2.0 g.2.1) q (λ vs below hv b.

@@ -4,7 +4,7 @@ use Rattle.std.specs.Prelude.{slice_get}
 use Rattle.ss_base.specs.declared.value.Value.{Value}
 use Rattle.ss_meaning.specs.Store.{yielded}
 use Rattle.ss_meaning.specs.Events.{is_awaited}
-use Rattle.ss_meaning.specs.Parts.{World, Returned, Stopped, WentOn, Left, choose, Again, Over, loop}
+use Rattle.ss_meaning.specs.Parts.{RunState, Returned, Stopped, WentOn, Left, choose, Again, Over, loop}
 use Rattle.ss_meaning.specs.Statements.{Calls, next_due, event_turn, simulate}
 use Rattle.ss_code_instructions.specs.Instructions.{Placed}
 use Rattle.ss_code_instructions.specs.Instructions as i
@@ -43,7 +43,7 @@ module _ (code : Code) (n : ℕ) (t : Site) where
           (λ o w' fewer same_. next_run w' (is_awaited w'.store) refl);
     }
       where
-        next_run : (w : World) (b : Bool) → is_awaited w.store ≡ b → Reaches code (at (p + 1) cells frames w) (arrive (turned {C = Unit {0}} {A = Unit {0}} done p (λ o. p + 2) cells frames) frames (choose (is_awaited w.store) (WentOn (Again tt)) (WentOn (Over tt)) w))
+        next_run : (w : RunState) (b : Bool) → is_awaited w.store ≡ b → Reaches code (at (p + 1) cells frames w) (arrive (turned {C = Unit {0}} {A = Unit {0}} done p (λ o. p + 2) cells frames) frames (choose (is_awaited w.store) (WentOn (Again tt)) (WentOn (Over tt)) w))
         next_run w true q =
             subst (λ b. Reaches code (at (p + 1) cells frames w) (arrive (turned {C = Unit {0}} {A = Unit {0}} done p (λ o. p + 2) cells frames) frames (choose b (WentOn (Again tt)) (WentOn (Over tt)) w))) (sym q)
             (leap code next_place (p + 1) (p + 1 - 1) p cells cells frames w _ has.1.0 refl (ap (λ b. To (core_at (backwards 1 b (p + 1)) cells frames w.store)) q) (omega arith) here)
@@ -51,7 +51,7 @@ module _ (code : Code) (n : ℕ) (t : Site) where
             subst (λ b. Reaches code (at (p + 1) cells frames w) (arrive (turned {C = Unit {0}} {A = Unit {0}} done p (λ o. p + 2) cells frames) frames (choose b (WentOn (Again tt)) (WentOn (Over tt)) w))) (sym q)
             (leap code next_place (p + 1) (p + 1 + 1) (p + 2) cells cells frames w _ has.1.0 refl (ap (λ b. To (core_at (backwards 1 b (p + 1)) cells frames w.store)) q) (omega arith) here)
 
-    events_run : (m : ℕ) → n ≡ m → (p : ℕ) (cells : List Value) (frames : List Frame) (w : World) → length cells ≡ height t → HasAt code.places p (take_place ∷ (next_place ∷ [])) → Within code n w → Reaches code (at p cells frames w) (arrive (λ (o : Unit {0}) w'. at (p + 2) cells frames w') frames (loop m (event_turn h.event) tt w))
+    events_run : (m : ℕ) → n ≡ m → (p : ℕ) (cells : List Value) (frames : List Frame) (w : RunState) → length cells ≡ height t → HasAt code.places p (take_place ∷ (next_place ∷ [])) → Within code n w → Reaches code (at p cells frames w) (arrive (λ (o : Unit {0}) w'. at (p + 2) cells frames w') frames (loop m (event_turn h.event) tt w))
     events_run zero e p cells frames w high has in_ =
         out_run code {A = Unit {0}} take_place (core_at p cells frames w.store) frames w (λ (o : Unit {0}) w'. at (p + 2) cells frames w') has.0 refl (omega (arith, e, in_.ticks))
     events_run (suc m) e p cells frames w high has in_ =
@@ -62,7 +62,7 @@ module _ (code : Code) (n : ℕ) (t : Site) where
     pub simulate_runs : Runs code n (height t) same simulate_code done (simulate n h.event)
     simulate_runs = record { by = λ p cells frames w high has in_. sides p cells frames w high has in_ (is_awaited w.store) refl }
       where
-        sides : (p : ℕ) (cells : List Value) (frames : List Frame) (w : World) → length cells ≡ height t → HasAt code.places p simulate_code → Within code n w → (b : Bool) → is_awaited w.store ≡ b → Reaches code (at p cells frames w) (arrive (λ (o : Unit {0}) w'. at (p + 3) cells frames w') frames (choose (is_awaited w.store) (loop n (event_turn h.event) tt) (WentOn tt) w))
+        sides : (p : ℕ) (cells : List Value) (frames : List Frame) (w : RunState) → length cells ≡ height t → HasAt code.places p simulate_code → Within code n w → (b : Bool) → is_awaited w.store ≡ b → Reaches code (at p cells frames w) (arrive (λ (o : Unit {0}) w'. at (p + 3) cells frames w') frames (choose (is_awaited w.store) (loop n (event_turn h.event) tt) (WentOn tt) w))
         sides p cells frames w high has in_ true q =
             let e : p + 1 + 2 ≡ p + 3 = omega arith in
             subst (λ b. Reaches code (at p cells frames w) (arrive (λ (o : Unit {0}) w'. at (p + 3) cells frames w') frames (choose b (loop n (event_turn h.event) tt) (WentOn tt) w))) (sym q)
@@ -79,7 +79,7 @@ module _ (code : Code) (n : ℕ) (t : Site) where
   stop_run = record { by = λ p cells frames w high has in_. step_leads code (place t i.Halt) (core_at p cells frames w.store) w _ _ has.0 refl refl ends }
 
   -- back to the caller
-  pub leave_run : (p : ℕ) (cells : List Value) (f : Frame) (fs : List Frame) (w : World) → slice_get code.places p ≡ Some (place t i.Leave) → Reaches code (at p cells (f ∷ fs) w) (landed (yielded f.first f.count w.store.locals) f fs w)
+  pub leave_run : (p : ℕ) (cells : List Value) (f : Frame) (fs : List Frame) (w : RunState) → slice_get code.places p ≡ Some (place t i.Leave) → Reaches code (at p cells (f ∷ fs) w) (landed (yielded f.first f.count w.store.locals) f fs w)
   leave_run p cells f fs w has =
       step_leads code (place t i.Leave) (core_at p cells (f ∷ fs) w.store) w _ _ has refl refl (back (yielded f.first f.count w.store.locals))
     where
@@ -90,6 +90,6 @@ module _ (code : Code) (n : ℕ) (t : Site) where
   pub return_run : Runs {A = Unit {0}} code n (height t) same (place t i.Leave ∷ []) done (Left Returned)
   return_run = record { by = λ p cells frames w high has in_. leaves p cells frames w has.0 }
     where
-      leaves : (p : ℕ) (cells : List Value) (frames : List Frame) (w : World) → slice_get code.places p ≡ Some (place t i.Leave) → Reaches code (at p cells frames w) (left_to Returned frames w)
+      leaves : (p : ℕ) (cells : List Value) (frames : List Frame) (w : RunState) → slice_get code.places p ≡ Some (place t i.Leave) → Reaches code (at p cells frames w) (left_to Returned frames w)
       leaves p cells [] w has = step_leads code (place t i.Leave) (core_at p cells [] w.store) w _ _ has refl refl ends
       leaves p cells (f ∷ fs) w has = leave_run p cells f fs w has

@@ -4,7 +4,7 @@ use Rattle.std.specs.Prelude.{slice_get}
 use Rattle.std.proofs.Math.Seq.{get_or-append_seam}
 use Rattle.std.proofs.lemmas.Option.{slice_get-get_or}
 use Rattle.ss_base.specs.declared.value.Value.{Value}
-use Rattle.ss_meaning.specs.Parts.{World, Exit, Returned, Stopped, Faulted, OutOfTicks, Wrong, Outcome, WentOn, Left, Part, outcome_then}
+use Rattle.ss_meaning.specs.Parts.{RunState, Exit, Returned, Stopped, Faulted, OutOfTicks, Wrong, Outcome, WentOn, Left, Part, outcome_then}
 use Rattle.ss_meaning.specs.Meaning.{with_locals, Ending, Ended, Fault, Paused, Run, run_at}
 use Rattle.ss_meaning.specs.Store.{Store, yielded}
 use Rattle.ss_code_instructions.specs.Instructions.{Placed}
@@ -107,17 +107,17 @@ kept {code} {s} {t} (more {t = x} e f) =
 
 -- ## Where the machine goes after a part of a program
 
--- the machine at a place, with cells, calls that are open, and a world
-abbrev pub at : ℕ → List Value → List Frame → World → MachineState
+-- the machine at a place, with cells, calls that are open, and a run state
+abbrev pub at : ℕ → List Value → List Frame → RunState → MachineState
 at place cells frames w = record { core = core_at place cells frames w.store; report = w.report; ticks = w.ticks }
 
 -- where a routine's return leads
-abbrev pub landed : Option (List Value) → Frame → List Frame → World → Goal
+abbrev pub landed : Option (List Value) → Frame → List Frame → RunState → Goal
 landed (Some us) f fs w = Comes (at f.back (us ++ f.cells) fs (with_locals f.locals w))
 landed None f fs w = Free
 
 -- where the machine goes when a part of the program is left
-abbrev pub left_to : Exit → List Frame → World → Goal
+abbrev pub left_to : Exit → List Frame → RunState → Goal
 left_to Returned [] w = Finishes (run_at Ended w)
 left_to Returned (f ∷ fs) w = landed (yielded f.first f.count w.store.locals) f fs w
 left_to Stopped frames w = Finishes (run_at Ended w)
@@ -126,19 +126,19 @@ left_to OutOfTicks frames w = Finishes (run_at Paused w)
 left_to Wrong frames w = Free
 
 -- where the machine goes after a part of the program: to k, or where it is left
-abbrev pub arrive : {A : Type 0} → (A → World → MachineState) → List Frame → Outcome A → Goal
+abbrev pub arrive : {A : Type 0} → (A → RunState → MachineState) → List Frame → Outcome A → Goal
 arrive k frames (WentOn a w) = Comes (k a w)
 arrive k frames (Left e w) = left_to e frames w
 
-pub join : {A B : Type 0} {code : Code} (s : MachineState) (k : A → World → MachineState) (k' : B → World → MachineState) (frames : List Frame) (r : Outcome A) (f : A → Part B) → Reaches code s (arrive k frames r) → ((a : A) (w : World) → Kept s (k a w) → Reaches code (k a w) (arrive k' frames (f a w))) → Reaches code s (arrive k' frames (outcome_then r f))
+pub join : {A B : Type 0} {code : Code} (s : MachineState) (k : A → RunState → MachineState) (k' : B → RunState → MachineState) (frames : List Frame) (r : Outcome A) (f : A → Part B) → Reaches code s (arrive k frames r) → ((a : A) (w : RunState) → Kept s (k a w) → Reaches code (k a w) (arrive k' frames (f a w))) → Reaches code s (arrive k' frames (outcome_then r f))
 join s k k' frames (WentOn a w) f g h = reaches_on g (h a w (kept g))
 join s k k' frames (Left e w) f g h = g
 
 -- where it is known how the part went
-pub join_known : {A B : Type 0} {code : Code} (s : MachineState) (k : A → World → MachineState) (k' : B → World → MachineState) (frames : List Frame) (r : Outcome A) (f : A → Part B) → Reaches code s (arrive k frames r) → ((a : A) (w : World) → r ≡ WentOn a w → Kept s (k a w) → Reaches code (k a w) (arrive k' frames (f a w))) → Reaches code s (arrive k' frames (outcome_then r f))
+pub join_known : {A B : Type 0} {code : Code} (s : MachineState) (k : A → RunState → MachineState) (k' : B → RunState → MachineState) (frames : List Frame) (r : Outcome A) (f : A → Part B) → Reaches code s (arrive k frames r) → ((a : A) (w : RunState) → r ≡ WentOn a w → Kept s (k a w) → Reaches code (k a w) (arrive k' frames (f a w))) → Reaches code s (arrive k' frames (outcome_then r f))
 join_known s k k' frames (WentOn a w) f g h = reaches_on g (h a w refl (kept g))
 join_known s k k' frames (Left e w) f g h = g
 
-pub follow : {A : Type 0} {code : Code} (s : MachineState) (k k' : A → World → MachineState) (frames : List Frame) (r : Outcome A) → Reaches code s (arrive k frames r) → ((a : A) (w : World) → Kept s (k a w) → Reaches code (k a w) (Comes (k' a w))) → Reaches code s (arrive k' frames r)
+pub follow : {A : Type 0} {code : Code} (s : MachineState) (k k' : A → RunState → MachineState) (frames : List Frame) (r : Outcome A) → Reaches code s (arrive k frames r) → ((a : A) (w : RunState) → Kept s (k a w) → Reaches code (k a w) (Comes (k' a w))) → Reaches code s (arrive k' frames r)
 follow s k k' frames (WentOn a w) g h = reaches_on g (h a w (kept g))
 follow s k k' frames (Left e w) g h = g

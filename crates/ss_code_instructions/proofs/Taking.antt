@@ -7,7 +7,7 @@ use Rattle.ss_program.specs.declared.expression.Variable.{Variable}
 use Rattle.ss_meaning.specs.Store.{Store}
 use Rattle.ss_meaning.specs.Places.{assigned_variable}
 use Rattle.ss_meaning.specs.Loops.{Turn, visit}
-use Rattle.ss_meaning.specs.Parts.{World, OutOfTicks, Left, Part, outcome_then, looked, settle, take_tick}
+use Rattle.ss_meaning.specs.Parts.{RunState, OutOfTicks, Left, Part, outcome_then, looked, settle, take_tick}
 use Rattle.ss_code_instructions.specs.Instructions.{Stays}
 use Rattle.ss_code_instructions.specs.Instructions as i
 use Rattle.ss_code_instructions.specs.States.{Frame, MachineState, Moved, did, fit, cell_at, core_at, onward}
@@ -20,11 +20,11 @@ use Rattle.ss_code_instructions.proofs.Assigning.{change_leads}
 
 module _ (code : Code) (n : ℕ) where
   -- wherever it leads after that, the turn of the item goes on
-  pub visit_run : {B : Type 0} (u : Site) (h : ℕ) (x : Variable) (item : ℤ) (m : Part Turn) (g : Turn → Part B) (f : Part B) (p : ℕ) (cells : List Value) (frames : List Frame) (w : World) (k : B → World → MachineState) → ((t : ℕ) → f (ticked t w) ≡ outcome_then (visit u.line x m item (ticked t w)) g) → cell_at h cells ≡ Some (Whole item) → HasAt code.places p (take_code u h x) → Within code n w → ((w' : World) → suc w'.ticks ≡ w.ticks → Within code n w' → Reaches code (at (p + length (take_code u h x)) cells frames w') (arrive k frames (outcome_then (m w') g))) → Reaches code (at p cells frames w) (arrive k frames (take_tick f w))
+  pub visit_run : {B : Type 0} (u : Site) (h : ℕ) (x : Variable) (item : ℤ) (m : Part Turn) (g : Turn → Part B) (f : Part B) (p : ℕ) (cells : List Value) (frames : List Frame) (w : RunState) (k : B → RunState → MachineState) → ((t : ℕ) → f (ticked t w) ≡ outcome_then (visit u.line x m item (ticked t w)) g) → cell_at h cells ≡ Some (Whole item) → HasAt code.places p (take_code u h x) → Within code n w → ((w' : RunState) → suc w'.ticks ≡ w.ticks → Within code n w' → Reaches code (at (p + length (take_code u h x)) cells frames w') (arrive k frames (outcome_then (m w') g))) → Reaches code (at p cells frames w) (arrive k frames (take_tick f w))
   visit_run {B} u h x item m g f p cells frames w k is lies has in_ next = by (is_kept u x) has next
     where
-      -- the world after the tick and the assignment
-      after : ℕ → Store → World
+      -- the run state after the tick and the assignment
+      after : ℕ → Store → RunState
       after t s = record (ticked t w) { store = s }
 
       within : (t : ℕ) (s : Store) → w.ticks ≡ suc t → assigned_variable x (Whole item) w.store ≡ Ok s → Within code n (after t s)
@@ -34,7 +34,7 @@ module _ (code : Code) (n : ℕ) where
           record { ticks = few; says = suits_on code w.store s (lasts_so w.store s keeps) in_.says }
 
       -- the assignment at a place, and what follows at the next
-      assigned : (t p q : ℕ) (mv : Moved) → w.ticks ≡ suc t → p + 1 ≡ q → mv ≡ did u.line (assigned_variable x (Whole item) w.store) (λ s. onward cells (core_at p cells frames w.store) s) → ((w' : World) → suc w'.ticks ≡ w.ticks → Within code n w' → Reaches code (at q cells frames w') (arrive k frames (outcome_then (m w') g))) → Leads code (ticked t w) mv (arrive k frames (f (ticked t w)))
+      assigned : (t p q : ℕ) (mv : Moved) → w.ticks ≡ suc t → p + 1 ≡ q → mv ≡ did u.line (assigned_variable x (Whole item) w.store) (λ s. onward cells (core_at p cells frames w.store) s) → ((w' : RunState) → suc w'.ticks ≡ w.ticks → Within code n w' → Reaches code (at q cells frames w') (arrive k frames (outcome_then (m w') g))) → Leads code (ticked t w) mv (arrive k frames (f (ticked t w)))
       assigned t p q mv e to acts next =
           subst (λ y. Leads code (ticked t w) y (arrive k frames (f (ticked t w)))) (sym acts)
           (subst (λ o. Leads code (ticked t w) (did u.line (assigned_variable x (Whole item) w.store) (λ s. onward cells (core_at p cells frames w.store) s)) (arrive k frames o)) (sym (is t ∙ then_then (outcome_then (looked u.line (assigned_variable x (Whole item) w.store) (ticked t w)) settle) (λ _. m) g))
@@ -44,7 +44,7 @@ module _ (code : Code) (n : ℕ) where
       lying : (p : ℕ) → fit (cell_at h cells) (λ v. did u.line (assigned_variable x v w.store) (λ s. onward cells (core_at p cells frames w.store) s)) ≡ did u.line (assigned_variable x (Whole item) w.store) (λ s. onward cells (core_at p cells frames w.store) s)
       lying p = ap (λ o. fit o (λ v. did u.line (assigned_variable x v w.store) (λ s. onward cells (core_at p cells frames w.store) s))) lies
 
-      by : (b : Bool) → HasAt code.places p (if b then place u i.Turn ∷ (place u (i.Keep (Stays h) x) ∷ []) else place u (i.Take h x) ∷ []) → ((w' : World) → suc w'.ticks ≡ w.ticks → Within code n w' → Reaches code (at (p + length (if b then place u i.Turn ∷ (place u (i.Keep (Stays h) x) ∷ []) else place u (i.Take h x) ∷ [])) cells frames w') (arrive k frames (outcome_then (m w') g))) → Reaches code (at p cells frames w) (arrive k frames (take_tick f w))
+      by : (b : Bool) → HasAt code.places p (if b then place u i.Turn ∷ (place u (i.Keep (Stays h) x) ∷ []) else place u (i.Take h x) ∷ []) → ((w' : RunState) → suc w'.ticks ≡ w.ticks → Within code n w' → Reaches code (at (p + length (if b then place u i.Turn ∷ (place u (i.Keep (Stays h) x) ∷ []) else place u (i.Take h x) ∷ [])) cells frames w') (arrive k frames (outcome_then (m w') g))) → Reaches code (at p cells frames w) (arrive k frames (take_tick f w))
       by true has next =
           let two : p + 1 + 1 ≡ p + 2 = omega arith in
           tick_run code {A = B} (place u i.Turn) (core_at p cells frames w.store) frames w k f has.0 refl (λ t e.
@@ -53,7 +53,7 @@ module _ (code : Code) (n : ℕ) where
           tick_run code {A = B} (place u (i.Take h x)) (core_at p cells frames w.store) frames w k f has.0 refl (λ t e. assigned t p (p + 1) _ e refl (lying p) next)
 
   -- where no tick is left the machine pauses there
-  pub visit_out : {B : Type 0} (u : Site) (h : ℕ) (x : Variable) (p : ℕ) (cells : List Value) (frames : List Frame) (w : World) (k : B → World → MachineState) → HasAt code.places p (take_code u h x) → w.ticks ≤ 0 → Reaches code (at p cells frames w) (arrive k frames (Left OutOfTicks w))
+  pub visit_out : {B : Type 0} (u : Site) (h : ℕ) (x : Variable) (p : ℕ) (cells : List Value) (frames : List Frame) (w : RunState) (k : B → RunState → MachineState) → HasAt code.places p (take_code u h x) → w.ticks ≤ 0 → Reaches code (at p cells frames w) (arrive k frames (Left OutOfTicks w))
   visit_out {B} u h x p cells frames w k has le = by (is_kept u x) has
     where
       by : (b : Bool) → HasAt code.places p (if b then place u i.Turn ∷ (place u (i.Keep (Stays h) x) ∷ []) else place u (i.Take h x) ∷ []) → Reaches code (at p cells frames w) (arrive k frames (Left OutOfTicks w))

@@ -4,12 +4,12 @@ use Rattle.std.specs.Prelude.{Result as OkOr}
 use Rattle.ss_base.specs.declared.value.Value.{Value}
 use Rattle.ss_base.specs.declared.value.Value.TheVariants.{Whole}
 use Rattle.ss_program.specs.Program.{Expression, When, At, In, Now}
-use Rattle.ss_meaning.specs.Values.{Trouble, Fails, Misfit, if_ok, turned}
+use Rattle.ss_meaning.specs.Values.{Failure, Fails, TypeError, if_ok, turned}
 use Rattle.ss_meaning.specs.Store.{Store}
 use Rattle.ss_meaning.specs.Entities.{entity}
 use Rattle.ss_meaning.specs.Events.{Moment, AtTime, Later, time_at}
 use Rattle.ss_meaning.specs.Expressions.{value, values, looked_at, entity_value, time_value}
-use Rattle.ss_meaning.specs.Parts.{World, Part, outcome_then, looked, look}
+use Rattle.ss_meaning.specs.Parts.{RunState, Part, outcome_then, looked, look}
 use Rattle.ss_code_instructions.specs.Instructions.{Operand, Placed, Instruction}
 use Rattle.ss_code_instructions.specs.Instructions as i
 use Rattle.ss_code_instructions.specs.States.{Frame, MachineState, did, core_at, with_operand_value, onward, deliver}
@@ -30,10 +30,10 @@ put_time z cells = Whole z ∷ cells
 
 module _ (code : Code) (n : ℕ) where
   -- a number that an instruction leaves in a new cell
-  number_leads : (t : Site) (r : OkOr ℤ Trouble) (p : ℕ) (cells cells0 : List Value) (frames : List Frame) (w : World) → length cells ≡ height t → Leads code w (deliver t.line (next t) (turned Whole r) cells (core_at p cells0 frames w.store)) (arrive (λ z w'. at (p + 1) (put_time z cells) frames w') frames (looked t.line r w))
+  number_leads : (t : Site) (r : OkOr ℤ Failure) (p : ℕ) (cells cells0 : List Value) (frames : List Frame) (w : RunState) → length cells ≡ height t → Leads code w (deliver t.line (next t) (turned Whole r) cells (core_at p cells0 frames w.store)) (arrive (λ z w'. at (p + 1) (put_time z cells) frames w') frames (looked t.line r w))
   number_leads t (Ok z) p cells cells0 frames w high = computes code t.line (next t) (Ok (Whole z)) p cells cells0 frames w high
   number_leads t (Err (Fails kind)) p cells cells0 frames w high = breaks
-  number_leads t (Err Misfit) p cells cells0 frames w high = whatever
+  number_leads t (Err TypeError) p cells cells0 frames w high = whatever
 
   -- ## A time
 
@@ -44,7 +44,7 @@ module _ (code : Code) (n : ℕ) where
         let c : List Placed = operand_code t e in
         let last : Placed = place (after t e) (make (operand t e)) in
         let end : p + length c + 1 ≡ p + length (c ++ last ∷ []) = omega (arith, length-append c (last ∷ [])) in
-        let ends : ℤ → World → MachineState = λ z w'. at (p + length (c ++ last ∷ [])) (put_time z cells) frames w' in
+        let ends : ℤ → RunState → MachineState = λ z w'. at (p + length (c ++ last ∷ [])) (put_time z cells) frames w' in
         one_join code n t e (evaluates code n t e) (last ∷ []) ends (λ v. look t.line (time_at (moment v))) p cells frames w high has in_ (λ v found has'.
         step_leads code last (core_at (p + length c) (held (leaf e) v cells) frames w.store) w _ _ has'.0 (calm (operand t e))
         (acts (operand t e) (p + length c) (held (leaf e) v cells) frames w.store
@@ -67,13 +67,13 @@ module _ (code : Code) (n : ℕ) where
   when_runs t Now = record {
     by = λ p cells frames w high has in_.
         step_leads code (place t (i.Clock (next t))) (core_at p cells frames w.store) w _ _ has.0 refl refl
-        (number_leads t (Ok w.store.scene.time) p cells cells frames w high);
+        (number_leads t (Ok w.store.world.time) p cells cells frames w high);
   }
 
   -- ## Values, and then a time
 
   -- and what follows: the time is in the topmost cell, above the values
-  pub given_join : {B : Type 0} (t : Site) (given : List Expression) (when : When) (rest : List Placed) (k : B → World → MachineState) (go : List Value → ℤ → Part B) (p : ℕ) (cells : List Value) (frames : List Frame) (w : World) → length cells ≡ height t → HasAt code.places p (values_code t given ++ (when_code (after_values t given) when ++ rest)) → Within code n w → ((vs : List Value) (time : ℤ) → length given ≡ length vs → HasAt code.places (p + length (values_code t given) + length (when_code (after_values t given) when)) rest → Reaches code (at (p + length (values_code t given) + length (when_code (after_values t given) when)) (Whole time ∷ onto vs cells) frames w) (arrive k frames (go vs time w))) → Reaches code (at p cells frames w) (arrive k frames (outcome_then (look t.line (values given) w) (λ vs w. outcome_then (look t.line (time_value when) w) (go vs))))
+  pub given_join : {B : Type 0} (t : Site) (given : List Expression) (when : When) (rest : List Placed) (k : B → RunState → MachineState) (go : List Value → ℤ → Part B) (p : ℕ) (cells : List Value) (frames : List Frame) (w : RunState) → length cells ≡ height t → HasAt code.places p (values_code t given ++ (when_code (after_values t given) when ++ rest)) → Within code n w → ((vs : List Value) (time : ℤ) → length given ≡ length vs → HasAt code.places (p + length (values_code t given) + length (when_code (after_values t given) when)) rest → Reaches code (at (p + length (values_code t given) + length (when_code (after_values t given) when)) (Whole time ∷ onto vs cells) frames w) (arrive k frames (go vs time w))) → Reaches code (at p cells frames w) (arrive k frames (outcome_then (look t.line (values given) w) (λ vs w. outcome_then (look t.line (time_value when) w) (go vs))))
   given_join t given when rest k go p cells frames w high has in_ f =
       let cv : List Placed = values_code t given in
       let u : Site = after_values t given in
@@ -90,7 +90,7 @@ module _ (code : Code) (n : ℕ) where
 
   -- ## A reference to an entity of a class, which is looked at, and what follows
 
-  pub entity_join : {B : Type 0} (t : Site) (class : ℕ) (e : Expression) (rest : List Placed) (k : B → World → MachineState) (go : Value → Part B) (p : ℕ) (cells : List Value) (frames : List Frame) (w : World) → length cells ≡ height t → HasAt code.places p (entity_code t true class e ++ rest) → Within code n w → ((v : Value) → value e w.store ≡ Ok v → HasAt code.places (p + length (entity_code t true class e)) rest → Reaches code (at (p + length (entity_code t true class e)) (held (leaf e) v cells) frames w) (arrive k frames (go v w))) → Reaches code (at p cells frames w) (arrive k frames (outcome_then (look t.line (entity_value class e) w) go))
+  pub entity_join : {B : Type 0} (t : Site) (class : ℕ) (e : Expression) (rest : List Placed) (k : B → RunState → MachineState) (go : Value → Part B) (p : ℕ) (cells : List Value) (frames : List Frame) (w : RunState) → length cells ≡ height t → HasAt code.places p (entity_code t true class e ++ rest) → Within code n w → ((v : Value) → value e w.store ≡ Ok v → HasAt code.places (p + length (entity_code t true class e)) rest → Reaches code (at (p + length (entity_code t true class e)) (held (leaf e) v cells) frames w) (arrive k frames (go v w))) → Reaches code (at p cells frames w) (arrive k frames (outcome_then (look t.line (entity_value class e) w) go))
   entity_join t class e rest k go p cells frames w high has in_ f =
       let c : List Placed = operand_code t e in
       let look_ : Placed = place (after t e) (i.LookEntity class (stay (operand t e))) in
@@ -106,7 +106,7 @@ module _ (code : Code) (n : ℕ) where
       (did_leads code t.line (entity class v w.store) _ w k frames (λ n. go v) (λ m z.
       onwards (subst (λ j. Reaches code (at j (held (leaf e) v cells) frames w) (arrive k frames (go v w))) (sym end) (f v r h1)))))))
     where
-      entity_then : (r : OkOr Value Trouble) → outcome_then (looked t.line r w) (λ v w. outcome_then (looked t.line (turned (λ (n : ℤ). v) (entity class v w.store)) w) go) ≡ outcome_then (looked t.line (if_ok r (looked_at (λ x. entity class x w.store))) w) go
+      entity_then : (r : OkOr Value Failure) → outcome_then (looked t.line r w) (λ v w. outcome_then (looked t.line (turned (λ (n : ℤ). v) (entity class v w.store)) w) go) ≡ outcome_then (looked t.line (if_ok r (looked_at (λ x. entity class x w.store))) w) go
       entity_then (Ok v) = refl
       entity_then (Err (Fails kind)) = refl
-      entity_then (Err Misfit) = refl
+      entity_then (Err TypeError) = refl

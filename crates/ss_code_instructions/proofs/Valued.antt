@@ -10,7 +10,7 @@ use Rattle.ss_base.specs.declared.value.Value.TheVariants.{Whole, Text}
 use Rattle.ss_base.specs.Layout.{mode_of}
 use Rattle.ss_program.specs.Program.{Program}
 use Rattle.ss_program.specs.WellTyped.{TypedScope, WellTyped}
-use Rattle.ss_meaning.specs.Values.{Trouble, Fails, Misfit, turned}
+use Rattle.ss_meaning.specs.Values.{Failure, Fails, TypeError, turned}
 use Rattle.ss_meaning.specs.Store.{Store, fetched}
 use Rattle.ss_meaning.specs.Places.{assigned_variable}
 use Rattle.ss_meaning.specs.Sets.{Filing as Position, ByRule, Foremost, Hindmost, JustBefore, JustAfter}
@@ -96,10 +96,10 @@ module _ (p : Program) (typed : WellTyped p) (code : Code) where
   fit_well P (Some a) go h f = f a h
   fit_well P None go h f = absurd h
 
-  pub did_well : {A : Type 0} (P : A → Type 0) (l : Line) (r : OkOr A Trouble) (go : A → Moved) → Fine P r → ((a : A) → P a → GoesWell (go a)) → GoesWell (did l r go)
+  pub did_well : {A : Type 0} (P : A → Type 0) (l : Line) (r : OkOr A Failure) (go : A → Moved) → Fine P r → ((a : A) → P a → GoesWell (go a)) → GoesWell (did l r go)
   did_well P l (Ok a) go h f = f a h
   did_well P l (Err (Fails kind)) go h f = tt
-  did_well P l (Err Misfit) go h f = absurd h
+  did_well P l (Err TypeError) go h f = absurd h
 
   if_well : (b : Bool) (m : Moved) → b ≡ true → GoesWell m → GoesWell (if b then m else Stuck)
   if_well true m e h = h
@@ -228,13 +228,13 @@ module _ (p : Program) (typed : WellTyped p) (code : Code) where
         fit_fine (λ (w : Written). Fits p ls w.store × Hold w.cells rest) (length cells == h) (Ok (record { cells = v ∷ cells; store = s })) (eq-eqb (length cells) h (held_length cells ms q ∙ a.1)) (fits, all ∙ sym a.0)
 
     -- a result goes to a target, in the store that it came with
-    pub delivered_well : (l : Line) (to : Target) (m : Mode) (ms rest : List Mode) (r : OkOr (Value × Store) Trouble) (cells : List Value) (c : Core) → Fine (λ (b : Value × Store). (mode_of b.0 ≡ m) × Fits p ls b.1) r → Accepts view to m ms rest → At p code (c.place + 1) ls rest → Hold cells ms → FramesFit p code ls c.frames → GoesWell (deliver_with l to r cells c)
+    pub delivered_well : (l : Line) (to : Target) (m : Mode) (ms rest : List Mode) (r : OkOr (Value × Store) Failure) (cells : List Value) (c : Core) → Fine (λ (b : Value × Store). (mode_of b.0 ≡ m) × Fits p ls b.1) r → Accepts view to m ms rest → At p code (c.place + 1) ls rest → Hold cells ms → FramesFit p code ls c.frames → GoesWell (deliver_with l to r cells c)
     delivered_well l to m ms rest (Ok b) cells c fine a at q k =
         did_well (λ (w : Written). Fits p ls w.store × Hold w.cells rest) l (put_to to b.0 cells b.1) _ (put_fine to m ms rest b.0 cells b.1 a fine.0 fine.1 q) (λ w h. goes_to (c.place + 1) rest w.cells c.frames w.store at h.0 h.1 k)
     delivered_well l to m ms rest (Err (Fails kind)) cells c fine a at q k = tt
-    delivered_well l to m ms rest (Err Misfit) cells c fine a at q k = absurd fine
+    delivered_well l to m ms rest (Err TypeError) cells c fine a at q k = absurd fine
 
     -- a result goes to a target, in the store as it is
-    pub deliver_well : (l : Line) (to : Target) (m : Mode) (ms rest : List Mode) (r : OkOr Value Trouble) (cells : List Value) (c : Core) → Fine (λ v. mode_of v ≡ m) r → Accepts view to m ms rest → At p code (c.place + 1) ls rest → Fits p ls c.store → Hold cells ms → FramesFit p code ls c.frames → GoesWell (deliver l to r cells c)
+    pub deliver_well : (l : Line) (to : Target) (m : Mode) (ms rest : List Mode) (r : OkOr Value Failure) (cells : List Value) (c : Core) → Fine (λ v. mode_of v ≡ m) r → Accepts view to m ms rest → At p code (c.place + 1) ls rest → Fits p ls c.store → Hold cells ms → FramesFit p code ls c.frames → GoesWell (deliver l to r cells c)
     deliver_well l to m ms rest r cells c fine a at fits q k =
         delivered_well l to m ms rest (turned (λ v. (v, c.store)) r) cells c (fine_turned (λ (b : Value × Store). (mode_of b.0 ≡ m) × Fits p ls b.1) (λ v. (v, c.store)) r fine (λ v e. (e, fits))) a at q k

@@ -14,12 +14,12 @@ use Rattle.ss_world.specs.State.{State, Members as Row, and_then, members_of, ow
 use Rattle.ss_world.specs.Sets.{joiner, owner as owner_there, follower, precursor, members_by, companions, next_in, previous_in}
 use Rattle.ss_program.specs.declared.expression.Variable.{Variable}
 use Rattle.ss_program.specs.Program.{Expression, SetOwner, TheSystem, Entity, Start, AtEnd, From, After, Members}
-use Rattle.ss_meaning.specs.Values.{Trouble, Fails, Misfit, if_ok, turned, due, where_fit, unless_fault}
+use Rattle.ss_meaning.specs.Values.{Failure, Fails, TypeError, if_ok, turned, due, where_fit, unless_fault}
 use Rattle.ss_meaning.specs.Store.{Store}
 use Rattle.ss_meaning.specs.Sets.{set_at, member, owner_as, owner_by_layout, known_owner, is_in, is_none, outset, beside, begun, coming, from_or_after, begun_at, or_gone, goes_on}
 use Rattle.ss_meaning.specs.Expressions.{value, looked_at, member_value, owner_value}
 use Rattle.ss_meaning.specs.Loops.{Turn, GoesOn, EndsLoop, IsFound, visit, Outset, next_member, member_turn, over_members, over}
-use Rattle.ss_meaning.specs.Parts.{World, WentOn, Part, outcome_then, choose, looked, look, Next, Again, Over, go_on, loop}
+use Rattle.ss_meaning.specs.Parts.{RunState, WentOn, Part, outcome_then, choose, looked, look, Next, Again, Over, go_on, loop}
 use Rattle.ss_code_instructions.specs.Instructions.{Placed}
 use Rattle.ss_code_instructions.specs.Instructions as i
 use Rattle.ss_code_instructions.specs.States.{Frame, Core, MachineState, Moved, did, fit, cell_at, core_at, at_height, with_bearer, onward, onward_if, back_if}
@@ -43,14 +43,14 @@ abbrev pub Follows : (reverse : Bool) → (set : ℕ) → Store → ℤ → Type
 Follows reverse set s x = (z : ℤ) × (coming reverse set x s ≡ Ok z)
 
 -- a number that may be a member of a set has one that comes after it, or 0
-joined : (f : ℕ → ℤ) (x : ℤ) (b : Bool) (j : OkOr ℕ FaultKind) (go : ℤ → OkOr Bool Trouble) → if_ok (where_fit b (turned (λ _. x) (due j))) go ≡ Ok true → (z : ℤ) × (where_fit b (due (and_then j (λ k. Ok (f k)))) ≡ Ok z)
+joined : (f : ℕ → ℤ) (x : ℤ) (b : Bool) (j : OkOr ℕ FaultKind) (go : ℤ → OkOr Bool Failure) → if_ok (where_fit b (turned (λ _. x) (due j))) go ≡ Ok true → (z : ℤ) × (where_fit b (due (and_then j (λ k. Ok (f k)))) ≡ Ok z)
 joined f x true (Ok k) go q = (f k, refl)
 joined f x true (Err kind) go q = absurd cc
 joined f x false j go q = absurd cc
 
 pub in_set_joins : (reverse : Bool) (set : ℕ) (x : ℤ) (y : Option Value) (s : Store) → is_in set (Whole x) y s ≡ Ok true → Follows reverse set s x
-in_set_joins false set x y s q = joined (λ k. pos (follower k (companions s.scene.heap.lists set k))) x (is_some (set_at set s)) (joiner s.scene.heap set x) _ q
-in_set_joins true set x y s q = joined (λ k. pos (precursor 0 k (companions s.scene.heap.lists set k))) x (is_some (set_at set s)) (joiner s.scene.heap set x) _ q
+in_set_joins false set x y s q = joined (λ k. pos (follower k (companions s.world.heap.lists set k))) x (is_some (set_at set s)) (joiner s.world.heap set x) _ q
+in_set_joins true set x y s q = joined (λ k. pos (precursor 0 k (companions s.world.heap.lists set k))) x (is_some (set_at set s)) (joiner s.world.heap set x) _ q
 
 -- a number in a list that is not 0
 some_number : (n : ℕ) → is_none (pos n) ≡ false → n ≡ 0 → ⊥
@@ -150,49 +150,49 @@ before_end (x ∷ xs) zero a q = omega arith
 before_end (x ∷ xs) (suc k) a q = let h : k < length xs = before_end xs k a q in omega (arith, h)
 
 -- what may be a member has one that comes after it, or 0
-known_follows : (reverse : Bool) (set n : ℕ) (t : SetLayout) (x : ℤ) (s : Store) → set_at set s ≡ Some t → joiner s.scene.heap set x ≡ Ok n → Follows reverse set s x
+known_follows : (reverse : Bool) (set n : ℕ) (t : SetLayout) (x : ℤ) (s : Store) → set_at set s ≡ Some t → joiner s.world.heap set x ≡ Ok n → Follows reverse set s x
 known_follows false set n t x s q j = (
-  pos (follower n (companions s.scene.heap.lists set n)),
-  ap (λ (o : Option SetLayout). where_fit (is_some o) (due (next_in s.scene.heap set x))) q
-      ∙ ap (λ (r : OkOr ℕ FaultKind). due (and_then r (λ k. Ok (pos (follower k (companions s.scene.heap.lists set k)))))) j,
+  pos (follower n (companions s.world.heap.lists set n)),
+  ap (λ (o : Option SetLayout). where_fit (is_some o) (due (next_in s.world.heap set x))) q
+      ∙ ap (λ (r : OkOr ℕ FaultKind). due (and_then r (λ k. Ok (pos (follower k (companions s.world.heap.lists set k)))))) j,
 )
 known_follows true set n t x s q j = (
-  pos (precursor 0 n (companions s.scene.heap.lists set n)),
-  ap (λ (o : Option SetLayout). where_fit (is_some o) (due (previous_in s.scene.heap set x))) q
-      ∙ ap (λ (r : OkOr ℕ FaultKind). due (and_then r (λ k. Ok (pos (precursor 0 k (companions s.scene.heap.lists set k)))))) j,
+  pos (precursor 0 n (companions s.world.heap.lists set n)),
+  ap (λ (o : Option SetLayout). where_fit (is_some o) (due (previous_in s.world.heap set x))) q
+      ∙ ap (λ (r : OkOr ℕ FaultKind). due (and_then r (λ k. Ok (pos (precursor 0 k (companions s.world.heap.lists set k)))))) j,
 )
 
-member_follows : (reverse : Bool) (set : ℕ) (t : SetLayout) (x : ℤ) (s : Store) → Joined s.scene.heap → set_at set s ≡ Some t → IsMember s.scene.heap set x → Follows reverse set s x
+member_follows : (reverse : Bool) (set : ℕ) (t : SetLayout) (x : ℤ) (s : Store) → Joined s.world.heap → set_at set s ≡ Some t → IsMember s.world.heap set x → Follows reverse set s x
 member_follows reverse set t x s joined q m =
     subst (Follows reverse set s) m.2
-    (known_follows reverse set m.1 t (pos m.1) s q (joined_joins s.scene.heap joined set m.0 m.1 (before_end s.scene.heap.layout.sets set t q) m.3))
+    (known_follows reverse set m.1 t (pos m.1) s q (joined_joins s.world.heap joined set m.0 m.1 (before_end s.world.heap.layout.sets set t q) m.3))
 
 -- a walk begins at an end of a set
-pub begun_follows : (reverse : Bool) (set : ℕ) (y : Option Value) (x : ℤ) (s : Store) → Joined s.scene.heap → begun reverse set y s ≡ Ok x → is_none x ≡ false → Follows reverse set s x
+pub begun_follows : (reverse : Bool) (set : ℕ) (y : Option Value) (x : ℤ) (s : Store) → Joined s.world.heap → begun reverse set y s ≡ Ok x → is_none x ≡ false → Follows reverse set s x
 begun_follows reverse set y x s joined e some = by (set_at set s) refl e
   where
-    of_owner : (t : SetLayout) → set_at set s ≡ Some t → (r : OkOr ℤ Trouble) → if_ok r (λ m. due (outset reverse s.scene.heap set m)) ≡ Ok x → Follows reverse set s x
-    of_owner t q (Ok m) e = member_follows reverse set t x s joined q (outset_member reverse s.scene.heap set m x (due_is (outset reverse s.scene.heap set m) x e) some)
+    of_owner : (t : SetLayout) → set_at set s ≡ Some t → (r : OkOr ℤ Failure) → if_ok r (λ m. due (outset reverse s.world.heap set m)) ≡ Ok x → Follows reverse set s x
+    of_owner t q (Ok m) e = member_follows reverse set t x s joined q (outset_member reverse s.world.heap set m x (due_is (outset reverse s.world.heap set m) x e) some)
     of_owner t q (Err k) e = absurd cc
 
-    by : (o : Option SetLayout) → set_at set s ≡ o → if_ok (owner_by_layout o y) (λ m. due (outset reverse s.scene.heap set m)) ≡ Ok x → Follows reverse set s x
+    by : (o : Option SetLayout) → set_at set s ≡ o → if_ok (owner_by_layout o y) (λ m. due (outset reverse s.world.heap set m)) ≡ Ok x → Follows reverse set s x
     by None q e = absurd cc
     by (Some t) q e = of_owner t q (owner_as t.owner y) e
 
 -- or at a member, or after one
-pub begun_at_follows : (reverse after : Bool) (set : ℕ) (v : Value) (y : Option Value) (x : ℤ) (s : Store) → Joined s.scene.heap → begun_at reverse after set v y s ≡ Ok x → is_none x ≡ false → Follows reverse set s x
+pub begun_at_follows : (reverse after : Bool) (set : ℕ) (v : Value) (y : Option Value) (x : ℤ) (s : Store) → Joined s.world.heap → begun_at reverse after set v y s ≡ Ok x → is_none x ≡ false → Follows reverse set s x
 begun_at_follows reverse after set (Text t) y x s joined e some = absurd cc
 begun_at_follows reverse after set (Whole n) y x s joined e some = by (is_in set (Whole n) y s) refl e
   where
-    later : (o : Option SetLayout) → set_at set s ≡ o → where_fit (is_some o) (due (beside reverse s.scene.heap set n)) ≡ Ok x → Follows reverse set s x
+    later : (o : Option SetLayout) → set_at set s ≡ o → where_fit (is_some o) (due (beside reverse s.world.heap set n)) ≡ Ok x → Follows reverse set s x
     later None q e = absurd cc
-    later (Some t) q e = member_follows reverse set t x s joined q (beside_member reverse s.scene.heap set n x (due_is (beside reverse s.scene.heap set n) x e) some)
+    later (Some t) q e = member_follows reverse set t x s joined q (beside_member reverse s.world.heap set n x (due_is (beside reverse s.world.heap set n) x e) some)
 
     begins : (after : Bool) → from_or_after reverse after set n s ≡ Ok x → Follows reverse set s n → Follows reverse set s x
     begins false e f = let p : n ≡ x = cc in subst (Follows reverse set s) p f
     begins true e f = later (set_at set s) refl e
 
-    by : (b : OkOr Bool Trouble) → is_in set (Whole n) y s ≡ b → if_ok b (λ b. unless_fault (not b) NotFiled (from_or_after reverse after set n s)) ≡ Ok x → Follows reverse set s x
+    by : (b : OkOr Bool Failure) → is_in set (Whole n) y s ≡ b → if_ok b (λ b. unless_fault (not b) NotFiled (from_or_after reverse after set n s)) ≡ Ok x → Follows reverse set s x
     by (Ok true) q e = begins after e (in_set_joins reverse set n y s q)
     by (Ok false) q e = absurd cc
     by (Err k) q e = absurd cc
@@ -202,32 +202,32 @@ begun_at_follows reverse after set (Whole n) y x s joined e some = by (is_in set
 abbrev outset_of : Option Value → ℤ → Outset
 outset_of y j = record { first = j; owner = y }
 
-module _ {D : Type 0} (l : Line) (reverse after : Bool) (set : ℕ) (e : Expression) (go : Outset → Part D) (w : World) where
-  abbrev started_at : Option Value → Value → OkOr Outset Trouble
+module _ {D : Type 0} (l : Line) (reverse after : Bool) (set : ℕ) (e : Expression) (go : Outset → Part D) (w : RunState) where
+  abbrev started_at : Option Value → Value → OkOr Outset Failure
   started_at y v = turned (outset_of y) (begun_at reverse after set v y w.store)
 
   -- what begins at a member looks at it
-  member_first : (y : Option Value) (v : Value) (m : OkOr ℤ Trouble) → member set v w.store ≡ m → started_at y v ≡ if_ok (turned (λ n. v) m) (started_at y)
+  member_first : (y : Option Value) (v : Value) (m : OkOr ℤ Failure) → member set v w.store ≡ m → started_at y v ≡ if_ok (turned (λ n. v) m) (started_at y)
   member_first y v (Ok n) q = refl
   member_first y v (Err k) q =
       let first : is_in set v y w.store ≡ Err k = err_first (member set v w.store) _ k q in
       let begins : begun_at reverse after set v y w.store ≡ Err k = err_first (is_in set v y w.store) _ k first in
       ap (turned (outset_of y)) begins
 
-  reference_then : (y : Option Value) (r : OkOr Value Trouble) → outcome_then (looked l r w) (λ v w'. outcome_then (looked l (started_at y v) w') go) ≡ outcome_then (looked l (if_ok (if_ok r (looked_at (λ x. member set x w.store))) (started_at y)) w) go
+  reference_then : (y : Option Value) (r : OkOr Value Failure) → outcome_then (looked l r w) (λ v w'. outcome_then (looked l (started_at y v) w') go) ≡ outcome_then (looked l (if_ok (if_ok r (looked_at (λ x. member set x w.store))) (started_at y)) w) go
   reference_then y (Ok v) = ap (λ z. outcome_then (looked l z w) go) (member_first y v (member set v w.store) refl)
   reference_then y (Err (Fails kind)) = refl
-  reference_then y (Err Misfit) = refl
+  reference_then y (Err TypeError) = refl
 
-  owner_then : (y : Option Value) (r : OkOr ℤ Trouble) → outcome_then (looked l r w) (λ n w'. outcome_then (look l (value e) w') (λ v w'. outcome_then (looked l (started_at y v) w') go)) ≡ outcome_then (looked l (if_ok (turned (λ n. y) r) (λ y. if_ok (member_value set e w.store) (started_at y))) w) go
+  owner_then : (y : Option Value) (r : OkOr ℤ Failure) → outcome_then (looked l r w) (λ n w'. outcome_then (look l (value e) w') (λ v w'. outcome_then (looked l (started_at y v) w') go)) ≡ outcome_then (looked l (if_ok (turned (λ n. y) r) (λ y. if_ok (member_value set e w.store) (started_at y))) w) go
   owner_then y (Ok n) = reference_then y (value e w.store)
   owner_then y (Err (Fails kind)) = refl
-  owner_then y (Err Misfit) = refl
+  owner_then y (Err TypeError) = refl
 
-  from_then : (r : OkOr (Option Value) Trouble) → outcome_then (looked l r w) (λ y w'. outcome_then (looked l (known_owner set y w'.store) w') (λ n w'. outcome_then (look l (value e) w') (λ v w'. outcome_then (looked l (started_at y v) w') go))) ≡ outcome_then (looked l (if_ok (if_ok r (λ y. turned (λ n. y) (known_owner set y w.store))) (λ y. if_ok (member_value set e w.store) (started_at y))) w) go
+  from_then : (r : OkOr (Option Value) Failure) → outcome_then (looked l r w) (λ y w'. outcome_then (looked l (known_owner set y w'.store) w') (λ n w'. outcome_then (look l (value e) w') (λ v w'. outcome_then (looked l (started_at y v) w') go))) ≡ outcome_then (looked l (if_ok (if_ok r (λ y. turned (λ n. y) (known_owner set y w.store))) (λ y. if_ok (member_value set e w.store) (started_at y))) w) go
   from_then (Ok y) = owner_then y (known_owner set y w.store)
   from_then (Err (Fails kind)) = refl
-  from_then (Err Misfit) = refl
+  from_then (Err TypeError) = refl
 
 -- ## The owner
 
@@ -248,7 +248,7 @@ entity_owned t e v cells high = record {
 }
 
 module _ (code : Code) (n : ℕ) (t : Site) where
-  owner_join : {B : Type 0} (o : SetOwner) (rest : List Placed) (k : B → World → MachineState) (go : Option Value → Part B) (p : ℕ) (cells : List Value) (frames : List Frame) (w : World) → length cells ≡ height t → HasAt code.places p (owner_code t o ++ rest) → Within code n w → ((y : Option Value) (own : List Value) → Owned t o y own cells → HasAt code.places (p + length (owner_code t o)) rest → Reaches code (at (p + length (owner_code t o)) (own ++ cells) frames w) (arrive k frames (go y w))) → Reaches code (at p cells frames w) (arrive k frames (outcome_then (look t.line (owner_value o) w) go))
+  owner_join : {B : Type 0} (o : SetOwner) (rest : List Placed) (k : B → RunState → MachineState) (go : Option Value → Part B) (p : ℕ) (cells : List Value) (frames : List Frame) (w : RunState) → length cells ≡ height t → HasAt code.places p (owner_code t o ++ rest) → Within code n w → ((y : Option Value) (own : List Value) → Owned t o y own cells → HasAt code.places (p + length (owner_code t o)) rest → Reaches code (at (p + length (owner_code t o)) (own ++ cells) frames w) (arrive k frames (go y w))) → Reaches code (at p cells frames w) (arrive k frames (outcome_then (look t.line (owner_value o) w) go))
   owner_join TheSystem rest k go p cells frames w high has in_ f =
       let e : p ≡ p + 0 = omega arith in
       subst (λ q. Reaches code (at q cells frames w) (arrive k frames (go None w))) (sym e)
@@ -289,7 +289,7 @@ module _ (code : Code) (n : ℕ) (t : Site) (x : Variable) (turn : List Placed) 
     abbrev hold : ℤ → ℤ → List Value
     hold j z = walk_cells (walk j z) (own ++ cells)
 
-    abbrev ends : Bool → World → MachineState
+    abbrev ends : Bool → RunState → MachineState
     ends b w = at (past_loop found b end) cells frames w
 
     abbrev turn_of : ℤ → Part (Next ℤ Bool)
@@ -302,7 +302,7 @@ module _ (code : Code) (n : ℕ) (t : Site) (x : Variable) (turn : List Placed) 
     next_has = subst (λ j. slice_get code.places j ≡ Some next_place) len (has_back code.places (p + length take_) turn (next_place ∷ []) turn_has).0
 
     -- what the walk keeps goes
-    forget : (q to : ℕ) (j z : ℤ) (w : World) → HasAt code.places q (forget_to t (walk_loop t o)) → q + 1 ≡ to → Reaches code (at q (hold j z) frames w) (Comes (at to cells frames w))
+    forget : (q to : ℕ) (j z : ℤ) (w : RunState) → HasAt code.places q (forget_to t (walk_loop t o)) → q + 1 ≡ to → Reaches code (at q (hold j z) frames w) (Comes (at to cells frames w))
     forget q to j z w has_ e =
         let last : q + length (forget_to t (walk_loop t o)) ≡ to = omega (arith, one, e) in
         subst (λ a. Reaches code (at q (hold j z) frames w) (Comes (at a cells frames w))) last
@@ -310,9 +310,9 @@ module _ (code : Code) (n : ℕ) (t : Site) (x : Variable) (turn : List Placed) 
 
     -- the turns from this member on; the one after it is what comes after it in this store
     abbrev WalkRun : ℕ → Type 0
-    WalkRun k = (j z : ℤ) (w : World) → w.ticks ≤ k → coming reverse set j w.store ≡ Ok z → Within code n w → Reaches code (at p (hold j z) frames w) (arrive ends frames (loop k turn_of j w))
+    WalkRun k = (j z : ℤ) (w : RunState) → w.ticks ≤ k → coming reverse set j w.store ≡ Ok z → Within code n w → Reaches code (at p (hold j z) frames w) (arrive ends frames (loop k turn_of j w))
 
-    next_run : (k : ℕ) → WalkRun k → (j z : ℤ) (w : World) → w.ticks ≤ k → Within code n w → Reaches code (at end (hold j z) frames w) (arrive ends frames (outcome_then (next_member t.line set y z GoesOn w) (go_on (loop k turn_of))))
+    next_run : (k : ℕ) → WalkRun k → (j z : ℤ) (w : RunState) → w.ticks ≤ k → Within code n w → Reaches code (at end (hold j z) frames w) (arrive ends frames (outcome_then (next_member t.line set y z GoesOn w) (go_on (loop k turn_of))))
     next_run k again j z w lek in_ =
         step_leads code next_place c w _ _ next_has refl
         (at_the_height h (own ++ cells) (with_bearer (owner_kept t o) w.store (own ++ cells) (λ o below. does o below)) low
@@ -332,21 +332,21 @@ module _ (code : Code) (n : ℕ) (t : Site) (x : Variable) (turn : List Placed) 
             subst (λ v. Leads code w v (arrive ends frames (loop k turn_of z w))) (sym (ap (λ (b : Bool). if b then back_if far false (hold j z) c else back_if far true (hold z a) c) some))
             (onwards (subst (λ q. Reaches code (at q (hold z a) frames w) (arrive ends frames (loop k turn_of z w))) (sym back) (again z a w lek known in_)))
 
-        goes : (b : OkOr Bool Trouble) → is_in set (Whole z) y w.store ≡ b → is_none z ≡ false → Leads code w (did t.line (if_ok (or_gone b) (λ _. turned (walk z) (coming reverse set z w.store))) (λ k'. walk_further far (walk j z) k' (own ++ cells) c)) (arrive ends frames (outcome_then (outcome_then (looked t.line (or_gone b) w) (λ b. choose b (WentOn (Again z)) (WentOn (Over false)))) (go_on (loop k turn_of))))
+        goes : (b : OkOr Bool Failure) → is_in set (Whole z) y w.store ≡ b → is_none z ≡ false → Leads code w (did t.line (if_ok (or_gone b) (λ _. turned (walk z) (coming reverse set z w.store))) (λ k'. walk_further far (walk j z) k' (own ++ cells) c)) (arrive ends frames (outcome_then (outcome_then (looked t.line (or_gone b) w) (λ b. choose b (WentOn (Again z)) (WentOn (Over false)))) (go_on (loop k turn_of))))
         goes (Ok true) q some =
             let a = in_set_joins reverse set z y w.store q in
             subst (λ v. Leads code w (did t.line (turned (walk z) v) (λ k'. walk_further far (walk j z) k' (own ++ cells) c)) (arrive ends frames (loop k turn_of z w))) (sym a.1)
             (further a.0 a.1 some)
         goes (Ok false) q some = breaks
         goes (Err (Fails kind)) q some = breaks
-        goes (Err Misfit) q some = whatever
+        goes (Err TypeError) q some = whatever
 
         sides : (b : Bool) → is_none z ≡ b → Leads code w (did t.line (if_ok (if b then Ok false else or_gone (is_in set (Whole z) y w.store)) (λ _. if b then Ok (walk (pos 0) (pos 0)) else turned (walk z) (coming reverse set z w.store))) (λ k'. walk_further far (walk j z) k' (own ++ cells) c)) (arrive ends frames (outcome_then (outcome_then (looked t.line (if b then Ok false else or_gone (is_in set (Whole z) y w.store)) w) (λ b. choose b (WentOn (Again z)) (WentOn (Over false)))) (go_on (loop k turn_of))))
         sides true q = let last : end + 1 + 1 ≡ end + 2 = omega arith in onwards (forget (end + 1) (end + 2) j z w over_has last)
         sides false q = goes (is_in set (Whole z) y w.store) refl q
 
     -- after a turn
-    after_run : (k : ℕ) → WalkRun k → (a : Turn) (j z : ℤ) (w : World) → w.ticks ≤ k → Within code n w → Reaches code (at (leads found a end) (hold j z) frames w) (arrive ends frames (outcome_then (next_member t.line set y z a w) (go_on (loop k turn_of))))
+    after_run : (k : ℕ) → WalkRun k → (a : Turn) (j z : ℤ) (w : RunState) → w.ticks ≤ k → Within code n w → Reaches code (at (leads found a end) (hold j z) frames w) (arrive ends frames (outcome_then (next_member t.line set y z a w) (go_on (loop k turn_of))))
     after_run k again GoesOn j z w lek in_ = next_run k again j z w lek in_
     after_run k again EndsLoop j z w lek in_ = let last : end + 1 + 1 ≡ end + 2 = omega arith in forget (end + 1) (end + 2) j z w over_has last
     after_run k again IsFound j z w lek in_ = forget (end + found) (end + found + 1) j z w found_has refl
@@ -367,9 +367,9 @@ module _ (code : Code) (n : ℕ) (t : Site) (x : Variable) (turn : List Placed) 
             ∙ then_then (visit t.line x m j (ticked a w)) (next_member t.line set y z) (go_on (loop k turn_of))
 
     -- the walk begins, or there is no member
-    begin_leads : (q skip : ℕ) (cells0 : List Value) (w : World) (r : OkOr ℤ Trouble) → q + 1 ≡ p → p + skip ≡ end + 1 → Within code n w → ((j : ℤ) → r ≡ Ok j → is_none j ≡ false → Follows reverse set w.store j) → Leads code w (begin_walk t.line skip (if_ok r (λ j. walk_at reverse set j w.store)) (own ++ cells) (core_at q cells0 frames w.store)) (arrive ends frames (outcome_then (looked t.line (turned (outset_of y) r) w) (over_members n t.line set reverse (visit t.line x m))))
+    begin_leads : (q skip : ℕ) (cells0 : List Value) (w : RunState) (r : OkOr ℤ Failure) → q + 1 ≡ p → p + skip ≡ end + 1 → Within code n w → ((j : ℤ) → r ≡ Ok j → is_none j ≡ false → Follows reverse set w.store j) → Leads code w (begin_walk t.line skip (if_ok r (λ j. walk_at reverse set j w.store)) (own ++ cells) (core_at q cells0 frames w.store)) (arrive ends frames (outcome_then (looked t.line (turned (outset_of y) r) w) (over_members n t.line set reverse (visit t.line x m))))
     begin_leads q skip cells0 w (Err (Fails kind)) to len_ in_ follows = breaks
-    begin_leads q skip cells0 w (Err Misfit) to len_ in_ follows = whatever
+    begin_leads q skip cells0 w (Err TypeError) to len_ in_ follows = whatever
     begin_leads q skip cells0 w (Ok j) to len_ in_ follows = sides (is_none j) refl
       where
         c : Core
@@ -404,7 +404,7 @@ module _ (code : Code) (n : ℕ) (t : Site) (x : Variable) (turn : List Placed) 
     after_walk = over_members n t.line set reverse (visit t.line x m)
 
     -- from the instruction with which the walk begins, at q
-    begins_at : (y : Option Value) (own cells : List Value) → Owned t o y own cells → (q end : ℕ) (cells0 : List Value) (frames : List Frame) (w : World) (r : OkOr ℤ Trouble) → HasAt code.places (q + 1) (turns ++ forget_to t (walk_loop t o)) → q + 1 + length turns ≡ end + 1 → HasAt code.places (end + found) (forget_to t (walk_loop t o)) → Within code n w → ((j : ℤ) → r ≡ Ok j → is_none j ≡ false → Follows reverse set w.store j) → Leads code w (begin_walk t.line (length turns) (if_ok r (λ j. walk_at reverse set j w.store)) (own ++ cells) (core_at q cells0 frames w.store)) (arrive (λ b w'. at (past_loop found b end) cells frames w') frames (outcome_then (looked t.line (turned (outset_of y) r) w) after_walk))
+    begins_at : (y : Option Value) (own cells : List Value) → Owned t o y own cells → (q end : ℕ) (cells0 : List Value) (frames : List Frame) (w : RunState) (r : OkOr ℤ Failure) → HasAt code.places (q + 1) (turns ++ forget_to t (walk_loop t o)) → q + 1 + length turns ≡ end + 1 → HasAt code.places (end + found) (forget_to t (walk_loop t o)) → Within code n w → ((j : ℤ) → r ≡ Ok j → is_none j ≡ false → Follows reverse set w.store j) → Leads code w (begin_walk t.line (length turns) (if_ok r (λ j. walk_at reverse set j w.store)) (own ++ cells) (core_at q cells0 frames w.store)) (arrive (λ b w'. at (past_loop found b end) cells frames w') frames (outcome_then (looked t.line (turned (outset_of y) r) w) after_walk))
     begins_at y own cells owned q end cells0 frames w r has size found_has in_ follows =
         let h0 = has_front code.places (q + 1) turns (forget_to t (walk_loop t o)) has in
         let h2 = subst (λ k. HasAt code.places k (forget_to t (walk_loop t o))) size (has_back code.places (q + 1) turns (forget_to t (walk_loop t o)) has) in
@@ -412,15 +412,15 @@ module _ (code : Code) (n : ℕ) (t : Site) (x : Variable) (turn : List Placed) 
         begin_leads y (q + 1) end own cells frames owned.low owned.reads owned.count h0 len one h2 found_has q (length turns) cells0 w r refl size in_ follows
 
     -- from the first or the last member
-    ends_run : (p end : ℕ) (cells : List Value) (frames : List Frame) (w : World) → length cells ≡ height t → HasAt code.places p (for_code t (Members x set o AtEnd reverse) turn) → p + length (for_code t (Members x set o AtEnd reverse) turn) ≡ end + 2 → HasAt code.places (end + found) (forget_to t (walk_loop t o)) → Within code n w → Reaches code (at p cells frames w) (arrive (λ b w'. at (past_loop found b end) cells frames w') frames (over n t.line (Members x set o AtEnd reverse) m w))
+    ends_run : (p end : ℕ) (cells : List Value) (frames : List Frame) (w : RunState) → length cells ≡ height t → HasAt code.places p (for_code t (Members x set o AtEnd reverse) turn) → p + length (for_code t (Members x set o AtEnd reverse) turn) ≡ end + 2 → HasAt code.places (end + found) (forget_to t (walk_loop t o)) → Within code n w → Reaches code (at p cells frames w) (arrive (λ b w'. at (past_loop found b end) cells frames w') frames (over n t.line (Members x set o AtEnd reverse) m w))
     ends_run p end cells frames w high has len found_has in_ =
-        let lives : Joined w.store.scene.heap = in_.says.1 in
+        let lives : Joined w.store.world.heap = in_.says.1 in
         let co : List Placed = owner_code t o in
         let last : List Placed = forget_to t (walk_loop t o) in
         let begin : Placed = place (owner_cell t o) (i.BeginSet reverse set (owner_kept t o) h (length turns)) in
         let q : ℕ = p + length co in
         let size : p + length co + 1 + length turns ≡ end + 1 = omega (arith, len, length-append co (begin ∷ (turns ++ last)), length-append turns last, one) in
-        let ends : Bool → World → MachineState = λ b w'. at (past_loop found b end) cells frames w' in
+        let ends : Bool → RunState → MachineState = λ b w'. at (past_loop found b end) cells frames w' in
         subst (λ z. Reaches code (at p cells frames w) (arrive ends frames z)) (look_then t.line (owner_value o w.store) (λ y s. turned (outset_of y) (begun reverse set y s)) after_walk w)
         (owner_join code n t o (begin ∷ (turns ++ last)) ends (λ y w'. outcome_then (look t.line (λ s. turned (outset_of y) (begun reverse set y s)) w') after_walk) p cells frames w high has in_ (λ y own owned has'.
         step_leads code begin (core_at q (own ++ cells) frames w.store) w _ _ has'.0 refl
@@ -438,9 +438,9 @@ module _ (code : Code) (n : ℕ) (t : Site) (x : Variable) (turn : List Placed) 
     abbrev member_part : Expression → List Placed
     member_part e = expression_code (owner_cell t o) (next (owner_cell t o)) e
 
-    from_run : (after : Bool) (e : Expression) (p end : ℕ) (cells : List Value) (frames : List Frame) (w : World) → length cells ≡ height t → HasAt code.places p (owner_code t o ++ (look_place ∷ (member_part e ++ (begin_place after ∷ (turns ++ forget_to t (walk_loop t o)))))) → p + length (owner_code t o ++ (look_place ∷ (member_part e ++ (begin_place after ∷ (turns ++ forget_to t (walk_loop t o)))))) ≡ end + 2 → HasAt code.places (end + found) (forget_to t (walk_loop t o)) → Within code n w → Reaches code (at p cells frames w) (arrive (λ b w'. at (past_loop found b end) cells frames w') frames (outcome_then (looked t.line (if_ok (if_ok (owner_value o w.store) (λ y. turned (λ n. y) (known_owner set y w.store))) (λ y. if_ok (member_value set e w.store) (λ v. turned (outset_of y) (begun_at reverse after set v y w.store)))) w) after_walk))
+    from_run : (after : Bool) (e : Expression) (p end : ℕ) (cells : List Value) (frames : List Frame) (w : RunState) → length cells ≡ height t → HasAt code.places p (owner_code t o ++ (look_place ∷ (member_part e ++ (begin_place after ∷ (turns ++ forget_to t (walk_loop t o)))))) → p + length (owner_code t o ++ (look_place ∷ (member_part e ++ (begin_place after ∷ (turns ++ forget_to t (walk_loop t o)))))) ≡ end + 2 → HasAt code.places (end + found) (forget_to t (walk_loop t o)) → Within code n w → Reaches code (at p cells frames w) (arrive (λ b w'. at (past_loop found b end) cells frames w') frames (outcome_then (looked t.line (if_ok (if_ok (owner_value o w.store) (λ y. turned (λ n. y) (known_owner set y w.store))) (λ y. if_ok (member_value set e w.store) (λ v. turned (outset_of y) (begun_at reverse after set v y w.store)))) w) after_walk))
     from_run after e p end cells frames w high has len found_has in_ =
-        let lives : Joined w.store.scene.heap = in_.says.1 in
+        let lives : Joined w.store.world.heap = in_.says.1 in
         let co : List Placed = owner_code t o in
         let ce : List Placed = member_part e in
         let last : List Placed = forget_to t (walk_loop t o) in
@@ -448,7 +448,7 @@ module _ (code : Code) (n : ℕ) (t : Site) (x : Variable) (turn : List Placed) 
         let q : ℕ = p + length co in
         let b : ℕ = q + 1 + length ce in
         let size : p + length co + 1 + length ce + 1 + length turns ≡ end + 1 = omega (arith, len, length-append co (look_place ∷ (ce ++ rest)), length-append ce rest, length-append turns last, one) in
-        let ends : Bool → World → MachineState = λ b w'. at (past_loop found b end) cells frames w' in
+        let ends : Bool → RunState → MachineState = λ b w'. at (past_loop found b end) cells frames w' in
         let at_member : Option Value → Value → Part Bool = λ y v w'. outcome_then (looked t.line (turned (outset_of y) (begun_at reverse after set v y w.store)) w') after_walk in
         let from_owner : Option Value → ℤ → Part Bool = λ y k w'. outcome_then (look t.line (value e) w') (at_member y) in
         subst (λ z. Reaches code (at p cells frames w) (arrive ends frames z)) (from_then t.line reverse after set e after_walk w (owner_value o w.store))
@@ -466,7 +466,7 @@ module _ (code : Code) (n : ℕ) (t : Site) (x : Variable) (turn : List Placed) 
         ∙ owned.reads w.store (λ o below. begin_walk t.line (length turns) (if_ok (begun_at reverse after set v o w.store) (λ j. walk_at reverse set j w.store)) below (core_at b (v ∷ (own ++ cells)) frames w.store)))
         (begins_at y own cells owned b end (v ∷ (own ++ cells)) frames w (begun_at reverse after set v y w.store) has''.1 size found_has in_ (λ j e some. begun_at_follows reverse after set v y j w.store lives e some))))))))
 
-    pub members_run : (start : Start) (p end : ℕ) (cells : List Value) (frames : List Frame) (w : World) → length cells ≡ height t → HasAt code.places p (for_code t (Members x set o start reverse) turn) → p + length (for_code t (Members x set o start reverse) turn) ≡ end + 2 → HasAt code.places (end + found) (forget_to t (walk_loop t o)) → Within code n w → Reaches code (at p cells frames w) (arrive (λ b w'. at (past_loop found b end) cells frames w') frames (over n t.line (Members x set o start reverse) m w))
+    pub members_run : (start : Start) (p end : ℕ) (cells : List Value) (frames : List Frame) (w : RunState) → length cells ≡ height t → HasAt code.places p (for_code t (Members x set o start reverse) turn) → p + length (for_code t (Members x set o start reverse) turn) ≡ end + 2 → HasAt code.places (end + found) (forget_to t (walk_loop t o)) → Within code n w → Reaches code (at p cells frames w) (arrive (λ b w'. at (past_loop found b end) cells frames w') frames (over n t.line (Members x set o start reverse) m w))
     members_run AtEnd p end cells frames w high has len found_has in_ = ends_run p end cells frames w high has len found_has in_
     members_run (From e) p end cells frames w high has len found_has in_ = from_run false e p end cells frames w high has len found_has in_
     members_run (After e) p end cells frames w high has len found_has in_ = from_run true e p end cells frames w high has len found_has in_

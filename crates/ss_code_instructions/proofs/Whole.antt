@@ -4,7 +4,7 @@ use Rattle.std.specs.Prelude.{◌≢◌, slice_get}
 use Rattle.ss_program.specs.Program.{Routine, Event, Program}
 use Rattle.ss_meaning.specs.Parts.{Returned, Stopped, Faulted, OutOfTicks, Wrong, Outcome, WentOn, Left}
 use Rattle.ss_meaning.specs.Statements.{effects}
-use Rattle.ss_meaning.specs.Meaning.{WentWrong, run_of, calls, first_world, meaning}
+use Rattle.ss_meaning.specs.Meaning.{WentWrong, run_of, calls, first_run_state, meaning}
 use Rattle.ss_code_instructions.specs.Instructions.{Placed, Lines}
 use Rattle.ss_code_instructions.specs.Instructions as i
 use Rattle.ss_code_instructions.specs.States.{MachineState, core_at}
@@ -95,10 +95,10 @@ module _ (p : Program) where
   -- ## MAIN, and the end of a run
 
   -- as a run begins the program says what its code says, and no set has a member
-  first_within : (input : List ℕ) (n : ℕ) → Within code n (first_world p input n)
+  first_within : (input : List ℕ) (n : ℕ) → Within code n (first_run_state p input n)
   first_within input n =
       let all : n ≤ n = omega arith in
-      let lives : Joined (first_world p input n).store.scene.heap = first_joined p.layout in
+      let lives : Joined (first_run_state p input n).store.world.heap = first_joined p.layout in
       record { ticks = all; says = (refl, lives) }
 
   main_end : (u : Site) (q : ℕ) (s : MachineState) (o : Outcome (Unit {0})) → slice_get code.places q ≡ Some (place u i.Leave) → (run_of o).ending ≢ WentWrong → Reaches code s (arrive (λ (a : Unit {0}) w'. at q [] [] w') [] o) → Reaches code s (Finishes (run_of o))
@@ -116,8 +116,8 @@ module _ (p : Program) where
       let t : Site = first_site (main_scope p) in
       let b : List Placed = block_code t 0 p.main in
       let last : List Placed = place t i.Leave ∷ [] in
-      main_end t (0 + length b) (start code input n) (effects (calls p n) n p.main (first_world p input n)) (has_back code.places 0 b last main_here).0 right
-      ((block_runs code n (calls p n) (calls_run code p program_linked n) t refl 0 p.main (has_front code.prints 0 (block_prints p.main) later_prints all_prints)).by 0 [] [] (first_world p input n) refl (has_front code.places 0 b last main_here) (first_within input n))
+      main_end t (0 + length b) (start code input n) (effects (calls p n) n p.main (first_run_state p input n)) (has_back code.places 0 b last main_here).0 right
+      ((block_runs code n (calls p n) (calls_run code p program_linked n) t refl 0 p.main (has_front code.prints 0 (block_prints p.main) later_prints all_prints)).by 0 [] [] (first_run_state p input n) refl (has_front code.places 0 b last main_here) (first_within input n))
 
   pub behaves : Behaves p code
   behaves = record {

@@ -7,7 +7,7 @@ use Rattle.ss_base.specs.declared.value.Value.{Value}
 use Rattle.ss_program.specs.Program.{Routine, Program}
 use Rattle.ss_meaning.specs.Values.{same_mode}
 use Rattle.ss_meaning.specs.Store.{prepended, first_values, taken_by_modes, appended, opened, front, yielded}
-use Rattle.ss_meaning.specs.Parts.{World, Returned, Stopped, Faulted, OutOfTicks, Wrong, Outcome, WentOn, Left, Part, outcome_then, needed, tick_from}
+use Rattle.ss_meaning.specs.Parts.{RunState, Returned, Stopped, Faulted, OutOfTicks, Wrong, Outcome, WentOn, Left, Part, outcome_then, needed, tick_from}
 use Rattle.ss_meaning.specs.Statements.{Calls, effects}
 use Rattle.ss_meaning.specs.Meaning.{with_locals, come_back, enclosed, routine_called, calls}
 use Rattle.ss_code_instructions.proofs.Keeping.{Where}
@@ -33,7 +33,7 @@ yielded_many zero count vs = front_many count vs
 yielded_many (suc k) count [] = tt
 yielded_many (suc k) count (v ∷ vs) = yielded_many k count vs
 
-back_such : (count : ℕ) (o : Option (List Value)) (ls : List Value) (w : World) → Where (AsWanted count) o → IfWentOn (AsWanted count) (outcome_then (needed o w) (λ vs w. WentOn vs (with_locals ls w)))
+back_such : (count : ℕ) (o : Option (List Value)) (ls : List Value) (w : RunState) → Where (AsWanted count) o → IfWentOn (AsWanted count) (outcome_then (needed o w) (λ vs w. WentOn vs (with_locals ls w)))
 back_such count None ls w h = tt
 back_such count (Some us) ls w h = h
 
@@ -45,14 +45,14 @@ come_such first count ls (Left (Faulted kind line) w) = tt
 come_such first count ls (Left OutOfTicks w) = tt
 come_such first count ls (Left Wrong w) = tt
 
-pub enclosed_such : (given others : List Mode) (body : Part (Unit {0})) (vs : List Value) (count : ℕ) (w : World) → IfWentOn (AsWanted count) (enclosed given others body vs count w)
+pub enclosed_such : (given others : List Mode) (body : Part (Unit {0})) (vs : List Value) (count : ℕ) (w : RunState) → IfWentOn (AsWanted count) (enclosed given others body vs count w)
 enclosed_such given others body vs count w = from (opened given others vs)
   where
     from : (o : Option (List Value)) → IfWentOn (AsWanted count) (outcome_then (needed o w) (λ ls w. come_back (length given) count w.store.locals (body (with_locals ls w))))
     from None = tt
     from (Some ls) = come_such (length given) count w.store.locals (body (with_locals ls w))
 
-called_such : (o : Option Routine) (h : Calls) (n : ℕ) (vs : List Value) (count : ℕ) (w : World) → IfWentOn (AsWanted count) (routine_called o h n vs count w)
+called_such : (o : Option Routine) (h : Calls) (n : ℕ) (vs : List Value) (count : ℕ) (w : RunState) → IfWentOn (AsWanted count) (routine_called o h n vs count w)
 called_such None h n vs count w = tt
 called_such (Some r) h n vs count w = sides (count == length r.yielding)
   where
@@ -60,7 +60,7 @@ called_such (Some r) h n vs count w = sides (count == length r.yielding)
     sides true = enclosed_such r.given (r.yielding ++ r.others) (effects h n r.body) vs count w
     sides false = tt
 
-pub calls_such : (p : Program) (n routine count : ℕ) (vs : List Value) (w : World) → IfWentOn (AsWanted count) ((calls p n).call routine vs count w)
+pub calls_such : (p : Program) (n routine count : ℕ) (vs : List Value) (w : RunState) → IfWentOn (AsWanted count) ((calls p n).call routine vs count w)
 calls_such p zero routine count vs w = tt
 calls_such p (suc n) routine count vs w = from w.ticks
   where

@@ -18,7 +18,7 @@ const NAME_WIDTH: usize = 24;
 
 /// What a listing shows addresses by: the constants, and how many global variables come before them.
 #[derive(Clone, Copy)]
-struct Names<'a> {
+struct AddressNames<'a> {
     constants: &'a [Value],
     globals: usize,
 }
@@ -52,7 +52,7 @@ fn add_constant(text: &mut Vec<u8>, value: &Value) -> Result<(), AllocError> {
 }
 
 // Where a value lies.
-fn add_address(text: &mut Vec<u8>, names: Names, address: Address) -> Result<(), AllocError> {
+fn add_address(text: &mut Vec<u8>, names: AddressNames, address: Address) -> Result<(), AllocError> {
     let number = address.number as usize;
     if address.mask != 0 {
         text.extend_from_slice(b"local ")?;
@@ -69,7 +69,7 @@ fn add_address(text: &mut Vec<u8>, names: Names, address: Address) -> Result<(),
 }
 
 // One of the things that an instruction works on.
-fn add_part(text: &mut Vec<u8>, names: Names, place: usize, part: Part) -> Result<(), AllocError> {
+fn add_part(text: &mut Vec<u8>, names: AddressNames, place: usize, part: Part) -> Result<(), AllocError> {
     match part {
         Part::Nothing => Ok(()),
         Part::From(address) => add_address(text, names, address),
@@ -97,7 +97,7 @@ fn add_part(text: &mut Vec<u8>, names: Names, place: usize, part: Part) -> Resul
 // What an instruction is called, and what it works on.
 fn add_detail(
     text: &mut Vec<u8>,
-    names: Names,
+    names: AddressNames,
     place: usize,
     detail: &Detail,
 ) -> Result<(), AllocError> {
@@ -145,7 +145,7 @@ fn add_line(text: &mut Vec<u8>, place: usize, words: &[u8]) -> Result<(), AllocE
 // What comes after the number of an instruction and a blank: what it is called, and what it works on, in their columns.
 fn words_of(
     alloc: Global,
-    names: Names,
+    names: AddressNames,
     place: usize,
     instruction: &Instruction,
 ) -> Result<Vec<u8>, AllocError> {
@@ -165,7 +165,7 @@ pub fn listing(
 ) -> Result<Vec<u8>, AllocError>
     ensures { IfOk result (λ text. AreLines (length instructions.now) text.items) }
 {
-    let names = Names { constants, globals };
+    let names = AddressNames { constants, globals };
     let mut text = Vec::new(alloc);
     for (place, instruction) in instructions.iter().enumerate() {
         let words = words_of(alloc, names, place, instruction)?;

@@ -17,13 +17,13 @@ use Rattle.ss_lex.specs.Parts.{part, part_for}
 use Rattle.ss_lex.specs.Words.{reserved, word_in_table}
 
 -- a row of the code's table, and of the definition's
-abbrev pub Row : Type 0
-Row = Bor (List ℕ) × Word
+abbrev pub WordRow : Type 0
+WordRow = Bor (List ℕ) × Word
 
-abbrev pub row_of : Row → List ℕ × Word
+abbrev pub row_of : WordRow → List ℕ × Word
 row_of row = (row.0.now, row.1)
 
-abbrev pub order : List ℕ → Row → Ordering
+abbrev pub order : List ℕ → WordRow → Ordering
 order spelling row = slice_cmp nat_cmp row.0.now spelling
 
 which : (b : Bool) → (b ≡ true) ⊎ (b ≡ false)
@@ -59,16 +59,16 @@ not_true : (a : Bool) → not a ≡ true → a ≡ false
 not_true true e = absurd cc
 not_true false e = refl
 
-rows_rise : (rows : List Row) → rises (map row_of rows) ≡ true → (k : ℕ) (d : Row) → suc k < length rows → is_lt (slice_cmp nat_cmp (get_or rows (suc k) d).0.now (get_or rows k d).0.now) ≡ false
+rows_rise : (rows : List WordRow) → rises (map row_of rows) ≡ true → (k : ℕ) (d : WordRow) → suc k < length rows → is_lt (slice_cmp nat_cmp (get_or rows (suc k) d).0.now (get_or rows k d).0.now) ≡ false
 unfolding rises
 rows_rise [] e k d lt = absurd (omega arith)
 rows_rise (a ∷ []) e k d lt = absurd (omega arith)
 rows_rise (a ∷ b ∷ rows) e zero d lt = not_true _ (both_true _ _ e).0
 rows_rise (a ∷ b ∷ rows) e (suc k) d lt = rows_rise (b ∷ rows) (both_true _ _ e).1 k d (omega arith)
 
-pub searchable : (rows : List Row) (first : ℕ) (spelling : List ℕ) → map row_of rows ≡ part_for first → IsNonDecreasingBy (λ row. ordering_index (order spelling row)) rows
+pub searchable : (rows : List WordRow) (first : ℕ) (spelling : List ℕ) → map row_of rows ≡ part_for first → IsNonDecreasingBy (λ row. ordering_index (order spelling row)) rows
 searchable rows first spelling e =
-    searchable_from_sorted nat_list_cmp_total (λ (row : Row). row.0.now) rows spelling
+    searchable_from_sorted nat_list_cmp_total (λ (row : WordRow). row.0.now) rows spelling
     (λ k d low high. let n : k + 1 ≡ suc k = omega arith in subst (λ m. is_lt (slice_cmp nat_cmp (get_or rows m d).0.now (get_or rows k d).0.now) ≡ false) (sym n) (rows_rise rows (ap rises e ∙ rises_for first) k d (omega arith)))
 
 -- ---- the part in which a spelling is found
@@ -219,13 +219,13 @@ unfolding is_found
 found_true None word e = absurd cc
 found_true (Some found) word e = ap (λ w. Some w) (same_true the_type (search rules) found word e)
 
-row_found : (table : List (List ℕ × Word)) (rows : List Row) → each_found table (map row_of rows) ≡ true → (i : ℕ) (d : Row) → i < length rows → word_in_table table (get_or rows i d).0.now ≡ Some (get_or rows i d).1
+row_found : (table : List (List ℕ × Word)) (rows : List WordRow) → each_found table (map row_of rows) ≡ true → (i : ℕ) (d : WordRow) → i < length rows → word_in_table table (get_or rows i d).0.now ≡ Some (get_or rows i d).1
 unfolding each_found
 row_found table [] e i d lt = absurd (omega arith)
 row_found table (row ∷ rows) e zero d lt = found_true _ _ (both_true _ _ e).0
 row_found table (row ∷ rows) e (suc i) d lt = row_found table rows (both_true _ _ e).1 i d (omega arith)
 
-pub found_at : (rows : List Row) (first : ℕ) (spelling : List ℕ) (i : ℕ) (d : Row) → map row_of rows ≡ part_for first → Some first ≡ slice_get spelling 0 → i < length rows → order spelling (get_or rows i d) ≡ Equal → Some (get_or rows i d).1 ≡ word_in_table reserved spelling
+pub found_at : (rows : List WordRow) (first : ℕ) (spelling : List ℕ) (i : ℕ) (d : WordRow) → map row_of rows ≡ part_for first → Some first ≡ slice_get spelling 0 → i < length rows → order spelling (get_or rows i d) ≡ Equal → Some (get_or rows i d).1 ≡ word_in_table reserved spelling
 found_at rows first spelling i d e begun lt here =
     let found = row_found (part_for first) rows (ap (each_found (part_for first)) e ∙ found_for first) i d lt in
     sym found ∙ ap (word_in_table (part_for first)) (equal_text (get_or rows i d).0.now spelling here) ∙ sym (found_by_first first spelling begun)
@@ -237,7 +237,7 @@ unfolding reserved
 none_empty [] e = refl
 none_empty (b ∷ bs) e = absurd cc
 
-none_equal : (rows : List Row) (spelling : List ℕ) → ((k : ℕ) (d : Row) → k < length rows → order spelling (get_or rows k d) ≡ Equal → ⊥) → None ≡ word_in_table (map row_of rows) spelling
+none_equal : (rows : List WordRow) (spelling : List ℕ) → ((k : ℕ) (d : WordRow) → k < length rows → order spelling (get_or rows k d) ≡ Equal → ⊥) → None ≡ word_in_table (map row_of rows) spelling
 none_equal [] spelling none = refl
 none_equal (row ∷ rows) spelling none =
     let rest = none_equal rows spelling (λ k d lt e. none (suc k) d (omega arith) e) in
@@ -246,7 +246,7 @@ none_equal (row ∷ rows) spelling none =
       | inr t ↦ rw t rest
     ]
 
-pub not_found : (rows : List Row) (first : ℕ) (spelling : List ℕ) (i : ℕ) → map row_of rows ≡ part_for first → Some first ≡ slice_get spelling 0 → IsPartitionPoint (λ row. order spelling row ≡ Less) (λ row. order spelling row ≡ Greater) rows i → None ≡ word_in_table reserved spelling
+pub not_found : (rows : List WordRow) (first : ℕ) (spelling : List ℕ) (i : ℕ) → map row_of rows ≡ part_for first → Some first ≡ slice_get spelling 0 → IsPartitionPoint (λ row. order spelling row ≡ Less) (λ row. order spelling row ≡ Greater) rows i → None ≡ word_in_table reserved spelling
 not_found rows first spelling i e begun (low, high) =
     none_equal rows spelling (λ k d lt here. elim (cases_lt k i) [
       | inl h ↦ (let p = low k d (omega arith) h in absurd cc)

@@ -5,7 +5,7 @@ ghost use Rattle.ss_lex.specs.Words.{word_in_table, reserved};
 use crate::word::Word;
 
 /// A row of a table: the spelling of a reserved word, and this word.
-type Row = (&'static [u8], Word);
+type WordRow = (&'static [u8], Word);
 
 // The reserved words, by their spelling, in the order of their bytes, in four parts.
 static A_TO_D: [(&[u8], Word); 29] = [
@@ -162,35 +162,35 @@ static S_TO_Y: [(&[u8], Word); 33] = [
 ];
 
 // The rows from A to D.
-fn a_to_d() -> &'static [Row]
+fn a_to_d() -> &'static [WordRow]
     ensures { map (λ row. (row.0.now, row.1)) result.now ≡ part 0 29 }
 {
     &A_TO_D
 }
 
 // The rows from E to L.
-fn e_to_l() -> &'static [Row]
+fn e_to_l() -> &'static [WordRow]
     ensures { map (λ row. (row.0.now, row.1)) result.now ≡ part 29 42 }
 {
     &E_TO_L
 }
 
 // The rows from M to R.
-fn m_to_r() -> &'static [Row]
+fn m_to_r() -> &'static [WordRow]
     ensures { map (λ row. (row.0.now, row.1)) result.now ≡ part 71 37 }
 {
     &M_TO_R
 }
 
 // The rows from S to Y.
-fn s_to_y() -> &'static [Row]
+fn s_to_y() -> &'static [WordRow]
     ensures { map (λ row. (row.0.now, row.1)) result.now ≡ part 108 33 }
 {
     &S_TO_Y
 }
 
 // The rows that have a word with this first byte, if it is reserved.
-fn rows_for(first: u8) -> &'static [Row]
+fn rows_for(first: u8) -> &'static [WordRow]
     ensures { map (λ row. (row.0.now, row.1)) result.now ≡ part_for first }
 {
     if first < b'E' {

@@ -8,7 +8,7 @@ use Rattle.ss_base.specs.declared.value.Value.{Value}
 use Rattle.ss_base.specs.declared.value.Value.TheVariants.{Whole, Text}
 use Rattle.ss_picture.specs.declared.items.Item.{Item}
 use Rattle.ss_picture.specs.declared.items.Item.TheVariants.{Is, Mean}
-use Rattle.ss_meaning.specs.Values.{Trouble, Fails, Misfit, due}
+use Rattle.ss_meaning.specs.Values.{Failure, Fails, TypeError, due}
 use Rattle.ss_meaning.specs.Store.{Store}
 use Rattle.ss_meaning.specs.Statistics.{mean}
 use Rattle.ss_meaning.specs.Fitting.{Hold}
@@ -74,13 +74,13 @@ module _ (e : Seen) (r : TwoRows) (at : ℕ) where
       record { later = b.later; rest = vs; is = b.is; lie = lie.1; modes = cc; shown = b.there }
   mean_of_first j n item has h s ks (Text t ∷ vs) given lie modes shown = absurd cc
 
--- ## A mean, by what the scene answers
+-- ## A mean, by what the world answers
 
 abbrev pub item_for : Result (ℤ × ℤ) FaultKind → Item
 item_for (Ok m) = Mean m.0 m.1
 item_for (Err kind) = Mean (pos 0) (pos 0)
 
-pub mean_is : (answer : Result (ℤ × ℤ) FaultKind) (m : Result (ℤ × ℤ) Trouble) → (IsRight m → m ≡ due answer) → (x : Item) → mean_item m ≡ Some x → x ≡ item_for answer
+pub mean_is : (answer : Result (ℤ × ℤ) FaultKind) (m : Result (ℤ × ℤ) Failure) → (IsRight m → m ≡ due answer) → (x : Item) → mean_item m ≡ Some x → x ≡ item_for answer
 mean_is (Ok a) (Ok m) h x e =
     let q : Ok m ≡ Ok a = h (λ q. cc) in
     let same : m ≡ a = cc in
@@ -89,7 +89,7 @@ mean_is (Ok a) (Ok m) h x e =
 mean_is (Err kind) (Ok m) h x e = let q : Ok m ≡ due (Err kind) = h (λ q. cc) in absurd cc
 mean_is (Ok a) (Err (Fails kind)) h x e = let q : Err (Fails kind) ≡ due (Ok a) = h (λ q. cc) in absurd cc
 mean_is (Err found) (Err (Fails kind)) h x e = let is : Mean (pos 0) (pos 0) ≡ x = cc in sym is
-mean_is answer (Err Misfit) h x e = absurd cc
+mean_is answer (Err TypeError) h x e = absurd cc
 
 -- the place after the cells of an item is one
 pub place_small : (e : Seen) (r : TwoRows) (at : ℕ) (k : ItemKind) → CanShowOne e r at k → length r.numbers < 2 ^ 63 → at < 2 ^ 64 → at + cells_of k < 2 ^ 64

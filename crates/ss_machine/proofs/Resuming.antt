@@ -18,7 +18,7 @@ use Rattle.ss_machine.proofs.Inputs.{reads_so, finds_so}
 pub stands_ticked : (w : Compiled) (c : Core) (here : Here) (s : State) (t : ℕ) → Represents w c (situated here s) → Represents w c (situated here (record s { ticks = t }))
 stands_ticked w c here s t h = record {
   reached = h.reached;
-  holds = record { place = h.holds.place; held = h.holds.held; scene = h.holds.scene; even = h.holds.even; line = h.holds.line };
+  holds = record { place = h.holds.place; held = h.holds.held; world = h.holds.world; even = h.holds.even; line = h.holds.line };
 }
 
 pub situated_ticked : (code : Generated) (here : Here) (s : State) (t : ℕ) → IsSituated code (situated here s) → IsSituated code (situated here (record s { ticks = t }))

@@ -32,17 +32,17 @@ module _ (here : Here) (s : State) (number cell : ℕ) (l : RunningLines) (befor
   abbrev pub Hands : Compiled → Type 0
   Hands w = slice_get w.run.prints number ≡ Some l
 
-  pub all_sent : SentAll s.scene s.rows (here.frame + cell) l before after → Wrote Hands here s (r.Print number cell) before after s (record { place = here.place + 1; frame = here.frame })
+  pub all_sent : SentAll s.world s.rows (here.frame + cell) l before after → Wrote Hands here s (r.Print number cell) before after s (record { place = here.place + 1; frame = here.frame })
   all_sent h = record {
     bytes = lines_with l.pictures h.items;
     took = h.took;
     goes = λ w c there ready. goes_on w c here s number cell ready l there h.items h.shown;
   }
 
-  pub part_sent : SentPart s.scene s.rows (here.frame + cell) l before after → WrotePart Hands here s (r.Print number cell) before after
+  pub part_sent : SentPart s.world s.rows (here.frame + cell) l before after → WrotePart Hands here s (r.Print number cell) before after
   part_sent h = record { part = h.part; took = h.took; within = by h.within }
     where
-      by : (h.part ≡ []) ⊎ ((items : List Item) × (rest : List ℕ) × AreShown s.scene s.rows (here.frame + cell) l.items items × (lines_with l.pictures items ≡ h.part ++ rest))
+      by : (h.part ≡ []) ⊎ ((items : List Item) × (rest : List ℕ) × AreShown s.world s.rows (here.frame + cell) l.items items × (lines_with l.pictures items ≡ h.part ++ rest))
           → (h.part ≡ []) ⊎ ((w : Compiled) (c : Core) → Hands w → (ready : Ready w c here s (r.Print number cell)) → (rest : List ℕ) × Sending here s (r.Print number cell) w c ready (h.part ++ rest))
       by (inl none) = inl none
       by (inr x) = inr (λ w c there ready. (x.1, subst (Sending here s (r.Print number cell) w c ready) x.3 (sends_shown w c here s number cell ready l there x.0 x.2)))

@@ -26,8 +26,8 @@ use Rattle.ss_machine_frames.specs.Holding.{AllAt, CallsAt}
 use Rattle.ss_machine_frames.proofs.Entering.{cleared_all, cleared_below, cleared_long, value_texts}
 use Rattle.ss_machine_frames.proofs.Places.{agree_on, agree_within, all_agree}
 use Rattle.ss_machine_instructions.specs.declared.state.State.{State}
-use Rattle.ss_machine_instructions.specs.Doing.{Compiled, scene_of}
-use Rattle.ss_machine.specs.Beginning.{IsLaidOut, IsFirstScene, IsFirstState, first_here, values_laid, firsts_laid, none_laid}
+use Rattle.ss_machine_instructions.specs.Doing.{Compiled, world_of}
+use Rattle.ss_machine.specs.Beginning.{IsLaidOut, IsFirstWorld, IsFirstState, first_here, values_laid, firsts_laid, none_laid}
 use Rattle.ss_machine.specs.Situations.{IsCodeOf, situated}
 use Rattle.ss_machine.specs.Start.{IsAtStart}
 use Rattle.ss_machine.proofs.Laying.{laid_at, laid_agrees, laid_even, laid_long, firsts_long}
@@ -89,17 +89,17 @@ cleared_texts r i (m ∷ ms) = cleared_texts (with_value r i (first_value m)) (i
 pub frame_small : (code : Generated) (s : State) → IsFirstState code s → length code.globals + length code.run.constants < 2 ^ 63
 frame_small code s first = omega (arith, first.rows.room, first.rows.small)
 
--- ## The scene
+-- ## The world
 
--- what a scene is that holds no entity, with the histories of the system begun
-scene_first : (w : Compiled) (code : Generated) (s : State) → IsCodeOf code w → IsFirstScene code s.scene → (input : List ℕ) → (begin_store w.code input).scene ≡ scene_of s.scene input
-scene_first w code s of e input =
+-- what a world is that holds no entity, with the histories of the system begun
+world_first : (w : Compiled) (code : Generated) (s : State) → IsCodeOf code w → IsFirstWorld code s.world → (input : List ℕ) → (begin_store w.code input).world ≡ world_of s.world input
+world_first w code s of e input =
     let said = of.said in
     let layout : code.said.layout ≡ w.code.layout = ap (λ (x : Said). x.layout) said ∙ sym (ap (λ (k : Code). k.layout) of.compiled.code) in
     let setting : code.said.setting ≡ w.code.setting = ap (λ (x : Said). x.setting) said ∙ sym (ap (λ (k : Code). k.setting) of.compiled.code) in
     let ties : code.said.ties ≡ w.code.ties = ap (λ (x : Said). x.ties) said ∙ sym (ap (λ (k : Code). k.ties) of.compiled.code) in
-    let histories = subst (λ l. columns_of s.scene.histories ≡ starting l System (int_eq (pos 0)) (pos 0) code.said.setting.statistics (no_histories code.said.setting.statistics)) layout e.histories in
-    let all = subst (λ t. columns_of s.scene.histories ≡ starting w.code.layout System (int_eq (pos 0)) (pos 0) t.statistics (no_histories t.statistics)) setting histories in
+    let histories = subst (λ l. columns_of s.world.histories ≡ starting l System (int_eq (pos 0)) (pos 0) code.said.setting.statistics (no_histories code.said.setting.statistics)) layout e.histories in
+    let all = subst (λ t. columns_of s.world.histories ≡ starting w.code.layout System (int_eq (pos 0)) (pos 0) t.statistics (no_histories t.statistics)) setting histories in
     let disciplines = e.disciplines ∙ ap (λ t. t.disciplines) setting in
     let notices = e.notices ∙ ap (λ t. t.notices) setting in
     let statistics = e.statistics ∙ ap (λ t. t.statistics) setting in
@@ -139,7 +139,7 @@ at_start code s first w of input =
           room = omega (arith, room, size, long);
           small = omega (arith, h.small, long);
         };
-        scene = scene_first w code s of first.scene input;
+        world = world_first w code s of first.world input;
         even = ap (λ (r : TwoRows). length r.texts) h.is ∙ cleared_texts h.grown from code.run.main.others.items ∙ h.even ∙ sym long;
         line = first.line;
       };
@@ -151,23 +151,23 @@ at_start code s first w of input =
 pub main_sized : (code : Generated) → IsGenerated code → IsSized code.run.main
 main_sized code z = z.2.code.main.sized
 
--- a scene as it is made is the first one
-pub scene_made : (code : Generated) (layout : PlainLayout) (disciplines : List Discipline) (notices : List Notices) (shapes : List (List TieShape)) (statistics : List Statistic) (answer : Result Seen AllocError)
+-- a world as it is made is the first one
+pub world_made : (code : Generated) (layout : PlainLayout) (disciplines : List Discipline) (notices : List Notices) (shapes : List (List TieShape)) (statistics : List Statistic) (answer : Result Seen AllocError)
     → layout ≡ code.said.layout → disciplines ≡ code.said.setting.disciplines → notices ≡ code.said.setting.notices → shapes ≡ code.said.ties → statistics ≡ code.said.setting.statistics
-    → IfOk answer (λ scene. scene ≡ record { disciplines = disciplines; notices = notices; statistics = statistics; heap = first_state layout; time = pos 0; pending = none_pending shapes; histories = scene.histories })
-    → IfOk answer (λ scene. columns_of scene.histories ≡ starting layout System (int_eq (pos 0)) (pos 0) statistics (no_histories statistics))
-    → IfOk answer (λ scene. IsFirstScene code scene)
-scene_made code layout disciplines notices shapes statistics (Ok scene) l d n t s is histories = record {
+    → IfOk answer (λ world. world ≡ record { disciplines = disciplines; notices = notices; statistics = statistics; heap = first_state layout; time = pos 0; pending = none_pending shapes; histories = world.histories })
+    → IfOk answer (λ world. columns_of world.histories ≡ starting layout System (int_eq (pos 0)) (pos 0) statistics (no_histories statistics))
+    → IfOk answer (λ world. IsFirstWorld code world)
+world_made code layout disciplines notices shapes statistics (Ok world) l d n t s is histories = record {
   disciplines = ap (λ (x : Seen). x.disciplines) is ∙ d;
   notices = ap (λ (x : Seen). x.notices) is ∙ n;
   statistics = ap (λ (x : Seen). x.statistics) is ∙ s;
   heap = ap (λ (x : Seen). x.heap) is ∙ ap first_state l;
   time = ap (λ (x : Seen). x.time) is;
   pending = ap (λ (x : Seen). x.pending) is ∙ ap none_pending t;
-  histories = subst (λ k. columns_of scene.histories ≡ starting k System (int_eq (pos 0)) (pos 0) code.said.setting.statistics (no_histories code.said.setting.statistics)) l
-      (subst (λ j. columns_of scene.histories ≡ starting layout System (int_eq (pos 0)) (pos 0) j (no_histories j)) s histories);
+  histories = subst (λ k. columns_of world.histories ≡ starting k System (int_eq (pos 0)) (pos 0) code.said.setting.statistics (no_histories code.said.setting.statistics)) l
+      (subst (λ j. columns_of world.histories ≡ starting layout System (int_eq (pos 0)) (pos 0) j (no_histories j)) s histories);
 }
-scene_made code layout disciplines notices shapes statistics (Err e) l d n t s is histories = is
+world_made code layout disciplines notices shapes statistics (Err e) l d n t s is histories = is
 
 -- rows as they are laid
 pub laid : (code : Generated) (all grown rows : TwoRows) → all ≡ values_laid (firsts_laid none_laid code.globals) code.run.constants → Grown all grown → length grown.texts ≡ length grown.numbers

@@ -136,22 +136,22 @@ module _ (w : Compiled) (c : Core) (here : Here) (s : State) (number cell : ℕ)
   lie = subst (λ k. AllAt s.rows k values) (sym begins) parts.values
 
   -- whatever items are shown of what lies there, the lines are made of them
-  pub given_are : (items : List Item) → AreShown s.scene s.rows (here.frame + cell) l.items items → prints.given ≡ items
+  pub given_are : (items : List Item) → AreShown s.world s.rows (here.frame + cell) l.items items → prints.given ≡ items
   given_are items shown =
       shown c.store values prints.given lie block.values
       (ap (values_shown (map kind_of_item l.items) values) (sym (seen_is w c here s (r.Print number cell) ready)) ∙ prints.shown)
 
-  pub take_given : TakeAll s.scene s.rows (here.frame + cell) l
+  pub take_given : TakeAll s.world s.rows (here.frame + cell) l
   take_given items shown = subst (λ xs. take_all (flat_map picture_fields l.pictures) xs ≡ true) (given_are items shown) prints.fields
 
-  pub sends_shown : (items : List Item) → AreShown s.scene s.rows (here.frame + cell) l.items items → Sending here s (r.Print number cell) w c ready (lines_with l.pictures items)
+  pub sends_shown : (items : List Item) → AreShown s.world s.rows (here.frame + cell) l.items items → Sending here s (r.Print number cell) w c ready (lines_with l.pictures items)
   sends_shown items shown = record {
     core = core_at (c.place + 1) below c.frames c.store;
     sends = subst (λ xs. act w.code ready.placed.line ready.placed.instruction c ≡ Sends (lines_with l.pictures xs) (core_at (c.place + 1) below c.frames c.store)) (given_are items shown) prints.sends;
     input = refl;
   }
 
-  pub goes_on : (items : List Item) (shown : AreShown s.scene s.rows (here.frame + cell) l.items items) → SendingOn here s (r.Print number cell) w c ready (lines_with l.pictures items) s (record { place = here.place + 1; frame = here.frame })
+  pub goes_on : (items : List Item) (shown : AreShown s.world s.rows (here.frame + cell) l.items items) → SendingOn here s (r.Print number cell) w c ready (lines_with l.pictures items) s (record { place = here.place + 1; frame = here.frame })
   unfolding sends_shown
   goes_on items shown = record {
     sending = sends_shown items shown;
@@ -168,7 +168,7 @@ module _ (w : Compiled) (c : Core) (here : Here) (s : State) (number cell : ℕ)
       let same : y.0 ≡ lines_of_running l = cc in
       subst (λ (x : Lines). ItemsFit w.program x.items y.2.0) same y.2.1
 
-  can_from : (ks : List ItemKind) (ms : List Mode) (k : ℕ) → ItemsFit w.program (map kind_of_item ks) ms → k + length (item_modes ks) ≤ length s.rows.numbers → CanShow s.scene s.rows k ks
+  can_from : (ks : List ItemKind) (ms : List Mode) (k : ℕ) → ItemsFit w.program (map kind_of_item ks) ms → k + length (item_modes ks) ≤ length s.rows.numbers → CanShow s.world s.rows k ks
   can_from [] ms k fit room = tt
   can_from (shows.Number ∷ ks) [] k fit room = absurd fit
   can_from (shows.Number ∷ ks) (m ∷ ms) k fit room = (omega (arith, room), can_from ks ms (k + 1) fit (omega (arith, room)))
@@ -184,7 +184,7 @@ module _ (w : Compiled) (c : Core) (here : Here) (s : State) (number cell : ℕ)
     can_from ks ms (k + 1) fit.2 (omega (arith, room)),
   )
 
-  pub can_show : CanShow s.scene s.rows (here.frame + cell) l.items
+  pub can_show : CanShow s.world s.rows (here.frame + cell) l.items
   can_show =
       let long = cells_long (length modes) c.cells [] block.taken block.is in
       let deep = deep_here w c here s (r.Print number cell) ready in

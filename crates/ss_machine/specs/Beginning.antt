@@ -37,10 +37,10 @@ pub record IsLaidOut (code : Generated) (rows : TwoRows) : Type 0 where
   pub small : length grown.numbers < 2 ^ 63
   pub is : rows ≡ cleared grown (length code.globals + length code.run.constants) code.run.main.others.items
 
--- ## The scene
+-- ## The world
 
 -- no entity, nothing pending, at the time 0, with the histories of the system begun
-pub record IsFirstScene (code : Generated) (e : Seen) : Type 0 where
+pub record IsFirstWorld (code : Generated) (e : Seen) : Type 0 where
   pub disciplines : e.disciplines ≡ code.said.setting.disciplines
   pub notices : e.notices ≡ code.said.setting.notices
   pub statistics : e.statistics ≡ code.said.setting.statistics
@@ -54,7 +54,7 @@ pub record IsFirstScene (code : Generated) (e : Seen) : Type 0 where
 pub record IsFirstState (code : Generated) (s : State) : Type 0 where
   pub rows : IsLaidOut code s.rows
   pub frames : s.frames ≡ []
-  pub scene : IsFirstScene code s.scene
+  pub world : IsFirstWorld code s.world
   pub ticks : s.ticks ≡ 0
   pub steps : s.steps ≡ 0
   pub line : s.fault_line ≡ None

@@ -1,7 +1,7 @@
 //! The first state of a machine.
 
 ghost use Rattle.std.specs.Prelude.{◌≡◌, ◌+◌, ◌<◌, ◌^◌, length, IfOk, OnOk};
-ghost use Rattle.ss_machine.specs.Beginning.{IsLaidOut, values_laid, firsts_laid, IsFirstScene, IsFirstState, first_here};
+ghost use Rattle.ss_machine.specs.Beginning.{IsLaidOut, values_laid, firsts_laid, IsFirstWorld, IsFirstState, first_here};
 ghost use Rattle.ss_machine.specs.Start.{IsAtStart};
 ghost use Rattle.ss_machine.specs.Situations.{situated};
 
@@ -12,7 +12,7 @@ use ss_machine_frames::frames::Frames;
 use ss_machine_frames::rows::Rows;
 use ss_machine_instructions::flow::Ending;
 use ss_machine_instructions::state::State;
-use ss_machine_world::scene::Scene;
+use ss_machine_world::world::World;
 use std::alloc::{AllocError, Global};
 
 // First values of modes come after others.
@@ -72,13 +72,13 @@ fn notices_of(alloc: Global, code: &Code) -> Result<Vec<NoticeClass>, AllocError
 }
 
 // The world before the first instruction.
-fn first_scene(alloc: Global, code: &Code) -> Result<Scene, AllocError>
-    ensures { IfOk result (λ scene. IsFirstScene code.now scene) }
+fn first_world(alloc: Global, code: &Code) -> Result<World, AllocError>
+    ensures { IfOk result (λ world. IsFirstWorld code.now world) }
 {
     let layout = layout_of(code)?;
     let disciplines = disciplines_of(alloc, code)?;
     let notices = notices_of(alloc, code)?;
-    Scene::new(
+    World::new(
         alloc,
         layout,
         disciplines,
@@ -93,11 +93,11 @@ pub fn first_state(alloc: Global, code: &Code) -> Result<State, AllocError>
     ensures { IfOk result (λ state. IsFirstState code.now state) }
 {
     let rows = first_rows(alloc, code)?;
-    let scene = first_scene(alloc, code)?;
+    let world = first_world(alloc, code)?;
     Ok(State {
         rows,
         frames: Frames::new(alloc),
-        scene,
+        world,
         alloc,
         ticks: 0,
         steps: 0,

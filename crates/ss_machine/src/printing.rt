@@ -85,11 +85,11 @@ fn print_from<W: FaultyWrite>(
     from: usize,
     sink: &mut Sink<W>,
 ) -> Result<(), Ending>
-    requires can { CanShow state.now.scene state.now.rows from lines.now.items }
+    requires can { CanShow state.now.world state.now.rows from lines.now.items }
     requires small { length state.now.rows.numbers < 2 ^ 63 }
-    requires fields { TakeAll state.now.scene state.now.rows from lines.now }
-    ensures ok { OnOk result (SentAll state.now.scene state.now.rows from lines.now (W.contents sink.old.writer) (W.contents sink.new.writer)) }
-    ensures err { OnErr result (SentPart state.now.scene state.now.rows from lines.now (W.contents sink.old.writer) (W.contents sink.new.writer)) }
+    requires fields { TakeAll state.now.world state.now.rows from lines.now }
+    ensures ok { OnOk result (SentAll state.now.world state.now.rows from lines.now (W.contents sink.old.writer) (W.contents sink.new.writer)) }
+    ensures err { OnErr result (SentPart state.now.world state.now.rows from lines.now (W.contents sink.old.writer) (W.contents sink.new.writer)) }
     ensures unsent { (e : EndingSeen) → result ≡ Err e → IsUnsent e }
     ensures output { IsErrOf result Ending.NoOutput → HasRisen (W.faults sink.old.writer) (W.faults sink.new.writer) }
     ensures never_falls { HasRisenBy 0 (W.faults sink.old.writer) (W.faults sink.new.writer) }

@@ -37,11 +37,11 @@ impl Buffers {
 
 // A mean as an item. It was looked at before, so that there is one.
 fn mean_item(state: &State, statistic: usize, entity: i64) -> Item
-    requires { HasValidSubject state.now.scene statistic }
-    ensures shown { (o : Option ValueSeen) → RefersToSubject state.now.scene statistic o entity → (s : Store) (x : ItemSeen) → mean_item (mean statistic o (with_seen s state.now.scene)) ≡ Some x → x ≡ result }
+    requires { HasValidSubject state.now.world statistic }
+    ensures shown { (o : Option ValueSeen) → RefersToSubject state.now.world statistic o entity → (s : Store) (x : ItemSeen) → mean_item (mean statistic o (with_seen s state.now.world)) ≡ Some x → x ≡ result }
     ensures printable { IsPrintable result }
 {
-    match state.scene.mean(statistic, entity) {
+    match state.world.mean(statistic, entity) {
         Ok((sum, number)) => Item::Mean(sum, number),
         Err(_) => Item::Mean(0, 0),
     }
@@ -49,8 +49,8 @@ fn mean_item(state: &State, statistic: usize, entity: i64) -> Item
 
 // The item of a kind, which takes the value at a place, if it takes one.
 fn item_of(state: &State, kind: ItemKind, at: usize) -> Item
-    requires { CanShowOne state.now.scene state.now.rows at kind }
-    ensures shown { IsShown state.now.scene state.now.rows at kind result }
+    requires { CanShowOne state.now.world state.now.rows at kind }
+    ensures shown { IsShown state.now.world state.now.rows at kind result }
     ensures printable { IsPrintable result }
 {
     match kind {
@@ -81,9 +81,9 @@ pub(crate) fn show(
     kinds: &[ItemKind],
     from: usize,
 ) -> Result<(), AllocError>
-    requires can { CanShow state.now.scene state.now.rows from kinds.now }
+    requires can { CanShow state.now.world state.now.rows from kinds.now }
     requires small { length state.now.rows.numbers < 2 ^ 63 }
-    ensures shown { OnOk result (AreShown state.now.scene state.now.rows from kinds.now items.new.items) }
+    ensures shown { OnOk result (AreShown state.now.world state.now.rows from kinds.now items.new.items) }
     ensures printable { OnOk result (AllByRecursion IsPrintable items.new.items) }
 {
     // The checker needs to see the type of what an item holds.

@@ -9,7 +9,7 @@ use Rattle.ss_base.specs.declared.value.Value.TheVariants.{Whole}
 use Rattle.ss_world.specs.State.{known_in}
 use Rattle.ss_world.specs.SortKey.{SortKey}
 use Rattle.ss_world.specs.declared.ties.Tie.{Tie}
-use Rattle.ss_meaning.specs.Values.{Trouble, if_ok, sure}
+use Rattle.ss_meaning.specs.Values.{Failure, if_ok, sure}
 use Rattle.ss_meaning.specs.Store.{Notices, Store}
 use Rattle.ss_meaning.specs.Events.{Ranked, ranked, ranked_from, ties_of, filed_notice}
 use Rattle.ss_machine_world.specs.Classes.{has_keys}
@@ -47,12 +47,12 @@ no_keys (k ∷ ks) e = absurd cc
 -- ## A notice is filed
 
 module _ (e : Seen) (class : ℕ) (n t : ℤ) (c : IsNoticeClass e class) where
-  abbrev by_rank : Store → ℤ → Option Ranked → OkOr Store Trouble
+  abbrev by_rank : Store → ℤ → Option Ranked → OkOr Store Failure
   by_rank s m o = if_ok (sure o) (λ r. if_ok (ties_of class (Whole n) (with_seen s e) r.said.ties) (λ ties. scheduled_known (record { time = t; rank = r.rank; ties = ties }) m (with_seen s e)))
 
   -- the notice is not there
   pub none_filed : (kind : FaultKind) → known_in e.heap class n ≡ Err kind → ChangesWithMemory (filed_notice class (Whole n) t) e e (Err (Fault kind))
-  none_filed kind known = (λ s. ap (λ (r : OkOr ℤ Trouble). if_ok {B = Store} r (λ m. by_rank s m (ranked class (with_seen s e)))) (not_there e class n s c.within kind known), refl)
+  none_filed kind known = (λ s. ap (λ (r : OkOr ℤ Failure). if_ok {B = Store} r (λ m. by_rank s m (ranked class (with_seen s e)))) (not_there e class n s c.within kind known), refl)
 
   module _ (known : known_in e.heap class n ≡ Ok tt) where
     -- its key
@@ -61,9 +61,9 @@ module _ (e : Seen) (class : ℕ) (n t : ℤ) (c : IsNoticeClass e class) where
 
     filed_by : (s : Store) (ties : List Tie) → ties_of class (Whole n) (with_seen s e) c.ranked.said.ties ≡ Ok ties → filed_notice class (Whole n) t (with_seen s e) ≡ scheduled_known (key ties) n (with_seen s e)
     filed_by s ties frozen =
-        ap (λ (r : OkOr ℤ Trouble). if_ok {B = Store} r (λ m. by_rank s m (ranked class (with_seen s e)))) (is_there e class n s c.within known)
+        ap (λ (r : OkOr ℤ Failure). if_ok {B = Store} r (λ m. by_rank s m (ranked class (with_seen s e)))) (is_there e class n s c.within known)
         ∙ ap (by_rank s n) c.is
-        ∙ ap (λ (r : OkOr (List Tie) Trouble). if_ok {B = Store} r (λ ties. scheduled_known (key ties) n (with_seen s e))) frozen
+        ∙ ap (λ (r : OkOr (List Tie) Failure). if_ok {B = Store} r (λ ties. scheduled_known (key ties) n (with_seen s e))) frozen
 
     -- it is filed under its key, or is not
     pub files : (ties : List Tie) (new : Seen) (b : Bool) → ((s : Store) → ties_of class (Whole n) (with_seen s e) c.ranked.said.ties ≡ Ok ties) → DoesIf (scheduled_known (key ties) n) b e new → DoesIf (filed_notice class (Whole n) t) b e new
@@ -85,6 +85,6 @@ module _ (e : Seen) (class : ℕ) (n t : ℤ) (c : IsNoticeClass e class) where
     not_filed Memory h = (
       λ s.
           let ties = ties_there e class n s c.within known c.ranked.said.ties c.fields in
-          subst (λ (r : OkOr Store Trouble). IsOk r) (sym (filed_by s ties.0 ties.1)) (h (key ties.0) refl s),
+          subst (λ (r : OkOr Store Failure). IsOk r) (sym (filed_by s ties.0 ties.1)) (h (key ties.0) refl s),
       refl,
     )

@@ -11,7 +11,7 @@ use Rattle.ss_base.specs.declared.value.Value.{Value}
 use Rattle.ss_base.specs.declared.value.Value.TheVariants.{Whole}
 use Rattle.ss_world.specs.State.{State, Record, modes_of, and_then, entity_in, known_in, value_in, no_value}
 use Rattle.ss_world.specs.declared.ties.Tie.{Tie}
-use Rattle.ss_meaning.specs.Values.{Trouble, Fails, if_ok, turned, due, where_fit}
+use Rattle.ss_meaning.specs.Values.{Failure, Fails, if_ok, turned, due, where_fit}
 use Rattle.ss_meaning.specs.Store.{Store}
 use Rattle.ss_meaning.specs.Entities.{field_at, entity, attribute}
 use Rattle.ss_meaning.specs.Events.{ties_of}
@@ -45,7 +45,7 @@ module _ (e : Seen) (class : ℕ) (n : ℤ) (s : Store) (within : class < length
 
     pub attribute_is : (field : ℕ) → field < length (modes_of e.heap.layout class) → attribute class field (Whole n) (with_seen s e) ≡ due (value_in e.heap class field n)
     attribute_is field inside =
-        ap (λ (r : OkOr ℤ Trouble). if_ok {B = Value} r (λ m. where_fit (is_some (field_at class field (with_seen s e))) (due (value_in e.heap class field m)))) is_there
+        ap (λ (r : OkOr ℤ Failure). if_ok {B = Value} r (λ m. where_fit (is_some (field_at class field (with_seen s e))) (due (value_in e.heap class field m)))) is_there
         ∙ ap (λ b. where_fit b (due (value_in e.heap class field n))) (there (modes_of e.heap.layout class) field inside)
 
     -- all ties are found
@@ -56,25 +56,25 @@ module _ (e : Seen) (class : ℕ) (n : ℤ) (s : Store) (within : class < length
         let rest = ties_there keys (All-tail (HasKeyField e.heap.layout class) key keys all) in
         let first : attribute class key.field (Whole n) (with_seen s e) ≡ Ok v.0 = attribute_is key.field (All-head (HasKeyField e.heap.layout class) key keys all) ∙ ap due v.1 in (
           record { value = v.0; high = key.high } ∷ rest.0,
-          ap (λ (r : OkOr Value Trouble). if_ok {B = List Tie} r (λ v. turned (λ ts. record { value = v; high = key.high } ∷ ts) (ties_of class (Whole n) (with_seen s e) keys))) first
-              ∙ ap (λ (r : OkOr (List Tie) Trouble). turned (λ ts. record { value = v.0; high = key.high } ∷ ts) r) rest.1,
+          ap (λ (r : OkOr Value Failure). if_ok {B = List Tie} r (λ v. turned (λ ts. record { value = v; high = key.high } ∷ ts) (ties_of class (Whole n) (with_seen s e) keys))) first
+              ∙ ap (λ (r : OkOr (List Tie) Failure). turned (λ ts. record { value = v.0; high = key.high } ∷ ts) r) rest.1,
         )
 
 -- ## One tie after the other
 
-pub adds_tie : (f : Store → OkOr Value Trouble) (v : Value) (high : Bool) (e : Seen) (old new : List Tie) (r : OkOr (Unit {0}) Refused) → ((s : Store) → f (with_seen s e) ≡ Ok v) → IsTied v high old new r → AddsTie f high e old new r
+pub adds_tie : (f : Store → OkOr Value Failure) (v : Value) (high : Bool) (e : Seen) (old new : List Tie) (r : OkOr (Unit {0}) Refused) → ((s : Store) → f (with_seen s e) ≡ Ok v) → IsTied v high old new r → AddsTie f high e old new r
 adds_tie f v high e old new (Ok u) found h = (v, h, found)
 adds_tie f v high e old new (Err refused) found h = tt
 
 pub none_frozen : (class : ℕ) (x : Value) (s : Store) (keys : List RankKey) → ties_of class x s keys ≡ turned (λ us. [] ++ us) (ties_of class x s keys)
 none_frozen class x s keys = by (ties_of class x s keys)
   where
-    by : (r : OkOr (List Tie) Trouble) → r ≡ turned {B = List Tie} (λ us. [] ++ us) r
+    by : (r : OkOr (List Tie) Failure) → r ≡ turned {B = List Tie} (λ us. [] ++ us) r
     by (Ok us) = refl
     by (Err t) = refl
 
 module _ (class : ℕ) (x : Value) (s : Store) (ts : List Tie) (keys : List RankKey) {key : RankKey} {rest : List RankKey} (next : keys ≡ key ∷ rest) where
-  tie_added : (t : Tie) (r : OkOr (List Tie) Trouble) → turned {B = List Tie} (λ us. ts ++ us) (turned {B = List Tie} (λ us. t ∷ us) r) ≡ turned (λ us. (ts ++ t ∷ []) ++ us) r
+  tie_added : (t : Tie) (r : OkOr (List Tie) Failure) → turned {B = List Tie} (λ us. ts ++ us) (turned {B = List Tie} (λ us. t ∷ us) r) ≡ turned (λ us. (ts ++ t ∷ []) ++ us) r
   tie_added t (Ok us) = ap (λ (us : List Tie). Ok us) (sym (append_assoc ts (t ∷ []) us))
   tie_added t (Err u) = refl
 

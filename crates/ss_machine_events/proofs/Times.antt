@@ -1,4 +1,4 @@
--- What passes in time, as a scene has it, and as the meaning has it.
+-- What passes in time, as a world has it, and as the meaning has it.
 use Rattle.std.proofs.Common.{◌≡◌, ℤ, Bool, true, false, List, Option, Some, None, Ok, Err, refl, ap}
 use Rattle.std.specs.Prelude.{int_lt, IsOk, Result as OkOr, if◌then◌else◌}
 use Rattle.ss_base.specs.declared.fault.FaultKind.{FaultKind}
@@ -15,7 +15,7 @@ use Rattle.ss_meaning.specs.Events.{not_past}
 use Rattle.ss_machine_time.specs.Times.{Times, Schedules, TakesNext}
 use Rattle.ss_machine_world.specs.Seen.{Seen, IsRight}
 
--- a scene, by what passes in time in it
+-- a world, by what passes in time in it
 abbrev pub timed_as : List Discipline → List Notices → State → Times → Seen
 timed_as ds ns h t = record {
   disciplines = ds;
@@ -33,7 +33,7 @@ came t n = Some (t, n)
 
 -- whether a time is past is never without an answer
 pub not_past_right : (t : ℤ) (s : Store) → IsRight (not_past t s)
-not_past_right t s = by (int_lt t s.scene.time)
+not_past_right t s = by (int_lt t s.world.time)
   where
     by : (b : Bool) → IsRight (unless_fault b PastTime (Ok t))
     by true e = cc

@@ -12,7 +12,7 @@ use Rattle.ss_world.specs.declared.ties.Tie.{Tie}
 use Rattle.ss_world.specs.SortKey.{SortKey}
 use Rattle.ss_world.specs.PendingList.{scheduled}
 use Rattle.ss_world.specs.State.{modes_of}
-use Rattle.ss_meaning.specs.Values.{Trouble, Fails, if_ok, turned, due, unless_fault}
+use Rattle.ss_meaning.specs.Values.{Failure, Fails, if_ok, turned, due, unless_fault}
 use Rattle.ss_meaning.specs.Store.{Notices, Store, with_pending}
 use Rattle.ss_meaning.specs.Events.{Ranked, ranked_from, not_past}
 use Rattle.ss_machine_world.specs.Seen.{Seen, GoesWell, with_seen}
@@ -20,8 +20,8 @@ use Rattle.ss_machine_world.specs.Seen.{Seen, GoesWell, with_seen}
 -- ## Times
 
 -- so many units from now
-abbrev pub time_after : (units : ℤ) → Store → Result ℤ Trouble
-time_after units s = if_ok (due (plus_of s.scene.time units)) (λ t. not_past t s)
+abbrev pub time_after : (units : ℤ) → Store → Result ℤ Failure
+time_after units s = if_ok (due (plus_of s.world.time units)) (λ t. not_past t s)
 
 -- ## Classes of notices
 
@@ -48,20 +48,20 @@ IsTied v high old new (Ok u) = new ≡ old ++ record { value = v; high = high } 
 IsTied v high old new (Err refused) = Unit {0}
 
 -- the value that an operation finds is added after other ties, or there is a reason why not
-abbrev pub AddsTie : (Store → Result Value Trouble) → (high : Bool) → Seen → (old new : List Tie) → Result (Unit {0}) Refused → Type 0
+abbrev pub AddsTie : (Store → Result Value Failure) → (high : Bool) → Seen → (old new : List Tie) → Result (Unit {0}) Refused → Type 0
 AddsTie f high e old new (Ok u) = (v : Value) × (new ≡ old ++ record { value = v; high = high } ∷ []) × ((s : Store) → f (with_seen s e) ≡ Ok v)
 AddsTie f high e old new (Err refused) = Unit {0}
 
 -- ## Filing
 
 -- an operation says whether it did what it does; if not, nothing has changed
-abbrev pub DoesIf : (Store → Result Store Trouble) → (is_done : Bool) → (old new : Seen) → Type 0
+abbrev pub DoesIf : (Store → Result Store Failure) → (is_done : Bool) → (old new : Seen) → Type 0
 DoesIf f true old new = (s : Store) → f (with_seen s old) ≡ Ok (with_seen s new)
 DoesIf f false old new = new ≡ old
 
 -- what filing a notice does once its key is known
-abbrev pub scheduled_known : SortKey → (notice : ℤ) → Store → Result Store Trouble
-scheduled_known key n s = unless_fault (int_lt key.time s.scene.time) PastTime (turned (with_pending s) (due (scheduled key n s.scene.pending)))
+abbrev pub scheduled_known : SortKey → (notice : ℤ) → Store → Result Store Failure
+scheduled_known key n s = unless_fault (int_lt key.time s.world.time) PastTime (turned (with_pending s) (due (scheduled key n s.world.pending)))
 
 -- why a notice is not filed for a time: for the fault that is due to each key of this time, or none is
 abbrev pub IsUnfiled : (time notice : ℤ) → Seen → Refused → Type 0

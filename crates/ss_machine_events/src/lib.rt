@@ -1,4 +1,4 @@
-//! Scheduling and the coming of events: what is done to a scene that a time decides.
+//! Scheduling and the coming of events: what is done to a world that a time decides.
 #![tactic(auto)]
 
 pub mod coming;

@@ -49,15 +49,15 @@ module _ (w : Compiled) (c : Core) (here : Here) (s : State) (run : Running) (r 
 
   -- ## Classes
 
-  class_here : (class : ℕ) (k : ClassLayout) → slice_get w.program.layout.classes class ≡ Some k → slice_get s.scene.heap.layout.classes class ≡ Some k
+  class_here : (class : ℕ) (k : ClassLayout) → slice_get w.program.layout.classes class ≡ Some k → slice_get s.world.heap.layout.classes class ≡ Some k
   class_here class k e = ap (λ (l : Layout). slice_get l.classes class) (layout_is w c here s run r) ∙ e
 
-  single_within : (class : ℕ) → is_created_singly (kind_of_class w.program class) ≡ true → class < length s.scene.heap.layout.classes
+  single_within : (class : ℕ) → is_created_singly (kind_of_class w.program class) ≡ true → class < length s.world.heap.layout.classes
   single_within class e =
       let k = single_said w.program class e in
-      slice_get_within s.scene.heap.layout.classes class k.0 (class_here class k.0 k.1)
+      slice_get_within s.world.heap.layout.classes class k.0 (class_here class k.0 k.1)
 
-  single_here : (class : ℕ) → is_created_singly (kind_of_class w.program class) ≡ true → is_single (slice_get s.scene.heap.layout.classes class) ≡ true
+  single_here : (class : ℕ) → is_created_singly (kind_of_class w.program class) ≡ true → is_single (slice_get s.world.heap.layout.classes class) ≡ true
   single_here class e = let k = single_said w.program class e in ap is_single (class_here class k.0 k.1) ∙ k.2
 
   -- ## Create
@@ -65,14 +65,14 @@ module _ (w : Compiled) (c : Core) (here : Here) (s : State) (run : Running) (r 
   abbrev pub Creates : (class : ℕ) → Address → Type 0
   Creates class to = To w.code w.run.constants r.placed to (λ t. Is w.code w.run.constants r.placed (i.Create class t))
 
-  pub creates_within : (class : ℕ) (to : Address) → Creates class to → class < length s.scene.heap.layout.classes
+  pub creates_within : (class : ℕ) (to : Address) → Creates class to → class < length s.world.heap.layout.classes
   creates_within class to z = let y = subst SuitsHere z.2 (suits w c here s run r) in single_within class y.0
 
-  pub creates_single : (class : ℕ) (to : Address) → Creates class to → is_single (slice_get s.scene.heap.layout.classes class) ≡ true
+  pub creates_single : (class : ℕ) (to : Address) → Creates class to → is_single (slice_get s.world.heap.layout.classes class) ≡ true
   creates_single class to z = let y = subst SuitsHere z.2 (suits w c here s run r) in single_here class y.0
 
   -- the number of the new entity goes to its target, in the store that has it
-  pub creates : (class : ℕ) (to : Address) (n : ℤ) (e : Seen) → Creates class to → Makes (made_one class) s.scene e (Ok n) → Delivers w c r.placed.line does here (record s { scene = e }) to (Ok (Whole n))
+  pub creates : (class : ℕ) (to : Address) (n : ℤ) (e : Seen) → Creates class to → Makes (made_one class) s.world e (Ok n) → Delivers w c r.placed.line does here (record s { world = e }) to (Ok (Whole n))
   creates class to n e z made =
       let is = z.2 in
       let y = subst SuitsHere is (suits w c here s run r) in
@@ -103,23 +103,23 @@ module _ (w : Compiled) (c : Core) (here : Here) (s : State) (run : Running) (r 
         holds = record {
           place = r.holds.place;
           held = record { globals = h.globals; fixed = h.fixed; locals = h.locals; cells = h.cells; open_calls = h.open_calls; room = h.room; small = h.small };
-          scene = refl;
+          world = refl;
           even = r.holds.even;
           line = r.holds.line;
         };
       }
 
-  pub created : (class : ℕ) (to : Address) (n : ℤ) (e : Seen) (new : State) (result : Option (Unit {0})) → Creates class to → Makes (made_one class) s.scene e (Ok n) → IsDelivered here (record s { scene = e }) new result to (Ok (Whole n)) → Performs (is_due r.placed.instruction) w r.placed.line does s new (on_after here result)
+  pub created : (class : ℕ) (to : Address) (n : ℤ) (e : Seen) (new : State) (result : Option (Unit {0})) → Creates class to → Makes (made_one class) s.world e (Ok n) → IsDelivered here (record s { world = e }) new result to (Ok (Whole n)) → Performs (is_due r.placed.instruction) w r.placed.line does s new (on_after here result)
   created class to n e new result z made delivered =
       let h = delivered w c r.placed.line does (creates class to n e z made) in
       calm w c here s run r new (on_after here result) (ap is_due z.2) (record { leads = h.leads; ticks = h.ticks; steps = h.steps })
 
-  pub creates_not : (class : ℕ) (to : Address) (e : Seen) (refused : Refused) (new : State) (result : Option Here) → Creates class to → Makes (made_one class) s.scene e (Err refused) → new ≡ refused_by refused (record s { scene = e }) → result ≡ None → Performs (is_due r.placed.instruction) w r.placed.line does s new result
+  pub creates_not : (class : ℕ) (to : Address) (e : Seen) (refused : Refused) (new : State) (result : Option Here) → Creates class to → Makes (made_one class) s.world e (Err refused) → new ≡ refused_by refused (record s { world = e }) → result ≡ None → Performs (is_due r.placed.instruction) w r.placed.line does s new result
   creates_not class to e refused new result z made same none =
       calm w c here s run r new result (ap is_due z.2)
       (refuses w c here s run r (made_one class) e refused new result
       (λ kind not_so. ap (λ x. act w.code r.placed.line x c) z.2 ∙ ap (λ q. deliver_with r.placed.line z.0 q c.cells c) not_so)
-      (makes_not (made_one class) s.scene e refused made) same none)
+      (makes_not (made_one class) s.world e refused made) same none)
 
   -- ## CreateAll
 
@@ -137,12 +137,12 @@ module _ (w : Compiled) (c : Core) (here : Here) (s : State) (run : Running) (r 
   pub count_within : (class variable : ℕ) → CreatesAll class variable → variable < length s.rows.numbers
   count_within class variable is = global_within w c here s run r variable (good_count class variable is).1
 
-  pub all_within : (class variable : ℕ) → CreatesAll class variable → class < length s.scene.heap.layout.classes
+  pub all_within : (class variable : ℕ) → CreatesAll class variable → class < length s.world.heap.layout.classes
   all_within class variable is =
       let k = class_said w.program class Permanent (good_count class variable is).0 in
-      slice_get_within s.scene.heap.layout.classes class k.0 (class_here class k.0 k.1)
+      slice_get_within s.world.heap.layout.classes class k.0 (class_here class k.0 k.1)
 
-  pub all_permanent : (class variable : ℕ) → CreatesAll class variable → is_permanent (slice_get s.scene.heap.layout.classes class) ≡ true
+  pub all_permanent : (class variable : ℕ) → CreatesAll class variable → is_permanent (slice_get s.world.heap.layout.classes class) ≡ true
   all_permanent class variable is =
       let k = class_said w.program class Permanent (good_count class variable is).0 in
       ap is_permanent (class_here class k.0 k.1) ∙ ap (λ (kind : ClassKind). not (comes_singly kind)) k.2
@@ -153,19 +153,19 @@ module _ (w : Compiled) (c : Core) (here : Here) (s : State) (run : Running) (r 
       ap (λ x. act w.code r.placed.line x c) is
       ∙ ap (λ o. did r.placed.line (if_ok (sure o) (λ v. if_ok (number_of v) (λ n. created_all_known class n c.store))) (λ t. onward c.cells c t)) (global_is w c here s run r variable n (good_count class variable is).1 e)
 
-  pub creates_all : (class variable : ℕ) (n : ℤ) (e : Seen) (new : State) (result : Option Here) → CreatesAll class variable → slice_get s.rows.numbers variable ≡ Some n → ChangesWithMemory (created_all_known class n) s.scene e (Ok tt) → new ≡ record s { scene = e } → result ≡ on_at here → Performs (is_due r.placed.instruction) w r.placed.line does s new result
+  pub creates_all : (class variable : ℕ) (n : ℤ) (e : Seen) (new : State) (result : Option Here) → CreatesAll class variable → slice_get s.rows.numbers variable ≡ Some n → ChangesWithMemory (created_all_known class n) s.world e (Ok tt) → new ≡ record s { world = e } → result ≡ on_at here → Performs (is_due r.placed.instruction) w r.placed.line does s new result
   creates_all class variable n e new result is at made same q =
       calm w c here s run r new result (ap is_due is)
       (goes_seeing w c here s run r c.cells e new result
       (all_is class variable n is at ∙ ap (λ q. did r.placed.line q (λ t. onward c.cells c t)) (ap (created_all_known class n) (seen_is w c here s run r) ∙ made c.store))
       r.holds.held.cells same q)
 
-  pub creates_all_not : (class variable : ℕ) (n : ℤ) (e : Seen) (refused : Refused) (new : State) (result : Option Here) → CreatesAll class variable → slice_get s.rows.numbers variable ≡ Some n → ChangesWithMemory (created_all_known class n) s.scene e (Err refused) → new ≡ refused_by refused (record s { scene = e }) → result ≡ None → Performs (is_due r.placed.instruction) w r.placed.line does s new result
+  pub creates_all_not : (class variable : ℕ) (n : ℤ) (e : Seen) (refused : Refused) (new : State) (result : Option Here) → CreatesAll class variable → slice_get s.rows.numbers variable ≡ Some n → ChangesWithMemory (created_all_known class n) s.world e (Err refused) → new ≡ refused_by refused (record s { world = e }) → result ≡ None → Performs (is_due r.placed.instruction) w r.placed.line does s new result
   creates_all_not class variable n e refused new result is at made same none =
       calm w c here s run r new result (ap is_due is)
       (refuses w c here s run r (created_all_known class n) e refused new result
       (λ kind not_so. all_is class variable n is at ∙ ap (λ q. did r.placed.line q (λ t. onward c.cells c t)) not_so)
-      (changes_not (created_all_known class n) s.scene e refused made) same none)
+      (changes_not (created_all_known class n) s.world e refused made) same none)
 
   -- ## Destroy
 
@@ -177,13 +177,13 @@ module _ (w : Compiled) (c : Core) (here : Here) (s : State) (run : Running) (r 
       let y = subst SuitsHere z.2 (suits w c here s run r) in
       read_within (site w c here s run r) (located w c here s run r) z.0 Integer r.placed.cells y.1.0 entity y.1.1 z.1 (deep_here w c here s run r)
 
-  pub destroys_within : (class : ℕ) (entity : Address) → Destroys class entity → class < length s.scene.heap.layout.classes
+  pub destroys_within : (class : ℕ) (entity : Address) → Destroys class entity → class < length s.world.heap.layout.classes
   destroys_within class entity z = let y = subst SuitsHere z.2 (suits w c here s run r) in single_within class y.0
 
-  pub destroys_single : (class : ℕ) (entity : Address) → Destroys class entity → is_single (slice_get s.scene.heap.layout.classes class) ≡ true
+  pub destroys_single : (class : ℕ) (entity : Address) → Destroys class entity → is_single (slice_get s.world.heap.layout.classes class) ≡ true
   destroys_single class entity z = let y = subst SuitsHere z.2 (suits w c here s run r) in single_here class y.0
 
-  pub destroys : (class : ℕ) (entity : Address) (n : ℤ) (e : Seen) (answer : OkOr (Unit {0}) FaultKind) (new : State) (result : Option Here) → Destroys class entity → slice_get s.rows.numbers (place_at here.frame entity) ≡ Some n → Changes (without class (Whole n)) s.scene e answer → new ≡ faulted_by answer (record s { scene = e }) → result ≡ on_after here (done_unless_fault answer) → Performs (is_due r.placed.instruction) w r.placed.line does s new result
+  pub destroys : (class : ℕ) (entity : Address) (n : ℤ) (e : Seen) (answer : OkOr (Unit {0}) FaultKind) (new : State) (result : Option Here) → Destroys class entity → slice_get s.rows.numbers (place_at here.frame entity) ≡ Some n → Changes (without class (Whole n)) s.world e answer → new ≡ faulted_by answer (record s { world = e }) → result ≡ on_after here (done_unless_fault answer) → Performs (is_due r.placed.instruction) w r.placed.line does s new result
   destroys class entity n e answer new result z at changed same q =
       let is = z.2 in
       let y = subst SuitsHere is (suits w c here s run r) in

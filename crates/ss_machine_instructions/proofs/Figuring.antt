@@ -22,7 +22,7 @@ use Rattle.ss_program.specs.declared.sections.Subject.TheVariants.{OfVariable, O
 use Rattle.ss_program.specs.declared.sections.Statistic.{Statistic}
 use Rattle.ss_program.specs.Program.{Program}
 use Rattle.ss_program.specs.WellTyped.{IsAlone, IsOfEntities, GoodSubject}
-use Rattle.ss_meaning.specs.Values.{Trouble, if_ok, due}
+use Rattle.ss_meaning.specs.Values.{Failure, if_ok, due}
 use Rattle.ss_meaning.specs.Store.{Store, put}
 use Rattle.ss_meaning.specs.Histories.{home, same_subject, noted}
 use Rattle.ss_meaning.specs.Places.{assigned_variable}
@@ -103,7 +103,7 @@ same_value (Err kind) = refl
 
 -- what noted a variable that was assigned before is the whole assignment
 note_after : (k : ℕ) (v : Value) (s t : Store) → put (Global k) v s ≡ Ok t → assigned_variable (Global k) v s ≡ noted (OfVariable k) (pos 0) v t
-note_after k v s t e = ap (λ (q : OkOr Store Trouble). if_ok q (noted (OfVariable k) (pos 0) v)) e
+note_after k v s t e = ap (λ (q : OkOr Store Failure). if_ok q (noted (OfVariable k) (pos 0) v)) e
 
 -- ## Notes of attributes
 
@@ -122,20 +122,20 @@ module _ (w : Compiled) (c : Core) (here : Here) (s : State) (run : Running) (r 
 
   -- ## Of whom a statistic is asked
 
-  subject_there : (j : ℕ) (t : Subject) → subject_in s.scene.statistics j ≡ Some t → (u : Statistic) × (slice_get w.program.statistics j ≡ Some u) × (u.subject ≡ t)
+  subject_there : (j : ℕ) (t : Subject) → subject_in s.world.statistics j ≡ Some t → (u : Statistic) × (slice_get w.program.statistics j ≡ Some u) × (u.subject ≡ t)
   subject_there j t e = by (slice_get w.program.statistics j) refl (sym (ap (λ ss. subject_in ss j) (statistics_are w c here s run r)) ∙ e)
     where
       by : (o : Option Statistic) → slice_get w.program.statistics j ≡ o → option_map (λ (u : Statistic). u.subject) o ≡ Some t → (u : Statistic) × (slice_get w.program.statistics j ≡ Some u) × (u.subject ≡ t)
       by None at e = absurd cc
       by (Some u) at e = let same : u.subject ≡ t = cc in (u, at, same)
 
-  good_there : (j : ℕ) (t : Subject) → subject_in s.scene.statistics j ≡ Some t → GoodSubject w.program t
+  good_there : (j : ℕ) (t : Subject) → subject_in s.world.statistics j ≡ Some t → GoodSubject w.program t
   good_there j t e =
       let u = subject_there j t e in
       subst (GoodSubject w.program) u.2 (every_get (λ (x : Statistic). GoodSubject w.program x.subject) w.program.statistics j u.0 r.compiled.typed.statistics u.1)
 
   -- its subject is one of the layout
-  pub has_subject : (j : ℕ) → HasValidSubject s.scene j
+  pub has_subject : (j : ℕ) → HasValidSubject s.world j
   has_subject j = λ t e. subst (λ (l : Layout). IsSubject l t) (sym (layout_is w c here s run r)) (subject_good w.program t (good_there j t e))
 
   -- the number that is read at the address of a bearer is that of the entity
@@ -149,20 +149,20 @@ module _ (w : Compiled) (c : Core) (here : Here) (s : State) (run : Running) (r 
   refers_one (OfAttribute class field) z f = refl
   refers_one (OfCount set) z f = ap (λ (whose : Owner). owner_as whose (Some (Whole z))) (owner_said (slice_get w.program.layout.sets set) (Class f.0) f.1)
 
-  one_subject : (j : ℕ) (t : Subject) (u : Statistic) → subject_in s.scene.statistics j ≡ Some t → slice_get w.program.statistics j ≡ Some u → u.subject ≡ t
+  one_subject : (j : ℕ) (t : Subject) (u : Statistic) → subject_in s.world.statistics j ≡ Some t → slice_get w.program.statistics j ≡ Some u → u.subject ≡ t
   one_subject j t u e at =
       let q : Some u.subject ≡ Some t = sym (ap (option_map (λ (x : Statistic). x.subject)) at) ∙ sym (ap (λ ss. subject_in ss j) (statistics_are w c here s run r)) ∙ e in
       cc
 
-  pub refers_to : (j : ℕ) (x : Bearer) (o : Option Value) (z : ℤ) → SubjectFits w.program j x → Refers x o z → RefersToSubject s.scene j o z
+  pub refers_to : (j : ℕ) (x : Bearer) (o : Option Value) (z : ℤ) → SubjectFits w.program j x → Refers x o z → RefersToSubject s.world j o z
   refers_to j None o z fits refers = λ t e.
       let same = one_subject j t fits.0 e fits.1 in
       let plain = subst (λ (l : Layout). RefersTo (home l t) None (pos 0)) (sym (layout_is w c here s run r)) (refers_alone t (subst (IsAlone w.program) same fits.2)) in
-      subst (λ o. RefersTo (home s.scene.heap.layout t) o z) (sym refers.0) (subst (λ z. RefersTo (home s.scene.heap.layout t) None z) (sym refers.1) plain)
+      subst (λ o. RefersTo (home s.world.heap.layout t) o z) (sym refers.0) (subst (λ z. RefersTo (home s.world.heap.layout t) None z) (sym refers.1) plain)
   refers_to j (Some x) o z fits refers = λ t e.
       let same = one_subject j t fits.0 e fits.1 in
       let plain = subst (λ (l : Layout). RefersTo (home l t) (Some (Whole z)) z) (sym (layout_is w c here s run r)) (refers_one t z (subst (IsOfEntities w.program) same fits.2)) in
-      subst (λ o. RefersTo (home s.scene.heap.layout t) o z) (sym refers) plain
+      subst (λ o. RefersTo (home s.world.heap.layout t) o z) (sym refers) plain
 
   -- ## Figure
 
@@ -171,7 +171,7 @@ module _ (w : Compiled) (c : Core) (here : Here) (s : State) (run : Running) (r 
       let y = subst SuitsHere z.2.2 (suits w c here s run r) in
       bearer_within (site w c here s run r) (located w c here s run r) z.0 r.placed.cells y.1.0 entity y.1.1 z.1 (deep_here w c here s run r)
 
-  pub figures : (fold : Fold) (j : ℕ) (entity to : Address) (n : ℤ) (answer : OkOr ℤ FaultKind) → Of w.code w.run.constants r.placed entity (λ o. To w.code w.run.constants r.placed to (λ t. Is w.code w.run.constants r.placed (i.Figure fold j o t))) → slice_get s.rows.numbers (place_at here.frame entity) ≡ Some n → ((o : Option Value) → RefersToSubject s.scene j o n → Looks (figure fold j o) s.scene (seen.as_value answer)) → Delivers w c r.placed.line does here s to (as_value answer)
+  pub figures : (fold : Fold) (j : ℕ) (entity to : Address) (n : ℤ) (answer : OkOr ℤ FaultKind) → Of w.code w.run.constants r.placed entity (λ o. To w.code w.run.constants r.placed to (λ t. Is w.code w.run.constants r.placed (i.Figure fold j o t))) → slice_get s.rows.numbers (place_at here.frame entity) ≡ Some n → ((o : Option Value) → RefersToSubject s.world j o n → Looks (figure fold j o) s.world (seen.as_value answer)) → Delivers w c r.placed.line does here s to (as_value answer)
   figures fold j entity to n answer z e looks =
       let is = z.2.2 in
       let y = subst SuitsHere is (suits w c here s run r) in
@@ -179,7 +179,7 @@ module _ (w : Compiled) (c : Core) (here : Here) (s : State) (run : Running) (r 
       let target = z.2.0 in
       answers w c here s run r (figure fold j b.value) (as_value answer) to target Integer y.1.0 y.1.2.0 b.below
       (ap (λ x. act w.code r.placed.line x c) is ∙ b.is (λ x below. deliver r.placed.line target (figure fold j x c.store) below c))
-      (subst (Looks (figure fold j b.value) s.scene) (same_value answer) (looks b.value (refers_to j z.0 b.value n y.0 b.refers)))
+      (subst (Looks (figure fold j b.value) s.world) (same_value answer) (looks b.value (refers_to j z.0 b.value n y.0 b.refers)))
       y.1.2.1 z.2.1 (deep_at w c here s run r (c.place + 1) r.placed.locals y.1.2.0 y.1.2.2) (number_right answer) b.modes b.cells
 
   -- ## LookMean
@@ -189,7 +189,7 @@ module _ (w : Compiled) (c : Core) (here : Here) (s : State) (run : Running) (r 
       let y = subst SuitsHere z.2 (suits w c here s run r) in
       bearer_within (site w c here s run r) (located w c here s run r) z.0 r.placed.cells y.1.0 entity y.1.1 z.1 (deep_here w c here s run r)
 
-  pub looks_at_mean : (j : ℕ) (entity : Address) (n : ℤ) (answer : OkOr (Unit {0}) FaultKind) (new : State) (result : Option Here) → Of w.code w.run.constants r.placed entity (λ o. Is w.code w.run.constants r.placed (i.LookMean j o)) → slice_get s.rows.numbers (place_at here.frame entity) ≡ Some n → ((o : Option Value) → RefersToSubject s.scene j o n → Looks (without_value (mean j o)) s.scene answer) → new ≡ faulted_by answer s → result ≡ on_after here (done_unless_fault answer) → Performs (is_due r.placed.instruction) w r.placed.line does s new result
+  pub looks_at_mean : (j : ℕ) (entity : Address) (n : ℤ) (answer : OkOr (Unit {0}) FaultKind) (new : State) (result : Option Here) → Of w.code w.run.constants r.placed entity (λ o. Is w.code w.run.constants r.placed (i.LookMean j o)) → slice_get s.rows.numbers (place_at here.frame entity) ≡ Some n → ((o : Option Value) → RefersToSubject s.world j o n → Looks (without_value (mean j o)) s.world answer) → new ≡ faulted_by answer s → result ≡ on_after here (done_unless_fault answer) → Performs (is_due r.placed.instruction) w r.placed.line does s new result
   looks_at_mean j entity n answer new result z e looks same q =
       let is = z.2 in
       let y = subst SuitsHere is (suits w c here s run r) in
@@ -218,17 +218,17 @@ module _ (w : Compiled) (c : Core) (here : Here) (s : State) (run : Running) (r 
       let at : slice_get s.rows.numbers i ≡ Some z = ap (slice_get s.rows.numbers) (place_fixed here.frame k (global_at k) (refl, refl)) ∙ e in
       v.there ∙ ap Some (number_is s.rows i v.value z v.mode v.at at)
 
-  subject_global : (j k : ℕ) → statistic_variable s.scene.statistics j ≡ Some k → slice_get w.program.globals k ≡ Some Integer
-  subject_global j k e = (good_there j (OfVariable k) (variable_is (subject_in s.scene.statistics j) k e)).0
+  subject_global : (j k : ℕ) → statistic_variable s.world.statistics j ≡ Some k → slice_get w.program.globals k ≡ Some Integer
+  subject_global j k e = (good_there j (OfVariable k) (variable_is (subject_in s.world.statistics j) k e)).0
 
-  pub held_within : (j k : ℕ) → statistic_variable s.scene.statistics j ≡ Some k → k < length s.rows.numbers
+  pub held_within : (j k : ℕ) → statistic_variable s.world.statistics j ≡ Some k → k < length s.rows.numbers
   held_within j k e = global_within k (subject_global j k e)
 
   -- the variable of a statistic, if it is about one, holds what was read
-  pub variable_holds : (j : ℕ) (held : ℤ) → ((k : ℕ) → statistic_variable s.scene.statistics j ≡ Some k → slice_get s.rows.numbers k ≡ Some held) → VariableHolds j held (with_seen c.store s.scene)
-  variable_holds j held at = λ v e. by (statistic_variable s.scene.statistics j) refl v e
+  pub variable_holds : (j : ℕ) (held : ℤ) → ((k : ℕ) → statistic_variable s.world.statistics j ≡ Some k → slice_get s.rows.numbers k ≡ Some held) → VariableHolds j held (with_seen c.store s.world)
+  variable_holds j held at = λ v e. by (statistic_variable s.world.statistics j) refl v e
     where
-      by : (o : Option ℕ) → statistic_variable s.scene.statistics j ≡ o → (v : Value) → held_in o (with_seen c.store s.scene) ≡ Some v → v ≡ Whole held
+      by : (o : Option ℕ) → statistic_variable s.world.statistics j ≡ o → (v : Value) → held_in o (with_seen c.store s.world) ≡ Some v → v ≡ Whole held
       by None q v e = absurd cc
       by (Some k) q v e =
           let is : Some v ≡ Some (Whole held) = sym e ∙ global_is k held (subject_global j k q) (at k q) in
@@ -241,7 +241,7 @@ module _ (w : Compiled) (c : Core) (here : Here) (s : State) (run : Running) (r 
       let y = subst SuitsHere z.2 (suits w c here s run r) in
       bearer_within (site w c here s run r) (located w c here s run r) z.0 r.placed.cells y.1.0 entity y.1.1 z.1 (deep_here w c here s run r)
 
-  pub resets : (j : ℕ) (entity : Address) (n held : ℤ) (e : Seen) (answer : OkOr (Unit {0}) FaultKind) (new : State) (result : Option Here) → Of w.code w.run.constants r.placed entity (λ o. Is w.code w.run.constants r.placed (i.Reset j o)) → slice_get s.rows.numbers (place_at here.frame entity) ≡ Some n → ((k : ℕ) → statistic_variable s.scene.statistics j ≡ Some k → slice_get s.rows.numbers k ≡ Some held) → ((o : Option Value) → RefersToSubject s.scene j o n → ChangesWhere (λ t. IsRight (reset j o t) × VariableHolds j held t) (reset j o) s.scene e answer) → new ≡ faulted_by answer (record s { scene = e }) → result ≡ on_after here (done_unless_fault answer) → Performs (is_due r.placed.instruction) w r.placed.line does s new result
+  pub resets : (j : ℕ) (entity : Address) (n held : ℤ) (e : Seen) (answer : OkOr (Unit {0}) FaultKind) (new : State) (result : Option Here) → Of w.code w.run.constants r.placed entity (λ o. Is w.code w.run.constants r.placed (i.Reset j o)) → slice_get s.rows.numbers (place_at here.frame entity) ≡ Some n → ((k : ℕ) → statistic_variable s.world.statistics j ≡ Some k → slice_get s.rows.numbers k ≡ Some held) → ((o : Option Value) → RefersToSubject s.world j o n → ChangesWhere (λ t. IsRight (reset j o t) × VariableHolds j held t) (reset j o) s.world e answer) → new ≡ faulted_by answer (record s { world = e }) → result ≡ on_after here (done_unless_fault answer) → Performs (is_due r.placed.instruction) w r.placed.line does s new result
   resets j entity n held e answer new result z at_entity at_held changed same q =
       let is = z.2 in
       let y = subst SuitsHere is (suits w c here s run r) in
@@ -269,21 +269,21 @@ module _ (w : Compiled) (c : Core) (here : Here) (s : State) (run : Running) (r 
   kept_in k n = with_variable (Global k) (Whole n) c.store
 
   -- it goes on, or there is a fault, once the histories note what the variable holds
-  kept : (k : ℕ) (n : ℤ) (e : Seen) (answer : OkOr (Unit {0}) FaultKind) (below : List Value) (new : State) (result : Option Here) → does ≡ did r.placed.line (noted (OfVariable k) (pos 0) (Whole n) (with_seen (kept_in k n) s.scene)) (λ t. onward below c t) → HoldsCore w.run.constants w.run.depth here.frame (with_number s.rows k n) s.frames (core_at (c.place + 1) below c.frames (kept_in k n)) → Changes (noted (OfVariable k) (pos 0) (Whole n)) s.scene e answer → new ≡ faulted_by answer (record s { rows = with_number s.rows k n; scene = e }) → result ≡ on_after here (done_unless_fault answer) → NoTick w r.placed.line does s new result
+  kept : (k : ℕ) (n : ℤ) (e : Seen) (answer : OkOr (Unit {0}) FaultKind) (below : List Value) (new : State) (result : Option Here) → does ≡ did r.placed.line (noted (OfVariable k) (pos 0) (Whole n) (with_seen (kept_in k n) s.world)) (λ t. onward below c t) → HoldsCore w.run.constants w.run.depth here.frame (with_number s.rows k n) s.frames (core_at (c.place + 1) below c.frames (kept_in k n)) → Changes (noted (OfVariable k) (pos 0) (Whole n)) s.world e answer → new ≡ faulted_by answer (record s { rows = with_number s.rows k n; world = e }) → result ≡ on_after here (done_unless_fault answer) → NoTick w r.placed.line does s new result
   kept k n e answer below new result acts held changed same q = by answer changed same q
     where
-      right : IsRight (noted (OfVariable k) (pos 0) (Whole n) (with_seen (kept_in k n) s.scene))
+      right : IsRight (noted (OfVariable k) (pos 0) (Whole n) (with_seen (kept_in k n) s.world))
       right = λ wrong. r.goes (acts ∙ ap (λ q. did r.placed.line q (λ t. onward below c t)) wrong)
 
-      by : (answer : OkOr (Unit {0}) FaultKind) → Changes (noted (OfVariable k) (pos 0) (Whole n)) s.scene e answer → new ≡ faulted_by answer (record s { rows = with_number s.rows k n; scene = e }) → result ≡ on_after here (done_unless_fault answer) → NoTick w r.placed.line does s new result
+      by : (answer : OkOr (Unit {0}) FaultKind) → Changes (noted (OfVariable k) (pos 0) (Whole n)) s.world e answer → new ≡ faulted_by answer (record s { rows = with_number s.rows k n; world = e }) → result ≡ on_after here (done_unless_fault answer) → NoTick w r.placed.line does s new result
       by (Ok u) changed same q =
           let store = with_seen (kept_in k n) e in
           let there : Here = record { place = c.place + 1; frame = here.frame } in
-          let s' : State = record s { rows = with_number s.rows k n; scene = e } in
+          let s' : State = record s { rows = with_number s.rows k n; world = e } in
           let holds : Holds w (core_at (c.place + 1) below c.frames store) there s' = record {
             place = refl;
             held = record { globals = held.globals; fixed = held.fixed; locals = held.locals; cells = held.cells; open_calls = held.open_calls; room = held.room; small = held.small };
-            scene = refl;
+            world = refl;
             even = r.holds.even ∙ sym (set_length s.rows.numbers k n);
             line = r.holds.line;
           } in
@@ -293,11 +293,11 @@ module _ (w : Compiled) (c : Core) (here : Here) (s : State) (run : Running) (r 
           subst (λ o. NoTick w r.placed.line does s new o) (sym way) (subst (λ u. NoTick w r.placed.line does s u (Some there)) (sym same) plain)
       by (Err kind) changed same q =
           let goes = acts ∙ ap (λ q. did r.placed.line q (λ t. onward below c t)) (changed.0 (kept_in k n) right) in
-          let h = faults w r.placed.line does (record s { rows = with_number s.rows k n; scene = e }) new result kind r.holds.line goes same q in
+          let h = faults w r.placed.line does (record s { rows = with_number s.rows k n; world = e }) new result kind r.holds.line goes same q in
           record { leads = h.leads; ticks = h.ticks; steps = h.steps }
 
   -- the value goes to its variable, and the histories note it
-  pub keeps : (k : ℕ) (from : Address) (n : ℤ) (e : Seen) (answer : OkOr (Unit {0}) FaultKind) (new : State) (result : Option Here) → From w.code w.run.constants r.placed from (λ y. Is w.code w.run.constants r.placed (i.Keep y (Global k))) → slice_get s.rows.numbers (place_at here.frame from) ≡ Some n → Changes (noted (OfVariable k) (pos 0) (Whole n)) s.scene e answer → new ≡ faulted_by answer (record s { rows = with_number s.rows k n; scene = e }) → result ≡ on_after here (done_unless_fault answer) → Performs (is_due r.placed.instruction) w r.placed.line does s new result
+  pub keeps : (k : ℕ) (from : Address) (n : ℤ) (e : Seen) (answer : OkOr (Unit {0}) FaultKind) (new : State) (result : Option Here) → From w.code w.run.constants r.placed from (λ y. Is w.code w.run.constants r.placed (i.Keep y (Global k))) → slice_get s.rows.numbers (place_at here.frame from) ≡ Some n → Changes (noted (OfVariable k) (pos 0) (Whole n)) s.world e answer → new ≡ faulted_by answer (record s { rows = with_number s.rows k n; world = e }) → result ≡ on_after here (done_unless_fault answer) → Performs (is_due r.placed.instruction) w r.placed.line does s new result
   keeps k from n e answer new result z at changed same q =
       let t = site w c here s run r in
       let st = located w c here s run r in
@@ -308,8 +308,8 @@ module _ (w : Compiled) (c : Core) (here : Here) (s : State) (run : Running) (r 
       let place = place_fixed here.frame k (global_at k) (refl, refl) in
       let rows = with_number s.rows k n in
       let put_there = put_is (Global k) (Whole n) v.value c.store v.there (sym v.mode) in
-      let seen_then : kept_in k n ≡ with_seen (kept_in k n) s.scene = ap (λ x. with_variable (Global k) (Whole n) x) (seen_is w c here s run r) in
-      let acts : does ≡ did r.placed.line (noted (OfVariable k) (pos 0) (Whole n) (with_seen (kept_in k n) s.scene)) (λ t. onward one.below c t) =
+      let seen_then : kept_in k n ≡ with_seen (kept_in k n) s.world = ap (λ x. with_variable (Global k) (Whole n) x) (seen_is w c here s run r) in
+      let acts : does ≡ did r.placed.line (noted (OfVariable k) (pos 0) (Whole n) (with_seen (kept_in k n) s.world)) (λ t. onward one.below c t) =
       ap (λ x. act w.code r.placed.line x c) is
       ∙ one.is (λ v below. did r.placed.line (assigned_variable (Global k) v c.store) (λ t. onward below c t))
       ∙ ap (λ q. did r.placed.line q (λ t. onward one.below c t)) (note_after k (Whole n) c.store (kept_in k n) put_there)
@@ -322,18 +322,18 @@ module _ (w : Compiled) (c : Core) (here : Here) (s : State) (run : Running) (r 
   -- ## Notes
 
   -- whether the code says that no statistic watches a subject, or the running instruction that it is not noted
-  pub none_watches : (subject : Subject) → watch w.code.setting.statistics subject ≡ false → list_any (is_about subject) s.scene.statistics ≡ false
+  pub none_watches : (subject : Subject) → watch w.code.setting.statistics subject ≡ false → list_any (is_about subject) s.world.statistics ≡ false
   none_watches subject e =
-      none_about subject s.scene.statistics
+      none_about subject s.world.statistics
       (ap (λ ss. watch ss subject) (statistics_are w c here s run r ∙ sym (code_statistics_are w c here s run r)) ∙ e)
 
 -- ## What comes of a change and its note
 
-pub after_fault : (change : OkOr (Unit {0}) FaultKind) (kind : FaultKind) (noted : Bool) (note : Store → OkOr Store Trouble) (e : Seen) → change ≡ Err kind → NotedAfter change noted note e e (Err kind)
+pub after_fault : (change : OkOr (Unit {0}) FaultKind) (kind : FaultKind) (noted : Bool) (note : Store → OkOr Store Failure) (e : Seen) → change ≡ Err kind → NotedAfter change noted note e e (Err kind)
 after_fault change kind noted note e is = subst (λ q. NotedAfter q noted note e e (Err kind)) (sym is) (refl, refl)
 
-pub after_unnoted : (change : OkOr (Unit {0}) FaultKind) (u : Unit {0}) (noted : Bool) (note : Store → OkOr Store Trouble) (e : Seen) → change ≡ Ok u → noted ≡ false → NotedAfter change noted note e e (Ok tt)
+pub after_unnoted : (change : OkOr (Unit {0}) FaultKind) (u : Unit {0}) (noted : Bool) (note : Store → OkOr Store Failure) (e : Seen) → change ≡ Ok u → noted ≡ false → NotedAfter change noted note e e (Ok tt)
 after_unnoted change u noted note e is not_so = subst (λ q. NotedAfter q noted note e e (Ok tt)) (sym is) (subst (λ b. NotedIf b note e e (Ok tt)) (sym not_so) (refl, refl))
 
-pub after_noted : (change : OkOr (Unit {0}) FaultKind) (u : Unit {0}) (noted : Bool) (note : Store → OkOr Store Trouble) (old new : Seen) (said : OkOr (Unit {0}) FaultKind) → change ≡ Ok u → noted ≡ true → Changes note old new said → NotedAfter change noted note old new said
+pub after_noted : (change : OkOr (Unit {0}) FaultKind) (u : Unit {0}) (noted : Bool) (note : Store → OkOr Store Failure) (old new : Seen) (said : OkOr (Unit {0}) FaultKind) → change ≡ Ok u → noted ≡ true → Changes note old new said → NotedAfter change noted note old new said
 after_noted change u noted note old new said is so h = subst (λ q. NotedAfter q noted note old new said) (sym is) (subst (λ b. NotedIf b note old new said) (sym so) h)

@@ -17,7 +17,7 @@ use Rattle.ss_world.specs.Disciplines.{put_ranked, filed, take, first_removed, l
 use Rattle.ss_program.specs.declared.sections.Subject.TheVariants.{OfCount}
 use Rattle.ss_base.specs.declared.words.End.{End}
 use Rattle.ss_base.specs.declared.words.End.TheVariants as ends
-use Rattle.ss_meaning.specs.Values.{Trouble, if_ok, turned, due}
+use Rattle.ss_meaning.specs.Values.{Failure, if_ok, turned, due}
 use Rattle.ss_meaning.specs.Store.{Store}
 use Rattle.ss_meaning.specs.Histories.{noted}
 use Rattle.ss_meaning.specs.Sets.{ByRule, Foremost, Hindmost, JustBefore, JustAfter, is_fit, end_removed, recounted, filed_in, removed_from, removed_at}
@@ -27,7 +27,7 @@ use Rattle.ss_machine_entities.proofs.Refiled.{first_refiled, last_refiled, befo
 use Rattle.ss_machine_world.specs.Numbers.{count_noted}
 use Rattle.ss_machine_world.specs.Seen.{Seen, IsRight, Rearranges, number_if, with_seen}
 use Rattle.ss_machine_world.proofs.Composing.{filed_first_is, filed_last_is, filed_ruled_is, filed_before_is, filed_after_is, removed_is, end_removed_is}
-use Rattle.ss_machine_instructions.specs.Worldly.{Settled, SettledGiving, IsTold, IsOwner, ChangesIf, Counted, CountedOut, Files, Removes, Takes}
+use Rattle.ss_machine_instructions.specs.Worldly.{Settled, SettledGiving, IsNotedRight, IsOwner, ChangesIf, Counted, CountedOut, Files, Removes, Takes}
 
 -- ## The owner is there afterwards
 
@@ -148,7 +148,7 @@ module _ (e : Seen) (set : ℕ) (m : ℤ) where
   -- a note of N. where no statistic watches it
   count_quiet : (mid : Seen) → watch mid.statistics (OfCount set) ≡ false → IsCount mid.heap set m → (s : Store) → Quiet (with_seen s mid) (count_noted set m (with_seen s mid))
   count_quiet mid none n s =
-      subst (λ (r : OkOr Store Trouble). Quiet (with_seen s mid) r) (sym (ap (λ r. if_ok (due r) (λ n. noted (OfCount set) m (Whole n) (with_seen s mid))) n.1))
+      subst (λ (r : OkOr Store Failure). Quiet (with_seen s mid) r) (sym (ap (λ r. if_ok (due r) (λ n. noted (OfCount set) m (Whole n) (with_seen s mid))) n.1))
       (noted_quiet (OfCount set) m (Whole n.0) (with_seen s mid) none)
 
   -- what the note gives, whether the machine makes it or not
@@ -162,13 +162,13 @@ module _ (e : Seen) (set : ℕ) (m : ℤ) where
       by s right (inr wrong) = absurd (right wrong)
 
   -- an operation that is a change and this note
-  abbrev IsChange : (Store → OkOr Store Trouble) → (State → OkOr State FaultKind) → Type 0
+  abbrev IsChange : (Store → OkOr Store Failure) → (State → OkOr State FaultKind) → Type 0
   IsChange f op = (s : Store) → f (with_seen s e) ≡ if_ok (due (op e.heap)) (recounted set m (with_seen s e))
 
   abbrev KeepsCount : (State → OkOr State FaultKind) → Type 0
   KeepsCount op = (t : State) → op e.heap ≡ Ok t → IsCount t set m
 
-  module _ (f : Store → OkOr Store Trouble) (op : State → OkOr State FaultKind) (mid : Seen) where
+  module _ (f : Store → OkOr Store Failure) (op : State → OkOr State FaultKind) (mid : Seen) where
     noted_after : IsChange f op → op e.heap ≡ Ok mid.heap → mid ≡ record e { heap = mid.heap } → (s : Store) → f (with_seen s e) ≡ count_noted set m (with_seen s mid)
     noted_after is done same s =
         is s
@@ -179,7 +179,7 @@ module _ (e : Seen) (set : ℕ) (m : ℤ) where
     settles_as new (Ok u) alike d = λ s right. alike s ∙ d s (λ wrong. right (alike s ∙ wrong))
     settles_as new (Err k) alike d = λ s right. alike s ∙ d s (λ wrong. right (alike s ∙ wrong))
 
-    pub settled_by : (new : Seen) (notes : Bool) (changed q : OkOr (Unit {0}) FaultKind) → IsChange f op → KeepsCount op → IsTold notes (OfCount set) e → Rearranges op e mid changed → Counted set m changed notes mid new q → Settled f e new q
+    pub settled_by : (new : Seen) (notes : Bool) (changed q : OkOr (Unit {0}) FaultKind) → IsChange f op → KeepsCount op → IsNotedRight notes (OfCount set) e → Rearranges op e mid changed → Counted set m changed notes mid new q → Settled f e new q
     settled_by new notes (Ok u) q is keeps reported re did =
         settles_as new q (noted_after is re.0 re.1)
         (noted_as mid new notes q (λ none. ap (λ (t : Seen). watch t.statistics (OfCount set)) re.1 ∙ reported none) (keeps mid.heap re.0) did)
@@ -220,7 +220,7 @@ module _ (e : Seen) (set : ℕ) (m : ℤ) (mid new : Seen) (notes : Bool) (there
       ∙ ap (λ r. if_ok {B = Value × Store} (due r) (λ r. turned (λ t. (Whole r.0, t)) (recounted set m (with_seen s e) r.1))) done
       ∙ ap (λ (t : Seen). turned (λ t. (Whole x, t)) (count_noted set m (with_seen s t))) (sym same)
 
-  given_as : (f : Store → OkOr (Value × Store) Trouble) (x : ℤ) (q : OkOr (Unit {0}) FaultKind) → ((s : Store) → f (with_seen s e) ≡ turned (λ t. (Whole x, t)) (count_noted set m (with_seen s mid))) → Settled (count_noted set m) mid new q → SettledGiving f e new (number_if x q)
+  given_as : (f : Store → OkOr (Value × Store) Failure) (x : ℤ) (q : OkOr (Unit {0}) FaultKind) → ((s : Store) → f (with_seen s e) ≡ turned (λ t. (Whole x, t)) (count_noted set m (with_seen s mid))) → Settled (count_noted set m) mid new q → SettledGiving f e new (number_if x q)
   given_as f x (Ok u) alike d = λ s right. alike s ∙ ap (turned (λ t. (Whole x, t))) (d s (λ wrong. right (alike s ∙ ap (turned (λ t. (Whole x, t))) wrong)))
   given_as f x (Err k) alike d = λ s right. alike s ∙ ap (turned (λ t. (Whole x, t))) (d s (λ wrong. right (alike s ∙ ap (turned (λ t. (Whole x, t))) wrong)))
 

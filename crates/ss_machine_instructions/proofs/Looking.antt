@@ -1,4 +1,4 @@
--- Looks at references: what the machine asks of its scene is what the definition asks.
+-- Looks at references: what the machine asks of its world is what the definition asks.
 use Rattle.std.proofs.Common.{◌≡◌, ℕ, ◌<◌, true, List, length, Option, Some, None, Ok, Err, refl, sym, ap, ◌∙◌, subst}
 use Rattle.std.proofs.lemmas.Option.{slice_get_within}
 use Rattle.std.specs.Prelude.{ℤ, slice_get, is_some, Result as OkOr}
@@ -73,28 +73,28 @@ module _ (w : Compiled) (c : Core) (here : Here) (s : State) (run : Running) (r 
       read_within (site w c here s run r) (located w c here s run r) z.0 Integer r.placed.cells y.1.0 entity y.1.1 z.1 (deep_here w c here s run r)
 
   -- the class is there
-  class_there : (class : ℕ) (entity : Address) → AtEntity class entity → (k : ClassLayout) × (slice_get s.scene.heap.layout.classes class ≡ Some k)
+  class_there : (class : ℕ) (entity : Address) → AtEntity class entity → (k : ClassLayout) × (slice_get s.world.heap.layout.classes class ≡ Some k)
   class_there class entity z =
       let y = subst SuitsHere z.2 (suits w c here s run r) in
       let k = class_of w.program class y.0.0 y.0.1 in
       (k.0, ap (λ (l : Layout). slice_get l.classes class) (layout_is w c here s run r) ∙ k.1)
 
-  pub class_in : (class : ℕ) (entity : Address) → AtEntity class entity → class < length s.scene.heap.layout.classes
-  class_in class entity z = let k = class_there class entity z in slice_get_within s.scene.heap.layout.classes class k.0 k.1
+  pub class_in : (class : ℕ) (entity : Address) → AtEntity class entity → class < length s.world.heap.layout.classes
+  class_in class entity z = let k = class_there class entity z in slice_get_within s.world.heap.layout.classes class k.0 k.1
 
-  pub looks_at_entity : (class : ℕ) (at : Address) (n : ℤ) (answer : OkOr (Unit {0}) FaultKind) (new : State) (result : Option Here) → AtEntity class at → slice_get s.rows.numbers (place_at here.frame at) ≡ Some n → answer ≡ known_in s.scene.heap class n → new ≡ faulted_by answer s → result ≡ on_after here (done_unless_fault answer) → Performs (is_due r.placed.instruction) w r.placed.line does s new result
+  pub looks_at_entity : (class : ℕ) (at : Address) (n : ℤ) (answer : OkOr (Unit {0}) FaultKind) (new : State) (result : Option Here) → AtEntity class at → slice_get s.rows.numbers (place_at here.frame at) ≡ Some n → answer ≡ known_in s.world.heap class n → new ≡ faulted_by answer s → result ≡ on_after here (done_unless_fault answer) → Performs (is_due r.placed.instruction) w r.placed.line does s new result
   looks_at_entity class at n answer new result z e known same q =
       let is = z.2 in
       let y = subst SuitsHere is (suits w c here s run r) in
       let one = reads (site w c here s run r) (located w c here s run r) z.0 Integer r.placed.cells y.1.0 at c.cells (Whole n) y.1.1 z.1 r.holds.held.cells r.fits.cells (only_number s.rows (place_at here.frame at) n e) in
       let m = onward one.below c c.store in
-      let there : is_some (slice_get s.scene.heap.layout.classes class) ≡ true = ap is_some (class_there class at z).1 in
+      let there : is_some (slice_get s.world.heap.layout.classes class) ≡ true = ap is_some (class_there class at z).1 in
       looked w c here s run r answer one.below new result (ap is_due is)
       (ap (λ x. act w.code r.placed.line x c) is
       ∙ one.is (λ x below. did r.placed.line (entity class x c.store) (λ _. onward below c c.store))
       ∙ ap (λ (h : Heap). did r.placed.line (where_fit (is_some (slice_get h.layout.classes class)) (turned (λ _. n) (due (known_in h class n)))) (λ _. m)) (heap_is w c here s run r)
-      ∙ ap (λ b. did r.placed.line (where_fit b (turned (λ _. n) (due (known_in s.scene.heap class n)))) (λ _. m)) there
-      ∙ look_is r.placed.line n (known_in s.scene.heap class n) m
+      ∙ ap (λ b. did r.placed.line (where_fit b (turned (λ _. n) (due (known_in s.world.heap class n)))) (λ _. m)) there
+      ∙ look_is r.placed.line n (known_in s.world.heap class n) m
       ∙ ap (λ a. did r.placed.line (due a) (λ _. m)) (sym known))
       one.cells same q
 
@@ -108,26 +108,26 @@ module _ (w : Compiled) (c : Core) (here : Here) (s : State) (run : Running) (r 
       let y = subst SuitsHere z.2 (suits w c here s run r) in
       read_within (site w c here s run r) (located w c here s run r) z.0 Integer r.placed.cells y.1.0 member y.1.1 z.1 (deep_here w c here s run r)
 
-  -- a set of the program is one of the scene
-  pub set_in : (set : ℕ) → IsSet w.program set → set < length s.scene.heap.layout.sets
-  set_in set is = slice_get_within s.scene.heap.layout.sets set is.0 (ap (λ (l : Layout). slice_get l.sets set) (layout_is w c here s run r) ∙ is.1)
+  -- a set of the program is one of the world
+  pub set_in : (set : ℕ) → IsSet w.program set → set < length s.world.heap.layout.sets
+  set_in set is = slice_get_within s.world.heap.layout.sets set is.0 (ap (λ (l : Layout). slice_get l.sets set) (layout_is w c here s run r) ∙ is.1)
 
-  pub member_set_in : (set : ℕ) (member : Address) → AtMember set member → set < length s.scene.heap.layout.sets
+  pub member_set_in : (set : ℕ) (member : Address) → AtMember set member → set < length s.world.heap.layout.sets
   member_set_in set member z = let y = subst SuitsHere z.2 (suits w c here s run r) in set_in set y.0
 
-  pub looks_at_member : (set : ℕ) (at : Address) (n : ℤ) (answer : OkOr (Unit {0}) FaultKind) (new : State) (result : Option Here) → AtMember set at → slice_get s.rows.numbers (place_at here.frame at) ≡ Some n → answer ≡ no_value (joiner s.scene.heap set n) → new ≡ faulted_by answer s → result ≡ on_after here (done_unless_fault answer) → Performs (is_due r.placed.instruction) w r.placed.line does s new result
+  pub looks_at_member : (set : ℕ) (at : Address) (n : ℤ) (answer : OkOr (Unit {0}) FaultKind) (new : State) (result : Option Here) → AtMember set at → slice_get s.rows.numbers (place_at here.frame at) ≡ Some n → answer ≡ no_value (joiner s.world.heap set n) → new ≡ faulted_by answer s → result ≡ on_after here (done_unless_fault answer) → Performs (is_due r.placed.instruction) w r.placed.line does s new result
   looks_at_member set at n answer new result z e known same q =
       let is = z.2 in
       let y = subst SuitsHere is (suits w c here s run r) in
       let one = reads (site w c here s run r) (located w c here s run r) z.0 Integer r.placed.cells y.1.0 at c.cells (Whole n) y.1.1 z.1 r.holds.held.cells r.fits.cells (only_number s.rows (place_at here.frame at) n e) in
       let m = onward one.below c c.store in
-      let there : is_some (slice_get s.scene.heap.layout.sets set) ≡ true = ap (λ (l : Layout). is_some (slice_get l.sets set)) (layout_is w c here s run r) ∙ ap is_some y.0.1 in
+      let there : is_some (slice_get s.world.heap.layout.sets set) ≡ true = ap (λ (l : Layout). is_some (slice_get l.sets set)) (layout_is w c here s run r) ∙ ap is_some y.0.1 in
       looked w c here s run r answer one.below new result (ap is_due is)
       (ap (λ x. act w.code r.placed.line x c) is
       ∙ one.is (λ x below. did r.placed.line (member set x c.store) (λ _. onward below c c.store))
       ∙ ap (λ (h : Heap). did r.placed.line (where_fit (is_some (slice_get h.layout.sets set)) (turned (λ _. n) (due (joiner h set n)))) (λ _. m)) (heap_is w c here s run r)
-      ∙ ap (λ b. did r.placed.line (where_fit b (turned (λ _. n) (due (joiner s.scene.heap set n)))) (λ _. m)) there
-      ∙ look_for r.placed.line n (joiner s.scene.heap set n) m
+      ∙ ap (λ b. did r.placed.line (where_fit b (turned (λ _. n) (due (joiner s.world.heap set n)))) (λ _. m)) there
+      ∙ look_for r.placed.line n (joiner s.world.heap set n) m
       ∙ ap (λ a. did r.placed.line (due a) (λ _. m)) (sym known))
       one.cells same q
 
@@ -141,28 +141,28 @@ module _ (w : Compiled) (c : Core) (here : Here) (s : State) (run : Running) (r 
       let y = subst SuitsHere z.2 (suits w c here s run r) in
       bearer_within (site w c here s run r) (located w c here s run r) z.0 r.placed.cells y.1.0 owner y.1.1 z.1 (deep_here w c here s run r)
 
-  pub owner_set_in : (set : ℕ) (owner : Address) → AtOwner set owner → set < length s.scene.heap.layout.sets
+  pub owner_set_in : (set : ℕ) (owner : Address) → AtOwner set owner → set < length s.world.heap.layout.sets
   owner_set_in set owner z = let y = subst SuitsHere z.2 (suits w c here s run r) in set_within w c here s run r set z.0 y.0
 
-  pub looks_at_owner : (set : ℕ) (at : Address) (n : ℤ) (answer : OkOr (Unit {0}) FaultKind) (new : State) (result : Option Here) → AtOwner set at → slice_get s.rows.numbers (place_at here.frame at) ≡ Some n → answer ≡ no_value (owner s.scene.heap set n) → new ≡ faulted_by answer s → result ≡ on_after here (done_unless_fault answer) → Performs (is_due r.placed.instruction) w r.placed.line does s new result
+  pub looks_at_owner : (set : ℕ) (at : Address) (n : ℤ) (answer : OkOr (Unit {0}) FaultKind) (new : State) (result : Option Here) → AtOwner set at → slice_get s.rows.numbers (place_at here.frame at) ≡ Some n → answer ≡ no_value (owner s.world.heap set n) → new ≡ faulted_by answer s → result ≡ on_after here (done_unless_fault answer) → Performs (is_due r.placed.instruction) w r.placed.line does s new result
   looks_at_owner set at n answer new result z e known same q =
       let is = z.2 in
       let y = subst SuitsHere is (suits w c here s run r) in
       let b = reads_bearer (site w c here s run r) (located w c here s run r) z.0 r.placed.cells y.1.0 at c.cells n y.1.1 z.1 r.holds.held.cells r.fits.cells e in
       let m = onward b.below c c.store in
-      let who = owner_is w.program set z.0 b.value n c.store r.fits.store.sound.scene.layout y.0 b.refers in
+      let who = owner_is w.program set z.0 b.value n c.store r.fits.store.sound.world.layout y.0 b.refers in
       looked w c here s run r answer b.below new result (ap is_due is)
       (ap (λ x. act w.code r.placed.line x c) is
       ∙ b.is (λ o below. did r.placed.line (known_owner set o c.store) (λ _. onward below c c.store))
-      ∙ ap (λ t. did r.placed.line (if_ok t (λ k. turned (λ _. k) (due (owner c.store.scene.heap set k)))) (λ _. m)) who
+      ∙ ap (λ t. did r.placed.line (if_ok t (λ k. turned (λ _. k) (due (owner c.store.world.heap set k)))) (λ _. m)) who
       ∙ ap (λ (h : Heap). did r.placed.line (turned (λ _. n) (due (owner h set n))) (λ _. m)) (heap_is w c here s run r)
-      ∙ look_for r.placed.line n (owner s.scene.heap set n) m
+      ∙ look_for r.placed.line n (owner s.world.heap set n) m
       ∙ ap (λ a. did r.placed.line (due a) (λ _. m)) (sym known))
       b.cells same q
 
   -- ## LookCount
 
-  pub looks_at_count : (class : ℕ) (answer : OkOr (Unit {0}) FaultKind) (new : State) (result : Option Here) → Is w.code w.run.constants r.placed (i.LookCount class) → Looks (assignable_count class) s.scene answer → new ≡ faulted_by answer s → result ≡ on_after here (done_unless_fault answer) → Performs (is_due r.placed.instruction) w r.placed.line does s new result
+  pub looks_at_count : (class : ℕ) (answer : OkOr (Unit {0}) FaultKind) (new : State) (result : Option Here) → Is w.code w.run.constants r.placed (i.LookCount class) → Looks (assignable_count class) s.world answer → new ≡ faulted_by answer s → result ≡ on_after here (done_unless_fault answer) → Performs (is_due r.placed.instruction) w r.placed.line does s new result
   looks_at_count class answer new result is looks same q =
       let m = onward c.cells c c.store in
       let acts : does ≡ did r.placed.line (assignable_count class c.store) (λ _. m) = ap (λ x. act w.code r.placed.line x c) is in

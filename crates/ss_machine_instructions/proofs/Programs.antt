@@ -76,7 +76,7 @@ ruled_in p typed e set t q disciplines layout =
 
 -- ## A class of notices has its rank
 
-pub noticed_in : (p : Program) (typed : WellTyped p) (ms : List Mode) (e : Seen) (s : Store) (class : ℕ) → kind_of_class p class ≡ Some Notice → Fits p ms s → s.scene.setting.notices ≡ e.notices → e.heap.layout ≡ p.layout → IsNoticeClass e class
+pub noticed_in : (p : Program) (typed : WellTyped p) (ms : List Mode) (e : Seen) (s : Store) (class : ℕ) → kind_of_class p class ≡ Some Notice → Fits p ms s → s.world.setting.notices ≡ e.notices → e.heap.layout ≡ p.layout → IsNoticeClass e class
 noticed_in p typed ms e s class kind f notices layout = by (ranked class s) refl (ranked_there p typed ms class s kind f)
   where
     within : class < length e.heap.layout.classes

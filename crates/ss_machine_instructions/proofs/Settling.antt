@@ -5,8 +5,8 @@ use Rattle.ss_base.specs.declared.fault.FaultKind.{FaultKind}
 use Rattle.ss_base.specs.declared.value.Value.{Value}
 use Rattle.ss_program.specs.declared.sections.Statistic.{Statistic}
 use Rattle.ss_program.specs.declared.sections.Subject.{Subject}
-use Rattle.ss_meaning.specs.Values.{Trouble}
-use Rattle.ss_meaning.specs.Store.{Scene, Setting, Store}
+use Rattle.ss_meaning.specs.Values.{Failure}
+use Rattle.ss_meaning.specs.Store.{World, Setting, Store}
 use Rattle.ss_meaning.proofs.Fine.{Fine}
 use Rattle.ss_code_instructions.specs.declared.instruction.Instruction.{Instruction as Running}
 use Rattle.ss_code_instructions.specs.Facts.{watch}
@@ -19,52 +19,52 @@ use Rattle.ss_machine_instructions.specs.declared.flow.Here.{Here}
 use Rattle.ss_machine_instructions.specs.declared.state.State.{State}
 use Rattle.ss_machine_instructions.specs.Doing.{Compiled, Holds, Ready, NoTick, Performs}
 use Rattle.ss_machine_instructions.specs.Ways.{on_at, on_after, done_unless_fault, faulted, faulted_by}
-use Rattle.ss_machine_instructions.specs.Worldly.{Settled, Settles, IsTold}
+use Rattle.ss_machine_instructions.specs.Worldly.{Settled, Settles, IsNotedRight}
 use Rattle.ss_machine_instructions.proofs.Placing.{site, located, calm}
 use Rattle.ss_machine_instructions.proofs.Delivering.{faults}
 
 -- ## Operations that do not go wrong
 
-pub fine_right : {A : Type 0} (P : A → Type 0) (r : OkOr A Trouble) → Fine P r → IsRight r
+pub fine_right : {A : Type 0} (P : A → Type 0) (r : OkOr A Failure) → Fine P r → IsRight r
 fine_right P r f = λ wrong. subst (λ q. Fine P q) wrong f
 
-pub fine_is : {A : Type 0} (P : A → Type 0) (r : OkOr A Trouble) (a : A) → Fine P r → r ≡ Ok a → P a
+pub fine_is : {A : Type 0} (P : A → Type 0) (r : OkOr A Failure) (a : A) → Fine P r → r ≡ Ok a → P a
 fine_is P r a f e = subst (λ q. Fine P q) e f
 
 -- what changes what is seen, or has a fault and changes nothing, is settled
-pub changes_settle : (f : Store → OkOr Store Trouble) (old new : Seen) (r : OkOr (Unit {0}) FaultKind) → Changes f old new r → Settled f old new r
+pub changes_settle : (f : Store → OkOr Store Failure) (old new : Seen) (r : OkOr (Unit {0}) FaultKind) → Changes f old new r → Settled f old new r
 changes_settle f old new (Ok u) d = d
 changes_settle f old new (Err kind) d = d.0
 
 module _ (w : Compiled) (c : Core) (here : Here) (s : State) (run : Running) (r : Ready w c here s run) where
   -- ## The store of the definition has what is seen
 
-  pub store_is : c.store ≡ with_seen c.store s.scene
-  store_is = ap (λ (x : Scene). record c.store { scene = x }) r.holds.scene
+  pub store_is : c.store ≡ with_seen c.store s.world
+  store_is = ap (λ (x : World). record c.store { world = x }) r.holds.world
 
-  pub layout_seen : s.scene.heap.layout ≡ w.program.layout
-  layout_seen = sym (ap (λ (x : Scene). x.heap.layout) r.holds.scene) ∙ r.fits.store.sound.scene.layout
+  pub layout_seen : s.world.heap.layout ≡ w.program.layout
+  layout_seen = sym (ap (λ (x : World). x.heap.layout) r.holds.world) ∙ r.fits.store.sound.world.layout
 
-  pub setting_seen : c.store.scene.setting ≡ w.code.setting
-  setting_seen = r.fits.store.sound.scene.setting ∙ sym (ap (λ (code : Code). code.setting) r.compiled.code)
+  pub setting_seen : c.store.world.setting ≡ w.code.setting
+  setting_seen = r.fits.store.sound.world.setting ∙ sym (ap (λ (code : Code). code.setting) r.compiled.code)
 
-  pub statistics_seen : s.scene.statistics ≡ w.code.setting.statistics
-  statistics_seen = sym (ap (λ (x : Scene). x.setting.statistics) r.holds.scene) ∙ ap (λ (x : Setting). x.statistics) setting_seen
+  pub statistics_seen : s.world.statistics ≡ w.code.setting.statistics
+  statistics_seen = sym (ap (λ (x : World). x.setting.statistics) r.holds.world) ∙ ap (λ (x : Setting). x.statistics) setting_seen
 
-  pub disciplines_seen : s.scene.disciplines ≡ w.program.disciplines
-  disciplines_seen = sym (ap (λ (x : Scene). x.setting.disciplines) r.holds.scene) ∙ ap (λ (x : Setting). x.disciplines) r.fits.store.sound.scene.setting
+  pub disciplines_seen : s.world.disciplines ≡ w.program.disciplines
+  disciplines_seen = sym (ap (λ (x : World). x.setting.disciplines) r.holds.world) ∙ ap (λ (x : Setting). x.disciplines) r.fits.store.sound.world.setting
 
-  pub notices_seen : c.store.scene.setting.notices ≡ s.scene.notices
-  notices_seen = ap (λ (x : Scene). x.setting.notices) r.holds.scene
+  pub notices_seen : c.store.world.setting.notices ≡ s.world.notices
+  notices_seen = ap (λ (x : World). x.setting.notices) r.holds.world
 
   -- what the running instruction does not note no statistic watches
-  pub is_told : (notes : Bool) (subject : Subject) → (notes ≡ false → watch w.code.setting.statistics subject ≡ false) → IsTold notes subject s.scene
-  is_told notes subject reported none = ap (λ (ss : List Statistic). watch ss subject) statistics_seen ∙ reported none
+  pub is_noted_right : (notes : Bool) (subject : Subject) → (notes ≡ false → watch w.code.setting.statistics subject ≡ false) → IsNotedRight notes subject s.world
+  is_noted_right notes subject reported none = ap (λ (ss : List Statistic). watch ss subject) statistics_seen ∙ reported none
 
   -- ## What is held once more is seen
 
-  pub scene_held : (e : Seen) (place : ℕ) (cells : List Value) → CellsAt s.rows (here.frame + length c.store.locals) cells → HoldsCore w.run.constants w.run.depth here.frame s.rows s.frames (core_at place cells c.frames (with_seen c.store e))
-  scene_held e place cells at =
+  pub world_held : (e : Seen) (place : ℕ) (cells : List Value) → CellsAt s.rows (here.frame + length c.store.locals) cells → HoldsCore w.run.constants w.run.depth here.frame s.rows s.frames (core_at place cells c.frames (with_seen c.store e))
+  world_held e place cells at =
       let h = cells_held (site w c here s run r) (located w c here s run r) place cells at in
       record {
         globals = h.globals;
@@ -76,8 +76,8 @@ module _ (w : Compiled) (c : Core) (here : Here) (s : State) (run : Running) (r 
         small = h.small;
       }
 
-  pub scene_holds : (e : Seen) → Holds w (record c { store = with_seen c.store e }) here (record s { scene = e })
-  scene_holds e =
+  pub world_holds : (e : Seen) → Holds w (record c { store = with_seen c.store e }) here (record s { world = e })
+  world_holds e =
       let h = r.holds.held in
       record {
         place = r.holds.place;
@@ -90,25 +90,25 @@ module _ (w : Compiled) (c : Core) (here : Here) (s : State) (run : Running) (r 
           room = h.room;
           small = h.small;
         };
-        scene = refl;
+        world = refl;
         even = r.holds.even;
         line = r.holds.line;
       }
 
   -- ## It goes on
 
-  pub went_on : (f : Store → OkOr Store Trouble) (e : Seen) (new : State) (result : Option Here) → is_due r.placed.instruction ≡ false → Settles c r.placed.line (act w.code r.placed.line r.placed.instruction c) here s f → f (with_seen c.store s.scene) ≡ Ok (with_seen c.store e) → new ≡ record s { scene = e } → result ≡ on_at here → Performs (is_due r.placed.instruction) w r.placed.line (act w.code r.placed.line r.placed.instruction c) s new result
+  pub went_on : (f : Store → OkOr Store Failure) (e : Seen) (new : State) (result : Option Here) → is_due r.placed.instruction ≡ false → Settles c r.placed.line (act w.code r.placed.line r.placed.instruction c) here s f → f (with_seen c.store s.world) ≡ Ok (with_seen c.store e) → new ≡ record s { world = e } → result ≡ on_at here → Performs (is_due r.placed.instruction) w r.placed.line (act w.code r.placed.line r.placed.instruction c) s new result
   went_on f e new result calmly z d same on =
       let m = act w.code r.placed.line r.placed.instruction c in
       let l = r.placed.line in
-      let s' : State = record s { scene = e } in
+      let s' : State = record s { world = e } in
       let there : Here = record { place = here.place + 1; frame = here.frame } in
       let c' = core_at (c.place + 1) z.below c.frames (with_seen c.store e) in
       let acts : m ≡ To c' = z.acts ∙ ap (λ q. did l q (λ t. onward z.below c t)) (ap f store_is ∙ d) in
       let holds : Holds w c' there s' = record {
         place = ap (λ p. p + 1) r.holds.place;
-        held = scene_held e (c.place + 1) z.below z.at;
-        scene = refl;
+        held = world_held e (c.place + 1) z.below z.at;
+        world = refl;
         even = r.holds.even;
         line = r.holds.line;
       } in
@@ -117,19 +117,19 @@ module _ (w : Compiled) (c : Core) (here : Here) (s : State) (run : Running) (r 
       (subst (λ o. NoTick w l m s new o) (sym on) (subst (λ n. NoTick w l m s n (on_at here)) (sym same) plain))
 
   -- a fault of the definition, whatever the machine has done to what is seen
-  pub fails_on : (kind : FaultKind) (e : Seen) (new : State) (result : Option Here) → is_due r.placed.instruction ≡ false → act w.code r.placed.line r.placed.instruction c ≡ Rest (Breaks kind r.placed.line) → new ≡ faulted kind (record s { scene = e }) → result ≡ None → Performs (is_due r.placed.instruction) w r.placed.line (act w.code r.placed.line r.placed.instruction c) s new result
+  pub fails_on : (kind : FaultKind) (e : Seen) (new : State) (result : Option Here) → is_due r.placed.instruction ≡ false → act w.code r.placed.line r.placed.instruction c ≡ Rest (Breaks kind r.placed.line) → new ≡ faulted kind (record s { world = e }) → result ≡ None → Performs (is_due r.placed.instruction) w r.placed.line (act w.code r.placed.line r.placed.instruction c) s new result
   fails_on kind e new result calmly acts same none =
       let m = act w.code r.placed.line r.placed.instruction c in
       let l = r.placed.line in
-      let s' : State = record s { scene = e } in
+      let s' : State = record s { world = e } in
       let h : NoTick w l m s' new result = faults w l m s' new result kind r.holds.line acts same none in
       calm w c here s run r new result calmly (record { leads = h.leads; ticks = h.ticks; steps = h.steps })
 
-  fails_by : (f : Store → OkOr Store Trouble) (e : Seen) (kind : FaultKind) → Settles c r.placed.line (act w.code r.placed.line r.placed.instruction c) here s f → Settled f s.scene e (Err kind) → act w.code r.placed.line r.placed.instruction c ≡ Rest (Breaks kind r.placed.line)
+  fails_by : (f : Store → OkOr Store Failure) (e : Seen) (kind : FaultKind) → Settles c r.placed.line (act w.code r.placed.line r.placed.instruction c) here s f → Settled f s.world e (Err kind) → act w.code r.placed.line r.placed.instruction c ≡ Rest (Breaks kind r.placed.line)
   fails_by f e kind z d =
       z.acts ∙ ap (λ q. did r.placed.line q (λ t. onward z.below c t)) (ap f store_is ∙ d c.store (λ wrong. z.right (ap f store_is ∙ wrong)))
 
   -- by the answer
-  pub settles : (f : Store → OkOr Store Trouble) (e : Seen) (answer : OkOr (Unit {0}) FaultKind) (new : State) (result : Option Here) → is_due r.placed.instruction ≡ false → Settles c r.placed.line (act w.code r.placed.line r.placed.instruction c) here s f → Settled f s.scene e answer → new ≡ faulted_by answer (record s { scene = e }) → result ≡ on_after here (done_unless_fault answer) → Performs (is_due r.placed.instruction) w r.placed.line (act w.code r.placed.line r.placed.instruction c) s new result
+  pub settles : (f : Store → OkOr Store Failure) (e : Seen) (answer : OkOr (Unit {0}) FaultKind) (new : State) (result : Option Here) → is_due r.placed.instruction ≡ false → Settles c r.placed.line (act w.code r.placed.line r.placed.instruction c) here s f → Settled f s.world e answer → new ≡ faulted_by answer (record s { world = e }) → result ≡ on_after here (done_unless_fault answer) → Performs (is_due r.placed.instruction) w r.placed.line (act w.code r.placed.line r.placed.instruction c) s new result
   settles f e (Ok u) new result calmly z d same way = went_on f e new result calmly z (d c.store (λ wrong. z.right (ap f store_is ∙ wrong))) same way
   settles f e (Err kind) new result calmly z d same way = fails_on kind e new result calmly (fails_by f e kind z d) same way

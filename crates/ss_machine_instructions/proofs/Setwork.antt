@@ -18,8 +18,8 @@ use Rattle.ss_program.specs.declared.sections.Subject.TheVariants.{OfCount}
 use Rattle.ss_base.specs.declared.words.End.{End}
 use Rattle.ss_program.specs.Program.{Program}
 use Rattle.ss_program.specs.WellTyped.{WellTyped}
-use Rattle.ss_meaning.specs.Values.{Trouble, Fails, if_ok, turned, due, where_fit}
-use Rattle.ss_meaning.specs.Store.{Scene, Store}
+use Rattle.ss_meaning.specs.Values.{Failure, Fails, if_ok, turned, due, where_fit}
+use Rattle.ss_meaning.specs.Store.{World, Store}
 use Rattle.ss_meaning.specs.Fitting.{Hold, Fits}
 use Rattle.ss_meaning.specs.Sets.{set_at, member, owner_as, owner_by_layout, set_answer, of_set, is_one, of_member, Filing as Position, Foremost, Hindmost, ByRule, JustBefore, JustAfter, filed_in, removed_from, removed_at}
 use Rattle.ss_meaning.proofs.Fine.{Fine}
@@ -46,18 +46,18 @@ use Rattle.ss_machine_instructions.proofs.Placing.{site, located, suits, small, 
 use Rattle.ss_machine_instructions.proofs.Delivering.{delivers, deliver_is, number_right}
 use Rattle.ss_machine_instructions.proofs.Asking.{owner_is, set_there}
 use Rattle.ss_machine_instructions.proofs.Programs.{ruled_in}
-use Rattle.ss_machine_instructions.proofs.Settling.{fine_right, fine_is, store_is, layout_seen, disciplines_seen, scene_holds, is_told, settles, fails_on}
+use Rattle.ss_machine_instructions.proofs.Settling.{fine_right, fine_is, store_is, layout_seen, disciplines_seen, world_holds, is_noted_right, settles, fails_on}
 
 -- ## A member is looked at first
 
 module _ (set : ℕ) (n : ℤ) (s : Store) (t : SetLayout) (there : set_at set s ≡ Some t) where
   -- an operation that has the fault of its member itself
-  looked : (go : ℤ → OkOr Value Trouble) → ((kind : FaultKind) → joiner s.scene.heap set n ≡ Err kind → go n ≡ Err (Fails kind)) → if_ok (member set (Whole n) s) go ≡ go n
+  looked : (go : ℤ → OkOr Value Failure) → ((kind : FaultKind) → joiner s.world.heap set n ≡ Err kind → go n ≡ Err (Fails kind)) → if_ok (member set (Whole n) s) go ≡ go n
   looked go fails =
-      ap (λ so. if_ok (where_fit (is_some so) (turned (λ _. n) (due (joiner s.scene.heap set n)))) go) there
-      ∙ by (joiner s.scene.heap set n) refl
+      ap (λ so. if_ok (where_fit (is_some so) (turned (λ _. n) (due (joiner s.world.heap set n)))) go) there
+      ∙ by (joiner s.world.heap set n) refl
     where
-      by : (j : OkOr ℕ FaultKind) → joiner s.scene.heap set n ≡ j → if_ok (turned (λ _. n) (due j)) go ≡ go n
+      by : (j : OkOr ℕ FaultKind) → joiner s.world.heap set n ≡ j → if_ok (turned (λ _. n) (due j)) go ≡ go n
       by (Ok k) q = refl
       by (Err kind) q = sym (fails kind q)
 
@@ -65,17 +65,17 @@ module _ (set : ℕ) (n : ℤ) (s : Store) (t : SetLayout) (there : set_at set s
   ones (Ok o) = refl
   ones (Err kind) = refl
 
-  member_is : (query : MemberQuery) → of_member query set (Whole n) s ≡ turned Whole (due (member_answer query s.scene.heap set n))
+  member_is : (query : MemberQuery) → of_member query set (Whole n) s ≡ turned Whole (due (member_answer query s.world.heap set n))
   member_is Predecessor =
-      looked (λ n. turned Whole (due (previous_in s.scene.heap set n)))
-      (λ kind q. ap (λ j. turned Whole (due (and_then {B = ℤ} j (λ k. Ok (pos (precursor 0 k (companions s.scene.heap.lists set k))))))) q)
+      looked (λ n. turned Whole (due (previous_in s.world.heap set n)))
+      (λ kind q. ap (λ j. turned Whole (due (and_then {B = ℤ} j (λ k. Ok (pos (precursor 0 k (companions s.world.heap.lists set k))))))) q)
   member_is Successor =
-      looked (λ n. turned Whole (due (next_in s.scene.heap set n)))
-      (λ kind q. ap (λ j. turned Whole (due (and_then {B = ℤ} j (λ k. Ok (pos (follower k (companions s.scene.heap.lists set k))))))) q)
+      looked (λ n. turned Whole (due (next_in s.world.heap set n)))
+      (λ kind q. ap (λ j. turned Whole (due (and_then {B = ℤ} j (λ k. Ok (pos (follower k (companions s.world.heap.lists set k))))))) q)
   member_is Membership =
-      looked (λ n. turned (λ o. Whole (is_one o)) (due (owner_of_member s.scene.heap set n)))
-      (λ kind q. ap (λ j. turned (λ o. Whole (is_one o)) (due (and_then {B = Option ℤ} j (λ k. Ok (as_number (owner_of s.scene.heap.lists set k)))))) q)
-      ∙ ones (owner_of_member s.scene.heap set n)
+      looked (λ n. turned (λ o. Whole (is_one o)) (due (owner_of_member s.world.heap set n)))
+      (λ kind q. ap (λ j. turned (λ o. Whole (is_one o)) (due (and_then {B = Option ℤ} j (λ k. Ok (as_number (owner_of s.world.heap.lists set k)))))) q)
+      ∙ ones (owner_of_member s.world.heap set n)
 
 -- ## Owners
 
@@ -91,31 +91,31 @@ module _ (w : Compiled) (c : Core) (here : Here) (s : State) (run : Running) (r 
   abbrev Low : ℕ
   Low = here.frame + length c.store.locals
 
-  layout_here : c.store.scene.heap.layout ≡ w.program.layout
-  layout_here = r.fits.store.sound.scene.layout
+  layout_here : c.store.world.heap.layout ≡ w.program.layout
+  layout_here = r.fits.store.sound.world.layout
 
-  heap_here : c.store.scene.heap ≡ s.scene.heap
-  heap_here = ap (λ (x : Scene). x.heap) r.holds.scene
+  heap_here : c.store.world.heap ≡ s.world.heap
+  heap_here = ap (λ (x : World). x.heap) r.holds.world
 
-  -- the number that is read is that of the owner, as the machine's scene has it
-  is_owner : (set : ℕ) (x : Bearer) (o : Option Value) (z : ℤ) → SetFits w.program set x → Refers x o z → IsOwner s.scene set o z
+  -- the number that is read is that of the owner, as the machine's world has it
+  is_owner : (set : ℕ) (x : Bearer) (o : Option Value) (z : ℤ) → SetFits w.program set x → Refers x o z → IsOwner s.world set o z
   is_owner set x o z fits refers =
       let t = set_there w.program set x fits in
-      let there : slice_get s.scene.heap.layout.sets set ≡ Some t.0 = ap (λ l. slice_get l.sets set) (layout_seen w c here s run r) ∙ t.1 in
+      let there : slice_get s.world.heap.layout.sets set ≡ Some t.0 = ap (λ l. slice_get l.sets set) (layout_seen w c here s run r) ∙ t.1 in
       let known : set_at set c.store ≡ Some t.0 = ap (λ l. slice_get l.sets set) layout_here ∙ t.1 in
       ap (λ so. owner_as (owner_in so) o) there
       ∙ sym (ap (λ so. owner_by_layout so o) known)
       ∙ owner_is w.program set x o z c.store layout_here fits refers
 
-  pub ruled_here : (set : ℕ) (x : Bearer) → SetFits w.program set x → IsRuled s.scene set
+  pub ruled_here : (set : ℕ) (x : Bearer) → SetFits w.program set x → IsRuled s.world set
   ruled_here set x fits =
       let t = set_there w.program set x fits in
-      ruled_in w.program r.compiled.typed s.scene set t.0 t.1 (disciplines_seen w c here s run r) (layout_seen w c here s run r)
+      ruled_in w.program r.compiled.typed s.world set t.0 t.1 (disciplines_seen w c here s run r) (layout_seen w c here s run r)
 
-  set_seen : (set : ℕ) (x : Bearer) → SetFits w.program set x → set < length s.scene.heap.layout.sets
+  set_seen : (set : ℕ) (x : Bearer) → SetFits w.program set x → set < length s.world.heap.layout.sets
   set_seen set x fits =
       let t = set_there w.program set x fits in
-      slice_get_within s.scene.heap.layout.sets set t.0 (ap (λ l. slice_get l.sets set) (layout_seen w c here s run r) ∙ t.1)
+      slice_get_within s.world.heap.layout.sets set t.0 (ap (λ l. slice_get l.sets set) (layout_seen w c here s run r) ∙ t.1)
 
   bearer_shorter : (x : Bearer) (rest : List Mode) → GivesBearer (typed_scope w.program w.code r.placed.locals) x r.placed.cells rest → length rest ≤ w.run.depth
   bearer_shorter None rest g = let le = deep_here w c here s run r in omega (arith, ap length g, le)
@@ -127,14 +127,14 @@ module _ (w : Compiled) (c : Core) (here : Here) (s : State) (run : Running) (r 
   abbrev pub AsksSet : SetQuery → (set : ℕ) → (owner to : Address) → Type 0
   AsksSet query set owner to = Of w.code w.run.constants r.placed owner (λ o. To w.code w.run.constants r.placed to (λ t. Is w.code w.run.constants r.placed (i.OfSet query set o t)))
 
-  pub asks_set_in : (query : SetQuery) (set : ℕ) (owner to : Address) → AsksSet query set owner to → (place_at here.frame owner < length s.rows.numbers) × (set < length s.scene.heap.layout.sets)
+  pub asks_set_in : (query : SetQuery) (set : ℕ) (owner to : Address) → AsksSet query set owner to → (place_at here.frame owner < length s.rows.numbers) × (set < length s.world.heap.layout.sets)
   asks_set_in query set owner to z =
       let y = subst SuitsHere z.2.2 (suits w c here s run r) in (
         bearer_within (site w c here s run r) (located w c here s run r) z.0 r.placed.cells y.1.0 owner y.1.1 z.1 (deep_here w c here s run r),
         set_seen set z.0 y.0,
       )
 
-  pub asks_set : (query : SetQuery) (set : ℕ) (owner to : Address) (number : ℤ) (answer : OkOr ℤ FaultKind) → AsksSet query set owner to → slice_get s.rows.numbers (place_at here.frame owner) ≡ Some number → answer ≡ set_answer query s.scene.heap set number → Delivers w c r.placed.line (act w.code r.placed.line r.placed.instruction c) here s to (as_value answer)
+  pub asks_set : (query : SetQuery) (set : ℕ) (owner to : Address) (number : ℤ) (answer : OkOr ℤ FaultKind) → AsksSet query set owner to → slice_get s.rows.numbers (place_at here.frame owner) ≡ Some number → answer ≡ set_answer query s.world.heap set number → Delivers w c r.placed.line (act w.code r.placed.line r.placed.instruction c) here s to (as_value answer)
   asks_set query set owner to number answer z at e =
       let is = z.2.2 in
       let y = subst SuitsHere is (suits w c here s run r) in
@@ -145,7 +145,7 @@ module _ (w : Compiled) (c : Core) (here : Here) (s : State) (run : Running) (r 
       delivers w c here s run r (as_value answer) to target Integer y.1.0 y.1.2.0 b.below
       (ap (λ x. act w.code l x c) is
       ∙ b.is (λ o below. deliver l target (of_set query set o c.store) below c)
-      ∙ ap (λ q. deliver l target (if_ok q (λ n. turned Whole (due (set_answer query c.store.scene.heap set n)))) b.below c) who
+      ∙ ap (λ q. deliver l target (if_ok q (λ n. turned Whole (due (set_answer query c.store.world.heap set n)))) b.below c) who
       ∙ ap (λ h. deliver l target (turned Whole (due (set_answer query h set number))) b.below c) heap_here
       ∙ ap (λ a. deliver l target (turned Whole (due a)) b.below c) (sym e)
       ∙ deliver_is l target answer b.below c)
@@ -156,14 +156,14 @@ module _ (w : Compiled) (c : Core) (here : Here) (s : State) (run : Running) (r 
   abbrev pub AsksMember : MemberQuery → (set : ℕ) → (member to : Address) → Type 0
   AsksMember query set member to = From w.code w.run.constants r.placed member (λ y. To w.code w.run.constants r.placed to (λ t. Is w.code w.run.constants r.placed (i.OfMember query set y t)))
 
-  pub asks_member_in : (query : MemberQuery) (set : ℕ) (member to : Address) → AsksMember query set member to → (place_at here.frame member < length s.rows.numbers) × (set < length s.scene.heap.layout.sets)
+  pub asks_member_in : (query : MemberQuery) (set : ℕ) (member to : Address) → AsksMember query set member to → (place_at here.frame member < length s.rows.numbers) × (set < length s.world.heap.layout.sets)
   asks_member_in query set member to z =
       let y = subst SuitsHere z.2.2 (suits w c here s run r) in (
         read_within (site w c here s run r) (located w c here s run r) z.0 Integer r.placed.cells y.1.0 member y.1.1 z.1 (deep_here w c here s run r),
-        slice_get_within s.scene.heap.layout.sets set y.0.0 (ap (λ l. slice_get l.sets set) (layout_seen w c here s run r) ∙ y.0.1),
+        slice_get_within s.world.heap.layout.sets set y.0.0 (ap (λ l. slice_get l.sets set) (layout_seen w c here s run r) ∙ y.0.1),
       )
 
-  pub asks_member : (query : MemberQuery) (set : ℕ) (member to : Address) (number : ℤ) (answer : OkOr ℤ FaultKind) → AsksMember query set member to → slice_get s.rows.numbers (place_at here.frame member) ≡ Some number → answer ≡ member_answer query s.scene.heap set number → Delivers w c r.placed.line (act w.code r.placed.line r.placed.instruction c) here s to (as_value answer)
+  pub asks_member : (query : MemberQuery) (set : ℕ) (member to : Address) (number : ℤ) (answer : OkOr ℤ FaultKind) → AsksMember query set member to → slice_get s.rows.numbers (place_at here.frame member) ≡ Some number → answer ≡ member_answer query s.world.heap set number → Delivers w c r.placed.line (act w.code r.placed.line r.placed.instruction c) here s to (as_value answer)
   asks_member query set member to number answer z at e =
       let is = z.2.2 in
       let y = subst SuitsHere is (suits w c here s run r) in
@@ -235,8 +235,8 @@ module _ (w : Compiled) (c : Core) (here : Here) (s : State) (run : Running) (r 
   pub record FileWithin (member owner : Address) (set : ℕ) : Type 0 where
     pub member_place : place_at here.frame member < length s.rows.numbers
     pub owner_place : place_at here.frame owner < length s.rows.numbers
-    pub set_place : set < length s.scene.heap.layout.sets
-    pub ruled_set : IsRuled s.scene set
+    pub set_place : set < length s.world.heap.layout.sets
+    pub ruled_set : IsRuled s.world set
 
   file_within : (filing : FilingPlace) (set : ℕ) (y : Operand) (o : Bearer) (member owner : Address) → r.placed.instruction ≡ i.File filing set y o → OperandAt w.code w.run.constants r.placed y member → BearerAt w.code w.run.constants r.placed o owner → Shortens filing → FileWithin member owner set
   file_within filing set y o member owner is at_y at_o fewer =
@@ -251,7 +251,7 @@ module _ (w : Compiled) (c : Core) (here : Here) (s : State) (run : Running) (r 
         ruled_set = ruled_here set o z.0;
       }
 
-  files_by : (filing : FilingPlace) (at : Position) (set : ℕ) (y : Operand) (o : Bearer) (member owner : Address) (n m : ℤ) (notes : Bool) (e : Seen) (answer : OkOr (Unit {0}) FaultKind) (new : State) (result : Option Here) → r.placed.instruction ≡ i.File filing set y o → OperandAt w.code w.run.constants r.placed y member → BearerAt w.code w.run.constants r.placed o owner → Positions filing at → FilingOk w.program r.compiled.typed r.placed.locals at → (notes ≡ false → watch w.code.setting.statistics (OfCount set) ≡ false) → slice_get s.rows.numbers (place_at here.frame member) ≡ Some n → slice_get s.rows.numbers (place_at here.frame owner) ≡ Some m → Files at set notes s.scene e answer m n → new ≡ faulted_by answer (record s { scene = e }) → result ≡ on_after here (done_unless_fault answer) → Performs (is_due r.placed.instruction) w r.placed.line (act w.code r.placed.line r.placed.instruction c) s new result
+  files_by : (filing : FilingPlace) (at : Position) (set : ℕ) (y : Operand) (o : Bearer) (member owner : Address) (n m : ℤ) (notes : Bool) (e : Seen) (answer : OkOr (Unit {0}) FaultKind) (new : State) (result : Option Here) → r.placed.instruction ≡ i.File filing set y o → OperandAt w.code w.run.constants r.placed y member → BearerAt w.code w.run.constants r.placed o owner → Positions filing at → FilingOk w.program r.compiled.typed r.placed.locals at → (notes ≡ false → watch w.code.setting.statistics (OfCount set) ≡ false) → slice_get s.rows.numbers (place_at here.frame member) ≡ Some n → slice_get s.rows.numbers (place_at here.frame owner) ≡ Some m → Files at set notes s.world e answer m n → new ≡ faulted_by answer (record s { world = e }) → result ≡ on_after here (done_unless_fault answer) → Performs (is_due r.placed.instruction) w r.placed.line (act w.code r.placed.line r.placed.instruction c) s new result
   files_by filing at set y o member owner n m notes e answer new result is at_y at_o position good reported at_member at_owner filed same way =
       let t = site w c here s run r in
       let st = located w c here s run r in
@@ -260,7 +260,7 @@ module _ (w : Compiled) (c : Core) (here : Here) (s : State) (run : Running) (r 
       let b = reads_bearer t st o r.placed.cells z.1.0 owner c.cells m z.1.1 at_o r.holds.held.cells r.fits.cells at_owner in
       let f = position z.1.0 z.1.2.0 b.below z.1.2.1 b.cells b.modes in
       let x = reads t st y Integer z.1.2.0 z.1.2.2.0 member f.below (Whole n) z.1.2.2.1 at_y f.cells_at f.modes (only_number s.rows (place_at here.frame member) n at_member) in
-      let op : Store → OkOr Store Trouble = filed_in at set (Whole n) b.value in
+      let op : Store → OkOr Store Failure = filed_in at set (Whole n) b.value in
       let right : IsRight (op c.store) = fine_right (Fits w.program r.placed.locals) (op c.store) (filed_in_fine w.program r.compiled.typed r.placed.locals at set (Whole n) b.value c.store good refl (owner_ok w.program r.compiled.typed r.placed.locals set o b.value m z.0 b.refers) r.fits.store) in
       let acts : act w.code l r.placed.instruction c ≡ did l (op c.store) (λ t. onward x.below c t) =
       ap (λ v. act w.code l v c) is
@@ -269,7 +269,7 @@ module _ (w : Compiled) (c : Core) (here : Here) (s : State) (run : Running) (r 
       ∙ x.is (λ x below. did l (filed_in at set x b.value c.store) (λ t. onward below c t)) in
       let left : Settles c l (act w.code l r.placed.instruction c) here s op = record { below = x.below; acts = acts; right = right; at = x.cells } in
       settles w c here s run r op e answer new result (ap is_due is) left
-      (filed b.value (is_owner set o b.value m z.0 b.refers) (is_told w c here s run r notes (OfCount set) reported)) same way
+      (filed b.value (is_owner set o b.value m z.0 b.refers) (is_noted_right w c here s run r notes (OfCount set) reported)) same way
 
   abbrev pub IsQuiet : (notes : Bool) → (set : ℕ) → Type 0
   IsQuiet notes set = notes ≡ false → watch w.code.setting.statistics (OfCount set) ≡ false
@@ -288,17 +288,17 @@ module _ (w : Compiled) (c : Core) (here : Here) (s : State) (run : Running) (r 
 
   -- what the machine did, for an operation that a function carried out
   abbrev IsDone : (e : Seen) → OkOr (Unit {0}) FaultKind → (new : State) → Option Here → Type 0
-  IsDone e answer new result = (new ≡ faulted_by answer (record s { scene = e })) × (result ≡ on_after here (done_unless_fault answer))
+  IsDone e answer new result = (new ≡ faulted_by answer (record s { world = e })) × (result ≡ on_after here (done_unless_fault answer))
 
-  pub files_first : (set : ℕ) (member owner : Address) (n m : ℤ) (notes : Bool) (e : Seen) (answer : OkOr (Unit {0}) FaultKind) (new : State) (result : Option Here) → IsQuiet notes set → FilesBy First set member owner → slice_get s.rows.numbers (place_at here.frame member) ≡ Some n → slice_get s.rows.numbers (place_at here.frame owner) ≡ Some m → Files Foremost set notes s.scene e answer m n → IsDone e answer new result → Performs (is_due r.placed.instruction) w r.placed.line (act w.code r.placed.line r.placed.instruction c) s new result
+  pub files_first : (set : ℕ) (member owner : Address) (n m : ℤ) (notes : Bool) (e : Seen) (answer : OkOr (Unit {0}) FaultKind) (new : State) (result : Option Here) → IsQuiet notes set → FilesBy First set member owner → slice_get s.rows.numbers (place_at here.frame member) ≡ Some n → slice_get s.rows.numbers (place_at here.frame owner) ≡ Some m → Files Foremost set notes s.world e answer m n → IsDone e answer new result → Performs (is_due r.placed.instruction) w r.placed.line (act w.code r.placed.line r.placed.instruction c) s new result
   files_first set member owner n m notes e answer new result reported z at_member at_owner filed done =
       files_by First Foremost set z.0 z.2.0 member owner n m notes e answer new result z.2.2 z.1 z.2.1 first_positions tt reported at_member at_owner filed done.0 done.1
 
-  pub files_last : (set : ℕ) (member owner : Address) (n m : ℤ) (notes : Bool) (e : Seen) (answer : OkOr (Unit {0}) FaultKind) (new : State) (result : Option Here) → IsQuiet notes set → FilesBy Last set member owner → slice_get s.rows.numbers (place_at here.frame member) ≡ Some n → slice_get s.rows.numbers (place_at here.frame owner) ≡ Some m → Files Hindmost set notes s.scene e answer m n → IsDone e answer new result → Performs (is_due r.placed.instruction) w r.placed.line (act w.code r.placed.line r.placed.instruction c) s new result
+  pub files_last : (set : ℕ) (member owner : Address) (n m : ℤ) (notes : Bool) (e : Seen) (answer : OkOr (Unit {0}) FaultKind) (new : State) (result : Option Here) → IsQuiet notes set → FilesBy Last set member owner → slice_get s.rows.numbers (place_at here.frame member) ≡ Some n → slice_get s.rows.numbers (place_at here.frame owner) ≡ Some m → Files Hindmost set notes s.world e answer m n → IsDone e answer new result → Performs (is_due r.placed.instruction) w r.placed.line (act w.code r.placed.line r.placed.instruction c) s new result
   files_last set member owner n m notes e answer new result reported z at_member at_owner filed done =
       files_by Last Hindmost set z.0 z.2.0 member owner n m notes e answer new result z.2.2 z.1 z.2.1 last_positions tt reported at_member at_owner filed done.0 done.1
 
-  pub files_ranked : (set : ℕ) (member owner : Address) (n m : ℤ) (notes : Bool) (e : Seen) (answer : OkOr (Unit {0}) FaultKind) (new : State) (result : Option Here) → IsQuiet notes set → FilesBy Ranked set member owner → slice_get s.rows.numbers (place_at here.frame member) ≡ Some n → slice_get s.rows.numbers (place_at here.frame owner) ≡ Some m → Files ByRule set notes s.scene e answer m n → IsDone e answer new result → Performs (is_due r.placed.instruction) w r.placed.line (act w.code r.placed.line r.placed.instruction c) s new result
+  pub files_ranked : (set : ℕ) (member owner : Address) (n m : ℤ) (notes : Bool) (e : Seen) (answer : OkOr (Unit {0}) FaultKind) (new : State) (result : Option Here) → IsQuiet notes set → FilesBy Ranked set member owner → slice_get s.rows.numbers (place_at here.frame member) ≡ Some n → slice_get s.rows.numbers (place_at here.frame owner) ≡ Some m → Files ByRule set notes s.world e answer m n → IsDone e answer new result → Performs (is_due r.placed.instruction) w r.placed.line (act w.code r.placed.line r.placed.instruction c) s new result
   files_ranked set member owner n m notes e answer new result reported z at_member at_owner filed done =
       files_by Ranked ByRule set z.0 z.2.0 member owner n m notes e answer new result z.2.2 z.1 z.2.1 rank_positions tt reported at_member at_owner filed done.0 done.1
 
@@ -325,11 +325,11 @@ module _ (w : Compiled) (c : Core) (here : Here) (s : State) (run : Running) (r 
     file_within (After z.0) set z.2.0 z.2.2.0 member owner z.2.2.2 z.2.1 z.2.2.1 (after_shortens z.0),
   )
 
-  pub files_before : (set : ℕ) (beside member owner : Address) (k n m : ℤ) (notes : Bool) (e : Seen) (answer : OkOr (Unit {0}) FaultKind) (new : State) (result : Option Here) → IsQuiet notes set → FilesBeside Before set beside member owner → slice_get s.rows.numbers (place_at here.frame beside) ≡ Some k → slice_get s.rows.numbers (place_at here.frame member) ≡ Some n → slice_get s.rows.numbers (place_at here.frame owner) ≡ Some m → Files (JustBefore (Whole k)) set notes s.scene e answer m n → IsDone e answer new result → Performs (is_due r.placed.instruction) w r.placed.line (act w.code r.placed.line r.placed.instruction c) s new result
+  pub files_before : (set : ℕ) (beside member owner : Address) (k n m : ℤ) (notes : Bool) (e : Seen) (answer : OkOr (Unit {0}) FaultKind) (new : State) (result : Option Here) → IsQuiet notes set → FilesBeside Before set beside member owner → slice_get s.rows.numbers (place_at here.frame beside) ≡ Some k → slice_get s.rows.numbers (place_at here.frame member) ≡ Some n → slice_get s.rows.numbers (place_at here.frame owner) ≡ Some m → Files (JustBefore (Whole k)) set notes s.world e answer m n → IsDone e answer new result → Performs (is_due r.placed.instruction) w r.placed.line (act w.code r.placed.line r.placed.instruction c) s new result
   files_before set beside member owner k n m notes e answer new result reported z at_beside at_member at_owner filed done =
       files_by (Before z.0) (JustBefore (Whole k)) set z.2.0 z.2.2.0 member owner n m notes e answer new result z.2.2.2 z.2.1 z.2.2.1 (before_positions z.0 beside k z.1 at_beside) refl reported at_member at_owner filed done.0 done.1
 
-  pub files_after : (set : ℕ) (beside member owner : Address) (k n m : ℤ) (notes : Bool) (e : Seen) (answer : OkOr (Unit {0}) FaultKind) (new : State) (result : Option Here) → IsQuiet notes set → FilesBeside After set beside member owner → slice_get s.rows.numbers (place_at here.frame beside) ≡ Some k → slice_get s.rows.numbers (place_at here.frame member) ≡ Some n → slice_get s.rows.numbers (place_at here.frame owner) ≡ Some m → Files (JustAfter (Whole k)) set notes s.scene e answer m n → IsDone e answer new result → Performs (is_due r.placed.instruction) w r.placed.line (act w.code r.placed.line r.placed.instruction c) s new result
+  pub files_after : (set : ℕ) (beside member owner : Address) (k n m : ℤ) (notes : Bool) (e : Seen) (answer : OkOr (Unit {0}) FaultKind) (new : State) (result : Option Here) → IsQuiet notes set → FilesBeside After set beside member owner → slice_get s.rows.numbers (place_at here.frame beside) ≡ Some k → slice_get s.rows.numbers (place_at here.frame member) ≡ Some n → slice_get s.rows.numbers (place_at here.frame owner) ≡ Some m → Files (JustAfter (Whole k)) set notes s.world e answer m n → IsDone e answer new result → Performs (is_due r.placed.instruction) w r.placed.line (act w.code r.placed.line r.placed.instruction c) s new result
   files_after set beside member owner k n m notes e answer new result reported z at_beside at_member at_owner filed done =
       files_by (After z.0) (JustAfter (Whole k)) set z.2.0 z.2.2.0 member owner n m notes e answer new result z.2.2.2 z.2.1 z.2.2.1 (after_positions z.0 beside k z.1 at_beside) refl reported at_member at_owner filed done.0 done.1
 
@@ -350,7 +350,7 @@ module _ (w : Compiled) (c : Core) (here : Here) (s : State) (run : Running) (r 
         ruled_set = ruled_here set z.2.0 y.0;
       }
 
-  pub removes : (set : ℕ) (member owner : Address) (n m : ℤ) (notes : Bool) (e : Seen) (answer : OkOr (Unit {0}) FaultKind) (new : State) (result : Option Here) → IsQuiet notes set → RemovesHere set member owner → slice_get s.rows.numbers (place_at here.frame member) ≡ Some n → slice_get s.rows.numbers (place_at here.frame owner) ≡ Some m → Removes set notes s.scene e answer m n → IsDone e answer new result → Performs (is_due r.placed.instruction) w r.placed.line (act w.code r.placed.line r.placed.instruction c) s new result
+  pub removes : (set : ℕ) (member owner : Address) (n m : ℤ) (notes : Bool) (e : Seen) (answer : OkOr (Unit {0}) FaultKind) (new : State) (result : Option Here) → IsQuiet notes set → RemovesHere set member owner → slice_get s.rows.numbers (place_at here.frame member) ≡ Some n → slice_get s.rows.numbers (place_at here.frame owner) ≡ Some m → Removes set notes s.world e answer m n → IsDone e answer new result → Performs (is_due r.placed.instruction) w r.placed.line (act w.code r.placed.line r.placed.instruction c) s new result
   removes set member owner n m notes e answer new result reported z at_member at_owner removed done =
       let t = site w c here s run r in
       let st = located w c here s run r in
@@ -359,7 +359,7 @@ module _ (w : Compiled) (c : Core) (here : Here) (s : State) (run : Running) (r 
       let y = subst SuitsHere is (suits w c here s run r) in
       let b = reads_bearer t st z.2.0 r.placed.cells y.1.0 owner c.cells m y.1.1 z.2.1 r.holds.held.cells r.fits.cells at_owner in
       let x = reads t st z.0 Integer y.1.0 y.1.2.0 member b.below (Whole n) y.1.2.1 z.1 b.cells b.modes (only_number s.rows (place_at here.frame member) n at_member) in
-      let op : Store → OkOr Store Trouble = removed_from set (Whole n) b.value in
+      let op : Store → OkOr Store Failure = removed_from set (Whole n) b.value in
       let right : IsRight (op c.store) = fine_right (Fits w.program r.placed.locals) (op c.store) (removed_from_fine w.program r.compiled.typed r.placed.locals set (Whole n) b.value c.store refl (owner_ok w.program r.compiled.typed r.placed.locals set z.2.0 b.value m y.0 b.refers) r.fits.store) in
       let acts : act w.code l r.placed.instruction c ≡ did l (op c.store) (λ t. onward x.below c t) =
       ap (λ v. act w.code l v c) is
@@ -367,14 +367,14 @@ module _ (w : Compiled) (c : Core) (here : Here) (s : State) (run : Running) (r 
       ∙ x.is (λ x below. did l (removed_from set x b.value c.store) (λ t. onward below c t)) in
       let left : Settles c l (act w.code l r.placed.instruction c) here s op = record { below = x.below; acts = acts; right = right; at = x.cells } in
       settles w c here s run r op e answer new result (ap is_due is) left
-      (removed b.value (is_owner set z.2.0 b.value m y.0 b.refers) (is_told w c here s run r notes (OfCount set) reported)) done.0 done.1
+      (removed b.value (is_owner set z.2.0 b.value m y.0 b.refers) (is_noted_right w c here s run r notes (OfCount set) reported)) done.0 done.1
 
   -- ## The first or the last is removed
 
   abbrev pub TakesHere : End → (set : ℕ) → (owner to : Address) → Type 0
   TakesHere end set owner to = Of w.code w.run.constants r.placed owner (λ o. To w.code w.run.constants r.placed to (λ t. Is w.code w.run.constants r.placed (i.RemoveEnd end set o t)))
 
-  pub takes_in : (end : End) (set : ℕ) (owner to : Address) → TakesHere end set owner to → (place_at here.frame owner < length s.rows.numbers) × (set < length s.scene.heap.layout.sets)
+  pub takes_in : (end : End) (set : ℕ) (owner to : Address) → TakesHere end set owner to → (place_at here.frame owner < length s.rows.numbers) × (set < length s.world.heap.layout.sets)
   takes_in end set owner to z =
       let y = subst SuitsHere z.2.2 (suits w c here s run r) in (
         bearer_within (site w c here s run r) (located w c here s run r) z.0 r.placed.cells y.1.0 owner y.1.1 z.1 (deep_here w c here s run r),
@@ -390,7 +390,7 @@ module _ (w : Compiled) (c : Core) (here : Here) (s : State) (run : Running) (r 
     of : Option Value
     below : List Value
     acts : act w.code r.placed.line r.placed.instruction c ≡ deliver_with r.placed.line target (removed_at end set of c.store) below c
-    refers : IsOwner s.scene set of m
+    refers : IsOwner s.world set of m
     fine : Fine IsFitting (removed_at end set of c.store)
     cells_at : CellsAt s.rows Low below
     modes : Hold below rest
@@ -409,20 +409,20 @@ module _ (w : Compiled) (c : Core) (here : Here) (s : State) (run : Running) (r 
       }
 
   -- what the operation gives, by what the machine's did
-  given_is : (f : Store → OkOr (Value × Store) Trouble) (e : Seen) (x : ℤ) → IsRight (f c.store) → SettledGiving f s.scene e (Ok x) → f c.store ≡ Ok (Whole x, with_seen c.store e)
+  given_is : (f : Store → OkOr (Value × Store) Failure) (e : Seen) (x : ℤ) → IsRight (f c.store) → SettledGiving f s.world e (Ok x) → f c.store ≡ Ok (Whole x, with_seen c.store e)
   given_is f e x right d = ap f (store_is w c here s run r) ∙ d c.store (λ wrong. right (ap f (store_is w c here s run r) ∙ wrong))
 
-  given_not : (f : Store → OkOr (Value × Store) Trouble) (e : Seen) (kind : FaultKind) → IsRight (f c.store) → SettledGiving f s.scene e (Err kind) → f c.store ≡ Err (Fails kind)
+  given_not : (f : Store → OkOr (Value × Store) Failure) (e : Seen) (kind : FaultKind) → IsRight (f c.store) → SettledGiving f s.world e (Err kind) → f c.store ≡ Err (Fails kind)
   given_not f e kind right d = ap f (store_is w c here s run r) ∙ d c.store (λ wrong. right (ap f (store_is w c here s run r) ∙ wrong))
 
-  pub takes_delivers : (end : End) (set : ℕ) (owner to : Address) (m x : ℤ) (notes : Bool) (e : Seen) → IsQuiet notes set → TakesHere end set owner to → slice_get s.rows.numbers (place_at here.frame owner) ≡ Some m → Takes end set notes s.scene e (Ok x) m → Delivers w c r.placed.line (act w.code r.placed.line r.placed.instruction c) here (record s { scene = e }) to (as_value (Ok x))
+  pub takes_delivers : (end : End) (set : ℕ) (owner to : Address) (m x : ℤ) (notes : Bool) (e : Seen) → IsQuiet notes set → TakesHere end set owner to → slice_get s.rows.numbers (place_at here.frame owner) ≡ Some m → Takes end set notes s.world e (Ok x) m → Delivers w c r.placed.line (act w.code r.placed.line r.placed.instruction c) here (record s { world = e }) to (as_value (Ok x))
   takes_delivers end set owner to m x notes e reported z at_owner taken =
       let is = z.2.2 in
       let y = subst SuitsHere is (suits w c here s run r) in
       let target = z.2.0 in
       let a = takes_as end set z.0 owner target y.1.0 m y.0 y.1.1 z.1 is at_owner in
       let right : IsRight (removed_at end set a.of c.store) = fine_right IsFitting (removed_at end set a.of c.store) a.fine in
-      let gives = given_is (removed_at end set a.of) e x right (taken a.of a.refers (is_told w c here s run r notes (OfCount set) reported)) in
+      let gives = given_is (removed_at end set a.of) e x right (taken a.of a.refers (is_noted_right w c here s run r notes (OfCount set) reported)) in
       record {
         compiled = r.compiled;
         placed = r.placed;
@@ -441,15 +441,15 @@ module _ (w : Compiled) (c : Core) (here : Here) (s : State) (run : Running) (r 
         hold = a.modes;
         at = a.cells_at;
         fits = (fine_is IsFitting (removed_at end set a.of c.store) (Whole x, with_seen c.store e) a.fine gives).1;
-        holds = scene_holds w c here s run r e;
+        holds = world_holds w c here s run r e;
       }
 
   -- the member is at its place
-  pub takes : (e : Seen) (new : State) (result : Option Here) → is_due r.placed.instruction ≡ false → NoTick w r.placed.line (act w.code r.placed.line r.placed.instruction c) (record s { scene = e }) new result → Performs (is_due r.placed.instruction) w r.placed.line (act w.code r.placed.line r.placed.instruction c) s new result
+  pub takes : (e : Seen) (new : State) (result : Option Here) → is_due r.placed.instruction ≡ false → NoTick w r.placed.line (act w.code r.placed.line r.placed.instruction c) (record s { world = e }) new result → Performs (is_due r.placed.instruction) w r.placed.line (act w.code r.placed.line r.placed.instruction c) s new result
   takes e new result calmly h = calm w c here s run r new result calmly (record { leads = h.leads; ticks = h.ticks; steps = h.steps })
 
   -- or there is a fault
-  pub takes_not : (end : End) (set : ℕ) (owner to : Address) (m : ℤ) (kind : FaultKind) (notes : Bool) (e : Seen) (new : State) (result : Option Here) → IsQuiet notes set → TakesHere end set owner to → slice_get s.rows.numbers (place_at here.frame owner) ≡ Some m → Takes end set notes s.scene e (Err kind) m → new ≡ faulted kind (record s { scene = e }) → result ≡ None → Performs (is_due r.placed.instruction) w r.placed.line (act w.code r.placed.line r.placed.instruction c) s new result
+  pub takes_not : (end : End) (set : ℕ) (owner to : Address) (m : ℤ) (kind : FaultKind) (notes : Bool) (e : Seen) (new : State) (result : Option Here) → IsQuiet notes set → TakesHere end set owner to → slice_get s.rows.numbers (place_at here.frame owner) ≡ Some m → Takes end set notes s.world e (Err kind) m → new ≡ faulted kind (record s { world = e }) → result ≡ None → Performs (is_due r.placed.instruction) w r.placed.line (act w.code r.placed.line r.placed.instruction c) s new result
   takes_not end set owner to m kind notes e new result reported z at_owner taken same none =
       let is = z.2.2 in
       let y = subst SuitsHere is (suits w c here s run r) in
@@ -457,5 +457,5 @@ module _ (w : Compiled) (c : Core) (here : Here) (s : State) (run : Running) (r 
       let a = takes_as end set z.0 owner target y.1.0 m y.0 y.1.1 z.1 is at_owner in
       let right = fine_right IsFitting (removed_at end set a.of c.store) a.fine in
       fails_on w c here s run r kind e new result (ap is_due is)
-      (a.acts ∙ ap (λ q. deliver_with r.placed.line target q a.below c) (given_not (removed_at end set a.of) e kind right (taken a.of a.refers (is_told w c here s run r notes (OfCount set) reported))))
+      (a.acts ∙ ap (λ q. deliver_with r.placed.line target q a.below c) (given_not (removed_at end set a.of) e kind right (taken a.of a.refers (is_noted_right w c here s run r notes (OfCount set) reported))))
       same none

@@ -24,5 +24,5 @@ pub record Enters (here : Here) (old new : State) (entry : SectionEntry) (cell f
 pub record IsOutOfMemory (old new : State) : Type 0 where
   pub ticks : new.ticks ≡ old.ticks
   pub steps : new.steps ≡ old.steps
-  pub scene : new.scene ≡ old.scene
+  pub world : new.world ≡ old.world
   pub longer : length old.rows.numbers ≤ length new.rows.numbers

@@ -14,7 +14,7 @@ use Rattle.ss_program.specs.declared.expression.MemberQuery.TheVariants.{Predece
 use Rattle.ss_program.specs.declared.sections.Subject.{Subject}
 use Rattle.ss_program.specs.declared.sections.Subject.TheVariants.{OfCount}
 use Rattle.ss_base.specs.declared.words.End.{End}
-use Rattle.ss_meaning.specs.Values.{Trouble, Fails}
+use Rattle.ss_meaning.specs.Values.{Failure, Fails}
 use Rattle.ss_meaning.specs.Store.{Store}
 use Rattle.ss_meaning.specs.Sets.{Filing, is_fit, is_one, filed_in, removed_from, removed_at}
 use Rattle.ss_code_instructions.specs.Facts.{watch}
@@ -29,25 +29,25 @@ use Rattle.ss_machine_instructions.specs.Ways.{on_at, refused_by}
 -- ## What an operation does
 
 -- it changes what is seen, or has a fault. After a fault what is seen is left open
-abbrev pub Settled : (Store → Result Store Trouble) → (old new : Seen) → Result (Unit {0}) FaultKind → Type 0
+abbrev pub Settled : (Store → Result Store Failure) → (old new : Seen) → Result (Unit {0}) FaultKind → Type 0
 Settled f old new (Ok u) = (s : Store) → IsRight (f (with_seen s old)) → f (with_seen s old) ≡ Ok (with_seen s new)
 Settled f old new (Err kind) = (s : Store) → IsRight (f (with_seen s old)) → f (with_seen s old) ≡ Err (Fails kind)
 
 -- it gives a number as well
-abbrev pub SettledGiving : (Store → Result (Value × Store) Trouble) → (old new : Seen) → Result ℤ FaultKind → Type 0
+abbrev pub SettledGiving : (Store → Result (Value × Store) Failure) → (old new : Seen) → Result ℤ FaultKind → Type 0
 SettledGiving f old new (Ok n) = (s : Store) → IsRight (f (with_seen s old)) → f (with_seen s old) ≡ Ok (Whole n, with_seen s new)
 SettledGiving f old new (Err kind) = (s : Store) → IsRight (f (with_seen s old)) → f (with_seen s old) ≡ Err (Fails kind)
 
 -- ## Notes
 
 -- an operation is done where something is so, and else nothing
-abbrev pub ChangesIf : Bool → (Store → Result Store Trouble) → (old new : Seen) → Result (Unit {0}) FaultKind → Type 0
+abbrev pub ChangesIf : Bool → (Store → Result Store Failure) → (old new : Seen) → Result (Unit {0}) FaultKind → Type 0
 ChangesIf true f old new r = Changes f old new r
 ChangesIf false f old new r = (r ≡ Ok tt) × (new ≡ old)
 
 -- where nothing is noted of a subject no statistic watches it
-abbrev pub IsTold : Bool → Subject → Seen → Type 0
-IsTold noted subject e = noted ≡ false → watch e.statistics subject ≡ false
+abbrev pub IsNotedRight : Bool → Subject → Seen → Type 0
+IsNotedRight noted subject e = noted ≡ false → watch e.statistics subject ≡ false
 
 -- ## Sets
 
@@ -75,17 +75,17 @@ CountedOut set o (Err kind) noted old new r = r ≡ Err kind
 -- a member is filed in the set of an owner
 abbrev pub Files : Filing → (set : ℕ) → (noted : Bool) → (old new : Seen) → Result (Unit {0}) FaultKind → (owner member : ℤ) → Type 0
 Files at set noted old new r m x =
-    (o : Option Value) → IsOwner old set o m → IsTold noted (OfCount set) old → Settled (filed_in at set (Whole x) o) old new r
+    (o : Option Value) → IsOwner old set o m → IsNotedRight noted (OfCount set) old → Settled (filed_in at set (Whole x) o) old new r
 
 -- one is removed from it
 abbrev pub Removes : (set : ℕ) → (noted : Bool) → (old new : Seen) → Result (Unit {0}) FaultKind → (owner member : ℤ) → Type 0
 Removes set noted old new r m x =
-    (o : Option Value) → IsOwner old set o m → IsTold noted (OfCount set) old → Settled (removed_from set (Whole x) o) old new r
+    (o : Option Value) → IsOwner old set o m → IsNotedRight noted (OfCount set) old → Settled (removed_from set (Whole x) o) old new r
 
 -- the first or the last is removed from it, and is the answer
 abbrev pub Takes : End → (set : ℕ) → (noted : Bool) → (old new : Seen) → Result ℤ FaultKind → (owner : ℤ) → Type 0
 Takes end set noted old new r m =
-    (o : Option Value) → IsOwner old set o m → IsTold noted (OfCount set) old → SettledGiving (removed_at end set o) old new r
+    (o : Option Value) → IsOwner old set o m → IsNotedRight noted (OfCount set) old → SettledGiving (removed_at end set o) old new r
 
 -- 1 where there is an owner, and 0 where there is none, or a fault
 abbrev pub one_of : Result (Option ℤ) FaultKind → Result ℤ FaultKind
@@ -111,7 +111,7 @@ refused_where (Err refused) s = refused_by refused s
 -- ## What is left of an instruction once an operation of the world is done
 
 -- it goes on with the cells that are left, in the store that the operation leaves
-pub record Settles (c : Core) (l : Line) (m : Moved) (here : Here) (s : Machine) (f : Store → Result Store Trouble) : Type 0 where
+pub record Settles (c : Core) (l : Line) (m : Moved) (here : Here) (s : Machine) (f : Store → Result Store Failure) : Type 0 where
   pub below : List Value
   pub acts : m ≡ did l (f c.store) (λ t. onward below c t)
   pub right : IsRight (f c.store)

@@ -15,12 +15,12 @@ use ss_base::{Alpha, FaultKind};
 use ss_code_instructions::address::Address;
 use ss_code_instructions::instruction::Instruction;
 use ss_machine_entities::population::Population;
-use ss_machine_world::scene::Scene;
+use ss_machine_world::world::World;
 use ss_program::expression::Sign;
 
 /// An attribute that is assigned: its class, its field, and whether it is noted.
 #[derive(Clone, Copy)]
-pub struct Attribute {
+pub struct AssignedAttribute {
     pub class: u32,
     pub field: u32,
     pub noted: bool,
@@ -47,58 +47,58 @@ fn change_whole(
     }
 }
 
-// Adds to an attribute of the scene, or subtracts from it.
+// Adds to an attribute of the world, or subtracts from it.
 #[inline(always)]
 fn change(
-    scene: &mut Scene,
+    world: &mut World,
     sign: Sign,
     class: usize,
     field: usize,
     entity: i64,
     by: i64,
 ) -> Result<(), FaultKind>
-    requires class { class < length scene.old.heap.layout.classes }
-    requires mode { slice_get (modes_of scene.old.heap.layout class) field ≡ Some Integer }
-    ensures done { MatchResult result (λ _. IsChanged (λ z. computed (operator_of sign) z by) scene.old.heap class field entity scene.new.heap) (λ kind. (changed_number (λ z. computed (operator_of sign) z by) (value_in scene.old.heap class field entity) ≡ Err kind) × (scene.new.heap ≡ scene.old.heap)) }
-    ensures layout { scene.new.heap.layout ≡ scene.old.heap.layout }
-    ensures same { scene.new ≡ record scene.old { heap = scene.new.heap } }
+    requires class { class < length world.old.heap.layout.classes }
+    requires mode { slice_get (modes_of world.old.heap.layout class) field ≡ Some Integer }
+    ensures done { MatchResult result (λ _. IsChanged (λ z. computed (operator_of sign) z by) world.old.heap class field entity world.new.heap) (λ kind. (changed_number (λ z. computed (operator_of sign) z by) (value_in world.old.heap class field entity) ≡ Err kind) × (world.new.heap ≡ world.old.heap)) }
+    ensures layout { world.new.heap.layout ≡ world.old.heap.layout }
+    ensures same { world.new ≡ record world.old { heap = world.new.heap } }
 {
-    change_whole(&mut scene.population, sign, class, field, entity, by)
+    change_whole(&mut world.population, sign, class, field, entity, by)
 }
 
 // A number goes to an attribute of an entity. Faults: 1 to 5.
 #[inline(always)]
 fn assign_number(
-    scene: &mut Scene,
+    world: &mut World,
     class: usize,
     field: usize,
     entity: i64,
     number: i64,
 ) -> Result<(), FaultKind>
-    requires class { class < length scene.old.heap.layout.classes }
-    requires mode { slice_get (modes_of scene.old.heap.layout class) field ≡ Some Integer }
-    ensures done { MatchResult result (λ _. IsAssigned scene.old.heap class field entity number scene.new.heap) (λ kind. (assigned scene.old.heap class field entity (Whole number) ≡ Err kind) × (scene.new.heap ≡ scene.old.heap)) }
-    ensures layout { scene.new.heap.layout ≡ scene.old.heap.layout }
-    ensures same { scene.new ≡ record scene.old { heap = scene.new.heap } }
+    requires class { class < length world.old.heap.layout.classes }
+    requires mode { slice_get (modes_of world.old.heap.layout class) field ≡ Some Integer }
+    ensures done { MatchResult result (λ _. IsAssigned world.old.heap class field entity number world.new.heap) (λ kind. (assigned world.old.heap class field entity (Whole number) ≡ Err kind) × (world.new.heap ≡ world.old.heap)) }
+    ensures layout { world.new.heap.layout ≡ world.old.heap.layout }
+    ensures same { world.new ≡ record world.old { heap = world.new.heap } }
 {
-    scene.population.set_whole(class, field, entity, number)
+    world.population.set_whole(class, field, entity, number)
 }
 
-// A text goes to an attribute of the scene.
+// A text goes to an attribute of the world.
 #[inline(always)]
 fn assign_text(
-    scene: &mut Scene,
+    world: &mut World,
     class: usize,
     field: usize,
     entity: i64,
     text: Alpha,
 ) -> Result<(), FaultKind>
-    requires class { class < length scene.old.heap.layout.classes }
-    requires mode { slice_get (modes_of scene.old.heap.layout class) field ≡ Some AlphaMode }
-    ensures done { MatchResult result (λ _. assigned scene.old.heap class field entity (Text text) ≡ Ok scene.new.heap) (λ kind. (assigned scene.old.heap class field entity (Text text) ≡ Err kind) × (scene.new.heap ≡ scene.old.heap)) }
-    ensures same { scene.new ≡ record scene.old { heap = scene.new.heap } }
+    requires class { class < length world.old.heap.layout.classes }
+    requires mode { slice_get (modes_of world.old.heap.layout class) field ≡ Some AlphaMode }
+    ensures done { MatchResult result (λ _. assigned world.old.heap class field entity (Text text) ≡ Ok world.new.heap) (λ kind. (assigned world.old.heap class field entity (Text text) ≡ Err kind) × (world.new.heap ≡ world.old.heap)) }
+    ensures same { world.new ≡ record world.old { heap = world.new.heap } }
 {
-    scene.population.set_text(class, field, entity, text)
+    world.population.set_text(class, field, entity, text)
 }
 
 impl State {
@@ -117,7 +117,7 @@ impl State {
     {
         let entity = self.number(here, entity);
         let answer = self
-            .scene
+            .world
             .population
             .whole(class as usize, field as usize, entity);
         self.put(here, to, answer)
@@ -138,7 +138,7 @@ impl State {
     {
         let entity = self.number(here, entity);
         let answer = self
-            .scene
+            .world
             .population
             .text(class as usize, field as usize, entity);
         self.put_text(here, to, answer)
@@ -149,7 +149,7 @@ impl State {
     pub fn set_attribute(
         &mut self,
         here: Here,
-        attribute: Attribute,
+        attribute: AssignedAttribute,
         entity: &Address,
         from: &Address,
     ) -> Option<()>
@@ -158,7 +158,7 @@ impl State {
     {
         let (entity, number) = (self.number(here, entity), self.number(here, from));
         let (class, field) = (attribute.class as usize, attribute.field as usize);
-        let answer = assign_number(&mut self.scene, class, field, entity, number);
+        let answer = assign_number(&mut self.world, class, field, entity, number);
         self.assigned(answer, class, field, entity, attribute.noted)
     }
 
@@ -177,7 +177,7 @@ impl State {
     {
         let (entity, text) = (self.number(here, entity), self.text(here, from));
         let answer = assign_text(
-            &mut self.scene,
+            &mut self.world,
             class as usize,
             field as usize,
             entity,
@@ -192,7 +192,7 @@ impl State {
         &mut self,
         here: Here,
         sign: Sign,
-        attribute: Attribute,
+        attribute: AssignedAttribute,
         entity: &Address,
         by: &Address,
     ) -> Option<()>
@@ -201,7 +201,7 @@ impl State {
     {
         let (entity, number) = (self.number(here, entity), self.number(here, by));
         let (class, field) = (attribute.class as usize, attribute.field as usize);
-        let answer = change(&mut self.scene, sign, class, field, entity, number);
+        let answer = change(&mut self.world, sign, class, field, entity, number);
         self.assigned(answer, class, field, entity, attribute.noted)
     }
 
@@ -211,7 +211,7 @@ impl State {
         requires { Can here self.old (Instruction.Clock to.now) }
         ensures { Does here self.old self.new (on_after here result) (Instruction.Clock to.now) }
     {
-        let time = self.scene.timeline.time();
+        let time = self.world.timeline.time();
         self.put(here, to, Ok(time))
     }
 
@@ -222,7 +222,7 @@ impl State {
         ensures { Does here self.old self.new (on_after here result) (Instruction.TimeOf notice.now to.now) }
     {
         let notice = self.number(here, notice);
-        let answer = self.scene.population.time_a(notice);
+        let answer = self.world.population.time_a(notice);
         self.put(here, to, answer)
     }
 }

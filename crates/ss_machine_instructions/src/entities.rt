@@ -15,7 +15,7 @@ impl State {
         requires { Can here self.old (Instruction.Create class to.now) }
         ensures { Does here self.old self.new (on_after here result) (Instruction.Create class to.now) }
     {
-        match self.scene.create(class as usize) {
+        match self.world.create(class as usize) {
             Ok(number) => self.put(here, to, Ok(number)),
             Err(refused) => self.refused(refused),
         }
@@ -28,7 +28,7 @@ impl State {
         ensures { Does here self.old self.new (on_after here result) (Instruction.CreateAll class variable) }
     {
         let count = self.rows.number_at(variable as usize);
-        match self.scene.create_all(class as usize, count) {
+        match self.world.create_all(class as usize, count) {
             Ok(()) => Some(()),
             Err(refused) => self.refused(refused),
         }
@@ -41,7 +41,7 @@ impl State {
         ensures { Does here self.old self.new (on_after here result) (Instruction.Destroy class entity.now) }
     {
         let entity = self.number(here, entity);
-        let answer = self.scene.destroy(class as usize, entity);
+        let answer = self.world.destroy(class as usize, entity);
         self.done(answer)
     }
 }

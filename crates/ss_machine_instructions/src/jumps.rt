@@ -17,7 +17,7 @@ use crate::state::State;
 use ss_base::{Alpha, FaultKind};
 use ss_code_instructions::address::Address;
 use ss_code_instructions::instruction::Instruction;
-use ss_machine_world::scene::Scene;
+use ss_machine_world::world::World;
 use ss_program::condition::Relation;
 use std::cmp::Ordering;
 
@@ -64,31 +64,31 @@ fn are_none(count: Result<i64, FaultKind>) -> Result<bool, FaultKind>
 
 // How many members the set of an owner has.
 #[inline(always)]
-fn number_in(scene: &mut Scene, set: usize, owner: i64) -> Result<i64, FaultKind>
-    requires set { set < length scene.old.heap.layout.sets }
-    ensures value { result ≡ count_in scene.old.heap set owner }
-    ensures same { scene.new ≡ scene.old }
+fn number_in(world: &mut World, set: usize, owner: i64) -> Result<i64, FaultKind>
+    requires set { set < length world.old.heap.layout.sets }
+    ensures value { result ≡ count_in world.old.heap set owner }
+    ensures same { world.new ≡ world.old }
 {
-    scene.population.member_count(set, owner)
+    world.population.member_count(set, owner)
 }
 
 // Whether a notice is pending.
 #[inline(always)]
-fn is_awaited(scene: &mut Scene) -> bool
-    ensures value { result ≡ is_some (least_event scene.old.pending) }
-    ensures same { scene.new ≡ scene.old }
+fn is_awaited(world: &mut World) -> bool
+    ensures value { result ≡ is_some (least_event world.old.pending) }
+    ensures same { world.new ≡ world.old }
 {
-    scene.timeline.is_awaited()
+    world.timeline.is_awaited()
 }
 
 // Whether a number is in the set of an owner.
 #[inline(always)]
-fn is_member(scene: &mut Scene, set: usize, owner: i64, member: i64) -> Result<bool, FaultKind>
-    requires set { set < length scene.old.heap.layout.sets }
-    ensures value { result ≡ member_test scene.old.heap set owner member }
-    ensures same { scene.new ≡ scene.old }
+fn is_member(world: &mut World, set: usize, owner: i64, member: i64) -> Result<bool, FaultKind>
+    requires set { set < length world.old.heap.layout.sets }
+    ensures value { result ≡ member_test world.old.heap set owner member }
+    ensures same { world.new ≡ world.old }
 {
-    scene.population.is_in(set, owner, member)
+    world.population.is_in(set, owner, member)
 }
 
 // Whether two numbers are in a relation.
@@ -150,7 +150,7 @@ impl State {
         ensures { (skip : ℕ) → Does here self.old self.new (tested_at here result skip) (Instruction.UnlessEmpty set owner.now skip negated) }
     {
         let owner = self.number(here, owner);
-        let answer = are_none(number_in(&mut self.scene, set as usize, owner));
+        let answer = are_none(number_in(&mut self.world, set as usize, owner));
         self.tested(answer, negated)
     }
 
@@ -167,7 +167,7 @@ impl State {
         ensures { (skip : ℕ) → Does here self.old self.new (tested_at here result skip) (Instruction.UnlessMember set both.entry.0.now both.entry.1.now skip negated) }
     {
         let (member, owner) = (self.number(here, both.0), self.number(here, both.1));
-        let answer = is_member(&mut self.scene, set as usize, owner, member);
+        let answer = is_member(&mut self.world, set as usize, owner, member);
         self.tested(answer, negated)
     }
 
@@ -177,7 +177,7 @@ impl State {
         requires { (here : HereSeen) × (skip : ℕ) × Can here self.old (Instruction.Await skip) }
         ensures { (here : HereSeen) (skip : ℕ) → Does here self.old self.new (on_if_at here result skip) (Instruction.Await skip) }
     {
-        is_awaited(&mut self.scene)
+        is_awaited(&mut self.world)
     }
 
     /// NextEvent.
@@ -186,6 +186,6 @@ impl State {
         requires { (here : HereSeen) × (back : ℕ) × Can here self.old (Instruction.NextEvent back) }
         ensures { (here : HereSeen) (back : ℕ) → Does here self.old self.new (back_if_at here result back) (Instruction.NextEvent back) }
     {
-        is_awaited(&mut self.scene)
+        is_awaited(&mut self.world)
     }
 }

@@ -16,7 +16,7 @@ impl State {
         ensures { Does here self.old self.new (on_after here result) (Instruction.LookEntity class entity.now) }
     {
         let entity = self.number(here, entity);
-        let answer = self.scene.population.known(class as usize, entity);
+        let answer = self.world.population.known(class as usize, entity);
         self.done(answer)
     }
 
@@ -27,7 +27,7 @@ impl State {
         ensures { Does here self.old self.new (on_after here result) (Instruction.LookMember set member.now) }
     {
         let member = self.number(here, member);
-        let answer = self.scene.population.look_member(set as usize, member);
+        let answer = self.world.population.look_member(set as usize, member);
         self.done(answer)
     }
 
@@ -38,7 +38,7 @@ impl State {
         ensures { Does here self.old self.new (on_after here result) (Instruction.LookOwner set owner.now) }
     {
         let owner = self.number(here, owner);
-        let answer = self.scene.population.look_owner(set as usize, owner);
+        let answer = self.world.population.look_owner(set as usize, owner);
         self.done(answer)
     }
 
@@ -49,7 +49,7 @@ impl State {
         ensures { Does here self.old self.new (on_after here result) (Instruction.LookMean statistic entity.now) }
     {
         let entity = self.number(here, entity);
-        let answer = self.scene.look_mean(statistic as usize, entity);
+        let answer = self.world.look_mean(statistic as usize, entity);
         self.done(answer)
     }
 
@@ -59,7 +59,7 @@ impl State {
         requires { Can here self.old (Instruction.LookCount class) }
         ensures { Does here self.old self.new (on_after here result) (Instruction.LookCount class) }
     {
-        let answer = self.scene.look_count(class as usize);
+        let answer = self.world.look_count(class as usize);
         self.done(answer)
     }
 }

@@ -71,7 +71,7 @@ impl State {
         requires { (skip : ℕ) × Can here self.old (Instruction.BeginClass class cell skip) }
         ensures { (skip : ℕ) → Does here self.old self.new (on_if_at here result skip) (Instruction.BeginClass class cell skip) }
     {
-        let count = self.scene.population.count(class as usize);
+        let count = self.world.population.count(class as usize);
         let at = self.cell(here, cell);
         self.rows.set_number_at(at, 1);
         self.rows.set_number_at(at + LIMIT, count);

@@ -18,7 +18,7 @@ use crate::state::State;
 use ss_base::FaultKind;
 use ss_code_instructions::address::Address;
 use ss_code_instructions::instruction::Instruction;
-use ss_machine_world::scene::Scene;
+use ss_machine_world::world::World;
 use ss_program::expression::{MemberQuery, SetQuery};
 
 /// Where a member is filed: the set, and whether N. of it is noted.
@@ -30,52 +30,52 @@ pub struct Filing {
 
 // The first member of the set of an owner, 0 for none.
 #[inline(always)]
-fn first_of(scene: &mut Scene, set: usize, owner: i64) -> Result<i64, FaultKind>
-    requires set { set < length scene.old.heap.layout.sets }
-    ensures value { result ≡ set_answer FirstMember scene.old.heap set owner }
-    ensures same { scene.new ≡ scene.old }
+fn first_of(world: &mut World, set: usize, owner: i64) -> Result<i64, FaultKind>
+    requires set { set < length world.old.heap.layout.sets }
+    ensures value { result ≡ set_answer FirstMember world.old.heap set owner }
+    ensures same { world.new ≡ world.old }
 {
-    scene.population.first(set, owner)
+    world.population.first(set, owner)
 }
 
 // The last one.
 #[inline(always)]
-fn last_of(scene: &mut Scene, set: usize, owner: i64) -> Result<i64, FaultKind>
-    requires set { set < length scene.old.heap.layout.sets }
-    ensures value { result ≡ set_answer LastMember scene.old.heap set owner }
-    ensures same { scene.new ≡ scene.old }
+fn last_of(world: &mut World, set: usize, owner: i64) -> Result<i64, FaultKind>
+    requires set { set < length world.old.heap.layout.sets }
+    ensures value { result ≡ set_answer LastMember world.old.heap set owner }
+    ensures same { world.new ≡ world.old }
 {
-    scene.population.last(set, owner)
+    world.population.last(set, owner)
 }
 
 // How many there are.
 #[inline(always)]
-fn count_of(scene: &mut Scene, set: usize, owner: i64) -> Result<i64, FaultKind>
-    requires set { set < length scene.old.heap.layout.sets }
-    ensures value { result ≡ set_answer MemberCount scene.old.heap set owner }
-    ensures same { scene.new ≡ scene.old }
+fn count_of(world: &mut World, set: usize, owner: i64) -> Result<i64, FaultKind>
+    requires set { set < length world.old.heap.layout.sets }
+    ensures value { result ≡ set_answer MemberCount world.old.heap set owner }
+    ensures same { world.new ≡ world.old }
 {
-    scene.population.member_count(set, owner)
+    world.population.member_count(set, owner)
 }
 
 // The member before another one, 0 for none.
 #[inline(always)]
-fn one_before(scene: &mut Scene, set: usize, member: i64) -> Result<i64, FaultKind>
-    requires set { set < length scene.old.heap.layout.sets }
-    ensures value { result ≡ member_answer Predecessor scene.old.heap set member }
-    ensures same { scene.new ≡ scene.old }
+fn one_before(world: &mut World, set: usize, member: i64) -> Result<i64, FaultKind>
+    requires set { set < length world.old.heap.layout.sets }
+    ensures value { result ≡ member_answer Predecessor world.old.heap set member }
+    ensures same { world.new ≡ world.old }
 {
-    scene.population.previous(set, member)
+    world.population.previous(set, member)
 }
 
 // The member after it.
 #[inline(always)]
-fn one_after(scene: &mut Scene, set: usize, member: i64) -> Result<i64, FaultKind>
-    requires set { set < length scene.old.heap.layout.sets }
-    ensures value { result ≡ member_answer Successor scene.old.heap set member }
-    ensures same { scene.new ≡ scene.old }
+fn one_after(world: &mut World, set: usize, member: i64) -> Result<i64, FaultKind>
+    requires set { set < length world.old.heap.layout.sets }
+    ensures value { result ≡ member_answer Successor world.old.heap set member }
+    ensures same { world.new ≡ world.old }
 {
-    scene.population.next(set, member)
+    world.population.next(set, member)
 }
 
 // 1 where there is an owner, 0 where there is none, or the fault.
@@ -92,55 +92,55 @@ fn one_where(owner: Result<Option<i64>, FaultKind>) -> Result<i64, FaultKind>
 
 // Whether a number is in some set of the name: 1 or 0.
 #[inline(always)]
-fn filed_in_any(scene: &mut Scene, set: usize, member: i64) -> Result<i64, FaultKind>
-    requires set { set < length scene.old.heap.layout.sets }
-    ensures value { result ≡ member_answer Membership scene.old.heap set member }
-    ensures same { scene.new ≡ scene.old }
+fn filed_in_any(world: &mut World, set: usize, member: i64) -> Result<i64, FaultKind>
+    requires set { set < length world.old.heap.layout.sets }
+    ensures value { result ≡ member_answer Membership world.old.heap set member }
+    ensures same { world.new ≡ world.old }
 {
-    one_where(scene.population.owner_in(set, member))
+    one_where(world.population.owner_in(set, member))
 }
 
 // What is asked of the set of an owner.
 #[inline(always)]
-fn ask_set(scene: &mut Scene, query: SetQuery, set: usize, owner: i64) -> Result<i64, FaultKind>
-    requires set { set < length scene.old.heap.layout.sets }
-    ensures value { result ≡ set_answer query scene.old.heap set owner }
-    ensures same { scene.new ≡ scene.old }
+fn ask_set(world: &mut World, query: SetQuery, set: usize, owner: i64) -> Result<i64, FaultKind>
+    requires set { set < length world.old.heap.layout.sets }
+    ensures value { result ≡ set_answer query world.old.heap set owner }
+    ensures same { world.new ≡ world.old }
 {
     match query {
-        SetQuery::FirstMember => first_of(scene, set, owner),
-        SetQuery::LastMember => last_of(scene, set, owner),
-        SetQuery::MemberCount => count_of(scene, set, owner),
+        SetQuery::FirstMember => first_of(world, set, owner),
+        SetQuery::LastMember => last_of(world, set, owner),
+        SetQuery::MemberCount => count_of(world, set, owner),
     }
 }
 
 // What is asked of a member.
 #[inline(always)]
 fn ask_member(
-    scene: &mut Scene,
+    world: &mut World,
     query: MemberQuery,
     set: usize,
     member: i64,
 ) -> Result<i64, FaultKind>
-    requires set { set < length scene.old.heap.layout.sets }
-    ensures value { result ≡ member_answer query scene.old.heap set member }
-    ensures same { scene.new ≡ scene.old }
+    requires set { set < length world.old.heap.layout.sets }
+    ensures value { result ≡ member_answer query world.old.heap set member }
+    ensures same { world.new ≡ world.old }
 {
     match query {
-        MemberQuery::Predecessor => one_before(scene, set, member),
-        MemberQuery::Successor => one_after(scene, set, member),
-        MemberQuery::Membership => filed_in_any(scene, set, member),
+        MemberQuery::Predecessor => one_before(world, set, member),
+        MemberQuery::Successor => one_after(world, set, member),
+        MemberQuery::Membership => filed_in_any(world, set, member),
     }
 }
 
 // N. of the set of an owner is noted, where that is so.
 #[inline(always)]
-fn note_if(scene: &mut Scene, set: usize, owner: i64, noted: bool) -> Result<(), FaultKind>
-    requires set { set < length scene.old.heap.layout.sets }
-    ensures { ChangesIf noted (count_noted set owner) scene.old scene.new result }
+fn note_if(world: &mut World, set: usize, owner: i64, noted: bool) -> Result<(), FaultKind>
+    requires set { set < length world.old.heap.layout.sets }
+    ensures { ChangesIf noted (count_noted set owner) world.old world.new result }
 {
     if noted {
-        scene.note_count(set, owner)
+        world.note_count(set, owner)
     } else {
         Ok(())
     }
@@ -149,18 +149,18 @@ fn note_if(scene: &mut Scene, set: usize, owner: i64, noted: bool) -> Result<(),
 // The set of an owner has changed, or there was a fault: N. of it is noted, where that is so.
 #[inline(always)]
 fn counted(
-    scene: &mut Scene,
+    world: &mut World,
     changed: Result<(), FaultKind>,
     set: usize,
     owner: i64,
     noted: bool,
 ) -> Result<(), FaultKind>
-    requires set { set < length scene.old.heap.layout.sets }
-    ensures { Counted set owner changed noted scene.old scene.new result }
+    requires set { set < length world.old.heap.layout.sets }
+    ensures { Counted set owner changed noted world.old world.new result }
 {
     match changed {
         Err(kind) => Err(kind),
-        Ok(()) => note_if(scene, set, owner, noted),
+        Ok(()) => note_if(world, set, owner, noted),
     }
 }
 
@@ -178,138 +178,138 @@ fn number_if(number: i64, answer: Result<(), FaultKind>) -> Result<i64, FaultKin
 // A member was taken out of the set of an owner, or there was a fault: N. of it is noted, where that is so. The member is the answer.
 #[inline(always)]
 fn counted_out(
-    scene: &mut Scene,
+    world: &mut World,
     taken: Result<i64, FaultKind>,
     set: usize,
     owner: i64,
     noted: bool,
 ) -> Result<i64, FaultKind>
-    requires set { set < length scene.old.heap.layout.sets }
-    ensures { CountedOut set owner taken noted scene.old scene.new result }
+    requires set { set < length world.old.heap.layout.sets }
+    ensures { CountedOut set owner taken noted world.old world.new result }
 {
     match taken {
         Err(kind) => Err(kind),
-        Ok(member) => number_if(member, note_if(scene, set, owner, noted)),
+        Ok(member) => number_if(member, note_if(world, set, owner, noted)),
     }
 }
 
 // A member is filed first in the set of an owner.
 #[inline(always)]
 fn put_first(
-    scene: &mut Scene,
+    world: &mut World,
     set: usize,
     owner: i64,
     member: i64,
     noted: bool,
 ) -> Result<(), FaultKind>
-    requires set { set < length scene.old.heap.layout.sets }
-    ensures { Files Foremost set noted scene.old scene.new result owner member }
+    requires set { set < length world.old.heap.layout.sets }
+    ensures { Files Foremost set noted world.old world.new result owner member }
 {
-    let changed = scene.population.file_first(set, owner, member);
-    counted(scene, changed, set, owner, noted)
+    let changed = world.population.file_first(set, owner, member);
+    counted(world, changed, set, owner, noted)
 }
 
 // .. or last.
 #[inline(always)]
 fn put_last(
-    scene: &mut Scene,
+    world: &mut World,
     set: usize,
     owner: i64,
     member: i64,
     noted: bool,
 ) -> Result<(), FaultKind>
-    requires set { set < length scene.old.heap.layout.sets }
-    ensures { Files Hindmost set noted scene.old scene.new result owner member }
+    requires set { set < length world.old.heap.layout.sets }
+    ensures { Files Hindmost set noted world.old world.new result owner member }
 {
-    let changed = scene.population.file_last(set, owner, member);
-    counted(scene, changed, set, owner, noted)
+    let changed = world.population.file_last(set, owner, member);
+    counted(world, changed, set, owner, noted)
 }
 
 // .. or where its rank is.
 #[inline(always)]
 fn put_ranked(
-    scene: &mut Scene,
+    world: &mut World,
     set: usize,
     owner: i64,
     member: i64,
     noted: bool,
 ) -> Result<(), FaultKind>
-    requires set { set < length scene.old.heap.layout.sets }
-    requires ruled { IsRuled scene.old set }
-    ensures { Files ByRule set noted scene.old scene.new result owner member }
+    requires set { set < length world.old.heap.layout.sets }
+    requires ruled { IsRuled world.old set }
+    ensures { Files ByRule set noted world.old world.new result owner member }
 {
-    let changed = scene.file_ranked(set, owner, member);
-    counted(scene, changed, set, owner, noted)
+    let changed = world.file_ranked(set, owner, member);
+    counted(world, changed, set, owner, noted)
 }
 
 // .. or directly before another member.
 #[inline(always)]
 fn put_before(
-    scene: &mut Scene,
+    world: &mut World,
     set: usize,
     owner: i64,
     member: i64,
     beside: i64,
     noted: bool,
 ) -> Result<(), FaultKind>
-    requires set { set < length scene.old.heap.layout.sets }
-    ensures { Files (JustBefore (Whole beside)) set noted scene.old scene.new result owner member }
+    requires set { set < length world.old.heap.layout.sets }
+    ensures { Files (JustBefore (Whole beside)) set noted world.old world.new result owner member }
 {
-    let changed = scene.population.file_before(set, owner, member, beside);
-    counted(scene, changed, set, owner, noted)
+    let changed = world.population.file_before(set, owner, member, beside);
+    counted(world, changed, set, owner, noted)
 }
 
 // .. or directly after it.
 #[inline(always)]
 fn put_after(
-    scene: &mut Scene,
+    world: &mut World,
     set: usize,
     owner: i64,
     member: i64,
     beside: i64,
     noted: bool,
 ) -> Result<(), FaultKind>
-    requires set { set < length scene.old.heap.layout.sets }
-    ensures { Files (JustAfter (Whole beside)) set noted scene.old scene.new result owner member }
+    requires set { set < length world.old.heap.layout.sets }
+    ensures { Files (JustAfter (Whole beside)) set noted world.old world.new result owner member }
 {
-    let changed = scene.population.file_after(set, owner, member, beside);
-    counted(scene, changed, set, owner, noted)
+    let changed = world.population.file_after(set, owner, member, beside);
+    counted(world, changed, set, owner, noted)
 }
 
 // A member is removed from the set of an owner.
 #[inline(always)]
 fn take_out(
-    scene: &mut Scene,
+    world: &mut World,
     set: usize,
     owner: i64,
     member: i64,
     noted: bool,
 ) -> Result<(), FaultKind>
-    requires set { set < length scene.old.heap.layout.sets }
-    ensures { Removes set noted scene.old scene.new result owner member }
+    requires set { set < length world.old.heap.layout.sets }
+    ensures { Removes set noted world.old world.new result owner member }
 {
-    let changed = scene.population.remove(set, owner, member);
-    counted(scene, changed, set, owner, noted)
+    let changed = world.population.remove(set, owner, member);
+    counted(world, changed, set, owner, noted)
 }
 
 // The first member is, which is the answer.
 #[inline(always)]
-fn take_first(scene: &mut Scene, set: usize, owner: i64, noted: bool) -> Result<i64, FaultKind>
-    requires set { set < length scene.old.heap.layout.sets }
-    ensures { Takes ends.First set noted scene.old scene.new result owner }
+fn take_first(world: &mut World, set: usize, owner: i64, noted: bool) -> Result<i64, FaultKind>
+    requires set { set < length world.old.heap.layout.sets }
+    ensures { Takes ends.First set noted world.old world.new result owner }
 {
-    let taken = scene.population.remove_first(set, owner);
-    counted_out(scene, taken, set, owner, noted)
+    let taken = world.population.remove_first(set, owner);
+    counted_out(world, taken, set, owner, noted)
 }
 
 // .. or the last.
 #[inline(always)]
-fn take_last(scene: &mut Scene, set: usize, owner: i64, noted: bool) -> Result<i64, FaultKind>
-    requires set { set < length scene.old.heap.layout.sets }
-    ensures { Takes ends.Last set noted scene.old scene.new result owner }
+fn take_last(world: &mut World, set: usize, owner: i64, noted: bool) -> Result<i64, FaultKind>
+    requires set { set < length world.old.heap.layout.sets }
+    ensures { Takes ends.Last set noted world.old world.new result owner }
 {
-    let taken = scene.population.remove_last(set, owner);
-    counted_out(scene, taken, set, owner, noted)
+    let taken = world.population.remove_last(set, owner);
+    counted_out(world, taken, set, owner, noted)
 }
 
 impl State {
@@ -327,7 +327,7 @@ impl State {
         ensures { Does here self.old self.new (on_after here result) (asking_set query set owner.now to.now) }
     {
         let owner = self.number(here, owner);
-        let answer = ask_set(&mut self.scene, query, set as usize, owner);
+        let answer = ask_set(&mut self.world, query, set as usize, owner);
         self.put(here, to, answer)
     }
 
@@ -345,7 +345,7 @@ impl State {
         ensures { Does here self.old self.new (on_after here result) (asking_member query set member.now to.now) }
     {
         let member = self.number(here, member);
-        let answer = ask_member(&mut self.scene, query, set as usize, member);
+        let answer = ask_member(&mut self.world, query, set as usize, member);
         self.put(here, to, answer)
     }
 
@@ -364,7 +364,7 @@ impl State {
     {
         let member = self.number(here, member);
         let owner = self.number(here, owner);
-        let answer = put_first(&mut self.scene, set as usize, owner, member, noted);
+        let answer = put_first(&mut self.world, set as usize, owner, member, noted);
         self.done(answer)
     }
 
@@ -383,7 +383,7 @@ impl State {
     {
         let member = self.number(here, member);
         let owner = self.number(here, owner);
-        let answer = put_last(&mut self.scene, set as usize, owner, member, noted);
+        let answer = put_last(&mut self.world, set as usize, owner, member, noted);
         self.done(answer)
     }
 
@@ -402,7 +402,7 @@ impl State {
     {
         let member = self.number(here, member);
         let owner = self.number(here, owner);
-        let answer = put_ranked(&mut self.scene, set as usize, owner, member, noted);
+        let answer = put_ranked(&mut self.world, set as usize, owner, member, noted);
         self.done(answer)
     }
 
@@ -423,7 +423,7 @@ impl State {
         let beside = self.number(here, beside);
         let owner = self.number(here, owner);
         let answer = put_before(
-            &mut self.scene,
+            &mut self.world,
             filing.set as usize,
             owner,
             member,
@@ -450,7 +450,7 @@ impl State {
         let beside = self.number(here, beside);
         let owner = self.number(here, owner);
         let answer = put_after(
-            &mut self.scene,
+            &mut self.world,
             filing.set as usize,
             owner,
             member,
@@ -475,7 +475,7 @@ impl State {
     {
         let member = self.number(here, member);
         let owner = self.number(here, owner);
-        let answer = take_out(&mut self.scene, set as usize, owner, member, noted);
+        let answer = take_out(&mut self.world, set as usize, owner, member, noted);
         self.done(answer)
     }
 
@@ -493,7 +493,7 @@ impl State {
         ensures { Does here self.old self.new (on_after here result) (Instruction.RemoveFirst set owner.now to.now noted) }
     {
         let owner = self.number(here, owner);
-        match take_first(&mut self.scene, set as usize, owner, noted) {
+        match take_first(&mut self.world, set as usize, owner, noted) {
             Ok(member) => self.put(here, to, Ok(member)),
             Err(kind) => self.fault(kind),
         }
@@ -513,7 +513,7 @@ impl State {
         ensures { Does here self.old self.new (on_after here result) (Instruction.RemoveLast set owner.now to.now noted) }
     {
         let owner = self.number(here, owner);
-        match take_last(&mut self.scene, set as usize, owner, noted) {
+        match take_last(&mut self.world, set as usize, owner, noted) {
             Ok(member) => self.put(here, to, Ok(member)),
             Err(kind) => self.fault(kind),
         }

@@ -9,7 +9,7 @@ use ss_base::{Alpha, FaultKind, Line, Refused};
 use ss_code_instructions::address::Address;
 use ss_machine_frames::frames::Frames;
 use ss_machine_frames::rows::Rows;
-use ss_machine_world::scene::Scene;
+use ss_machine_world::world::World;
 use std::alloc::Global;
 
 /// What the machine works on, but for its code and where it is in that: the rows of values, the open calls, the world below,
@@ -20,7 +20,7 @@ use std::alloc::Global;
 pub struct State {
     pub rows: Rows,
     pub frames: Frames,
-    pub scene: Scene,
+    pub world: World,
     pub alloc: Global,
     pub ticks: u64,
     pub steps: u128,

@@ -31,7 +31,7 @@ impl State {
         ensures { Does here self.old self.new (on_after here result) (Instruction.Figure statistic entity.now to.now fold) }
     {
         let entity = self.number(here, entity);
-        let answer = self.scene.figure(fold, statistic as usize, entity);
+        let answer = self.world.figure(fold, statistic as usize, entity);
         self.put(here, to, answer)
     }
 
@@ -44,7 +44,7 @@ impl State {
         let value = self.number(here, from);
         let number = variable as usize;
         self.rows.set_number_at(number, value);
-        let answer = self.scene.note_variable(number, value);
+        let answer = self.world.note_variable(number, value);
         self.done(answer)
     }
 
@@ -58,15 +58,15 @@ impl State {
         entity: i64,
         noted: bool,
     ) -> Option<()>
-        requires class { class < length self.old.scene.heap.layout.classes }
-        requires mode { slice_get (modes_of self.old.scene.heap.layout class) field ≡ Some Integer }
+        requires class { class < length self.old.world.heap.layout.classes }
+        requires mode { slice_get (modes_of self.old.world.heap.layout class) field ≡ Some Integer }
         ensures { Notes noted (attribute_noted class field entity) answer self.old self.new result }
     {
         match answer {
             Err(kind) => self.fault(kind),
             Ok(()) => {
                 if noted {
-                    let answer = self.scene.note_attribute(class, field, entity);
+                    let answer = self.world.note_attribute(class, field, entity);
                     self.done(answer)
                 } else {
                     Some(())
@@ -77,10 +77,10 @@ impl State {
 
     // The value of the global variable that a statistic is about, 0 where it is about none.
     fn held(&self, statistic: usize) -> i64
-        requires within { (k : ℕ) → statistic_variable self.now.scene.statistics statistic ≡ Some k → k < length self.now.rows.numbers }
-        ensures { (k : ℕ) → statistic_variable self.now.scene.statistics statistic ≡ Some k → slice_get self.now.rows.numbers k ≡ Some result }
+        requires within { (k : ℕ) → statistic_variable self.now.world.statistics statistic ≡ Some k → k < length self.now.rows.numbers }
+        ensures { (k : ℕ) → statistic_variable self.now.world.statistics statistic ≡ Some k → slice_get self.now.rows.numbers k ≡ Some result }
     {
-        match self.scene.variable_of(statistic) {
+        match self.world.variable_of(statistic) {
             None => 0,
             Some(number) => self.rows.number_at(number),
         }
@@ -95,7 +95,7 @@ impl State {
         let statistic = statistic as usize;
         let entity = self.number(here, entity);
         let held = self.held(statistic);
-        let answer = self.scene.reset(statistic, entity, held);
+        let answer = self.world.reset(statistic, entity, held);
         self.done(answer)
     }
 }

@@ -8,7 +8,7 @@ use Rattle.ss_world.specs.PendingList.{least_event}
 use Rattle.ss_world.specs.State.{Record, State as Heap, and_then, issued_record, is_notice, kind_of, of_notice, notice}
 use Rattle.ss_meaning.specs.Events.{Ranked, ranked_from, ranked, Coming, at_event, ranked_as, coming_as, coming_with, is_awaited, next_event}
 use Rattle.ss_meaning.specs.Fitting.{class_of_record, living}
-use Rattle.ss_meaning.specs.Store.{Notices, Scene, Store}
+use Rattle.ss_meaning.specs.Store.{Notices, World, Store}
 use Rattle.ss_meaning.proofs.Events.{ComingAs, next_event_there}
 use Rattle.ss_meaning.proofs.Fine.{There}
 use Rattle.ss_base.specs.declared.layout.Mode.{Mode}
@@ -39,16 +39,16 @@ lets_go_steps (Some k) class n old new r d = ap (λ (s : State). s.steps) d.1
 lets_go_steps None class n old new r d = ap (λ (s : State). s.steps) d.1
 
 -- after a fault the world is as it was
-pub lets_go_not : (saved : Option ℕ) (class : ℕ) (n : ℤ) (old new : State) (kind : FaultKind) → LetsGo saved class n old new (Err kind) → new.scene ≡ old.scene
+pub lets_go_not : (saved : Option ℕ) (class : ℕ) (n : ℤ) (old new : State) (kind : FaultKind) → LetsGo saved class n old new (Err kind) → new.world ≡ old.world
 lets_go_not (Some k) class n old new kind d = d.0.1
 lets_go_not None class n old new kind d = d.0.1
 
-pub receives_not : (said : Notices) (class : ℕ) (n : ℤ) (modes : List Mode) (from : ℕ) (old new : State) (kind : FaultKind) → Receives said class n modes from old new (Err kind) → new.scene ≡ old.scene
+pub receives_not : (said : Notices) (class : ℕ) (n : ℤ) (modes : List Mode) (from : ℕ) (old new : State) (kind : FaultKind) → Receives said class n modes from old new (Err kind) → new.world ≡ old.world
 receives_not said class n modes from old new kind v = by v.read v.lets_go
   where
-    by : (q : OkOr (Unit {0}) FaultKind) → ThenLetsGo said class n (record old { rows = v.rows }) new q (Err kind) → new.scene ≡ old.scene
+    by : (q : OkOr (Unit {0}) FaultKind) → ThenLetsGo said class n (record old { rows = v.rows }) new q (Err kind) → new.world ≡ old.world
     by (Ok u) d = lets_go_not said.saved class n (record old { rows = v.rows }) new kind d
-    by (Err k) d = ap (λ (s : State). s.scene) d.1
+    by (Err k) d = ap (λ (s : State). s.world) d.1
 
 -- a variable that lies below a place lies within the rows that reach as far
 pub saved_within : (saved : Option ℕ) (from long : ℕ) → from ≤ long → IfSome saved (λ k. k < from) → IfSome saved (λ k. k < long)
@@ -68,16 +68,16 @@ pub record NextIs (s : Store) (coming : Coming) : Type 0 where
   pub time : ℤ
   pub number : ℤ
   pub entry : Record
-  pub first : least_event s.scene.pending ≡ Some (time, number)
-  pub there : notice s.scene.heap number ≡ Ok entry
+  pub first : least_event s.world.pending ≡ Some (time, number)
+  pub there : notice s.world.heap number ≡ Ok entry
   pub place : ranked entry.class s ≡ Some coming.ranked
   pub names : coming.notice ≡ Whole number
   pub store : coming.store ≡ at_event time s
 
 pub next_is : (s : Store) (coming : Coming) → next_event s ≡ Some coming → NextIs s coming
-next_is s coming e = by (least_event s.scene.pending) refl e
+next_is s coming e = by (least_event s.world.pending) refl e
   where
-    with_rank : (t x : ℤ) (r : Record) → least_event s.scene.pending ≡ Some (t, x) → notice s.scene.heap x ≡ Ok r → (o : Option Ranked) → ranked r.class s ≡ o → coming_as o t x s ≡ Some coming → NextIs s coming
+    with_rank : (t x : ℤ) (r : Record) → least_event s.world.pending ≡ Some (t, x) → notice s.world.heap x ≡ Ok r → (o : Option Ranked) → ranked r.class s ≡ o → coming_as o t x s ≡ Some coming → NextIs s coming
     with_rank t x r first there None q e = absurd cc
     with_rank t x r first there (Some k) q e =
         let c : Coming = record { ranked = k; notice = Whole x; store = at_event t s } in
@@ -93,13 +93,13 @@ next_is s coming e = by (least_event s.scene.pending) refl e
           store = sym (ap (λ (c : Coming). c.store) same);
         }
 
-    with_notice : (t x : ℤ) → least_event s.scene.pending ≡ Some (t, x) → (o : OkOr Record FaultKind) → notice s.scene.heap x ≡ o → coming_as (ranked_as o s) t x s ≡ Some coming → NextIs s coming
+    with_notice : (t x : ℤ) → least_event s.world.pending ≡ Some (t, x) → (o : OkOr Record FaultKind) → notice s.world.heap x ≡ o → coming_as (ranked_as o s) t x s ≡ Some coming → NextIs s coming
     with_notice t x first (Ok r) q e = with_rank t x r first q (ranked r.class s) refl e
     with_notice t x first (Err k) q e = absurd cc
 
-    by : (o : Option (ℤ × ℤ)) → least_event s.scene.pending ≡ o → coming_with o s ≡ Some coming → NextIs s coming
+    by : (o : Option (ℤ × ℤ)) → least_event s.world.pending ≡ o → coming_with o s ≡ Some coming → NextIs s coming
     by None q e = absurd cc
-    by (Some n) q e = with_notice n.0 n.1 q (notice s.scene.heap n.1) refl e
+    by (Some n) q e = with_notice n.0 n.1 q (notice s.world.heap n.1) refl e
 
 -- a class has its own entry among those of notices
 pub ranked_class : (k : ℕ) (es : List Notices) (class : ℕ) (r : Ranked) → ranked_from k es class ≡ Some r → r.said.class ≡ class
@@ -137,47 +137,47 @@ module _ (w : Compiled) (c : Core) (here : Here) (s : State) (cell : ℕ) (r : R
       by (Some coming) q h = (coming, q)
       by None q h = absurd h
 
-  pub awaits : (e : Seen) (x : ℤ) → IsNextNotice s.scene e (Some x) → is_awaited c.store ≡ true
-  awaits e x d = ap (λ (y : Scene). is_some (least_event y.pending)) r.holds.scene ∙ ap is_some d.0
+  pub awaits : (e : Seen) (x : ℤ) → IsNextNotice s.world e (Some x) → is_awaited c.store ≡ true
+  awaits e x d = ap (λ (y : World). is_some (least_event y.pending)) r.holds.world ∙ ap is_some d.0
 
   -- where none is pending it goes on
-  pub goes_past : (t : ℕ) (new : State) (result : Option Here) → least_event s.scene.pending ≡ None → new ≡ record s { ticks = t } → result ≡ on_at here → OneTick t w r.placed.line (act w.code r.placed.line r.placed.instruction c) s new result
+  pub goes_past : (t : ℕ) (new : State) (result : Option Here) → least_event s.world.pending ≡ None → new ≡ record s { ticks = t } → result ≡ on_at here → OneTick t w r.placed.line (act w.code r.placed.line r.placed.instruction c) s new result
   goes_past t new result none same way =
       let m = act w.code r.placed.line r.placed.instruction c in
       let l = r.placed.line in
       let s' : State = record s { ticks = t } in
       let there : Here = record { place = c.place + 1; frame = here.frame } in
       let c' = core_at (c.place + 1) c.cells c.frames c.store in
-      let nothing : next_event c.store ≡ None = ap (λ o. coming_with o c.store) (ap (λ (x : Scene). least_event x.pending) r.holds.scene ∙ none) in
+      let nothing : next_event c.store ≡ None = ap (λ o. coming_with o c.store) (ap (λ (x : World). least_event x.pending) r.holds.world ∙ none) in
       let acts : m ≡ To c' = ap (λ x. act w.code l x c) r.runs.carries.2 ∙ ap (λ o. take_next w.code r.runs.carries.0 o c) nothing in
       let h = goes_with w c here s (TakeEvent cell) r (c.place + 1) c.cells (cells_held (site w c here s (TakeEvent cell) r) (located w c here s (TakeEvent cell) r) (c.place + 1) c.cells r.holds.held.cells) in
-      let holds : Holds w c' there s' = record { place = h.place; held = h.held; scene = h.scene; even = h.even; line = h.line } in
+      let holds : Holds w c' there s' = record { place = h.place; held = h.held; world = h.world; even = h.even; line = h.line } in
       let plain : OneTick t w l m s s' (Some there) = record { leads = (c', acts, holds); ticks = refl; steps = refl } in
       let on : result ≡ Some there = way ∙ ap (λ p. at_place here (p + 1)) r.holds.place in
       subst (λ o. OneTick t w l m s new o) (sym on) (subst (λ (u : State). OneTick t w l m s u (Some there)) (sym same) plain)
 
   -- which lives
-  pub lives_as : (e : Seen) (x : ℤ) → IsNextNotice s.scene e (Some x) → living e.heap x ≡ None → ⊥
+  pub lives_as : (e : Seen) (x : ℤ) → IsNextNotice s.world e (Some x) → living e.heap x ≡ None → ⊥
   lives_as e x d none =
       let a = comes_next (awaits e x d) in
       let n = next_is c.store a.0 a.1 in
-      let first : Some (n.time, n.number) ≡ Some (e.time, x) = sym n.first ∙ ap (λ (y : Scene). least_event y.pending) r.holds.scene ∙ d.0 in
+      let first : Some (n.time, n.number) ≡ Some (e.time, x) = sym n.first ∙ ap (λ (y : World). least_event y.pending) r.holds.world ∙ d.0 in
       let number : n.number ≡ x = ap (λ (p : ℤ × ℤ). p.1) (got first) in
-      let there = record_living c.store.scene.heap n.number n.entry n.there in
-      let heap : c.store.scene.heap ≡ e.heap = ap (λ (y : Scene). y.heap) r.holds.scene ∙ sym (ap (λ (t : Seen). t.heap) d.1) in
+      let there = record_living c.store.world.heap n.number n.entry n.there in
+      let heap : c.store.world.heap ≡ e.heap = ap (λ (y : World). y.heap) r.holds.world ∙ sym (ap (λ (t : Seen). t.heap) d.1) in
       some_none n.entry.class (sym there ∙ ap (λ h. living h n.number) heap ∙ ap (living e.heap) number ∙ none)
 
   -- the machine took it out
-  abbrev pub next_taken : (t : ℕ) (e : Seen) (x : ℤ) (class : ℕ) → s.ticks ≡ suc t → s.ticks < 2 ^ 64 → IsNextNotice s.scene e (Some x) → living e.heap x ≡ Some class → ComesNext w c here (record s { ticks = t; scene = e }) cell x class
+  abbrev pub next_taken : (t : ℕ) (e : Seen) (x : ℤ) (class : ℕ) → s.ticks ≡ suc t → s.ticks < 2 ^ 64 → IsNextNotice s.world e (Some x) → living e.heap x ≡ Some class → ComesNext w c here (record s { ticks = t; world = e }) cell x class
   next_taken t e x class some few d lives =
       let a = comes_next (awaits e x d) in
       let n = next_is c.store a.0 a.1 in
-      let first : Some (n.time, n.number) ≡ Some (e.time, x) = sym n.first ∙ ap (λ (y : Scene). least_event y.pending) r.holds.scene ∙ d.0 in
+      let first : Some (n.time, n.number) ≡ Some (e.time, x) = sym n.first ∙ ap (λ (y : World). least_event y.pending) r.holds.world ∙ d.0 in
       let pair : (n.time, n.number) ≡ (e.time, x) = got first in
       let number : n.number ≡ x = ap (λ (p : ℤ × ℤ). p.1) pair in
       let time : n.time ≡ e.time = ap (λ (p : ℤ × ℤ). p.0) pair in
-      let heap : c.store.scene.heap ≡ e.heap = ap (λ (y : Scene). y.heap) r.holds.scene ∙ sym (ap (λ (t : Seen). t.heap) d.1) in
-      let there : Some n.entry.class ≡ Some class = sym (record_living c.store.scene.heap n.number n.entry n.there) ∙ ap (λ h. living h n.number) heap ∙ ap (living e.heap) number ∙ lives in
+      let heap : c.store.world.heap ≡ e.heap = ap (λ (y : World). y.heap) r.holds.world ∙ sym (ap (λ (t : Seen). t.heap) d.1) in
+      let there : Some n.entry.class ≡ Some class = sym (record_living c.store.world.heap n.number n.entry n.there) ∙ ap (λ h. living h n.number) heap ∙ ap (living e.heap) number ∙ lives in
       let of : n.entry.class ≡ class = got there in
       record {
         before = s;
@@ -188,7 +188,7 @@ module _ (w : Compiled) (c : Core) (here : Here) (s : State) (cell : ℕ) (r : R
         coming = a.0;
         next = a.1;
         number = n.names ∙ ap Whole number;
-        of = ranked_class 0 c.store.scene.setting.notices n.entry.class a.0.ranked n.place ∙ of;
+        of = ranked_class 0 c.store.world.setting.notices n.entry.class a.0.ranked n.place ∙ of;
         store =
             n.store
             ∙ ap (λ z. at_event z c.store) time
@@ -196,7 +196,7 @@ module _ (w : Compiled) (c : Core) (here : Here) (s : State) (cell : ℕ) (r : R
             ∙ ap (with_seen c.store) (sym d.1);
         place =
             ap (λ es. ranked_from 0 es class) (ap (λ (t : Seen). t.notices) d.1 ∙ sym (notices_seen w c here s (TakeEvent cell) r))
-            ∙ ap (ranked_from 0 c.store.scene.setting.notices) (sym of)
+            ∙ ap (ranked_from 0 c.store.world.setting.notices) (sym of)
             ∙ n.place;
         lives = lives;
       }

@@ -51,7 +51,7 @@ module _ (w : Compiled) (c : Core) (here : Here) (s : State) (cell : ℕ) (x : �
   pub known : ComingAs w.program n.ready.compiled.typed n.ready.placed.locals n.coming
   known =
       subst (There (ComingAs w.program n.ready.compiled.typed n.ready.placed.locals)) n.next
-      (next_event_there w.program n.ready.compiled.typed n.ready.placed.locals c.store (awaited (least_event c.store.scene.pending) c.store n.coming n.next) n.ready.fits.store)
+      (next_event_there w.program n.ready.compiled.typed n.ready.placed.locals c.store (awaited (least_event c.store.world.pending) c.store n.coming n.next) n.ready.fits.store)
 
   abbrev pub event : Event
   event = known.ranked.event
@@ -65,28 +65,28 @@ module _ (w : Compiled) (c : Core) (here : Here) (s : State) (cell : ℕ) (x : �
   class_is : event.class ≡ class
   class_is = sym (ap (λ (m : Notices). m.class) said_is) ∙ n.of
 
-  pub fits_now : Fits w.program n.ready.placed.locals (with_seen c.store s.scene)
+  pub fits_now : Fits w.program n.ready.placed.locals (with_seen c.store s.world)
   fits_now = subst (Fits w.program n.ready.placed.locals) n.store known.fits
 
   kind : kind_of_class w.program class ≡ Some Notice
   kind = subst (λ k. kind_of_class w.program k ≡ Some Notice) class_is good.notice
 
-  pub begun_class : class < length s.scene.heap.layout.classes
+  pub begun_class : class < length s.world.heap.layout.classes
   begun_class =
       let d = class_said w.program class Notice kind in
-      slice_get_within s.scene.heap.layout.classes class d.0 (ap (λ l. slice_get l.classes class) fits_now.sound.scene.layout ∙ d.1)
+      slice_get_within s.world.heap.layout.classes class d.0 (ap (λ l. slice_get l.classes class) fits_now.sound.world.layout ∙ d.1)
 
-  pub begun_single : is_single (slice_get s.scene.heap.layout.classes class) ≡ true
+  pub begun_single : is_single (slice_get s.world.heap.layout.classes class) ≡ true
   begun_single =
       let d = class_said w.program class Notice kind in
-      ap (λ l. is_single (slice_get l.classes class)) fits_now.sound.scene.layout ∙ ap is_single d.1 ∙ ap comes_singly d.2
+      ap (λ l. is_single (slice_get l.classes class)) fits_now.sound.world.layout ∙ ap is_single d.1 ∙ ap comes_singly d.2
 
   -- its rank
-  pub begun_said : slice_get s.scene.notices n.coming.ranked.rank ≡ Some n.coming.ranked.said
-  begun_said = said_there s.scene.notices class n.coming.ranked n.place
+  pub begun_said : slice_get s.world.notices n.coming.ranked.rank ≡ Some n.coming.ranked.said
+  begun_said = said_there s.world.notices class n.coming.ranked n.place
 
-  pub begun_rank : n.coming.ranked.rank < length s.scene.notices
-  begun_rank = slice_get_within s.scene.notices n.coming.ranked.rank n.coming.ranked.said begun_said
+  pub begun_rank : n.coming.ranked.rank < length s.world.notices
+  begun_rank = slice_get_within s.world.notices n.coming.ranked.rank n.coming.ranked.said begun_said
 
   -- its entry
   abbrev pub entry_point : EntryPoint
@@ -106,12 +106,12 @@ module _ (w : Compiled) (c : Core) (here : Here) (s : State) (cell : ℕ) (x : �
   begun_entry_within = slice_get_within w.run.events n.coming.ranked.rank begun_entry.run begun_entry.there
 
   -- what its routine is given are its first attributes
-  pub begun_modes : (i : ℕ) (m : Mode) → slice_get event.given i ≡ Some m → slice_get (modes_of s.scene.heap.layout class) i ≡ Some m
+  pub begun_modes : (i : ℕ) (m : Mode) → slice_get event.given i ≡ Some m → slice_get (modes_of s.world.heap.layout class) i ≡ Some m
   begun_modes i m e =
       let none_on : 0 + i ≡ i = omega arith in
       let field : field_mode w.program event.class i ≡ Some m = subst (λ j. field_mode w.program event.class j ≡ Some m) none_on (fields_are w.program n.ready.compiled.typed n.ready.placed.locals event.class (length event.given) good.modes good.fields i m (ap (λ ms. slice_get ms i) (sym good.given) ∙ e)) in
       let there : HasField w.program event.class i m = field_said w.program event.class i m field in
-      ap (λ l. slice_get (modes_of l class) i) fits_now.sound.scene.layout ∙ ap (λ k. slice_get (modes_of w.program.layout k) i) (sym class_is) ∙ there.field
+      ap (λ l. slice_get (modes_of l class) i) fits_now.sound.world.layout ∙ ap (λ k. slice_get (modes_of w.program.layout k) i) (sym class_is) ∙ there.field
 
   -- the variable that the notice is saved in lies below the frame
   pub begun_saved : IfSome n.coming.ranked.said.saved (λ k. k < here.frame)
@@ -135,10 +135,10 @@ module _ (w : Compiled) (c : Core) (here : Here) (s : State) (cell : ℕ) (x : �
       by (Some k) h = let f = found_in c.store.globals k Integer (ap (λ ms. slice_get ms k) n.ready.fits.store.sound.globals ∙ h.0) in (f.value, f.there, f.mode)
 
   -- the class is one of notices
-  pub begun_kind : kind_of s.scene.heap.layout class ≡ Notice
+  pub begun_kind : kind_of s.world.heap.layout class ≡ Notice
   begun_kind =
       let d = class_said w.program class Notice kind in
-      ap (λ l. kind_in (slice_get l.classes class)) fits_now.sound.scene.layout ∙ ap kind_in d.1 ∙ d.2
+      ap (λ l. kind_in (slice_get l.classes class)) fits_now.sound.world.layout ∙ ap kind_in d.1 ∙ d.2
 
   -- the frame begins where a row can reach; and the rows are those of the state before, and reach beyond its beginning
   pub begun_frame : here.frame < 2 ^ 63

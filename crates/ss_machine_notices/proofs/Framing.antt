@@ -63,7 +63,7 @@ module _ (w : Compiled) (c : Core) (here : Here) (s : State) (cell : ℕ) (x : �
   held_now = subst (λ (t : State). HoldsCore w.run.constants w.run.depth here.frame t.rows t.frames c) (sym n.is) n.ready.holds.held
 
   -- the attributes lie where the frame begins, and the other variables above them
-  module _ (rows : TwoRows) (h : Received s1.scene.heap class x run.given.items frame s1.rows rows) (seen : Seen) where
+  module _ (rows : TwoRows) (h : Received s1.world.heap class x run.given.items frame s1.rows rows) (seen : Seen) where
     rows_is : s1.rows ≡ cleared enters.grown (frame + length run.given.items) run.others.items
     rows_is = ap (λ (t : State). t.rows) enters.is
 

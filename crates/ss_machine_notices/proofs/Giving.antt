@@ -22,7 +22,7 @@ use Rattle.ss_program.specs.declared.sections.Subject.{Subject}
 use Rattle.ss_program.specs.declared.sections.Subject.TheVariants.{OfVariable, OfAttribute, OfCount}
 use Rattle.ss_program.specs.Program.{Program}
 use Rattle.ss_program.specs.WellTyped.{field_mode, is_created_singly, GoodSubject}
-use Rattle.ss_meaning.specs.Values.{Trouble, Fails, same_mode, if_ok, turned, due, where_fit, unless_fault}
+use Rattle.ss_meaning.specs.Values.{Failure, Fails, same_mode, if_ok, turned, due, where_fit, unless_fault}
 use Rattle.ss_meaning.specs.Store.{Setting, Store, with_heap}
 use Rattle.ss_meaning.specs.Entities.{comes_singly, is_single, made_one}
 use Rattle.ss_meaning.specs.Histories.{same_subject, noted}
@@ -110,7 +110,7 @@ value_set e class field n v h (Err k) done layout = (done.0, ap (λ (h : State).
 
 module _ (class field : ℕ) (n : ℤ) (v : Value) (notes : Bool) (e : Seen) (g : Suiting class field notes v e) where
   layout_is : e.heap.layout ≡ g.program.layout
-  layout_is = g.fits.sound.scene.layout
+  layout_is = g.fits.sound.world.layout
 
   field_there : HasField g.program class field g.mode
   field_there = field_said g.program class field g.mode g.field_is
@@ -127,7 +127,7 @@ module _ (class field : ℕ) (n : ℤ) (v : Value) (notes : Bool) (e : Seen) (g 
   is_fitting : is_of_mode v (slice_get (modes_of e.heap.layout class) field) ≡ true
   is_fitting = ap (is_of_mode v) suits_mode ∙ same_is (mode_of v) g.mode g.right
 
-  abbrev op : Store → OkOr Store Trouble
+  abbrev op : Store → OkOr Store Failure
   op = assigned_attribute class field (Whole n) v
 
   pub op_fine : Fine (Fits g.program g.modes) (op (with_seen g.store e))
@@ -180,7 +180,7 @@ module _ (class field : ℕ) (n : ℤ) (v : Value) (notes : Bool) (e : Seen) (g 
   text_set new (Err kind) text is = set_not new kind is
   text_set new (Ok u) text is =
       let none = text_unwatched g.program class field (g.field_is ∙ ap Some text) g.program.statistics g.typed.statistics in
-      set_quiet new is (ap (λ (x : Setting). watch x.statistics (OfAttribute class field)) g.fits.sound.scene.setting ∙ none)
+      set_quiet new is (ap (λ (x : Setting). watch x.statistics (OfAttribute class field)) g.fits.sound.world.setting ∙ none)
 
 -- ## All of them
 
@@ -213,7 +213,7 @@ module _ (class : ℕ) (n : ℤ) (notes : Bool) (from given : ℕ) (rows : TwoRo
     next_value = got_at g.values i (omega (arith, lt, g.many))
 
     pub statistics_same : now.statistics ≡ old.statistics
-    statistics_same = ap (λ (x : Setting). x.statistics) (d.fits.sound.scene.setting ∙ sym g.fits.sound.scene.setting)
+    statistics_same = ap (λ (x : Setting). x.statistics) (d.fits.sound.world.setting ∙ sym g.fits.sound.world.setting)
 
     -- what the next one is given
     abbrev pub gives_one : GivesOne class i notes (from + i) rows now
@@ -272,7 +272,7 @@ module _ (class : ℕ) (n : ℤ) (notes : Bool) (from given : ℕ) (rows : TwoRo
 
     with_time_fine : (s : Store) → Fits g.program g.modes s → Fine (Fits g.program g.modes) (with_notice_time (Whole n) t s)
     with_time_fine s f =
-        fine_turned (Fits g.program g.modes) (with_heap s) (due (timed s.scene.heap n t)) (due_fine (Changed s.scene.heap) (timed s.scene.heap n t) (timed_sane s.scene.heap n t f.sound.scene.heap)) (λ h c. heap_fits g.program g.modes s h f c)
+        fine_turned (Fits g.program g.modes) (with_heap s) (due (timed s.world.heap n t)) (due_fine (Changed s.world.heap) (timed s.world.heap n t) (timed_sane s.world.heap n t f.sound.world.heap)) (λ h c. heap_fits g.program g.modes s h f c)
 
     fields_from : (i : ℕ) (m : Mode) → slice_get g.kinds i ≡ Some m → field_mode g.program class (0 + i) ≡ Some m
     fields_from i m q = let none_on : 0 + i ≡ i = omega arith in subst (λ j. field_mode g.program class j ≡ Some m) (sym none_on) (g.fields i m q)
@@ -287,7 +287,7 @@ module _ (class : ℕ) (n : ℤ) (notes : Bool) (from given : ℕ) (rows : TwoRo
     pub noticed_then : (mid : Seen) → prepared class (Whole n) g.values t (with_seen g.store old) ≡ Ok (with_seen g.store mid) → IsNoticeClass mid class
     noticed_then mid e =
         let f = prepared_fits mid e in
-        noticed_in g.program g.typed g.modes mid (with_seen g.store mid) class g.notice f refl f.sound.scene.layout
+        noticed_in g.program g.typed g.modes mid (with_seen g.store mid) class g.notice f refl f.sound.world.layout
 
     -- ## Filing it
 
@@ -297,7 +297,7 @@ module _ (class : ℕ) (n : ℤ) (notes : Bool) (from given : ℕ) (rows : TwoRo
     filed_then mid new (Err Memory) e d = λ kind fails.
         wrong (filed_notice class (Whole n) t (with_seen g.store mid)) kind (d.0 g.store) (sym (ap (λ r. if_ok r (filed_notice class (Whole n) t)) e) ∙ fails)
       where
-        wrong : (r : OkOr Store Trouble) (kind : FaultKind) → IsOk r → r ≡ Err (Fails kind) → ⊥
+        wrong : (r : OkOr Store Failure) (kind : FaultKind) → IsOk r → r ≡ Err (Fails kind) → ⊥
         wrong (Ok s) kind ok q = absurd cc
         wrong (Err x) kind ok q = absurd cc
 
@@ -309,7 +309,7 @@ module _ (class : ℕ) (n : ℤ) (notes : Bool) (from given : ℕ) (rows : TwoRo
     class_here : class < length old.heap.layout.classes
     class_here =
         let c = class_said g.program class Notice g.notice in
-        slice_get_within old.heap.layout.classes class c.0 (ap (λ l. slice_get l.classes class) g.fits.sound.scene.layout ∙ c.1)
+        slice_get_within old.heap.layout.classes class c.0 (ap (λ l. slice_get l.classes class) g.fits.sound.world.layout ∙ c.1)
 
     again_is : rescheduled class (Whole n) g.values t (with_seen g.store old) ≡ if_ok (due (unpended class n old)) (λ u. refiled class (Whole n) g.values t (with_seen g.store old))
     again_is =
@@ -319,7 +319,7 @@ module _ (class : ℕ) (n : ℤ) (notes : Bool) (from given : ℕ) (rows : TwoRo
         not_twice : Bool → OkOr (Unit {0}) FaultKind
         not_twice b = if b then Err AlreadyScheduled else Ok tt
 
-        then_again : ℤ → OkOr Store Trouble
+        then_again : ℤ → OkOr Store Failure
         then_again m = unless_fault (is_pending m old.pending.entries) AlreadyScheduled (refiled class (Whole n) g.values t (with_seen g.store old))
 
         pending : (b : Bool) → unless_fault b AlreadyScheduled (refiled class (Whole n) g.values t (with_seen g.store old)) ≡ if_ok (due (not_twice b)) (λ u. refiled class (Whole n) g.values t (with_seen g.store old))
@@ -350,12 +350,12 @@ module _ (class : ℕ) (notes : Bool) (from given : ℕ) (rows : TwoRows) (old :
   pub create_class : class < length old.heap.layout.classes
   create_class =
       let c = class_said g.program class Notice g.notice in
-      slice_get_within old.heap.layout.classes class c.0 (ap (λ l. slice_get l.classes class) g.fits.sound.scene.layout ∙ c.1)
+      slice_get_within old.heap.layout.classes class c.0 (ap (λ l. slice_get l.classes class) g.fits.sound.world.layout ∙ c.1)
 
   pub create_single : is_single (slice_get old.heap.layout.classes class) ≡ true
   create_single =
       let c = class_said g.program class Notice g.notice in
-      ap (λ l. is_single (slice_get l.classes class)) g.fits.sound.scene.layout ∙ ap is_single c.1 ∙ ap comes_singly c.2
+      ap (λ l. is_single (slice_get l.classes class)) g.fits.sound.world.layout ∙ ap is_single c.1 ∙ ap comes_singly c.2
 
   -- what a value and a store are
   abbrev IsFitting : Value × Store → Type 0
@@ -382,7 +382,7 @@ module _ (class : ℕ) (notes : Bool) (from given : ℕ) (rows : TwoRows) (old :
     lie = g.lie;
     within = g.within;
     small = g.small;
-    reported = λ none field lt. ap (λ (x : Setting). watch x.statistics (OfAttribute class field)) ((created_fits n mid e).sound.scene.setting ∙ sym g.fits.sound.scene.setting) ∙ g.reported none field lt;
+    reported = λ none field lt. ap (λ (x : Setting). watch x.statistics (OfAttribute class field)) ((created_fits n mid e).sound.world.setting ∙ sym g.fits.sound.world.setting) ∙ g.reported none field lt;
   }
 
   pub made : (n : ℤ) (mid new : Seen) (q : OkOr (Unit {0}) FaultKind) → made_one class (with_seen g.store old) ≡ Ok (Whole n, with_seen g.store mid) → SettledIn g.store (prepared class (Whole n) g.values t) mid new q → MadeIn g.store class g.values t old new (number_or n q)

@@ -13,7 +13,7 @@ use Rattle.ss_base.specs.Layout.{mode_of}
 use Rattle.ss_program.specs.declared.sections.Subject.TheVariants.{OfAttribute}
 use Rattle.ss_program.specs.Program.{Program}
 use Rattle.ss_program.specs.WellTyped.{field_mode}
-use Rattle.ss_meaning.specs.Values.{Trouble}
+use Rattle.ss_meaning.specs.Values.{Failure}
 use Rattle.ss_meaning.specs.Store.{Store}
 use Rattle.ss_meaning.specs.Events.{made_notice, rescheduled}
 use Rattle.ss_meaning.specs.Fitting.{Hold, Fits}
@@ -141,7 +141,7 @@ module _ (w : Compiled) (c : Core) (here : Here) (s : State) (run : Running) (r 
       }
 
   -- what the notice is given
-  abbrev gives_of : (h cell given class : ℕ) (notes : Bool) (modes rest : List Mode) → Spread h cell given modes rest → GivenFit w.program class modes → IsQuietGiven notes class given → HasGivenValues class notes (here.frame + cell) given s.rows s.scene
+  abbrev gives_of : (h cell given class : ℕ) (notes : Bool) (modes rest : List Mode) → Spread h cell given modes rest → GivenFit w.program class modes → IsQuietGiven notes class given → HasGivenValues class notes (here.frame + cell) given s.rows s.world
   gives_of h cell given class notes modes rest z fit reported = record {
     program = w.program;
     typed = r.compiled.typed;
@@ -188,7 +188,7 @@ module _ (w : Compiled) (c : Core) (here : Here) (s : State) (run : Running) (r 
   pub makes_in : (class cell given : ℕ) (to : Address) → MakesNotice class cell given to → here.frame + cell + given < length s.rows.numbers
   makes_in class cell given to z = (make_spread class cell given to z).room
 
-  abbrev pub make_gives : (class cell given : ℕ) (to : Address) (notes : Bool) → MakesNotice class cell given to → IsQuietGiven notes class given → HasGivenValues class notes (here.frame + cell) given s.rows s.scene
+  abbrev pub make_gives : (class cell given : ℕ) (to : Address) (notes : Bool) → MakesNotice class cell given to → IsQuietGiven notes class given → HasGivenValues class notes (here.frame + cell) given s.rows s.world
   make_gives class cell given to notes z reported =
       let y = subst SuitsHere z.2.2 (suits w c here s run r) in
       gives_of z.0 cell given class notes y.1 y.5.0 (make_spread class cell given to z) y.4 reported
@@ -217,7 +217,7 @@ module _ (w : Compiled) (c : Core) (here : Here) (s : State) (run : Running) (r 
   make_core class cell given to z t = record c { cells = Whole t ∷ (make_spread class cell given to z).taken.below }
 
   -- the number of the notice is to go to the target, once its time lies in the first of the cells
-  pub make_delivers : (class cell given : ℕ) (to : Address) (notes : Bool) (reported : IsQuietGiven notes class given) (z : MakesNotice class cell given to) (t n : ℤ) (e : Seen) → slice_get s.rows.numbers (here.frame + cell + given) ≡ Some t → MadeIn c.store class (make_gives class cell given to notes z reported).values t s.scene e (Ok n) → Delivers w (make_core class cell given to z t) r.placed.line (act w.code r.placed.line r.placed.instruction c) here (record s { scene = e; rows = with_number_at s.rows (here.frame + cell) t }) to (as_value (Ok n))
+  pub make_delivers : (class cell given : ℕ) (to : Address) (notes : Bool) (reported : IsQuietGiven notes class given) (z : MakesNotice class cell given to) (t n : ℤ) (e : Seen) → slice_get s.rows.numbers (here.frame + cell + given) ≡ Some t → MadeIn c.store class (make_gives class cell given to notes z reported).values t s.world e (Ok n) → Delivers w (make_core class cell given to z t) r.placed.line (act w.code r.placed.line r.placed.instruction c) here (record s { world = e; rows = with_number_at s.rows (here.frame + cell) t }) to (as_value (Ok n))
   make_delivers class cell given to notes reported z t n e at_time made =
       let y = subst SuitsHere z.2.2 (suits w c here s run r) in
       let v = make_spread class cell given to z in
@@ -264,18 +264,18 @@ module _ (w : Compiled) (c : Core) (here : Here) (s : State) (run : Running) (r 
             room = omega (arith, ew.long, r.holds.held.room);
             small = omega (arith, ew.long, r.holds.held.small);
           };
-          scene = refl;
+          world = refl;
           even = r.holds.even ∙ sym ew.long;
           line = r.holds.line;
         };
       }
 
   -- what came of the delivery
-  pub makes : (class cell given : ℕ) (to : Address) (z : MakesNotice class cell given to) (e : Seen) (rows : TwoRows) (new : State) (result : Option Here) → NoTick w r.placed.line (act w.code r.placed.line r.placed.instruction c) (record s { scene = e; rows = rows }) new result → Performs (is_due r.placed.instruction) w r.placed.line (act w.code r.placed.line r.placed.instruction c) s new result
+  pub makes : (class cell given : ℕ) (to : Address) (z : MakesNotice class cell given to) (e : Seen) (rows : TwoRows) (new : State) (result : Option Here) → NoTick w r.placed.line (act w.code r.placed.line r.placed.instruction c) (record s { world = e; rows = rows }) new result → Performs (is_due r.placed.instruction) w r.placed.line (act w.code r.placed.line r.placed.instruction c) s new result
   makes class cell given to z e rows new result h = calm w c here s run r new result (ap is_due z.2.2) (record { leads = h.leads; ticks = h.ticks; steps = h.steps })
 
   -- or none was made
-  pub makes_not : (class cell given : ℕ) (to : Address) (notes : Bool) (reported : IsQuietGiven notes class given) (z : MakesNotice class cell given to) (t : ℤ) (e : Seen) (refused : Refused) (new : State) (result : Option Here) → slice_get s.rows.numbers (here.frame + cell + given) ≡ Some t → MadeIn c.store class (make_gives class cell given to notes z reported).values t s.scene e (Err refused) → new ≡ refused_by refused (record s { scene = e }) → result ≡ None → Performs (is_due r.placed.instruction) w r.placed.line (act w.code r.placed.line r.placed.instruction c) s new result
+  pub makes_not : (class cell given : ℕ) (to : Address) (notes : Bool) (reported : IsQuietGiven notes class given) (z : MakesNotice class cell given to) (t : ℤ) (e : Seen) (refused : Refused) (new : State) (result : Option Here) → slice_get s.rows.numbers (here.frame + cell + given) ≡ Some t → MadeIn c.store class (make_gives class cell given to notes z reported).values t s.world e (Err refused) → new ≡ refused_by refused (record s { world = e }) → result ≡ None → Performs (is_due r.placed.instruction) w r.placed.line (act w.code r.placed.line r.placed.instruction c) s new result
   makes_not class cell given to notes reported z t e (Fault kind) new result at_time made same none =
       let v = make_spread class cell given to z in
       fails_on w c here s run r kind e new result (ap is_due z.2.2)
@@ -284,7 +284,7 @@ module _ (w : Compiled) (c : Core) (here : Here) (s : State) (run : Running) (r 
   makes_not class cell given to notes reported z t e Memory new result at_time made same none =
       let m = act w.code r.placed.line r.placed.instruction c in
       let l = r.placed.line in
-      let s' : State = stopped NoMemory (record s { scene = e }) in
+      let s' : State = stopped NoMemory (record s { world = e }) in
       let plain : NoTick w l m s s' None = record { leads = tt; ticks = refl; steps = refl } in
       calm w c here s run r new result (ap is_due z.2.2)
       (subst (λ o. NoTick w l m s new o) (sym none) (subst (λ u. NoTick w l m s u None) (sym same) plain))
@@ -308,12 +308,12 @@ module _ (w : Compiled) (c : Core) (here : Here) (s : State) (run : Running) (r 
         v.room,
       )
 
-  abbrev pub again_gives : (class : ℕ) (notice : Address) (cell given : ℕ) (notes : Bool) → Reschedules class notice cell given → IsQuietGiven notes class given → HasGivenValues class notes (here.frame + cell) given s.rows s.scene
+  abbrev pub again_gives : (class : ℕ) (notice : Address) (cell given : ℕ) (notes : Bool) → Reschedules class notice cell given → IsQuietGiven notes class given → HasGivenValues class notes (here.frame + cell) given s.rows s.world
   again_gives class notice cell given notes z reported =
       let y = subst SuitsHere z.2.2 (suits w c here s run r) in
       gives_of z.2.0 cell given class notes y.1 y.5.0 (again_spread class notice cell given z) y.4 reported
 
-  pub reschedules : (class : ℕ) (notice : Address) (cell given : ℕ) (notes : Bool) (reported : IsQuietGiven notes class given) (z : Reschedules class notice cell given) (n t : ℤ) (e : Seen) (answer : OkOr (Unit {0}) Refused) (new : State) (result : Option Here) → slice_get s.rows.numbers (place_at here.frame notice) ≡ Some n → slice_get s.rows.numbers (here.frame + cell + given) ≡ Some t → SettledInWithMemory c.store (rescheduled class (Whole n) (again_gives class notice cell given notes z reported).values t) s.scene e answer → new ≡ refused_where answer (record s { scene = e }) → result ≡ on_after here (unless_refused answer) → Performs (is_due r.placed.instruction) w r.placed.line (act w.code r.placed.line r.placed.instruction c) s new result
+  pub reschedules : (class : ℕ) (notice : Address) (cell given : ℕ) (notes : Bool) (reported : IsQuietGiven notes class given) (z : Reschedules class notice cell given) (n t : ℤ) (e : Seen) (answer : OkOr (Unit {0}) Refused) (new : State) (result : Option Here) → slice_get s.rows.numbers (place_at here.frame notice) ≡ Some n → slice_get s.rows.numbers (here.frame + cell + given) ≡ Some t → SettledInWithMemory c.store (rescheduled class (Whole n) (again_gives class notice cell given notes z reported).values t) s.world e answer → new ≡ refused_where answer (record s { world = e }) → result ≡ on_after here (unless_refused answer) → Performs (is_due r.placed.instruction) w r.placed.line (act w.code r.placed.line r.placed.instruction c) s new result
   reschedules class notice cell given notes reported z n t e answer new result at_notice at_time d same way =
       let l = r.placed.line in
       let is = z.2.2 in
@@ -321,7 +321,7 @@ module _ (w : Compiled) (c : Core) (here : Here) (s : State) (run : Running) (r 
       let v = again_spread class notice cell given z in
       let vs = v.taken.values in
       let one = reads (site w c here s run r) (located w c here s run r) z.0 Integer y.5.0 y.5.2.0 notice v.taken.below (Whole n) y.5.2.1 z.1 v.under v.below (only_number s.rows (place_at here.frame notice) n at_notice) in
-      let op : Store → OkOr Store Trouble = rescheduled class (Whole n) vs t in
+      let op : Store → OkOr Store Failure = rescheduled class (Whole n) vs t in
       let left : Settles c l (act w.code l r.placed.instruction c) here s op = record {
         below = one.below;
         acts =

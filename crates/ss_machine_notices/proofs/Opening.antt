@@ -12,7 +12,7 @@ use Rattle.ss_base.specs.declared.value.Value.TheVariants.{Whole}
 use Rattle.ss_base.specs.Layout.{mode_of}
 use Rattle.ss_world.specs.State.{State as Heap, Record, kind_of, modes_of, and_then, numbered_record, of_class, issued_record, entity_of_kind, entity_in, value_in}
 use Rattle.ss_program.specs.declared.sections.Subject.TheVariants.{OfVariable}
-use Rattle.ss_meaning.specs.Values.{Trouble, Fails, Misfit, same_mode, if_ok, turned, due}
+use Rattle.ss_meaning.specs.Values.{Failure, Fails, TypeError, same_mode, if_ok, turned, due}
 use Rattle.ss_meaning.specs.Store.{Notices, Store, put_at}
 use Rattle.ss_meaning.specs.Entities.{gone}
 use Rattle.ss_meaning.specs.Histories.{noted}
@@ -82,7 +82,7 @@ put_number : (vs : List Value) (k : ℕ) (z : ℤ) (old : Value) → slice_get v
 put_number [] k z old e m = absurd cc
 put_number (u ∷ vs) zero z old e m =
     let q : u ≡ old = cc in
-    ap (λ n. if same_mode Integer n then Ok (Whole z ∷ vs) else Err Misfit) (ap mode_of q ∙ m)
+    ap (λ n. if same_mode Integer n then Ok (Whole z ∷ vs) else Err TypeError) (ap mode_of q ∙ m)
 put_number (u ∷ vs) (suc k) z old e m = ap (turned (λ rest. u ∷ rest)) (put_number vs k z old e m)
 
 module _ (w : Compiled) (c : Core) (here : Here) (s : State) (cell : ℕ) (x : ℤ) (class : ℕ) (n : ComesNext w c here s cell x class) where
@@ -94,49 +94,49 @@ module _ (w : Compiled) (c : Core) (here : Here) (s : State) (cell : ℕ) (x : �
   left_store (Some k) e = record (with_seen c.store e) { globals = slice_set c.store.globals k (Whole x) }
 
   abbrev pub GoesAs : Option ℕ → Seen → OkOr (Unit {0}) FaultKind → Type 0
-  GoesAs saved e (Ok u) = saved_or_gone saved class (Whole x) (with_seen c.store s.scene) ≡ Ok (left_store saved e)
-  GoesAs saved e (Err kind) = saved_or_gone saved class (Whole x) (with_seen c.store s.scene) ≡ Err (Fails kind)
+  GoesAs saved e (Ok u) = saved_or_gone saved class (Whole x) (with_seen c.store s.world) ≡ Ok (left_store saved e)
+  GoesAs saved e (Err kind) = saved_or_gone saved class (Whole x) (with_seen c.store s.world) ≡ Err (Fails kind)
 
   -- a saving variable holds a number
   abbrev pub IsSaving : Option ℕ → Type 0
   IsSaving saved = IfSome saved (λ k. (old : Value) × (slice_get c.store.globals k ≡ Some old) × (mode_of old ≡ Integer))
 
-  pub goes_as : (saved : Option ℕ) (mid new : State) (q : OkOr (Unit {0}) FaultKind) → mid.scene ≡ s.scene → IsSaving saved → IsRight (saved_or_gone saved class (Whole x) (with_seen c.store s.scene)) → LetsGo saved class x mid new q → GoesAs saved new.scene q
-  goes_as None mid new q same saving right d = by q (subst (λ (e : Seen). Changes (gone class (Whole x)) e new.scene q) same d.0)
+  pub goes_as : (saved : Option ℕ) (mid new : State) (q : OkOr (Unit {0}) FaultKind) → mid.world ≡ s.world → IsSaving saved → IsRight (saved_or_gone saved class (Whole x) (with_seen c.store s.world)) → LetsGo saved class x mid new q → GoesAs saved new.world q
+  goes_as None mid new q same saving right d = by q (subst (λ (e : Seen). Changes (gone class (Whole x)) e new.world q) same d.0)
     where
-      by : (q : OkOr (Unit {0}) FaultKind) → Changes (gone class (Whole x)) s.scene new.scene q → GoesAs None new.scene q
+      by : (q : OkOr (Unit {0}) FaultKind) → Changes (gone class (Whole x)) s.world new.world q → GoesAs None new.world q
       by (Ok u) d = d c.store right
       by (Err kind) d = d.0 c.store right
-  goes_as (Some k) mid new q same saving right d = saved_as k new q saving right (subst (λ (e : Seen). Changes (noted (OfVariable k) (pos 0) (Whole x)) e new.scene q) same d.0)
+  goes_as (Some k) mid new q same saving right d = saved_as k new q saving right (subst (λ (e : Seen). Changes (noted (OfVariable k) (pos 0) (Whole x)) e new.world q) same d.0)
     where
-      saved_as : (k : ℕ) (new : State) (q : OkOr (Unit {0}) FaultKind) → IsSaving (Some k) → IsRight (saved_or_gone (Some k) class (Whole x) (with_seen c.store s.scene)) → Changes (noted (OfVariable k) (pos 0) (Whole x)) s.scene new.scene q → GoesAs (Some k) new.scene q
+      saved_as : (k : ℕ) (new : State) (q : OkOr (Unit {0}) FaultKind) → IsSaving (Some k) → IsRight (saved_or_gone (Some k) class (Whole x) (with_seen c.store s.world)) → Changes (noted (OfVariable k) (pos 0) (Whole x)) s.world new.world q → GoesAs (Some k) new.world q
       saved_as k new q saving right d = by q d
         where
-          put_then : saved_or_gone (Some k) class (Whole x) (with_seen c.store s.scene) ≡ noted (OfVariable k) (pos 0) (Whole x) (with_seen (record c.store { globals = slice_set c.store.globals k (Whole x) }) s.scene)
-          put_then = ap (λ r. if_ok (turned (λ vs. record (with_seen c.store s.scene) { globals = vs }) r) (noted (OfVariable k) (pos 0) (Whole x))) (put_number c.store.globals k x saving.0 saving.1 saving.2)
+          put_then : saved_or_gone (Some k) class (Whole x) (with_seen c.store s.world) ≡ noted (OfVariable k) (pos 0) (Whole x) (with_seen (record c.store { globals = slice_set c.store.globals k (Whole x) }) s.world)
+          put_then = ap (λ r. if_ok (turned (λ vs. record (with_seen c.store s.world) { globals = vs }) r) (noted (OfVariable k) (pos 0) (Whole x))) (put_number c.store.globals k x saving.0 saving.1 saving.2)
 
-          by : (q : OkOr (Unit {0}) FaultKind) → Changes (noted (OfVariable k) (pos 0) (Whole x)) s.scene new.scene q → GoesAs (Some k) new.scene q
+          by : (q : OkOr (Unit {0}) FaultKind) → Changes (noted (OfVariable k) (pos 0) (Whole x)) s.world new.world q → GoesAs (Some k) new.world q
           by (Ok u) d = put_then ∙ d (record c.store { globals = slice_set c.store.globals k (Whole x) }) (λ wrong. right (put_then ∙ wrong))
           by (Err kind) d = put_then ∙ d.0 (record c.store { globals = slice_set c.store.globals k (Whole x) }) (λ wrong. right (put_then ∙ wrong))
 
   -- ## The event begins
 
-  abbrev begun_by : (cl count : ℕ) → Value → Store → OkOr Beginning Trouble
+  abbrev begun_by : (cl count : ℕ) → Value → Store → OkOr Beginning Failure
   begun_by cl count v t = if_ok (attributes_given cl 0 count v t) (λ vs. turned (λ t. record { rank = n.coming.ranked.rank; given = vs; store = t }) (saved_or_gone n.coming.ranked.said.saved cl v t))
 
-  begun_is : event_begun n.coming ≡ begun_by class (length (event w c here s cell x class n).given) (Whole x) (with_seen c.store s.scene)
+  begun_is : event_begun n.coming ≡ begun_by class (length (event w c here s cell x class n).given) (Whole x) (with_seen c.store s.world)
   begun_is =
       ap (λ cl. begun_by cl n.coming.ranked.said.given n.coming.notice n.coming.store) n.of
       ∙ ap (λ v. begun_by class n.coming.ranked.said.given v n.coming.store) n.number
       ∙ ap (begun_by class n.coming.ranked.said.given (Whole x)) n.store
-      ∙ ap (λ k. begun_by class k (Whole x) (with_seen c.store s.scene)) (ap (λ (m : Notices). m.given) (said_is w c here s cell x class n))
+      ∙ ap (λ k. begun_by class k (Whole x) (with_seen c.store s.world)) (ap (λ (m : Notices). m.given) (said_is w c here s cell x class n))
 
   -- with these attributes
-  module _ (vs : List Value) (given : attributes_given class 0 (length (event w c here s cell x class n).given) (Whole x) (with_seen c.store s.scene) ≡ Ok vs) where
-    pub begun_then : event_begun n.coming ≡ turned (λ t. record { rank = n.coming.ranked.rank; given = vs; store = t }) (saved_or_gone n.coming.ranked.said.saved class (Whole x) (with_seen c.store s.scene))
-    begun_then = begun_is ∙ ap (λ q. if_ok q (λ vs. turned (λ t. record { rank = n.coming.ranked.rank; given = vs; store = t }) (saved_or_gone n.coming.ranked.said.saved class (Whole x) (with_seen c.store s.scene)))) given
+  module _ (vs : List Value) (given : attributes_given class 0 (length (event w c here s cell x class n).given) (Whole x) (with_seen c.store s.world) ≡ Ok vs) where
+    pub begun_then : event_begun n.coming ≡ turned (λ t. record { rank = n.coming.ranked.rank; given = vs; store = t }) (saved_or_gone n.coming.ranked.said.saved class (Whole x) (with_seen c.store s.world))
+    begun_then = begun_is ∙ ap (λ q. if_ok q (λ vs. turned (λ t. record { rank = n.coming.ranked.rank; given = vs; store = t }) (saved_or_gone n.coming.ranked.said.saved class (Whole x) (with_seen c.store s.world)))) given
 
-    pub goes_right : IsRight (saved_or_gone n.coming.ranked.said.saved class (Whole x) (with_seen c.store s.scene))
+    pub goes_right : IsRight (saved_or_gone n.coming.ranked.said.saved class (Whole x) (with_seen c.store s.world))
     goes_right = λ wrong.
         fine_right (BegunAs w.program n.ready.compiled.typed n.ready.placed.locals) (event_begun n.coming) (begun_fine w.program n.ready.compiled.typed n.ready.placed.locals n.coming (known w c here s cell x class n))
         (begun_then ∙ ap (turned (λ t. record { rank = n.coming.ranked.rank; given = vs; store = t })) wrong)

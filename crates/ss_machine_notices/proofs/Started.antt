@@ -52,26 +52,26 @@ module _ (w : Compiled) (c : Core) (here : Here) (s : State) (cell : ℕ) (x : �
       hold_length c.cells n.ready.placed.cells n.ready.fits.cells ∙ y.0
 
   -- the modes are there
-  modes_there : (vs : List Value) → length vs ≡ length (event w c here s cell x class n).given → (i : ℕ) → i < length vs → is_some (slice_get (modes_of s.scene.heap.layout class) (0 + i)) ≡ true
+  modes_there : (vs : List Value) → length vs ≡ length (event w c here s cell x class n).given → (i : ℕ) → i < length vs → is_some (slice_get (modes_of s.world.heap.layout class) (0 + i)) ≡ true
   modes_there vs long i lt =
       let m = got_at (event w c here s cell x class n).given i (omega (arith, lt, long)) in
       let none_on : i ≡ 0 + i = omega arith in
-      subst (λ j. is_some (slice_get (modes_of s.scene.heap.layout class) j) ≡ true) none_on (ap is_some (begun_modes w c here s cell x class n i m.0 m.1))
+      subst (λ j. is_some (slice_get (modes_of s.world.heap.layout class) j) ≡ true) none_on (ap is_some (begun_modes w c here s cell x class n i m.0 m.1))
 
   -- the definition reads the attributes that were read
-  pub given_is : (vs : List Value) → length vs ≡ length (event w c here s cell x class n).given → AreRead s.scene.heap class 0 x vs → attributes_given class 0 (length (event w c here s cell x class n).given) (Whole x) (with_seen c.store s.scene) ≡ Ok vs
-  given_is vs long read = ap (λ k. attributes_given class 0 k (Whole x) (with_seen c.store s.scene)) (sym long) ∙ read_is s.scene class 0 x vs c.store (modes_there vs long) read
+  pub given_is : (vs : List Value) → length vs ≡ length (event w c here s cell x class n).given → AreRead s.world.heap class 0 x vs → attributes_given class 0 (length (event w c here s cell x class n).given) (Whole x) (with_seen c.store s.world) ≡ Ok vs
+  given_is vs long read = ap (λ k. attributes_given class 0 k (Whole x) (with_seen c.store s.world)) (sym long) ∙ read_is s.world class 0 x vs c.store (modes_there vs long) read
 
   module _ (s1 : State) (frame : ℕ) (enters : Enters here s s1 run cell frame) where
     pub even_then : length s1.rows.texts ≡ length s1.rows.numbers
     even_then = subst (λ (t : State). length t.rows.texts ≡ length t.rows.numbers) (sym enters.is) (cleared_even enters.grown (frame + length run.given.items) run.others.items enters.even)
 
-    module _ (rows : TwoRows) (h : Received s1.scene.heap class x run.given.items frame s1.rows rows) where
+    module _ (rows : TwoRows) (h : Received s1.world.heap class x run.given.items frame s1.rows rows) where
       values_long : length h.values ≡ length (event w c here s cell x class n).given
       values_long = hold_length h.values run.given.items h.hold ∙ ap length entry_is.given
 
-      pub given_then : attributes_given class 0 (length (event w c here s cell x class n).given) (Whole x) (with_seen c.store s.scene) ≡ Ok h.values
-      given_then = given_is h.values values_long (subst (λ (t : State). AreRead t.scene.heap class 0 x h.values) enters.is h.read)
+      pub given_then : attributes_given class 0 (length (event w c here s cell x class n).given) (Whole x) (with_seen c.store s.world) ≡ Ok h.values
+      given_then = given_is h.values values_long (subst (λ (t : State). AreRead t.world.heap class 0 x h.values) enters.is h.read)
 
       -- it begins in the definition
       acts : (seen : Seen) → GoesAs w c here s cell x class n n.coming.ranked.said.saved seen (Ok tt) → act w.code n.ready.placed.line n.ready.placed.instruction c ≡ enter (entry_point w c here s cell x class n) (AnEvent n.coming.ranked.rank) h.values c.cells c (left_store w c here s cell x class n n.coming.ranked.said.saved seen)
@@ -93,7 +93,7 @@ module _ (w : Compiled) (c : Core) (here : Here) (s : State) (cell : ℕ) (x : �
       hold_given : map mode_of h.values ≡ (entry_point w c here s cell x class n).given
       hold_given = h.hold ∙ entry_is.given
 
-      pub begins_gone : (seen : Seen) → n.coming.ranked.said.saved ≡ None → GoesAs w c here s cell x class n n.coming.ranked.said.saved seen (Ok tt) → OneTick s.ticks w n.ready.placed.line (act w.code n.ready.placed.line n.ready.placed.instruction c) n.before (record s1 { rows = rows; scene = seen }) (Some (record { place = run.place; frame = frame }))
+      pub begins_gone : (seen : Seen) → n.coming.ranked.said.saved ≡ None → GoesAs w c here s cell x class n n.coming.ranked.said.saved seen (Ok tt) → OneTick s.ticks w n.ready.placed.line (act w.code n.ready.placed.line n.ready.placed.instruction c) n.before (record s1 { rows = rows; world = seen }) (Some (record { place = run.place; frame = frame }))
       begins_gone seen none goes =
           let e = entry_point w c here s cell x class n in
           let c' = begun_core w c here s cell x class n e run entry_is s1 frame enters high n.coming.ranked.rank h.values (with_seen c.store seen) in
@@ -106,7 +106,7 @@ module _ (w : Compiled) (c : Core) (here : Here) (s : State) (cell : ℕ) (x : �
               record {
                 place = entry_is.place;
                 held = held_gone w c here s cell x class n e run entry_is s1 frame enters high n.coming.ranked.rank rows h seen;
-                scene = refl;
+                world = refl;
                 even = h.even ∙ even_then ∙ sym h.long;
                 line = fault_line_none;
               },
@@ -123,7 +123,7 @@ module _ (w : Compiled) (c : Core) (here : Here) (s : State) (cell : ℕ) (x : �
             store = record (with_seen c.store seen) { locals = vs };
           }
 
-      pub begins_saved : (k : ℕ) (seen : Seen) → n.coming.ranked.said.saved ≡ Some k → k < length c.store.globals → k < frame → GoesAs w c here s cell x class n n.coming.ranked.said.saved seen (Ok tt) → OneTick s.ticks w n.ready.placed.line (act w.code n.ready.placed.line n.ready.placed.instruction c) n.before (record s1 { rows = with_number rows k x; scene = seen }) (Some (record { place = run.place; frame = frame }))
+      pub begins_saved : (k : ℕ) (seen : Seen) → n.coming.ranked.said.saved ≡ Some k → k < length c.store.globals → k < frame → GoesAs w c here s cell x class n n.coming.ranked.said.saved seen (Ok tt) → OneTick s.ticks w n.ready.placed.line (act w.code n.ready.placed.line n.ready.placed.instruction c) n.before (record s1 { rows = with_number rows k x; world = seen }) (Some (record { place = run.place; frame = frame }))
       begins_saved k seen some lt low goes =
           let e = entry_point w c here s cell x class n in
           let c' = begun_core w c here s cell x class n e run entry_is s1 frame enters high n.coming.ranked.rank h.values (left_store w c here s cell x class n (Some k) seen) in
@@ -136,7 +136,7 @@ module _ (w : Compiled) (c : Core) (here : Here) (s : State) (cell : ℕ) (x : �
               record {
                 place = entry_is.place;
                 held = held_saved w c here s cell x class n e run entry_is s1 frame enters high n.coming.ranked.rank rows h seen k lt low;
-                scene = refl;
+                world = refl;
                 even = h.even ∙ even_then ∙ sym h.long ∙ sym (set_length rows.numbers k x);
                 line = fault_line_none;
               },
@@ -170,9 +170,9 @@ module _ (w : Compiled) (c : Core) (here : Here) (s : State) (cell : ℕ) (x : �
       subst (λ o. OneTick s.ticks w n.ready.placed.line m n.before new o) (sym none) (subst (λ (u : State). OneTick s.ticks w n.ready.placed.line m n.before u None) (sym same) plain)
 
   -- some attributes are there, read or not
-  pub some_given : (vs : List Value) × (attributes_given class 0 (length (event w c here s cell x class n).given) (Whole x) (with_seen c.store s.scene) ≡ Ok vs)
+  pub some_given : (vs : List Value) × (attributes_given class 0 (length (event w c here s cell x class n).given) (Whole x) (with_seen c.store s.world) ≡ Ok vs)
   some_given =
-      let all = all_lives s.scene.heap class 0 (length (event w c here s cell x class n).given) x n.lives (begun_kind w c here s cell x class n) in
+      let all = all_lives s.world.heap class 0 (length (event w c here s cell x class n).given) x n.lives (begun_kind w c here s cell x class n) in
       (all.0, given_is all.0 all.1 all.2)
 
   -- there is no memory for the frame: a fault where one is due
@@ -185,8 +185,8 @@ module _ (w : Compiled) (c : Core) (here : Here) (s : State) (cell : ℕ) (x : �
       by : (q : OkOr (Unit {0}) FaultKind) → LetsGo n.coming.ranked.said.saved class x s1 u.mid q → Unbegun n.coming.ranked.said.line u.mid new q → OneTick s.ticks w n.ready.placed.line (act w.code n.ready.placed.line n.ready.placed.instruction c) n.before new result
       by (Ok t) d is = refused_as u.mid new result (lets_go_ticks n.coming.ranked.said.saved class x s1 u.mid (Ok t) d ∙ refused.ticks) (lets_go_steps n.coming.ranked.said.saved class x s1 u.mid (Ok t) d ∙ refused.steps ∙ steps_now) is none
       by (Err kind) d is =
-          let goes = goes_as w c here s cell x class n n.coming.ranked.said.saved s1 u.mid (Err kind) refused.scene (begun_saving w c here s cell x class n) (goes_right w c here s cell x class n some_given.0 some_given.1) d in
-          fails_as kind u.mid new result (begins_not w c here s cell x class n some_given.0 some_given.1 u.mid.scene kind goes) (lets_go_ticks n.coming.ranked.said.saved class x s1 u.mid (Err kind) d ∙ refused.ticks) (lets_go_steps n.coming.ranked.said.saved class x s1 u.mid (Err kind) d ∙ refused.steps ∙ steps_now) is none
+          let goes = goes_as w c here s cell x class n n.coming.ranked.said.saved s1 u.mid (Err kind) refused.world (begun_saving w c here s cell x class n) (goes_right w c here s cell x class n some_given.0 some_given.1) d in
+          fails_as kind u.mid new result (begins_not w c here s cell x class n some_given.0 some_given.1 u.mid.world kind goes) (lets_go_ticks n.coming.ranked.said.saved class x s1 u.mid (Err kind) d ∙ refused.ticks) (lets_go_steps n.coming.ranked.said.saved class x s1 u.mid (Err kind) d ∙ refused.steps ∙ steps_now) is none
 
   -- ## Where the frame is there
 
@@ -199,17 +199,17 @@ module _ (w : Compiled) (c : Core) (here : Here) (s : State) (cell : ℕ) (x : �
         by (Ok u) d = (u, refl)
         by (Err kind) d = let wrong : Ok tt ≡ Err kind = d.0 in absurd cc
 
-    pub received : Received s1.scene.heap class x run.given.items frame s1.rows v.rows
-    received = subst (λ q. ReceivedIf s1.scene.heap class x run.given.items frame s1.rows v.rows q) was_read.1 (v.read_is (even_then s1 frame enters))
+    pub received : Received s1.world.heap class x run.given.items frame s1.rows v.rows
+    received = subst (λ q. ReceivedIf s1.world.heap class x run.given.items frame s1.rows v.rows q) was_read.1 (v.read_is (even_then s1 frame enters))
 
     pub let_go : LetsGo n.coming.ranked.said.saved class x (record s1 { rows = v.rows }) mid (Ok tt)
     let_go = subst (λ q. ThenLetsGo n.coming.ranked.said class x (record s1 { rows = v.rows }) mid q (Ok tt)) was_read.1 v.lets_go
 
-    scene_same : s1.scene ≡ s.scene
-    scene_same = ap (λ (t : State). t.scene) enters.is
+    world_same : s1.world ≡ s.world
+    world_same = ap (λ (t : State). t.world) enters.is
 
-    goes_now : GoesAs w c here s cell x class n n.coming.ranked.said.saved mid.scene (Ok tt)
-    goes_now = goes_as w c here s cell x class n n.coming.ranked.said.saved (record s1 { rows = v.rows }) mid (Ok tt) scene_same (begun_saving w c here s cell x class n) (goes_right w c here s cell x class n received.values (given_then s1 frame enters v.rows received)) let_go
+    goes_now : GoesAs w c here s cell x class n n.coming.ranked.said.saved mid.world (Ok tt)
+    goes_now = goes_as w c here s cell x class n n.coming.ranked.said.saved (record s1 { rows = v.rows }) mid (Ok tt) world_same (begun_saving w c here s cell x class n) (goes_right w c here s cell x class n received.values (given_then s1 frame enters v.rows received)) let_go
 
     pub begins : (result : Option Here) → result ≡ Some (record { place = run.place; frame = frame }) → here.frame ≤ frame → OneTick s.ticks w n.ready.placed.line (act w.code n.ready.placed.line n.ready.placed.instruction c) n.before mid result
     begins result way above =
@@ -217,16 +217,16 @@ module _ (w : Compiled) (c : Core) (here : Here) (s : State) (cell : ℕ) (x : �
         (by n.coming.ranked.said.saved refl let_go (begun_saved w c here s cell x class n) (begun_saving w c here s cell x class n))
       where
         by : (o : Option ℕ) → n.coming.ranked.said.saved ≡ o → LetsGo o class x (record s1 { rows = v.rows }) mid (Ok tt) → IfSome o (λ k. k < here.frame) → IsSaving w c here s cell x class n o → OneTick s.ticks w n.ready.placed.line (act w.code n.ready.placed.line n.ready.placed.instruction c) n.before mid (Some (record { place = run.place; frame = frame }))
-        by None q d low saving = subst (λ (t : State). OneTick s.ticks w n.ready.placed.line (act w.code n.ready.placed.line n.ready.placed.instruction c) n.before t (Some (record { place = run.place; frame = frame }))) (sym d.1) (begins_gone s1 frame enters v.rows received mid.scene q goes_now)
-        by (Some k) q d low saving = subst (λ (t : State). OneTick s.ticks w n.ready.placed.line (act w.code n.ready.placed.line n.ready.placed.instruction c) n.before t (Some (record { place = run.place; frame = frame }))) (sym d.1) (begins_saved s1 frame enters v.rows received k mid.scene q (slice_get_within c.store.globals k saving.0 saving.1) (omega (arith, low, above)) goes_now)
+        by None q d low saving = subst (λ (t : State). OneTick s.ticks w n.ready.placed.line (act w.code n.ready.placed.line n.ready.placed.instruction c) n.before t (Some (record { place = run.place; frame = frame }))) (sym d.1) (begins_gone s1 frame enters v.rows received mid.world q goes_now)
+        by (Some k) q d low saving = subst (λ (t : State). OneTick s.ticks w n.ready.placed.line (act w.code n.ready.placed.line n.ready.placed.instruction c) n.before t (Some (record { place = run.place; frame = frame }))) (sym d.1) (begins_saved s1 frame enters v.rows received k mid.world q (slice_get_within c.store.globals k saving.0 saving.1) (omega (arith, low, above)) goes_now)
 
   -- or there was a fault: it is due as the notice is let go, since its attributes can be read
   module _ (s1 : State) (frame : ℕ) (enters : Enters here s s1 run cell frame) (mid : State) (kind : FaultKind) (v : Receives n.coming.ranked.said class x run.given.items frame s1 mid (Err kind)) where
     pub begins_fault : (new : State) (result : Option Here) → new ≡ faulted kind (record mid { fault_line = Some n.coming.ranked.said.line }) → result ≡ None → OneTick s.ticks w n.ready.placed.line (act w.code n.ready.placed.line n.ready.placed.instruction c) n.before new result
     begins_fault new result same none = by v.read (v.read_is (even_then s1 frame enters)) v.lets_go
       where
-        scene_is : s1.scene ≡ s.scene
-        scene_is = ap (λ (t : State). t.scene) enters.is
+        world_is : s1.world ≡ s.world
+        world_is = ap (λ (t : State). t.world) enters.is
 
         ticks_then : s1.ticks ≡ s.ticks
         ticks_then = ap (λ (t : State). t.ticks) enters.is
@@ -234,11 +234,11 @@ module _ (w : Compiled) (c : Core) (here : Here) (s : State) (cell : ℕ) (x : �
         steps_then : s1.steps ≡ n.before.steps
         steps_then = ap (λ (t : State). t.steps) enters.is ∙ ap (λ (t : State). t.steps) n.is
 
-        by : (q : OkOr (Unit {0}) FaultKind) → ReceivedIf s1.scene.heap class x run.given.items frame s1.rows v.rows q → ThenLetsGo n.coming.ranked.said class x (record s1 { rows = v.rows }) mid q (Err kind) → OneTick s.ticks w n.ready.placed.line (act w.code n.ready.placed.line n.ready.placed.instruction c) n.before new result
+        by : (q : OkOr (Unit {0}) FaultKind) → ReceivedIf s1.world.heap class x run.given.items frame s1.rows v.rows q → ThenLetsGo n.coming.ranked.said class x (record s1 { rows = v.rows }) mid q (Err kind) → OneTick s.ticks w n.ready.placed.line (act w.code n.ready.placed.line n.ready.placed.instruction c) n.before new result
         by (Ok u) h d =
-            let goes = goes_as w c here s cell x class n n.coming.ranked.said.saved (record s1 { rows = v.rows }) mid (Err kind) scene_is (begun_saving w c here s cell x class n) (goes_right w c here s cell x class n some_given.0 some_given.1) d in
-            fails_as kind mid new result (begins_not w c here s cell x class n some_given.0 some_given.1 mid.scene kind goes) (lets_go_ticks n.coming.ranked.said.saved class x (record s1 { rows = v.rows }) mid (Err kind) d ∙ ticks_then) (lets_go_steps n.coming.ranked.said.saved class x (record s1 { rows = v.rows }) mid (Err kind) d ∙ steps_then) same none
+            let goes = goes_as w c here s cell x class n n.coming.ranked.said.saved (record s1 { rows = v.rows }) mid (Err kind) world_is (begun_saving w c here s cell x class n) (goes_right w c here s cell x class n some_given.0 some_given.1) d in
+            fails_as kind mid new result (begins_not w c here s cell x class n some_given.0 some_given.1 mid.world kind goes) (lets_go_ticks n.coming.ranked.said.saved class x (record s1 { rows = v.rows }) mid (Err kind) d ∙ ticks_then) (lets_go_steps n.coming.ranked.said.saved class x (record s1 { rows = v.rows }) mid (Err kind) d ∙ steps_then) same none
         by (Err k) h d =
-            let there = value_lives s.scene.heap class h.0 x n.lives (begun_kind w c here s cell x class n) in
-            let wrong : Ok there.0 ≡ Err k = sym there.1 ∙ ap (λ (e : Seen). value_in e.heap class h.0 x) (sym scene_is) ∙ h.2 in
+            let there = value_lives s.world.heap class h.0 x n.lives (begun_kind w c here s cell x class n) in
+            let wrong : Ok there.0 ≡ Err k = sym there.1 ∙ ap (λ (e : Seen). value_in e.heap class h.0 x) (sym world_is) ∙ h.2 in
             absurd cc

@@ -10,7 +10,7 @@ use Rattle.ss_base.specs.declared.layout.Mode.TheVariants.{Integer}
 use Rattle.ss_base.specs.declared.value.Value.{Value}
 use Rattle.ss_base.specs.declared.value.Value.TheVariants.{Whole}
 use Rattle.ss_program.specs.WellTyped.{kind_of_class}
-use Rattle.ss_meaning.specs.Values.{Trouble, Fails, if_ok, turned, due, number_of}
+use Rattle.ss_meaning.specs.Values.{Failure, Fails, if_ok, turned, due, number_of}
 use Rattle.ss_meaning.specs.Store.{Store}
 use Rattle.ss_meaning.specs.Events.{Moment, AtTime, Later, not_past, time_at, filed_notice, unscheduled}
 use Rattle.ss_meaning.specs.Fitting.{Fits}
@@ -63,11 +63,11 @@ module _ (w : Compiled) (c : Core) (here : Here) (s : State) (run : Running) (r 
       let y = subst SuitsHere z.2.2 (suits w c here s run r) in
       read_within (site w c here s run r) (located w c here s run r) z.0 Integer r.placed.cells y.0 time y.1 z.1 (deep_here w c here s run r)
 
-  pub ats : (time to : Address) (n : ℤ) (answer : OkOr ℤ FaultKind) → From w.code w.run.constants r.placed time (λ y. To w.code w.run.constants r.placed to (λ t. Is w.code w.run.constants r.placed (i.At y t))) → slice_get s.rows.numbers (place_at here.frame time) ≡ Some n → Looks (not_past n) s.scene answer → Delivers w c r.placed.line (act w.code r.placed.line r.placed.instruction c) here s to (as_value answer)
+  pub ats : (time to : Address) (n : ℤ) (answer : OkOr ℤ FaultKind) → From w.code w.run.constants r.placed time (λ y. To w.code w.run.constants r.placed to (λ t. Is w.code w.run.constants r.placed (i.At y t))) → slice_get s.rows.numbers (place_at here.frame time) ≡ Some n → Looks (not_past n) s.world answer → Delivers w c r.placed.line (act w.code r.placed.line r.placed.instruction c) here s to (as_value answer)
   ats time to n answer z at looks =
       let is = z.2.2 in
       let y = subst SuitsHere is (suits w c here s run r) in
-      let f : Store → OkOr ℤ Trouble = not_past n in
+      let f : Store → OkOr ℤ Failure = not_past n in
       let right : IsRight (f c.store) = fine_right Any (f c.store) (time_at_fine w.program r.compiled.typed r.placed.locals (AtTime (Whole n)) c.store refl) in
       let e : f c.store ≡ due answer = ap f (store_is w c here s run r) ∙ looks c.store (λ wrong. right (ap f (store_is w c here s run r) ∙ wrong)) in
       when_delivers AtTime z.0 z.2.0 time to y.0 y.2.0 n answer (ap (λ x. act w.code r.placed.line x c) is) y.1 z.1 y.2.1 z.2.1 (deep_at w c here s run r (c.place + 1) r.placed.locals y.2.0 y.2.2) at e
@@ -77,27 +77,27 @@ module _ (w : Compiled) (c : Core) (here : Here) (s : State) (run : Running) (r 
       let y = subst SuitsHere z.2.2 (suits w c here s run r) in
       read_within (site w c here s run r) (located w c here s run r) z.0 Integer r.placed.cells y.0 units y.1 z.1 (deep_here w c here s run r)
 
-  pub ins : (units to : Address) (n : ℤ) (answer : OkOr ℤ FaultKind) → From w.code w.run.constants r.placed units (λ y. To w.code w.run.constants r.placed to (λ t. Is w.code w.run.constants r.placed (i.In y t))) → slice_get s.rows.numbers (place_at here.frame units) ≡ Some n → Looks (time_after n) s.scene answer → Delivers w c r.placed.line (act w.code r.placed.line r.placed.instruction c) here s to (as_value answer)
+  pub ins : (units to : Address) (n : ℤ) (answer : OkOr ℤ FaultKind) → From w.code w.run.constants r.placed units (λ y. To w.code w.run.constants r.placed to (λ t. Is w.code w.run.constants r.placed (i.In y t))) → slice_get s.rows.numbers (place_at here.frame units) ≡ Some n → Looks (time_after n) s.world answer → Delivers w c r.placed.line (act w.code r.placed.line r.placed.instruction c) here s to (as_value answer)
   ins units to n answer z at looks =
       let is = z.2.2 in
       let y = subst SuitsHere is (suits w c here s run r) in
-      let f : Store → OkOr ℤ Trouble = time_after n in
+      let f : Store → OkOr ℤ Failure = time_after n in
       let right : IsRight (f c.store) = fine_right Any (f c.store) (time_at_fine w.program r.compiled.typed r.placed.locals (Later (Whole n)) c.store refl) in
       let e : f c.store ≡ due answer = ap f (store_is w c here s run r) ∙ looks c.store (λ wrong. right (ap f (store_is w c here s run r) ∙ wrong)) in
       when_delivers Later z.0 z.2.0 units to y.0 y.2.0 n answer (ap (λ x. act w.code r.placed.line x c) is) y.1 z.1 y.2.1 z.2.1 (deep_at w c here s run r (c.place + 1) r.placed.locals y.2.0 y.2.2) at e
 
   -- ## A class of notices
 
-  pub noticed : (class : ℕ) → kind_of_class w.program class ≡ Some Notice → IsNoticeClass s.scene class
-  noticed class kind = noticed_in w.program r.compiled.typed r.placed.locals s.scene c.store class kind r.fits.store (notices_seen w c here s run r) (layout_seen w c here s run r)
+  pub noticed : (class : ℕ) → kind_of_class w.program class ≡ Some Notice → IsNoticeClass s.world class
+  noticed class kind = noticed_in w.program r.compiled.typed r.placed.locals s.world c.store class kind r.fits.store (notices_seen w c here s run r) (layout_seen w c here s run r)
 
-  pub class_within : (class : ℕ) → kind_of_class w.program class ≡ Some Notice → class < length s.scene.heap.layout.classes
+  pub class_within : (class : ℕ) → kind_of_class w.program class ≡ Some Notice → class < length s.world.heap.layout.classes
   class_within class kind = (noticed class kind).within
 
   -- ## Where memory may be refused
 
   -- by the answer
-  pub refuses : (f : Store → OkOr Store Trouble) (e : Seen) (answer : OkOr (Unit {0}) Refused) (new : State) (result : Option Here) → is_due r.placed.instruction ≡ false → Settles c r.placed.line (act w.code r.placed.line r.placed.instruction c) here s f → SettledInWithMemory c.store f s.scene e answer → new ≡ refused_where answer (record s { scene = e }) → result ≡ on_after here (unless_refused answer) → Performs (is_due r.placed.instruction) w r.placed.line (act w.code r.placed.line r.placed.instruction c) s new result
+  pub refuses : (f : Store → OkOr Store Failure) (e : Seen) (answer : OkOr (Unit {0}) Refused) (new : State) (result : Option Here) → is_due r.placed.instruction ≡ false → Settles c r.placed.line (act w.code r.placed.line r.placed.instruction c) here s f → SettledInWithMemory c.store f s.world e answer → new ≡ refused_where answer (record s { world = e }) → result ≡ on_after here (unless_refused answer) → Performs (is_due r.placed.instruction) w r.placed.line (act w.code r.placed.line r.placed.instruction c) s new result
   refuses f e (Ok u) new result calmly z d same way = went_on w c here s run r f e new result calmly z d same way
   refuses f e (Err (Fault kind)) new result calmly z d same way =
       fails_on w c here s run r kind e new result calmly
@@ -105,18 +105,18 @@ module _ (w : Compiled) (c : Core) (here : Here) (s : State) (run : Running) (r 
   refuses f e (Err Memory) new result calmly z d same way =
       let m = act w.code r.placed.line r.placed.instruction c in
       let l = r.placed.line in
-      let s' : State = stopped NoMemory (record s { scene = e }) in
+      let s' : State = stopped NoMemory (record s { world = e }) in
       let plain : NoTick w l m s s' None = record { leads = tt; ticks = refl; steps = refl } in
       calm w c here s run r new result calmly
       (subst (λ o. NoTick w l m s new o) (sym way) (subst (λ n. NoTick w l m s n None) (sym same) plain))
 
   -- what holds of each store holds of this one
-  pub in_store : (f : Store → OkOr Store Trouble) (e : Seen) (answer : OkOr (Unit {0}) Refused) → ChangesWithMemory f s.scene e answer → SettledInWithMemory c.store f s.scene e answer
+  pub in_store : (f : Store → OkOr Store Failure) (e : Seen) (answer : OkOr (Unit {0}) Refused) → ChangesWithMemory f s.world e answer → SettledInWithMemory c.store f s.world e answer
   in_store f e (Ok u) d = d c.store
   in_store f e (Err (Fault kind)) d = d.0 c.store
-  in_store f e (Err Memory) d = λ kind fails. absurd (wrong (f (with_seen c.store s.scene)) kind fails (d.0 c.store))
+  in_store f e (Err Memory) d = λ kind fails. absurd (wrong (f (with_seen c.store s.world)) kind fails (d.0 c.store))
     where
-      wrong : (q : OkOr Store Trouble) (kind : FaultKind) → q ≡ Err (Fails kind) → IsOk q → ⊥
+      wrong : (q : OkOr Store Failure) (kind : FaultKind) → q ≡ Err (Fails kind) → IsOk q → ⊥
       wrong (Ok t) kind e ok = absurd cc
       wrong (Err t) kind e ok = absurd cc
 
@@ -125,20 +125,20 @@ module _ (w : Compiled) (c : Core) (here : Here) (s : State) (run : Running) (r 
   abbrev pub FilesNotice : (class : ℕ) → (notice time : Address) → Type 0
   FilesNotice class notice time = From w.code w.run.constants r.placed notice (λ y. From w.code w.run.constants r.placed time (λ z. Is w.code w.run.constants r.placed (i.FileNotice class y z)))
 
-  pub file_notice_in : (class : ℕ) (notice time : Address) → FilesNotice class notice time → BothWithin (site w c here s run r) (located w c here s run r) notice time × IsNoticeClass s.scene class
+  pub file_notice_in : (class : ℕ) (notice time : Address) → FilesNotice class notice time → BothWithin (site w c here s run r) (located w c here s run r) notice time × IsNoticeClass s.world class
   file_notice_in class notice time z =
       let y = subst SuitsHere z.2.2 (suits w c here s run r) in (
         both_within (site w c here s run r) (located w c here s run r) z.0 z.2.0 Integer Integer r.placed.cells y.1.0 notice time y.1.1 z.1 z.2.1 (deep_here w c here s run r),
         noticed class y.0,
       )
 
-  pub file_notices : (class : ℕ) (notice time : Address) (n t : ℤ) (e : Seen) (answer : OkOr (Unit {0}) Refused) (new : State) (result : Option Here) → FilesNotice class notice time → slice_get s.rows.numbers (place_at here.frame notice) ≡ Some n → slice_get s.rows.numbers (place_at here.frame time) ≡ Some t → ChangesWithMemory (filed_notice class (Whole n) t) s.scene e answer → new ≡ refused_where answer (record s { scene = e }) → result ≡ on_after here (unless_refused answer) → Performs (is_due r.placed.instruction) w r.placed.line (act w.code r.placed.line r.placed.instruction c) s new result
+  pub file_notices : (class : ℕ) (notice time : Address) (n t : ℤ) (e : Seen) (answer : OkOr (Unit {0}) Refused) (new : State) (result : Option Here) → FilesNotice class notice time → slice_get s.rows.numbers (place_at here.frame notice) ≡ Some n → slice_get s.rows.numbers (place_at here.frame time) ≡ Some t → ChangesWithMemory (filed_notice class (Whole n) t) s.world e answer → new ≡ refused_where answer (record s { world = e }) → result ≡ on_after here (unless_refused answer) → Performs (is_due r.placed.instruction) w r.placed.line (act w.code r.placed.line r.placed.instruction c) s new result
   file_notices class notice time n t e answer new result z at_notice at_time d same way =
       let l = r.placed.line in
       let is = z.2.2 in
       let y = subst SuitsHere is (suits w c here s run r) in
       let both = reads_both (site w c here s run r) (located w c here s run r) z.0 z.2.0 Integer Integer r.placed.cells y.1.0 notice time c.cells (Whole n) (Whole t) y.1.1 z.1 z.2.1 r.holds.held.cells r.fits.cells (only_number s.rows (place_at here.frame notice) n at_notice) (only_number s.rows (place_at here.frame time) t at_time) in
-      let op : Store → OkOr Store Trouble = filed_notice class (Whole n) t in
+      let op : Store → OkOr Store Failure = filed_notice class (Whole n) t in
       let left : Settles c l (act w.code l r.placed.instruction c) here s op = record {
         below = both.below;
         acts =
@@ -151,24 +151,24 @@ module _ (w : Compiled) (c : Core) (here : Here) (s : State) (run : Running) (r 
 
   -- ## Cancel
 
-  pub cancels_in : (class : ℕ) (notice : Address) → From w.code w.run.constants r.placed notice (λ y. Is w.code w.run.constants r.placed (i.Cancel class y)) → (place_at here.frame notice < length s.rows.numbers) × (class < length s.scene.heap.layout.classes)
+  pub cancels_in : (class : ℕ) (notice : Address) → From w.code w.run.constants r.placed notice (λ y. Is w.code w.run.constants r.placed (i.Cancel class y)) → (place_at here.frame notice < length s.rows.numbers) × (class < length s.world.heap.layout.classes)
   cancels_in class notice z =
       let y = subst SuitsHere z.2 (suits w c here s run r) in (
         read_within (site w c here s run r) (located w c here s run r) z.0 Integer r.placed.cells y.1.0 notice y.1.1 z.1 (deep_here w c here s run r),
         class_within class y.0,
       )
 
-  pub cancels : (class : ℕ) (notice : Address) (n : ℤ) (e : Seen) (answer : OkOr (Unit {0}) FaultKind) (new : State) (result : Option Here) → From w.code w.run.constants r.placed notice (λ y. Is w.code w.run.constants r.placed (i.Cancel class y)) → slice_get s.rows.numbers (place_at here.frame notice) ≡ Some n → Changes (unscheduled class (Whole n)) s.scene e answer → new ≡ faulted_by answer (record s { scene = e }) → result ≡ on_after here (done_unless_fault answer) → Performs (is_due r.placed.instruction) w r.placed.line (act w.code r.placed.line r.placed.instruction c) s new result
+  pub cancels : (class : ℕ) (notice : Address) (n : ℤ) (e : Seen) (answer : OkOr (Unit {0}) FaultKind) (new : State) (result : Option Here) → From w.code w.run.constants r.placed notice (λ y. Is w.code w.run.constants r.placed (i.Cancel class y)) → slice_get s.rows.numbers (place_at here.frame notice) ≡ Some n → Changes (unscheduled class (Whole n)) s.world e answer → new ≡ faulted_by answer (record s { world = e }) → result ≡ on_after here (done_unless_fault answer) → Performs (is_due r.placed.instruction) w r.placed.line (act w.code r.placed.line r.placed.instruction c) s new result
   cancels class notice n e answer new result z at d same way =
       let l = r.placed.line in
       let is = z.2 in
       let y = subst SuitsHere is (suits w c here s run r) in
       let one = reads (site w c here s run r) (located w c here s run r) z.0 Integer r.placed.cells y.1.0 notice c.cells (Whole n) y.1.1 z.1 r.holds.held.cells r.fits.cells (only_number s.rows (place_at here.frame notice) n at) in
-      let op : Store → OkOr Store Trouble = unscheduled class (Whole n) in
+      let op : Store → OkOr Store Failure = unscheduled class (Whole n) in
       let left : Settles c l (act w.code l r.placed.instruction c) here s op = record {
         below = one.below;
         acts = ap (λ x. act w.code l x c) is ∙ one.is (λ x below. did l (unscheduled class x c.store) (λ s. onward below c s));
         right = fine_right (Fits w.program r.placed.locals) (op c.store) (unscheduled_fine w.program r.compiled.typed r.placed.locals class (Whole n) c.store y.0 refl r.fits.store);
         at = one.cells;
       } in
-      settles w c here s run r op e answer new result (ap is_due is) left (changes_settle op s.scene e answer d) same way
+      settles w c here s run r op e answer new result (ap is_due is) left (changes_settle op s.world e answer d) same way

@@ -56,8 +56,8 @@ ReceivedIf h class n ms i old new (Err kind) = (field : ℕ) × (field < length 
 -- it is saved in a variable, which is noted, or it goes
 abbrev pub LetsGo : (saved : Option ℕ) → (class : ℕ) → (notice : ℤ) → (old new : Machine) → Result (Unit {0}) FaultKind → Type 0
 LetsGo (Some k) class n old new r =
-    Changes (noted (OfVariable k) (pos 0) (Whole n)) old.scene new.scene r × (new ≡ record old { rows = with_number old.rows k n; scene = new.scene })
-LetsGo None class n old new r = Changes (gone class (Whole n)) old.scene new.scene r × (new ≡ record old { scene = new.scene })
+    Changes (noted (OfVariable k) (pos 0) (Whole n)) old.world new.world r × (new ≡ record old { rows = with_number old.rows k n; world = new.world })
+LetsGo None class n old new r = Changes (gone class (Whole n)) old.world new.world r × (new ≡ record old { world = new.world })
 
 -- that is done once the attributes are read
 abbrev pub ThenLetsGo : (said : Notices) → (class : ℕ) → (notice : ℤ) → (mid new : Machine) → (read answer : Result (Unit {0}) FaultKind) → Type 0
@@ -67,7 +67,7 @@ ThenLetsGo said class n mid new (Err kind) r = (r ≡ Err kind) × (new ≡ mid)
 pub record Receives (said : Notices) (class : ℕ) (notice : ℤ) (modes : List Mode) (from : ℕ) (old new : Machine) (answer : Result (Unit {0}) FaultKind) : Type 0 where
   pub rows : TwoRows
   pub read : Result (Unit {0}) FaultKind
-  pub read_is : length old.rows.texts ≡ length old.rows.numbers → ReceivedIf old.scene.heap class notice modes from old.rows rows read
+  pub read_is : length old.rows.texts ≡ length old.rows.numbers → ReceivedIf old.world.heap class notice modes from old.rows rows read
   pub lets_go : ThenLetsGo said class notice (record old { rows = rows }) new read answer
 
 -- There is no memory for the frame of its event: there is a fault where one is due as it lets its notice go, with the line of its routine. Only where none is,
@@ -90,11 +90,11 @@ pub record ComesNext (w : Compiled) (c : Core) (here : Here) (s : Machine) (cell
   pub ready : Ready w c here before (TakeEvent cell)
   pub left : before.ticks ≡ suc s.ticks
   pub few : before.ticks < 2 ^ 64
-  pub is : s ≡ record before { ticks = s.ticks; scene = s.scene }
+  pub is : s ≡ record before { ticks = s.ticks; world = s.world }
   pub coming : Coming
   pub next : next_event c.store ≡ Some coming
   pub number : coming.notice ≡ Whole notice
   pub of : coming.ranked.said.class ≡ class
-  pub store : coming.store ≡ with_seen c.store s.scene
-  pub place : ranked_from 0 s.scene.notices class ≡ Some coming.ranked
-  pub lives : living s.scene.heap notice ≡ Some class
+  pub store : coming.store ≡ with_seen c.store s.world
+  pub place : ranked_from 0 s.world.notices class ≡ Some coming.ranked
+  pub lives : living s.world.heap notice ≡ Some class

@@ -14,7 +14,7 @@ use Rattle.ss_world.specs.State.{and_then, assigned, known_in, value_in}
 use Rattle.ss_program.specs.declared.sections.Subject.TheVariants.{OfAttribute}
 use Rattle.ss_program.specs.Program.{Program}
 use Rattle.ss_program.specs.WellTyped.{WellTyped, field_mode, kind_of_class}
-use Rattle.ss_meaning.specs.Values.{Trouble, Fails, if_ok}
+use Rattle.ss_meaning.specs.Values.{Failure, Fails, if_ok}
 use Rattle.ss_meaning.specs.Store.{Store}
 use Rattle.ss_meaning.specs.Entities.{made_one}
 use Rattle.ss_meaning.specs.Events.{made_notice, prepared, filed_notice}
@@ -26,12 +26,12 @@ use Rattle.ss_machine_world.specs.Seen.{Seen, GoesWell, with_seen}
 
 -- ## What an operation does in one store
 
-abbrev pub SettledIn : Store → (Store → Result Store Trouble) → (old new : Seen) → Result (Unit {0}) FaultKind → Type 0
+abbrev pub SettledIn : Store → (Store → Result Store Failure) → (old new : Seen) → Result (Unit {0}) FaultKind → Type 0
 SettledIn s f old new (Ok u) = f (with_seen s old) ≡ Ok (with_seen s new)
 SettledIn s f old new (Err kind) = f (with_seen s old) ≡ Err (Fails kind)
 
 -- out of memory only where no fault is due
-abbrev pub SettledInWithMemory : Store → (Store → Result Store Trouble) → (old new : Seen) → Result (Unit {0}) Refused → Type 0
+abbrev pub SettledInWithMemory : Store → (Store → Result Store Failure) → (old new : Seen) → Result (Unit {0}) Refused → Type 0
 SettledInWithMemory s f old new (Ok u) = f (with_seen s old) ≡ Ok (with_seen s new)
 SettledInWithMemory s f old new (Err (Fault kind)) = f (with_seen s old) ≡ Err (Fails kind)
 SettledInWithMemory s f old new (Err Memory) = (kind : FaultKind) → f (with_seen s old) ≡ Err (Fails kind) → ⊥
@@ -52,7 +52,7 @@ abbrev pub unpended : (class : ℕ) → (notice : ℤ) → Seen → Result (Unit
 unpended class n e = and_then (known_in e.heap class n) (λ u. if is_pending n e.pending.entries then Err AlreadyScheduled else Ok tt)
 
 -- a notice gets values and its time, and is filed
-abbrev pub refiled : (class : ℕ) → (x : Value) → List Value → (time : ℤ) → Store → Result Store Trouble
+abbrev pub refiled : (class : ℕ) → (x : Value) → List Value → (time : ℤ) → Store → Result Store Failure
 refiled class x given t s = if_ok (prepared class x given t s) (filed_notice class x t)
 
 -- ## One attribute

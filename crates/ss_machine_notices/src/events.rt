@@ -22,68 +22,68 @@ use ss_machine_events::coming::next_event;
 use ss_machine_frames::rows::Rows;
 use ss_machine_instructions::flow::{Ending, Here, Next};
 use ss_machine_instructions::state::State;
-use ss_machine_world::scene::Scene;
+use ss_machine_world::world::World;
 
 // The variable that a notice of a rank is saved in, if it is saved.
 #[inline(always)]
-fn saved_of(scene: &Scene, rank: usize) -> Option<usize>
-    requires { rank < length scene.now.notices }
-    ensures { (said : Notices) → slice_get scene.now.notices rank ≡ Some said → result ≡ said.saved }
+fn saved_of(world: &World, rank: usize) -> Option<usize>
+    requires { rank < length world.now.notices }
+    ensures { (said : Notices) → slice_get world.now.notices rank ≡ Some said → result ≡ said.saved }
 {
-    let notices = scene.notices.as_slice();
+    let notices = world.notices.as_slice();
     let said = &notices[rank];
     said.saved()
 }
 
 // The line of the routine of its event.
 #[inline(always)]
-fn line_of(scene: &Scene, rank: usize) -> Line
-    requires { rank < length scene.now.notices }
-    ensures { (said : Notices) → slice_get scene.now.notices rank ≡ Some said → result ≡ said.line }
+fn line_of(world: &World, rank: usize) -> Line
+    requires { rank < length world.now.notices }
+    ensures { (said : Notices) → slice_get world.now.notices rank ≡ Some said → result ≡ said.line }
 {
-    let notices = scene.notices.as_slice();
+    let notices = world.notices.as_slice();
     let said = &notices[rank];
     said.line()
 }
 
 // The class of a notice, if it lives.
 #[inline(always)]
-fn class_of(scene: &Scene, notice: i64) -> Option<usize>
-    ensures { result ≡ living scene.now.heap notice }
+fn class_of(world: &World, notice: i64) -> Option<usize>
+    ensures { result ≡ living world.now.heap notice }
 {
-    scene.population.class_of(notice)
+    world.population.class_of(notice)
 }
 
 // The whole number that an attribute of a notice is.
 #[inline(always)]
-fn number_of(scene: &Scene, class: usize, field: usize, notice: i64) -> Result<i64, FaultKind>
-    requires class { class < length scene.now.heap.layout.classes }
-    requires mode { slice_get (modes_of scene.now.heap.layout class) field ≡ Some Integer }
-    ensures { MatchResult result (λ number. value_in scene.now.heap class field notice ≡ Ok (Whole number)) (λ kind. value_in scene.now.heap class field notice ≡ Err kind) }
+fn number_of(world: &World, class: usize, field: usize, notice: i64) -> Result<i64, FaultKind>
+    requires class { class < length world.now.heap.layout.classes }
+    requires mode { slice_get (modes_of world.now.heap.layout class) field ≡ Some Integer }
+    ensures { MatchResult result (λ number. value_in world.now.heap class field notice ≡ Ok (Whole number)) (λ kind. value_in world.now.heap class field notice ≡ Err kind) }
 {
-    scene.population.whole(class, field, notice)
+    world.population.whole(class, field, notice)
 }
 
 // The text that it is.
 #[inline(always)]
-fn text_of(scene: &Scene, class: usize, field: usize, notice: i64) -> Result<Alpha, FaultKind>
-    requires class { class < length scene.now.heap.layout.classes }
-    requires mode { slice_get (modes_of scene.now.heap.layout class) field ≡ Some AlphaMode }
-    ensures { MatchResult result (λ text. value_in scene.now.heap class field notice ≡ Ok (Text text)) (λ kind. value_in scene.now.heap class field notice ≡ Err kind) }
+fn text_of(world: &World, class: usize, field: usize, notice: i64) -> Result<Alpha, FaultKind>
+    requires class { class < length world.now.heap.layout.classes }
+    requires mode { slice_get (modes_of world.now.heap.layout class) field ≡ Some AlphaMode }
+    ensures { MatchResult result (λ text. value_in world.now.heap class field notice ≡ Ok (Text text)) (λ kind. value_in world.now.heap class field notice ≡ Err kind) }
 {
-    scene.population.text(class, field, notice)
+    world.population.text(class, field, notice)
 }
 
 // An attribute of a notice that is a number goes to its place.
 #[inline]
-fn read_number(scene: &Scene, rows: &mut Rows, what: Giving, field: usize) -> Result<(), FaultKind>
-    requires class { what.class < length scene.now.heap.layout.classes }
-    requires mode { slice_get (modes_of scene.now.heap.layout what.class) field ≡ Some Integer }
+fn read_number(world: &World, rows: &mut Rows, what: Giving, field: usize) -> Result<(), FaultKind>
+    requires class { what.class < length world.now.heap.layout.classes }
+    requires mode { slice_get (modes_of world.now.heap.layout what.class) field ≡ Some Integer }
     requires place { what.from + field < length rows.old.numbers }
     requires small { what.from + field < 2 ^ 64 }
-    ensures { IsReadTo scene.now.heap what.class field what.notice Integer (what.from + field) rows.old rows.new result }
+    ensures { IsReadTo world.now.heap what.class field what.notice Integer (what.from + field) rows.old rows.new result }
 {
-    match number_of(scene, what.class, field, what.notice) {
+    match number_of(world, what.class, field, what.notice) {
         Err(kind) => Err(kind),
         Ok(number) => {
             rows.set_number_at(what.from + field, number);
@@ -94,14 +94,14 @@ fn read_number(scene: &Scene, rows: &mut Rows, what: Giving, field: usize) -> Re
 
 // One that is a text.
 #[inline]
-fn read_text(scene: &Scene, rows: &mut Rows, what: Giving, field: usize) -> Result<(), FaultKind>
-    requires class { what.class < length scene.now.heap.layout.classes }
-    requires mode { slice_get (modes_of scene.now.heap.layout what.class) field ≡ Some AlphaMode }
+fn read_text(world: &World, rows: &mut Rows, what: Giving, field: usize) -> Result<(), FaultKind>
+    requires class { what.class < length world.now.heap.layout.classes }
+    requires mode { slice_get (modes_of world.now.heap.layout what.class) field ≡ Some AlphaMode }
     requires place { what.from + field < length rows.old.numbers }
     requires small { what.from + field < 2 ^ 64 }
-    ensures { IsReadTo scene.now.heap what.class field what.notice AlphaMode (what.from + field) rows.old rows.new result }
+    ensures { IsReadTo world.now.heap what.class field what.notice AlphaMode (what.from + field) rows.old rows.new result }
 {
-    match text_of(scene, what.class, field, what.notice) {
+    match text_of(world, what.class, field, what.notice) {
         Err(kind) => Err(kind),
         Ok(text) => {
             rows.set_text_at(what.from + field, text);
@@ -113,21 +113,21 @@ fn read_text(scene: &Scene, rows: &mut Rows, what: Giving, field: usize) -> Resu
 // One of this mode.
 #[inline(always)]
 fn read_one(
-    scene: &Scene,
+    world: &World,
     rows: &mut Rows,
     what: Giving,
     field: usize,
     mode: Mode,
 ) -> Result<(), FaultKind>
-    requires class { what.class < length scene.now.heap.layout.classes }
-    requires mode { slice_get (modes_of scene.now.heap.layout what.class) field ≡ Some mode }
+    requires class { what.class < length world.now.heap.layout.classes }
+    requires mode { slice_get (modes_of world.now.heap.layout what.class) field ≡ Some mode }
     requires place { what.from + field < length rows.old.numbers }
     requires small { what.from + field < 2 ^ 64 }
-    ensures { IsReadTo scene.now.heap what.class field what.notice mode (what.from + field) rows.old rows.new result }
+    ensures { IsReadTo world.now.heap what.class field what.notice mode (what.from + field) rows.old rows.new result }
 {
     match mode {
-        Mode::Integer => read_number(scene, rows, what, field),
-        Mode::Alpha => read_text(scene, rows, what, field),
+        Mode::Integer => read_number(world, rows, what, field),
+        Mode::Alpha => read_text(world, rows, what, field),
     }
 }
 
@@ -142,16 +142,16 @@ fn given_mode(modes: &[Mode], field: usize) -> Mode
 
 // The first attributes of a notice, of these modes, go to their places.
 #[inline(always)]
-fn read_given(scene: &Scene, rows: &mut Rows, what: Giving, modes: &[Mode]) -> Result<(), FaultKind>
-    requires class { what.class < length scene.now.heap.layout.classes }
-    requires modes { (i : ℕ) (m : ModeSeen) → slice_get modes.now i ≡ Some m → slice_get (modes_of scene.now.heap.layout what.class) i ≡ Some m }
+fn read_given(world: &World, rows: &mut Rows, what: Giving, modes: &[Mode]) -> Result<(), FaultKind>
+    requires class { what.class < length world.now.heap.layout.classes }
+    requires modes { (i : ℕ) (m : ModeSeen) → slice_get modes.now i ≡ Some m → slice_get (modes_of world.now.heap.layout what.class) i ≡ Some m }
     requires places { what.from + length modes.now ≤ length rows.old.numbers }
     requires small { what.from + length modes.now ≤ 2 ^ 64 }
-    ensures received { length rows.old.texts ≡ length rows.old.numbers → ReceivedIf scene.now.heap what.class what.notice modes.now what.from rows.old rows.new result }
+    ensures received { length rows.old.texts ≡ length rows.old.numbers → ReceivedIf world.now.heap what.class what.notice modes.now what.from rows.old rows.new result }
     ensures long { length rows.new.numbers ≡ length rows.old.numbers }
 {
     for field in 0..modes.len() {
-        match read_one(scene, rows, what, field, given_mode(modes, field)) {
+        match read_one(world, rows, what, field, given_mode(modes, field)) {
             Err(kind) => return Err(kind),
             Ok(()) => {}
         }
@@ -162,28 +162,28 @@ fn read_given(scene: &Scene, rows: &mut Rows, what: Giving, modes: &[Mode]) -> R
 // A fault as an event of this rank begins has the line of its routine.
 #[inline(always)]
 fn fault_of_event<T>(state: &mut State, kind: FaultKind, rank: usize) -> Option<T>
-    requires { rank < length state.old.scene.notices }
+    requires { rank < length state.old.world.notices }
     ensures none { result ≡ None }
-    ensures state { (said : Notices) → slice_get state.old.scene.notices rank ≡ Some said → state.new ≡ faulted kind (record state.old { fault_line = Some said.line }) }
+    ensures state { (said : Notices) → slice_get state.old.world.notices rank ≡ Some said → state.new ≡ faulted kind (record state.old { fault_line = Some said.line }) }
 {
-    state.fault_line = Some(line_of(&state.scene, rank));
+    state.fault_line = Some(line_of(&state.world, rank));
     state.fault(kind)
 }
 
 // The notice of an event of this rank is saved in a variable, which is noted where it is watched, or it goes.
 #[inline(always)]
 fn let_go(state: &mut State, rank: usize, class: usize, notice: i64) -> Result<(), FaultKind>
-    requires rank { rank < length state.old.scene.notices }
-    requires class { class < length state.old.scene.heap.layout.classes }
-    requires single { is_single (slice_get state.old.scene.heap.layout.classes class) ≡ true }
-    requires saved { (said : Notices) → slice_get state.old.scene.notices rank ≡ Some said → IfSome said.saved (λ k. k < length state.old.rows.numbers) }
-    ensures { (said : Notices) → slice_get state.old.scene.notices rank ≡ Some said → LetsGo said.saved class notice state.old state.new result }
+    requires rank { rank < length state.old.world.notices }
+    requires class { class < length state.old.world.heap.layout.classes }
+    requires single { is_single (slice_get state.old.world.heap.layout.classes class) ≡ true }
+    requires saved { (said : Notices) → slice_get state.old.world.notices rank ≡ Some said → IfSome said.saved (λ k. k < length state.old.rows.numbers) }
+    ensures { (said : Notices) → slice_get state.old.world.notices rank ≡ Some said → LetsGo said.saved class notice state.old state.new result }
 {
-    match saved_of(&state.scene, rank) {
-        None => state.scene.remove_entity(class, notice),
+    match saved_of(&state.world, rank) {
+        None => state.world.remove_entity(class, notice),
         Some(variable) => {
             state.rows.set_number_at(variable, notice);
-            state.scene.note_variable(variable, notice)
+            state.world.note_variable(variable, notice)
         }
     }
 }
@@ -192,13 +192,13 @@ fn let_go(state: &mut State, rank: usize, class: usize, notice: i64) -> Result<(
 #[cold]
 #[inline(never)]
 fn unbegun(state: &mut State, rank: usize, class: usize, notice: i64) -> Option<usize>
-    requires rank { rank < length state.old.scene.notices }
-    requires class { class < length state.old.scene.heap.layout.classes }
-    requires single { is_single (slice_get state.old.scene.heap.layout.classes class) ≡ true }
-    requires saved { (said : Notices) → slice_get state.old.scene.notices rank ≡ Some said → IfSome said.saved (λ k. k < length state.old.rows.numbers) }
+    requires rank { rank < length state.old.world.notices }
+    requires class { class < length state.old.world.heap.layout.classes }
+    requires single { is_single (slice_get state.old.world.heap.layout.classes class) ≡ true }
+    requires saved { (said : Notices) → slice_get state.old.world.notices rank ≡ Some said → IfSome said.saved (λ k. k < length state.old.rows.numbers) }
     requires ticks { state.old.ticks + 1 < 2 ^ 64 }
     ensures none { result ≡ None }
-    ensures state { (said : Notices) → slice_get state.old.scene.notices rank ≡ Some said → IsUnbegun said class notice state.old state.new }
+    ensures state { (said : Notices) → slice_get state.old.world.notices rank ≡ Some said → IsUnbegun said class notice state.old state.new }
 {
     match let_go(state, rank, class, notice) {
         Ok(()) => state.give_tick_back(),
@@ -209,16 +209,16 @@ fn unbegun(state: &mut State, rank: usize, class: usize, notice: i64) -> Option<
 // The attributes of a notice are read, and the notice is let go.
 #[inline(always)]
 fn receive(state: &mut State, what: Giving, rank: usize, modes: &[Mode]) -> Result<(), FaultKind>
-    requires rank { rank < length state.old.scene.notices }
-    requires class { what.class < length state.old.scene.heap.layout.classes }
-    requires single { is_single (slice_get state.old.scene.heap.layout.classes what.class) ≡ true }
-    requires saved { (said : Notices) → slice_get state.old.scene.notices rank ≡ Some said → IfSome said.saved (λ k. k < what.from) }
-    requires modes { (i : ℕ) (m : ModeSeen) → slice_get modes.now i ≡ Some m → slice_get (modes_of state.old.scene.heap.layout what.class) i ≡ Some m }
+    requires rank { rank < length state.old.world.notices }
+    requires class { what.class < length state.old.world.heap.layout.classes }
+    requires single { is_single (slice_get state.old.world.heap.layout.classes what.class) ≡ true }
+    requires saved { (said : Notices) → slice_get state.old.world.notices rank ≡ Some said → IfSome said.saved (λ k. k < what.from) }
+    requires modes { (i : ℕ) (m : ModeSeen) → slice_get modes.now i ≡ Some m → slice_get (modes_of state.old.world.heap.layout what.class) i ≡ Some m }
     requires places { what.from + length modes.now ≤ length state.old.rows.numbers }
     requires small { what.from + length modes.now ≤ 2 ^ 64 }
-    ensures { (said : Notices) → slice_get state.old.scene.notices rank ≡ Some said → Receives said what.class what.notice modes.now what.from state.old state.new result }
+    ensures { (said : Notices) → slice_get state.old.world.notices rank ≡ Some said → Receives said what.class what.notice modes.now what.from state.old state.new result }
 {
-    match read_given(&state.scene, &mut state.rows, what, modes) {
+    match read_given(&state.world, &mut state.rows, what, modes) {
         Err(kind) => Err(kind),
         Ok(()) => let_go(state, rank, what.class, what.notice),
     }
@@ -237,7 +237,7 @@ fn begin_event(
     requires { (w : Compiled) × (c : Core) × (events.now ≡ w.run.events) × ComesNext w c here state.old cell notice class }
     ensures { (w : Compiled) (c : Core) → events.now ≡ w.run.events → (n : ComesNext w c here state.old cell notice class) → OneTick state.old.ticks w n.ready.placed.line (act w.code n.ready.placed.line n.ready.placed.instruction c) n.before state.new (begun_event_at here cell result) }
 {
-    let rank = state.scene.rank(class);
+    let rank = state.world.rank(class);
     let entry = &events[rank];
     let Ok(frame) = state.enter(here, entry, cell) else {
         return unbegun(state, rank, class, notice);
@@ -264,10 +264,10 @@ pub fn take_event(state: &mut State, here: Here, events: &[SectionEntry], cell: 
     if !state.has_taken_tick() {
         return on.after(state.stop(Ending::Paused));
     }
-    let Some(notice) = next_event(&mut state.scene) else {
+    let Some(notice) = next_event(&mut state.world) else {
         return on;
     };
-    match class_of(&state.scene, notice) {
+    match class_of(&state.world, notice) {
         None => on,
         Some(class) => {
             let place = begin_event(state, here, notice, class, events, cell);

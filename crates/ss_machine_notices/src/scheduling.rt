@@ -20,7 +20,7 @@ use ss_machine_events::scheduling;
 use ss_machine_frames::rows::Rows;
 use ss_machine_instructions::flow::Here;
 use ss_machine_instructions::state::State;
-use ss_machine_world::scene::Scene;
+use ss_machine_world::world::World;
 use std::alloc::Global;
 
 /// What a notice of a class is given: so many values, the first of them in this cell, and its time after them; and whether attributes
@@ -44,62 +44,62 @@ pub(crate) struct Giving {
 
 // The mode of an attribute.
 #[inline(always)]
-fn mode_at(scene: &Scene, class: usize, field: usize) -> Mode
-    requires class { class < length scene.now.heap.layout.classes }
-    requires field { field < length (modes_of scene.now.heap.layout class) }
-    ensures { slice_get (modes_of scene.now.heap.layout class) field ≡ Some result }
+fn mode_at(world: &World, class: usize, field: usize) -> Mode
+    requires class { class < length world.now.heap.layout.classes }
+    requires field { field < length (modes_of world.now.heap.layout class) }
+    ensures { slice_get (modes_of world.now.heap.layout class) field ≡ Some result }
 {
-    scene.population.mode(class, field)
+    world.population.mode(class, field)
 }
 
 // An attribute is assigned a number.
 #[inline(always)]
 fn set_number(
-    scene: &mut Scene,
+    world: &mut World,
     class: usize,
     field: usize,
     notice: i64,
     number: i64,
 ) -> Result<(), FaultKind>
-    requires class { class < length scene.old.heap.layout.classes }
-    requires mode { slice_get (modes_of scene.old.heap.layout class) field ≡ Some Integer }
-    ensures set { SetsField class field notice (Whole number) scene.old scene.new result }
-    ensures read { IsReadBack class field notice (Whole number) scene.new result }
+    requires class { class < length world.old.heap.layout.classes }
+    requires mode { slice_get (modes_of world.old.heap.layout class) field ≡ Some Integer }
+    ensures set { SetsField class field notice (Whole number) world.old world.new result }
+    ensures read { IsReadBack class field notice (Whole number) world.new result }
 {
-    scene.population.set_whole(class, field, notice, number)
+    world.population.set_whole(class, field, notice, number)
 }
 
 // An attribute is assigned a text.
 #[inline(always)]
 fn set_text(
-    scene: &mut Scene,
+    world: &mut World,
     class: usize,
     field: usize,
     notice: i64,
     text: Alpha,
 ) -> Result<(), FaultKind>
-    requires class { class < length scene.old.heap.layout.classes }
-    requires mode { slice_get (modes_of scene.old.heap.layout class) field ≡ Some AlphaMode }
-    ensures { SetsField class field notice (Text text) scene.old scene.new result }
+    requires class { class < length world.old.heap.layout.classes }
+    requires mode { slice_get (modes_of world.old.heap.layout class) field ≡ Some AlphaMode }
+    ensures { SetsField class field notice (Text text) world.old world.new result }
 {
-    scene.population.set_text(class, field, notice, text)
+    world.population.set_text(class, field, notice, text)
 }
 
 // An attribute is noted, where that is so.
 #[inline(always)]
 fn note_if(
-    scene: &mut Scene,
+    world: &mut World,
     class: usize,
     field: usize,
     notice: i64,
     noted: bool,
 ) -> Result<(), FaultKind>
-    requires class { class < length scene.old.heap.layout.classes }
-    requires mode { slice_get (modes_of scene.old.heap.layout class) field ≡ Some Integer }
-    ensures { ChangesIf noted (attribute_noted class field notice) scene.old scene.new result }
+    requires class { class < length world.old.heap.layout.classes }
+    requires mode { slice_get (modes_of world.old.heap.layout class) field ≡ Some Integer }
+    ensures { ChangesIf noted (attribute_noted class field notice) world.old world.new result }
 {
     if noted {
-        scene.note_attribute(class, field, notice)
+        world.note_attribute(class, field, notice)
     } else {
         Ok(())
     }
@@ -107,46 +107,46 @@ fn note_if(
 
 // An attribute of a notice is assigned a number, and noted, where that is so.
 #[inline(always)]
-fn give_number(scene: &mut Scene, what: Giving, field: usize, number: i64) -> Result<(), FaultKind>
-    requires { Suiting what.class field what.noted (Whole number) scene.old }
-    ensures { (g : Suiting what.class field what.noted (Whole number) scene.old) → SettledIn g.store (assigned_attribute what.class field (Whole what.notice) (Whole number)) scene.old scene.new result }
+fn give_number(world: &mut World, what: Giving, field: usize, number: i64) -> Result<(), FaultKind>
+    requires { Suiting what.class field what.noted (Whole number) world.old }
+    ensures { (g : Suiting what.class field what.noted (Whole number) world.old) → SettledIn g.store (assigned_attribute what.class field (Whole what.notice) (Whole number)) world.old world.new result }
 {
-    match set_number(scene, what.class, field, what.notice, number) {
+    match set_number(world, what.class, field, what.notice, number) {
         Err(kind) => Err(kind),
-        Ok(()) => note_if(scene, what.class, field, what.notice, what.noted),
+        Ok(()) => note_if(world, what.class, field, what.notice, what.noted),
     }
 }
 
 // .. or a text, which nothing notes.
 #[inline(always)]
-fn give_text(scene: &mut Scene, what: Giving, field: usize, text: Alpha) -> Result<(), FaultKind>
-    requires { Suiting what.class field what.noted (Text text) scene.old }
-    ensures { (g : Suiting what.class field what.noted (Text text) scene.old) → SettledIn g.store (assigned_attribute what.class field (Whole what.notice) (Text text)) scene.old scene.new result }
+fn give_text(world: &mut World, what: Giving, field: usize, text: Alpha) -> Result<(), FaultKind>
+    requires { Suiting what.class field what.noted (Text text) world.old }
+    ensures { (g : Suiting what.class field what.noted (Text text) world.old) → SettledIn g.store (assigned_attribute what.class field (Whole what.notice) (Text text)) world.old world.new result }
 {
-    set_text(scene, what.class, field, what.notice, text)
+    set_text(world, what.class, field, what.notice, text)
 }
 
 // An attribute of a notice is assigned what lies at its place.
 #[inline(always)]
-fn give_one(scene: &mut Scene, rows: &Rows, what: Giving, field: usize) -> Result<(), FaultKind>
-    requires { GivesOne what.class field what.noted (what.from + field) rows.now scene.old }
-    ensures { (g : GivesOne what.class field what.noted (what.from + field) rows.now scene.old) → SettledIn g.suits.store (assigned_attribute what.class field (Whole what.notice) g.value) scene.old scene.new result }
+fn give_one(world: &mut World, rows: &Rows, what: Giving, field: usize) -> Result<(), FaultKind>
+    requires { GivesOne what.class field what.noted (what.from + field) rows.now world.old }
+    ensures { (g : GivesOne what.class field what.noted (what.from + field) rows.now world.old) → SettledIn g.suits.store (assigned_attribute what.class field (Whole what.notice) g.value) world.old world.new result }
 {
     let at = what.from + field;
-    match mode_at(scene, what.class, field) {
-        Mode::Integer => give_number(scene, what, field, rows.number_at(at)),
-        Mode::Alpha => give_text(scene, what, field, rows.text_at(at)),
+    match mode_at(world, what.class, field) {
+        Mode::Integer => give_number(world, what, field, rows.number_at(at)),
+        Mode::Alpha => give_text(world, what, field, rows.text_at(at)),
     }
 }
 
 // So many first attributes of a notice are assigned what lies at their places.
 #[inline(always)]
-fn give(scene: &mut Scene, rows: &Rows, what: Giving, given: usize) -> Result<(), FaultKind>
-    requires { HasGivenValues what.class what.noted what.from given rows.now scene.old }
-    ensures { (g : HasGivenValues what.class what.noted what.from given rows.now scene.old) → SettledIn g.store (endowed what.class 0 (Whole what.notice) g.values) scene.old scene.new result }
+fn give(world: &mut World, rows: &Rows, what: Giving, given: usize) -> Result<(), FaultKind>
+    requires { HasGivenValues what.class what.noted what.from given rows.now world.old }
+    ensures { (g : HasGivenValues what.class what.noted what.from given rows.now world.old) → SettledIn g.store (endowed what.class 0 (Whole what.notice) g.values) world.old world.new result }
 {
     for field in 0..given {
-        match give_one(scene, rows, what, field) {
+        match give_one(world, rows, what, field) {
             Err(kind) => return Err(kind),
             Ok(()) => {}
         }
@@ -156,27 +156,27 @@ fn give(scene: &mut Scene, rows: &Rows, what: Giving, given: usize) -> Result<()
 
 // A notice has its time.
 #[inline(always)]
-fn set_time(scene: &mut Scene, notice: i64, time: i64) -> Result<(), FaultKind>
-    ensures { Rearranges (λ h. timed h notice time) scene.old scene.new result }
+fn set_time(world: &mut World, notice: i64, time: i64) -> Result<(), FaultKind>
+    ensures { Rearranges (λ h. timed h notice time) world.old world.new result }
 {
-    scene.population.set_time_a(notice, time)
+    world.population.set_time_a(notice, time)
 }
 
 // A notice gets its first attributes and its time.
 #[inline(always)]
 fn prepare(
-    scene: &mut Scene,
+    world: &mut World,
     rows: &Rows,
     what: Giving,
     given: usize,
     time: i64,
 ) -> Result<(), FaultKind>
-    requires { HasGivenValues what.class what.noted what.from given rows.now scene.old }
-    ensures { (g : HasGivenValues what.class what.noted what.from given rows.now scene.old) → SettledIn g.store (prepared what.class (Whole what.notice) g.values time) scene.old scene.new result }
+    requires { HasGivenValues what.class what.noted what.from given rows.now world.old }
+    ensures { (g : HasGivenValues what.class what.noted what.from given rows.now world.old) → SettledIn g.store (prepared what.class (Whole what.notice) g.values time) world.old world.new result }
 {
-    match give(scene, rows, what, given) {
+    match give(world, rows, what, given) {
         Err(kind) => Err(kind),
-        Ok(()) => set_time(scene, what.notice, time),
+        Ok(()) => set_time(world, what.notice, time),
     }
 }
 
@@ -195,16 +195,16 @@ fn number_or(number: i64, answer: Result<(), FaultKind>) -> Result<i64, Refused>
 // histories have just started and none is full; so none comes too late.
 #[inline(always)]
 fn new_notice(
-    scene: &mut Scene,
+    world: &mut World,
     rows: &Rows,
     what: Giving,
     given: usize,
     time: i64,
 ) -> Result<i64, Refused>
-    requires { HasGivenValues what.class what.noted what.from given rows.now scene.old }
-    ensures { (g : HasGivenValues what.class what.noted what.from given rows.now scene.old) → MadeIn g.store what.class g.values time scene.old scene.new result }
+    requires { HasGivenValues what.class what.noted what.from given rows.now world.old }
+    ensures { (g : HasGivenValues what.class what.noted what.from given rows.now world.old) → MadeIn g.store what.class g.values time world.old world.new result }
 {
-    match scene.create(what.class) {
+    match world.create(what.class) {
         Err(refused) => Err(refused),
         Ok(notice) => {
             let made = Giving {
@@ -213,21 +213,21 @@ fn new_notice(
                 from: what.from,
                 noted: what.noted,
             };
-            number_or(notice, prepare(scene, rows, made, given, time))
+            number_or(notice, prepare(world, rows, made, given, time))
         }
     }
 }
 
 // Whether a notice that there is may be scheduled: it must not be pending.
 #[inline(always)]
-fn look_unpended(scene: &Scene, class: usize, notice: i64) -> Result<(), FaultKind>
-    requires class { class < length scene.now.heap.layout.classes }
-    ensures { result ≡ unpended class notice scene.now }
+fn look_unpended(world: &World, class: usize, notice: i64) -> Result<(), FaultKind>
+    requires class { class < length world.now.heap.layout.classes }
+    ensures { result ≡ unpended class notice world.now }
 {
-    match scene.population.known(class, notice) {
+    match world.population.known(class, notice) {
         Err(kind) => Err(kind),
         Ok(()) => {
-            if scene.timeline.is_scheduled(notice) {
+            if world.timeline.is_scheduled(notice) {
                 Err(FaultKind::AlreadyScheduled)
             } else {
                 Ok(())
@@ -239,38 +239,38 @@ fn look_unpended(scene: &Scene, class: usize, notice: i64) -> Result<(), FaultKi
 // A notice gets its first attributes and its time, and is filed.
 #[inline(always)]
 fn prepare_and_file(
-    scene: &mut Scene,
+    world: &mut World,
     rows: &Rows,
     alloc: Global,
     what: Giving,
     given: usize,
     time: i64,
 ) -> Result<(), Refused>
-    requires { HasGivenValues what.class what.noted what.from given rows.now scene.old }
-    ensures { (g : HasGivenValues what.class what.noted what.from given rows.now scene.old) → SettledInWithMemory g.store (refiled what.class (Whole what.notice) g.values time) scene.old scene.new result }
+    requires { HasGivenValues what.class what.noted what.from given rows.now world.old }
+    ensures { (g : HasGivenValues what.class what.noted what.from given rows.now world.old) → SettledInWithMemory g.store (refiled what.class (Whole what.notice) g.values time) world.old world.new result }
 {
-    match prepare(scene, rows, what, given, time) {
+    match prepare(world, rows, what, given, time) {
         Err(kind) => Err(Refused::Fault(kind)),
-        Ok(()) => scheduling::schedule(scene, alloc, what.class, what.notice, time),
+        Ok(()) => scheduling::schedule(world, alloc, what.class, what.notice, time),
     }
 }
 
 // A notice that there is gets its first attributes and its time, and is filed.
 #[inline(never)]
 fn schedule_again(
-    scene: &mut Scene,
+    world: &mut World,
     rows: &Rows,
     alloc: Global,
     what: Giving,
     given: usize,
     time: i64,
 ) -> Result<(), Refused>
-    requires { HasGivenValues what.class what.noted what.from given rows.now scene.old }
-    ensures { (g : HasGivenValues what.class what.noted what.from given rows.now scene.old) → SettledInWithMemory g.store (rescheduled what.class (Whole what.notice) g.values time) scene.old scene.new result }
+    requires { HasGivenValues what.class what.noted what.from given rows.now world.old }
+    ensures { (g : HasGivenValues what.class what.noted what.from given rows.now world.old) → SettledInWithMemory g.store (rescheduled what.class (Whole what.notice) g.values time) world.old world.new result }
 {
-    match look_unpended(scene, what.class, what.notice) {
+    match look_unpended(world, what.class, what.notice) {
         Err(kind) => Err(Refused::Fault(kind)),
-        Ok(()) => prepare_and_file(scene, rows, alloc, what, given, time),
+        Ok(()) => prepare_and_file(world, rows, alloc, what, given, time),
     }
 }
 
@@ -293,7 +293,7 @@ pub fn time_at(state: &mut State, here: Here, time: &Address, to: &Address) -> O
     ensures { Does here state.old state.new (on_after here result) (Instruction.At time.now to.now) }
 {
     let time = state.number(here, time);
-    let answer = scheduling::time_at(&state.scene, time);
+    let answer = scheduling::time_at(&state.world, time);
     state.put(here, to, answer)
 }
 
@@ -304,7 +304,7 @@ pub fn time_in(state: &mut State, here: Here, units: &Address, to: &Address) -> 
     ensures { Does here state.old state.new (on_after here result) (Instruction.In units.now to.now) }
 {
     let units = state.number(here, units);
-    let answer = scheduling::time_in(&state.scene, units);
+    let answer = scheduling::time_in(&state.world, units);
     state.put(here, to, answer)
 }
 
@@ -323,7 +323,7 @@ pub fn make_notice(state: &mut State, here: Here, values: Values, to: &Address) 
         noted: values.noted,
     };
     match new_notice(
-        &mut state.scene,
+        &mut state.world,
         &state.rows,
         what,
         values.count as usize,
@@ -351,7 +351,7 @@ pub fn file_notice(
 {
     let notice = state.number(here, notice);
     let time = state.number(here, time);
-    let answer = scheduling::schedule(&mut state.scene, state.alloc, class as usize, notice, time);
+    let answer = scheduling::schedule(&mut state.world, state.alloc, class as usize, notice, time);
     settled(state, answer)
 }
 
@@ -371,7 +371,7 @@ pub fn reschedule(state: &mut State, here: Here, values: Values, notice: &Addres
         noted: values.noted,
     };
     let answer = schedule_again(
-        &mut state.scene,
+        &mut state.world,
         &state.rows,
         state.alloc,
         what,
@@ -388,6 +388,6 @@ pub fn cancel(state: &mut State, here: Here, class: u32, notice: &Address) -> Op
     ensures { Does here state.old state.new (on_after here result) (Instruction.Cancel class notice.now) }
 {
     let notice = state.number(here, notice);
-    let answer = state.scene.cancel(class as usize, notice);
+    let answer = state.world.cancel(class as usize, notice);
     state.done(answer)
 }

@@ -6,7 +6,7 @@ use Rattle.ss_program.specs.declared.expression.Variable.TheVariants.{Global}
 use Rattle.ss_program.specs.declared.sections.Subject.{Subject}
 use Rattle.ss_program.specs.declared.sections.Subject.TheVariants.{OfVariable, OfAttribute, OfCount}
 use Rattle.ss_program.specs.declared.sections.Statistic.{Statistic}
-use Rattle.ss_stats_histories.specs.Values.{Trouble as Meant, if_ok, turned, sure, number_of}
+use Rattle.ss_stats_histories.specs.Values.{Failure as Meant, if_ok, turned, sure, number_of}
 use Rattle.ss_stats_histories.specs.Store.{Store, fetched, with_histories}
 use Rattle.ss_stats_histories.specs.Histories.{renewed}
 use Rattle.ss_stats_histories.specs.Statistics.{present}
@@ -32,7 +32,7 @@ held_in (Some k) s = fetched (Global k) s
 
 -- what the variable holds that a statistic is about
 abbrev pub held_by : (statistic : ℕ) → Store → Option Value
-held_by j s = held_in (statistic_variable s.scene.setting.statistics j) s
+held_by j s = held_in (statistic_variable s.world.setting.statistics j) s
 
 -- the value that a subject has, where a variable holds this
 abbrev pub present_with : (held : Option Value) → Subject → Option Value → Store → Result Value Meant
@@ -42,7 +42,7 @@ present_with held (OfCount set) o s = present (OfCount set) o s
 
 -- what RESET does once the number of the entity, and that of the present value, are known
 abbrev pub renewed_known : (statistic : ℕ) → (entity present : ℤ) → Store → Result Store Meant
-renewed_known j x z s = turned (with_histories s) (renewed j x s.scene.time z s.scene.histories)
+renewed_known j x z s = turned (with_histories s) (renewed j x s.world.time z s.world.histories)
 
 abbrev pub reset_of : (statistic : ℕ) → Subject → (entity : ℤ) → Option Value → (held : Option Value) → Store → Result Store Meant
 reset_of j t x o held s = if_ok (present_with held t o s) (λ v. if_ok (number_of v) (λ z. renewed_known j x z s))

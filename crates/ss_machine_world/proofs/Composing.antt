@@ -27,7 +27,7 @@ use Rattle.ss_meaning.specs.Histories.{same_subject, noting, all_noting, noted}
 use Rattle.ss_meaning.specs.Places.{is_of_mode, assigned_attribute}
 use Rattle.ss_meaning.specs.Sets.{Filing, ByRule, Foremost, Hindmost, JustBefore, JustAfter, owner_by_layout, owner_number, member, is_fit, filed_by, filed_in, removed_from, end_removed, removed_at, recounted}
 use Rattle.ss_meaning.specs.Store.{Column, Store, with_heap, with_histories}
-use Rattle.ss_meaning.specs.Values.{Trouble, Fails, if_ok, turned, due, sure, where_fit, computed, calculated}
+use Rattle.ss_meaning.specs.Values.{Failure, Fails, if_ok, turned, due, sure, where_fit, computed, calculated}
 use Rattle.ss_machine_world.specs.Numbers.{RefersTo, attribute_noted}
 use Rattle.ss_machine_world.specs.Seen.{Seen, IsRight, with_seen}
 use Rattle.ss_machine_world.proofs.Reading.{value_once, set_once}
@@ -50,10 +50,10 @@ module _ (class field : ℕ) (n : ℤ) (v : Value) (e : Seen) (fits : is_of_mode
 
 -- an attribute that is a number is increased or reduced: what the meaning does is to read it, to calculate and to assign
 module _ (op : Operator) (by : ℤ) (class field : ℕ) (x : ℤ) (e : Seen) (mode : slice_get (modes_of e.heap.layout class) field ≡ Some Integer) where
-  abbrev changed : Store → OkOr Store Trouble
+  abbrev changed : Store → OkOr Store Failure
   changed s = if_ok (attribute class field (Whole x) s) (λ v. if_ok (calculated op v (Whole by)) (λ w. assigned_attribute class field (Whole x) w s))
 
-  abbrev changed_from : Store → OkOr Value FaultKind → OkOr Store Trouble
+  abbrev changed_from : Store → OkOr Value FaultKind → OkOr Store Failure
   changed_from s q = if_ok (due q) (λ v. if_ok (calculated op v (Whole by)) (λ w. assigned_attribute class field (Whole x) w s))
 
   read : (s : Store) → changed (with_seen s e) ≡ changed_from (with_seen s e) (value_in e.heap class field x)
@@ -76,7 +76,7 @@ module _ (op : Operator) (by : ℤ) (class field : ℕ) (x : ℤ) (e : Seen) (mo
   changed_not kind fault s right = read s ∙ sides (value_in e.heap class field x) fault (λ wrong. right (read s ∙ wrong))
     where
       sides : (q : OkOr Value FaultKind) → changed_number (λ z. computed op z by) q ≡ Err kind → IsRight (changed_from (with_seen s e) q) → changed_from (with_seen s e) q ≡ Err (Fails kind)
-      sides (Err k) fault right = let same : k ≡ kind = cc in ap (λ (k : FaultKind). (let r : OkOr Store Trouble = Err (Fails k) in r)) same
+      sides (Err k) fault right = let same : k ≡ kind = cc in ap (λ (k : FaultKind). (let r : OkOr Store Failure = Err (Fails k) in r)) same
       sides (Ok (Text t)) fault right = absurd (right refl)
       sides (Ok (Whole n)) fault right = ap (λ r. if_ok (turned Whole (due r)) (λ w. assigned_attribute class field (Whole x) w (with_seen s e))) fault
 
@@ -95,11 +95,11 @@ module _ (e : Seen) (set : ℕ) (o : Option Value) (m : ℤ) (there : is_some (s
   member_is x s = ap (λ b. where_fit b (turned (λ _. x) (due (joiner e.heap set x)))) there
 
   -- what begins with a look at the member
-  module _ (x : ℤ) (go : (owner member : ℤ) → Store → OkOr State Trouble) (rest : ℕ → OkOr State FaultKind) (goes : (i : ℕ) → joiner e.heap set x ≡ Ok i → (s : Store) → go m x (with_seen s e) ≡ due (rest i)) where
+  module _ (x : ℤ) (go : (owner member : ℤ) → Store → OkOr State Failure) (rest : ℕ → OkOr State FaultKind) (goes : (i : ℕ) → joiner e.heap set x ≡ Ok i → (s : Store) → go m x (with_seen s e) ≡ due (rest i)) where
     put_together : (s : Store) → if_ok (member set (Whole x) (with_seen s e)) (λ n. if_ok (owner_number set o (with_seen s e)) (λ m. if_ok (go m n (with_seen s e)) (recounted set m (with_seen s e)))) ≡ if_ok (due (and_then (joiner e.heap set x) rest)) (recounted set m (with_seen s e))
     put_together s = ap (λ r. if_ok r then_filed) (member_is x s) ∙ by (joiner e.heap set x) refl
       where
-        then_filed : ℤ → OkOr Store Trouble
+        then_filed : ℤ → OkOr Store Failure
         then_filed n = if_ok (owner_number set o (with_seen s e)) (λ m. if_ok (go m n (with_seen s e)) (recounted set m (with_seen s e)))
 
         by : (q : OkOr ℕ FaultKind) → joiner e.heap set x ≡ q → if_ok (turned (λ _. x) (due q)) then_filed ≡ if_ok (due (and_then q rest)) (recounted set m (with_seen s e))
@@ -175,7 +175,7 @@ module _ (e : Seen) (set : ℕ) (o : Option Value) (m : ℤ) (there : is_some (s
 
   -- the entities once x is out, or the fault
   pub removed_is : (x : ℤ) (s : Store) → removed_from set (Whole x) o (with_seen s e) ≡ if_ok (due (removed e.heap set m x)) (recounted set m (with_seen s e))
-  removed_is x s = put_together x (λ m n s. due (removed s.scene.heap set m n)) out_all (λ i at s. joined x out_all i at) s
+  removed_is x s = put_together x (λ m n s. due (removed s.world.heap set m n)) out_all (λ i at s. joined x out_all i at) s
 
   -- and once the member at an end is out
   pub end_removed_is : (end : End) (s : Store) → removed_at end set o (with_seen s e) ≡ if_ok (due (end_removed end e.heap set m)) (λ r. turned {B = Value × Store} (λ t. (Whole r.0, t)) (recounted set m (with_seen s e) r.1))

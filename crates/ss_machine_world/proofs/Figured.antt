@@ -24,7 +24,7 @@ use Rattle.ss_meaning.specs.Histories.{home, history_in, figure_kept, mean_kept,
 use Rattle.ss_meaning.specs.Sets.{owner_by_layout}
 use Rattle.ss_meaning.specs.Statistics.{subject_of_statistic, bearer_number, present, figure, mean, reset}
 use Rattle.ss_meaning.specs.Store.{Column, Notices, Store, fetched, with_histories}
-use Rattle.ss_meaning.specs.Values.{Trouble, if_ok, turned, due, sure, where_fit, number_of}
+use Rattle.ss_meaning.specs.Values.{Failure, if_ok, turned, due, sure, where_fit, number_of}
 use Rattle.ss_machine_world.specs.Numbers.{RefersTo, RefersToSubject, HasValidSubject, HoldsSubject, looked_in, present_in}
 use Rattle.ss_machine_world.specs.Seen.{Seen, IsRight, Looks, Changes, ChangesWhere, as_value, number_if, with_seen, without_value}
 use Rattle.ss_machine_world.proofs.Reading.{whole_is, value_once}
@@ -52,7 +52,7 @@ borne (OfAttribute class field) (Some v) x e s refers right =
     by = ap (λ r. if_ok r (λ n. where_fit (is_some (slice_get e.heap.layout.classes class)) (turned (λ _. n) (due (known_in e.heap class n))))) refers
 borne (OfCount set) o x e s refers right = by (slice_get e.heap.layout.sets set) refers right
   where
-    go : ℤ → OkOr ℤ Trouble
+    go : ℤ → OkOr ℤ Failure
     go n = turned (λ _. n) (due (owner e.heap set n))
 
     by : (t : Option SetLayout) → RefersTo (owner_in t) o x → IsRight (if_ok (owner_by_layout t o) go) → if_ok (owner_by_layout t o) go ≡ due (number_if x (no_value (owner e.heap set x)))
@@ -60,8 +60,8 @@ borne (OfCount set) o x e s refers right = by (slice_get e.heap.layout.sets set)
     by (Some t) refers right = ap (λ r. if_ok r go) refers ∙ owner_looked x (owner e.heap set x)
 
 -- what is asked of a statistic, once its entity was looked at
-module _ {B : Type 0} (kept : Subject → ℤ → Store → OkOr B Trouble) (j : ℕ) (o : Option Value) (x : ℤ) (e : Seen) (refers : RefersToSubject e j o x) where
-  abbrev asked : Store → OkOr B Trouble
+module _ {B : Type 0} (kept : Subject → ℤ → Store → OkOr B Failure) (j : ℕ) (o : Option Value) (x : ℤ) (e : Seen) (refers : RefersToSubject e j o x) where
+  abbrev asked : Store → OkOr B Failure
   asked s = if_ok (subject_of_statistic j s) (λ t. if_ok (bearer_number t o s) (λ n. kept t n s))
 
   asked_is : (look : OkOr (Unit {0}) FaultKind) → ((t : Subject) → subject_in e.statistics j ≡ Some t → look ≡ looked_in e.heap t x) → (s : Store) → IsRight (asked (with_seen s e)) → (t : Subject) × (subject_in e.statistics j ≡ Some t) × (asked (with_seen s e) ≡ if_ok (due (number_if x look)) (λ n. kept t n (with_seen s e)))
@@ -167,7 +167,7 @@ module _ (j : ℕ) (o : Option Value) (x held : ℤ) (e : Seen) (refers : Refers
           ∙ value_once e class field x s (ap is_some (has (OfAttribute class field) is).1)
   present_is (OfCount set) is s holds right = by (slice_get e.heap.layout.sets set) (refers (OfCount set) is) right
     where
-      go : ℤ → OkOr Value Trouble
+      go : ℤ → OkOr Value Failure
       go n = turned Whole (due (count_in e.heap set n))
 
       by : (t : Option SetLayout) → RefersTo (owner_in t) o x → IsRight (if_ok (owner_by_layout t o) go) → if_ok (owner_by_layout t o) go ≡ due (and_then (count_in e.heap set x) (λ n. Ok (Whole n)))
@@ -175,8 +175,8 @@ module _ (j : ℕ) (o : Option Value) (x held : ℤ) (e : Seen) (refers : Refers
       by (Some t) refers right = ap (λ r. if_ok r go) refers ∙ counted_value (count_in e.heap set x)
 
   -- what is done with it
-  abbrev afresh : Subject → ℤ → Store → OkOr Store Trouble
-  afresh t n s = if_ok (present t o s) (λ v. if_ok (number_of v) (λ z. turned (with_histories s) (renewed j n s.scene.time z s.scene.histories)))
+  abbrev afresh : Subject → ℤ → Store → OkOr Store Failure
+  afresh t n s = if_ok (present t o s) (λ v. if_ok (number_of v) (λ z. turned (with_histories s) (renewed j n s.world.time z s.world.histories)))
 
   -- there is a fault
   pub reset_not : (kind : FaultKind) → ((t : Subject) → subject_in e.statistics j ≡ Some t → Err kind ≡ present_in e.heap t x held) → ChangesWhere (λ s. IsRight (reset j o s) × HoldsSubject j held s) (reset j o) e e (Err kind)
@@ -190,7 +190,7 @@ module _ (j : ℕ) (o : Option Value) (x held : ℤ) (e : Seen) (refers : Refers
         let a = asked_is afresh j o x e refers (Ok tt) (λ t is. ap no_value (presents t is) ∙ present_looked e.heap t x held) s right in
         a.2 ∙ ap after (present_is a.0 a.1 s holds (λ wrong. right (a.2 ∙ ap after wrong)) ∙ ap due (sym (presents a.0 a.1)))
       where
-        after : OkOr Value Trouble → OkOr Store Trouble
+        after : OkOr Value Failure → OkOr Store Failure
         after r = if_ok r (λ v. if_ok (number_of v) (λ z. renewed_known j x z (with_seen s e)))
 
     pub reset_then : (new : Seen) (r : OkOr (Unit {0}) FaultKind) → Changes (renewed_known j x p) e new r → ChangesWhere (λ s. IsRight (reset j o s) × HoldsSubject j held s) (reset j o) e new r

@@ -12,7 +12,7 @@ use Rattle.ss_world.specs.State as S
 use Rattle.ss_world.specs.State.{State, destroyed, known_in, no_value}
 use Rattle.ss_machine_time.specs.Records.{columns_of}
 use Rattle.ss_machine_time.specs.Times.{Times}
-use Rattle.ss_meaning.specs.Values.{Trouble, Fails, if_ok, turned, due, where_fit, unless_fault}
+use Rattle.ss_meaning.specs.Values.{Failure, Fails, if_ok, turned, due, where_fit, unless_fault}
 use Rattle.ss_meaning.specs.Store.{Store, Notices, with_pending}
 use Rattle.ss_meaning.specs.Histories.{ending}
 use Rattle.ss_meaning.specs.Entities.{entity, is_single, gone, without, with_none}
@@ -28,14 +28,14 @@ single_there None e = absurd cc
 single_there (Some c) e = refl
 
 -- what is done fails with the fault of the look, where the look does
-pub one_look : {B C : Type 0} (n : ℤ) (rest : ℤ → OkOr B Trouble) (b : Bool) (q : OkOr C FaultKind) → b ≡ true → ((k : FaultKind) → q ≡ Err k → rest n ≡ Err (Fails k)) → if_ok (where_fit b (turned (λ _. n) (due (no_value q)))) rest ≡ rest n
+pub one_look : {B C : Type 0} (n : ℤ) (rest : ℤ → OkOr B Failure) (b : Bool) (q : OkOr C FaultKind) → b ≡ true → ((k : FaultKind) → q ≡ Err k → rest n ≡ Err (Fails k)) → if_ok (where_fit b (turned (λ _. n) (due (no_value q)))) rest ≡ rest n
 one_look n rest true (Ok c) there h = refl
 one_look n rest true (Err k) there h = sym (h k refl)
 one_look n rest false q there h = absurd cc
 
 -- what a look at an entity gives
 module _ (e : Seen) (class : ℕ) (n : ℤ) (there : is_some (slice_get e.heap.layout.classes class) ≡ true) where
-  looked_by : {B : Type 0} (rest : ℤ → OkOr B Trouble) (r : OkOr (Unit {0}) FaultKind) → r ≡ known_in e.heap class n → (s : Store) → if_ok (entity class (Whole n) (with_seen s e)) rest ≡ if_ok (turned (λ _. n) (due r)) rest
+  looked_by : {B : Type 0} (rest : ℤ → OkOr B Failure) (r : OkOr (Unit {0}) FaultKind) → r ≡ known_in e.heap class n → (s : Store) → if_ok (entity class (Whole n) (with_seen s e)) rest ≡ if_ok (turned (λ _. n) (due r)) rest
   looked_by rest r is s =
       ap (λ b. if_ok (where_fit b (turned (λ _. n) (due (known_in e.heap class n)))) rest) there
       ∙ ap (λ (q : OkOr (Unit {0}) FaultKind). if_ok (turned (λ _. n) (due q)) rest) (sym is)
@@ -117,7 +117,7 @@ module _ (e : Seen) (class : ℕ) (n : ℤ) (single : is_single (slice_get e.hea
       ∙ ap (λ (q : OkOr S.Record FaultKind). turned (with_none class n (with_seen s e)) (due (S.and_then q (λ r. S.let_go e.heap class (S.number_in n))))) no)
       ∙ at
     where
-      rest : ℤ → OkOr Store Trouble
+      rest : ℤ → OkOr Store Failure
       rest k = unless_fault (is_pending k e.pending.entries) Scheduled (gone class (Whole n) (with_seen s e))
 
       at : rest n ≡ gone class (Whole n) (with_seen s e)

@@ -12,7 +12,7 @@ use Rattle.ss_world.specs.State.{State, modes_of, value_in}
 use Rattle.ss_world.specs.Sets.{count_in}
 use Rattle.ss_machine_time.specs.Times.{Times, Noted}
 use Rattle.ss_machine_time.specs.Unnoted.{Unnoted}
-use Rattle.ss_machine_time.specs.Unnoted.TheVariants.{Full, Misfit}
+use Rattle.ss_machine_time.specs.Unnoted.TheVariants.{Full, TypeError}
 use Rattle.ss_meaning.specs.Histories.{noted}
 use Rattle.ss_meaning.specs.Store.{Notices, Store, with_histories}
 use Rattle.ss_meaning.specs.Values.{if_ok, turned, due}
@@ -29,7 +29,7 @@ noted_changes ds ns h subject x v t w (Ok u) d = λ s right.
     ∙ ap (λ (e : Seen). Ok (with_seen s e)) (sym (seen_moved ds ns h t w d.1.0 d.1.1 d.1.2))
 noted_changes ds ns h subject x v t w (Err Full) d =
     (λ s right. ap (turned (with_histories (with_seen s (seen_of ds ns h t)))) d.0, ap (λ (u : Times). seen_of ds ns h u) d.1)
-noted_changes ds ns h subject x v t w (Err Misfit) d = λ s right.
+noted_changes ds ns h subject x v t w (Err TypeError) d = λ s right.
     absurd (right (ap (turned (with_histories (with_seen s (seen_of ds ns h t)))) d.0))
 
 -- whatever is noted, the statistics are the same

@@ -7,7 +7,7 @@ use Rattle.ss_base.specs.declared.layout.Mode.{Mode}
 use Rattle.ss_base.specs.declared.value.Value.{Value}
 use Rattle.ss_base.specs.declared.value.Value.TheVariants.{Whole, Text}
 use Rattle.ss_world.specs.State as S
-use Rattle.ss_meaning.specs.Values.{Trouble, if_ok, due, where_fit, number_of}
+use Rattle.ss_meaning.specs.Values.{Failure, if_ok, due, where_fit, number_of}
 use Rattle.ss_meaning.specs.Store.{Store, with_heap}
 use Rattle.ss_meaning.specs.Histories.{noted}
 use Rattle.ss_meaning.specs.Entities.{attribute}
@@ -56,7 +56,7 @@ module _ (e : Seen) (class field : ℕ) (n : ℤ) where
       (λ k no. at n ∙ ap (λ (q : OkOr S.Record FaultKind). if_ok (due (S.and_then q (λ r. Ok (S.with_entity e.heap class (S.number_in n) (S.record_with_value r field v))))) (λ h. noted (OfAttribute class field) n v (with_heap (with_seen s e) h))) no)
       ∙ at n
     where
-      go : ℤ → OkOr Store Trouble
+      go : ℤ → OkOr Store Failure
       go k = if_ok (due (S.assigned e.heap class field k v)) (λ h. noted (OfAttribute class field) k v (with_heap (with_seen s e) h))
 
       at : (k : ℤ) → where_fit (is_of_mode v mode) (go k) ≡ go k

@@ -16,7 +16,7 @@ use Rattle.ss_world.specs.State.{State, Record, LAST_NUMBER, MOST_ENTITIES, Refu
 use Rattle.ss_world.specs.PendingList.{PendingList}
 use Rattle.ss_machine_time.specs.Records.{columns_of, is_up_to, HasRooms}
 use Rattle.ss_machine_time.specs.Times.{Times}
-use Rattle.ss_meaning.specs.Values.{Trouble, Fails, turned, due, where_fit, unless_fault}
+use Rattle.ss_meaning.specs.Values.{Failure, Fails, turned, due, where_fit, unless_fault}
 use Rattle.ss_meaning.specs.Store.{Notices, Column, Store, with_heap, with_histories}
 use Rattle.ss_meaning.specs.Histories.{starting}
 use Rattle.ss_meaning.specs.Entities.{is_single, is_permanent, with_new, made_one, with_all}
@@ -172,10 +172,10 @@ module _ (e : Seen) (class : ℕ) (n : ℤ) (permanent : is_permanent (slice_get
 -- ## N. of a class
 
 module _ (e : Seen) (class : ℕ) where
-  abbrev open_or_not : OkOr (Unit {0}) Trouble
+  abbrev open_or_not : OkOr (Unit {0}) Failure
   open_or_not = unless_fault (is_made e.heap class) CreatedTwice (Ok tt)
 
-  open_by : (r : OkOr (Unit {0}) Trouble) → open_or_not ≡ r → (s : Store) → IsRight (count_open class (with_seen s e)) → count_open class (with_seen s e) ≡ r
+  open_by : (r : OkOr (Unit {0}) Failure) → open_or_not ≡ r → (s : Store) → IsRight (count_open class (with_seen s e)) → count_open class (with_seen s e) ≡ r
   open_by r is s right = by (is_permanent (slice_get e.heap.layout.classes class)) right
     where
       by : (b : Bool) → IsRight (where_fit b open_or_not) → where_fit b open_or_not ≡ r

@@ -9,12 +9,12 @@ use Rattle.ss_base.specs.declared.value.Value.{Value}
 use Rattle.ss_base.specs.declared.value.Value.TheVariants.{Whole}
 use Rattle.ss_machine_time.specs.Figures.{subject_in, held_by}
 use Rattle.ss_machine_time.specs.Unnoted.{Unnoted}
-use Rattle.ss_machine_time.specs.Unnoted.TheVariants.{Full, Misfit}
+use Rattle.ss_machine_time.specs.Unnoted.TheVariants.{Full, TypeError}
 use Rattle.ss_meaning.specs.Entities.{class_at, attribute, is_permanent, with_all}
 use Rattle.ss_meaning.specs.Histories.{home, noted}
 use Rattle.ss_meaning.specs.Sets.{owner_as, beside, recounted}
 use Rattle.ss_meaning.specs.Store.{Store}
-use Rattle.ss_meaning.specs.Values.{Trouble, if_ok, turned, due, where_fit, unless_fault}
+use Rattle.ss_meaning.specs.Values.{Failure, if_ok, turned, due, where_fit, unless_fault}
 use Rattle.ss_program.specs.declared.sections.Subject.{Subject}
 use Rattle.ss_program.specs.declared.sections.Subject.TheVariants.{OfVariable, OfAttribute, OfCount}
 use Rattle.ss_world.specs.Disciplines.{member_test}
@@ -35,12 +35,12 @@ RefersToSubject e j o n = (t : Subject) → subject_in e.statistics j ≡ Some t
 -- ## Classes
 
 -- what CREATE EVERY does once the number of entities is known
-abbrev pub created_all_known : (class : ℕ) → (number : ℤ) → Store → Result Store Trouble
-created_all_known class n s = where_fit (is_permanent (class_at class s)) (turned (with_all class s) (due (created_all s.scene.heap class n)))
+abbrev pub created_all_known : (class : ℕ) → (number : ℤ) → Store → Result Store Failure
+created_all_known class n s = where_fit (is_permanent (class_at class s)) (turned (with_all class s) (due (created_all s.world.heap class n)))
 
 -- N. of a permanent class may be assigned until its entities are made
-abbrev pub count_open : (class : ℕ) → Store → Result (Unit {0}) Trouble
-count_open class s = where_fit (is_permanent (class_at class s)) (unless_fault (is_made s.scene.heap class) CreatedTwice (Ok tt))
+abbrev pub count_open : (class : ℕ) → Store → Result (Unit {0}) Failure
+count_open class s = where_fit (is_permanent (class_at class s)) (unless_fault (is_made s.world.heap class) CreatedTwice (Ok tt))
 
 -- ## Walks
 
@@ -52,18 +52,18 @@ begun_from reverse after h set o x =
 -- ## Notes
 
 -- histories note N. of the set of an owner as it is now
-abbrev pub count_noted : (set : ℕ) → (owner : ℤ) → Store → Result Store Trouble
-count_noted set o s = recounted set o s s.scene.heap
+abbrev pub count_noted : (set : ℕ) → (owner : ℤ) → Store → Result Store Failure
+count_noted set o s = recounted set o s s.world.heap
 
 -- histories note an attribute of an entity as it is now
-abbrev pub attribute_noted : (class field : ℕ) → (entity : ℤ) → Store → Result Store Trouble
+abbrev pub attribute_noted : (class field : ℕ) → (entity : ℤ) → Store → Result Store Failure
 attribute_noted class field x s = if_ok (attribute class field (Whole x) s) (λ v. noted (OfAttribute class field) x v s)
 
 -- the answer of noting a value. A history that there is not notes nothing
 abbrev pub or_full : Result (Unit {0}) Unnoted → Result (Unit {0}) FaultKind
 or_full (Ok u) = Ok u
 or_full (Err Full) = Err Overflow
-or_full (Err Misfit) = Ok tt
+or_full (Err TypeError) = Ok tt
 
 -- ## Subjects of statistics
 

@@ -1,4 +1,4 @@
--- What is seen of a scene, and what an operation does to it.
+-- What is seen of a world, and what an operation does to it.
 use Rattle.std.specs.Prelude.{◌≡◌, List, ℤ, Result, Ok, Err, IsOk}
 use Rattle.ss_base.specs.declared.fault.FaultKind.{FaultKind}
 use Rattle.ss_base.specs.declared.fault.Refused.{Refused}
@@ -9,7 +9,7 @@ use Rattle.ss_base.specs.declared.value.Value.TheVariants.{Whole}
 use Rattle.ss_machine_time.specs.Records.{Rows, columns_of}
 use Rattle.ss_world.specs.State.{State}
 use Rattle.ss_world.specs.PendingList.{PendingList}
-use Rattle.ss_meaning.specs.Values.{Trouble, Fails, Misfit, turned, due}
+use Rattle.ss_meaning.specs.Values.{Failure, Fails, TypeError, turned, due}
 use Rattle.ss_meaning.specs.Store.{Notices, Store}
 use Rattle.ss_program.specs.declared.sections.Statistic.{Statistic}
 
@@ -27,48 +27,48 @@ pub record Seen : Type 0 where
 -- a store with all of that, and the histories as the meaning has them
 abbrev pub with_seen : Store → Seen → Store
 with_seen s e = record s {
-  scene = record {
+  world = record {
     setting = record { disciplines = e.disciplines; notices = e.notices; statistics = e.statistics };
     heap = e.heap;
     time = e.time;
     pending = e.pending;
     histories = columns_of e.histories;
-    input = s.scene.input;
+    input = s.world.input;
   };
 }
 
 -- ## What an operation of the meaning does
 
 -- an operation gives something, or a fault. In a well-typed program each does, and of one that doesn't nothing is said
-abbrev pub IsRight : {A : Type 0} → Result A Trouble → Type 0
-IsRight r = r ≡ Err Misfit → ⊥
+abbrev pub IsRight : {A : Type 0} → Result A Failure → Type 0
+IsRight r = r ≡ Err TypeError → ⊥
 
 -- an operation looks: in each store with what is seen it has this answer
-abbrev pub Looks : {A : Type 0} → (Store → Result A Trouble) → Seen → Result A FaultKind → Type 0
+abbrev pub Looks : {A : Type 0} → (Store → Result A Failure) → Seen → Result A FaultKind → Type 0
 Looks f e answer = (s : Store) → IsRight (f (with_seen s e)) → f (with_seen s e) ≡ due answer
 
 -- an operation changes what is seen, or has a fault and changes nothing, in each store of which something holds
-abbrev pub ChangesWhere : (Store → Type 0) → (Store → Result Store Trouble) → (old new : Seen) → Result (Unit {0}) FaultKind → Type 0
+abbrev pub ChangesWhere : (Store → Type 0) → (Store → Result Store Failure) → (old new : Seen) → Result (Unit {0}) FaultKind → Type 0
 ChangesWhere P f old new (Ok u) = (s : Store) → P (with_seen s old) → f (with_seen s old) ≡ Ok (with_seen s new)
 ChangesWhere P f old new (Err kind) = ((s : Store) → P (with_seen s old) → f (with_seen s old) ≡ Err (Fails kind)) × (new ≡ old)
 
 -- and that in each store
-abbrev pub Changes : (Store → Result Store Trouble) → (old new : Seen) → Result (Unit {0}) FaultKind → Type 0
+abbrev pub Changes : (Store → Result Store Failure) → (old new : Seen) → Result (Unit {0}) FaultKind → Type 0
 Changes f old new r = ChangesWhere (λ s. IsRight (f s)) f old new r
 
--- no trouble is due to an operation: it goes well in each store with what is seen
-abbrev pub GoesWell : {A : Type 0} → (Store → Result A Trouble) → Seen → Type 0
+-- no failure is due to an operation: it goes well in each store with what is seen
+abbrev pub GoesWell : {A : Type 0} → (Store → Result A Failure) → Seen → Type 0
 GoesWell f e = (s : Store) → IsOk (f (with_seen s e))
 
 -- an operation that needs memory changes what is seen and gives a number, or has a fault and changes nothing. It is out of memory only where
--- no trouble is due, and then it changes nothing.
-abbrev pub Makes : (Store → Result (Value × Store) Trouble) → (old new : Seen) → Result ℤ Refused → Type 0
+-- no failure is due, and then it changes nothing.
+abbrev pub Makes : (Store → Result (Value × Store) Failure) → (old new : Seen) → Result ℤ Refused → Type 0
 Makes f old new (Ok n) = (s : Store) → f (with_seen s old) ≡ Ok (Whole n, with_seen s new)
 Makes f old new (Err (Fault kind)) = ((s : Store) → f (with_seen s old) ≡ Err (Fails kind)) × (new ≡ old)
 Makes f old new (Err Memory) = GoesWell f old × (new ≡ old)
 
 -- and one that gives nothing
-abbrev pub ChangesWithMemory : (Store → Result Store Trouble) → (old new : Seen) → Result (Unit {0}) Refused → Type 0
+abbrev pub ChangesWithMemory : (Store → Result Store Failure) → (old new : Seen) → Result (Unit {0}) Refused → Type 0
 ChangesWithMemory f old new (Ok u) = (s : Store) → f (with_seen s old) ≡ Ok (with_seen s new)
 ChangesWithMemory f old new (Err (Fault kind)) = ((s : Store) → f (with_seen s old) ≡ Err (Fails kind)) × (new ≡ old)
 ChangesWithMemory f old new (Err Memory) = GoesWell f old × (new ≡ old)
@@ -92,6 +92,6 @@ abbrev pub number_if : (number : ℤ) → Result (Unit {0}) FaultKind → Result
 number_if n (Ok u) = Ok n
 number_if n (Err kind) = Err kind
 
--- whether an operation goes well, or else its trouble
-abbrev pub without_value : {A : Type 0} → (Store → Result A Trouble) → Store → Result (Unit {0}) Trouble
+-- whether an operation goes well, or else its failure
+abbrev pub without_value : {A : Type 0} → (Store → Result A Failure) → Store → Result (Unit {0}) Failure
 without_value f s = turned (λ _. tt) (f s)

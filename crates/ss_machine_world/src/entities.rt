@@ -14,11 +14,11 @@ ghost use Rattle.ss_machine_world.specs.Numbers.{created_all_known, count_open};
 ghost use Rattle.ss_machine_world.specs.Seen.{Looks, Changes, GoesWell, Makes, ChangesWithMemory, with_seen};
 
 use crate::class::{ClassEntry, is_watched};
-use crate::scene::Scene;
+use crate::world::World;
 use ss_base::{FaultKind, Layout, Refused};
 use ss_machine_time::Timeline;
 
-impl Scene {
+impl World {
     /// A new entity of a class whose entities come and go, with its histories: its number. Faults: 14 after the last number. It is
     /// out of memory only where that is not due.
     #[inline(always)]

@@ -7,10 +7,10 @@ ghost use Rattle.ss_world.specs.Disciplines.{FitsMembers, filed};
 ghost use Rattle.ss_machine_world.specs.Numbers.{begun_from};
 ghost use Rattle.ss_machine_world.specs.Seen.{Rearranges};
 
-use crate::scene::Scene;
+use crate::world::World;
 use ss_base::FaultKind;
 
-impl Scene {
+impl World {
     /// Files a member in the set of an owner, 0 for the system, by the discipline of the set. No history notes that. Faults: those
     /// of the member (1 to 5), those of the owner, then 6.
     #[inline(always)]

@@ -14,13 +14,13 @@ ghost use Rattle.ss_world.specs.State.{modes_of};
 ghost use Rattle.ss_machine_world.specs.Numbers.{RefersToSubject, IsSubject, HasValidSubject, HoldsSubject, attribute_noted, count_noted, looked_in, present_in, or_full};
 ghost use Rattle.ss_machine_world.specs.Seen.{IsRight, Looks, Changes, ChangesWhere, as_value, without_value};
 
-use crate::scene::Scene;
+use crate::world::World;
 use ss_base::{FaultKind, Value};
 use ss_machine_time::Unnoted;
 use ss_program::expression::Fold;
 use ss_program::sections::Subject;
 
-impl Scene {
+impl World {
     /// Notes the value of a global variable. Faults: 14.
     #[inline(never)]
     pub fn note_variable(&mut self, number: usize, value: i64) -> Result<(), FaultKind>
@@ -200,7 +200,7 @@ fn or_full(answer: Result<(), Unnoted>) -> Result<(), FaultKind>
     ensures { result ≡ or_full answer }
 {
     match answer {
-        Ok(()) | Err(Unnoted::Misfit) => Ok(()),
+        Ok(()) | Err(Unnoted::TypeError) => Ok(()),
         Err(Unnoted::Full) => Err(FaultKind::Overflow),
     }
 }

@@ -86,13 +86,13 @@ known_lives h c n = by (entity_in h c n) (entity_known h c n)
     by (Err k) q = tt
 
 module _ (p : Program) (typed : WellTyped p) (ms : List Mode) where
-  layout_is : (s : Store) → Fits p ms s → s.scene.heap.layout ≡ p.layout
-  layout_is s f = f.sound.scene.layout
+  layout_is : (s : Store) → Fits p ms s → s.world.heap.layout ≡ p.layout
+  layout_is s f = f.sound.world.layout
 
   class_here : (s : Store) (c : ℕ) (cl : ClassLayout) → Fits p ms s → slice_get p.layout.classes c ≡ Some cl → class_at c s ≡ Some cl
   class_here s c cl f q = ap (λ l. slice_get l.classes c) (layout_is s f) ∙ q
 
-  field_here : (s : Store) (c k : ℕ) (m : Mode) → Fits p ms s → HasField p c k m → slice_get (modes_of s.scene.heap.layout c) k ≡ Some m
+  field_here : (s : Store) (c k : ℕ) (m : Mode) → Fits p ms s → HasField p c k m → slice_get (modes_of s.world.heap.layout c) k ≡ Some m
   field_here s c k m f q = ap (λ l. slice_get (modes_of l c) k) (layout_is s f) ∙ q.field
 
   -- ## References and attributes
@@ -101,31 +101,31 @@ module _ (p : Program) (typed : WellTyped p) (ms : List Mode) where
   abbrev pub Refers : State → ℕ → Value → ℤ → Type 0
   Refers h c x n = (x ≡ Whole n) × Lives h c n
 
-  pub entity_fine : (c : ℕ) (cl : ClassLayout) (x : Value) (s : Store) → slice_get p.layout.classes c ≡ Some cl → mode_of x ≡ Integer → Fits p ms s → Fine (Refers s.scene.heap c x) (entity c x s)
+  pub entity_fine : (c : ℕ) (cl : ClassLayout) (x : Value) (s : Store) → slice_get p.layout.classes c ≡ Some cl → mode_of x ≡ Integer → Fits p ms s → Fine (Refers s.world.heap c x) (entity c x s)
   entity_fine c cl (Whole n) s q m f =
-      fit_fine (Refers s.scene.heap c (Whole n)) (is_some (class_at c s)) (turned (λ u. n) (due (known_in s.scene.heap c n))) (ap is_some (class_here s c cl f q))
-      (fine_turned (Refers s.scene.heap c (Whole n)) (λ u. n) (due (known_in s.scene.heap c n)) (due_fine (λ u. Lives s.scene.heap c n) (known_in s.scene.heap c n) (known_lives s.scene.heap c n)) (λ u g. (refl, g)))
+      fit_fine (Refers s.world.heap c (Whole n)) (is_some (class_at c s)) (turned (λ u. n) (due (known_in s.world.heap c n))) (ap is_some (class_here s c cl f q))
+      (fine_turned (Refers s.world.heap c (Whole n)) (λ u. n) (due (known_in s.world.heap c n)) (due_fine (λ u. Lives s.world.heap c n) (known_in s.world.heap c n) (known_lives s.world.heap c n)) (λ u g. (refl, g)))
   entity_fine c cl (Text t) s q m f = absurd cc
 
   pub attribute_fine : (c k : ℕ) (m : Mode) (x : Value) (s : Store) → field_mode p c k ≡ Some m → mode_of x ≡ Integer → Fits p ms s → Fine (λ v. mode_of v ≡ m) (attribute c k x s)
   attribute_fine c k m x s q g f =
       let there : HasField p c k m = field_said p c k m q in
-      fine_then (λ v. mode_of v ≡ m) (entity c x s) (λ n. where_fit (is_some (field_at c k s)) (due (value_in s.scene.heap c k n))) (entity_fine c there.class x s there.there g f) (λ n r.
-      fit_fine (λ v. mode_of v ≡ m) (is_some (field_at c k s)) (due (value_in s.scene.heap c k n)) (ap is_some (field_here s c k m f there))
-      (due_fine (λ v. mode_of v ≡ m) (value_in s.scene.heap c k n) (value_sane s.scene.heap c k n m f.sound.scene.heap (field_here s c k m f there))))
+      fine_then (λ v. mode_of v ≡ m) (entity c x s) (λ n. where_fit (is_some (field_at c k s)) (due (value_in s.world.heap c k n))) (entity_fine c there.class x s there.there g f) (λ n r.
+      fit_fine (λ v. mode_of v ≡ m) (is_some (field_at c k s)) (due (value_in s.world.heap c k n)) (ap is_some (field_here s c k m f there))
+      (due_fine (λ v. mode_of v ≡ m) (value_in s.world.heap c k n) (value_sane s.world.heap c k n m f.sound.world.heap (field_here s c k m f there))))
 
   pub time_of_fine : (x : Value) (s : Store) → mode_of x ≡ Integer → Fine (λ v. mode_of v ≡ Integer) (time_of x s)
   time_of_fine x s g =
-      fine_then (λ v. mode_of v ≡ Integer) (number_of x) (λ n. turned Whole (due (time_in s.scene.heap n))) (number_fine x g) (λ n u.
-      fine_turned (λ v. mode_of v ≡ Integer) Whole (due (time_in s.scene.heap n)) (any_due (time_in s.scene.heap n)) (λ z w. refl))
+      fine_then (λ v. mode_of v ≡ Integer) (number_of x) (λ n. turned Whole (due (time_in s.world.heap n))) (number_fine x g) (λ n u.
+      fine_turned (λ v. mode_of v ≡ Integer) Whole (due (time_in s.world.heap n)) (any_due (time_in s.world.heap n)) (λ z w. refl))
 
   -- ## Creating and destroying
 
   pub made_one_fine : (c : ℕ) (s : Store) → is_created_singly (kind_said p c) ≡ true → Fits p ms s → Fine (λ b. (mode_of b.0 ≡ Integer) × Fits p ms b.1) (made_one c s)
   made_one_fine c s q f =
       let cl = single_said p c q in
-      fit_fine (λ b. (mode_of b.0 ≡ Integer) × Fits p ms b.1) (is_single (class_at c s)) (turned (with_new c s) (due (created s.scene.heap c))) (ap is_single (class_here s c cl.0 f cl.1) ∙ cl.2)
-      (fine_turned (λ b. (mode_of b.0 ≡ Integer) × Fits p ms b.1) (with_new c s) (due (created s.scene.heap c)) (due_fine (Created s.scene.heap c) (created s.scene.heap c) (created_sane s.scene.heap c f.sound.scene.heap)) (λ b new.
+      fit_fine (λ b. (mode_of b.0 ≡ Integer) × Fits p ms b.1) (is_single (class_at c s)) (turned (with_new c s) (due (created s.world.heap c))) (ap is_single (class_here s c cl.0 f cl.1) ∙ cl.2)
+      (fine_turned (λ b. (mode_of b.0 ≡ Integer) × Fits p ms b.1) (with_new c s) (due (created s.world.heap c)) (due_fine (Created s.world.heap c) (created s.world.heap c) (created_sane s.world.heap c f.sound.world.heap)) (λ b new.
       (refl, created_fits p ms s c b f new)))
 
   pub count_said : (count : CountedClass) → Contains p.counts count → GoodCount p count
@@ -139,46 +139,46 @@ module _ (p : Program) (typed : WellTyped p) (ms : List Mode) where
   pub made_all_fine : (count : CountedClass) (s : Store) → Contains p.counts count → Fits p ms s → Fine (Fits p ms) (made_all count s)
   made_all_fine count s c f =
       let good : GoodCount p count = count_said count c in
-      fine_then (Fits p ms) (sure (fetched (Global count.variable) s)) (λ v. if_ok (number_of v) (λ n. where_fit (is_permanent (class_at count.class s)) (turned (with_all count.class s) (due (created_all s.scene.heap count.class n)))))
+      fine_then (Fits p ms) (sure (fetched (Global count.variable) s)) (λ v. if_ok (number_of v) (λ n. where_fit (is_permanent (class_at count.class s)) (turned (with_all count.class s) (due (created_all s.world.heap count.class n)))))
       (sure_fine (λ v. mode_of v ≡ Integer) (fetched (Global count.variable) s) (held_there s.globals p.globals count.variable Integer f.sound.globals good.1)) (λ v g.
-      fine_then (Fits p ms) (number_of v) (λ n. where_fit (is_permanent (class_at count.class s)) (turned (with_all count.class s) (due (created_all s.scene.heap count.class n)))) (number_fine v g) (λ n u.
-      fit_fine (Fits p ms) (is_permanent (class_at count.class s)) (turned (with_all count.class s) (due (created_all s.scene.heap count.class n))) (permanent_here s count.class f good.0)
-      (fine_turned (Fits p ms) (with_all count.class s) (due (created_all s.scene.heap count.class n)) (due_fine (Filled s.scene.heap count.class) (created_all s.scene.heap count.class n) (created_all_sane s.scene.heap count.class n f.sound.scene.heap)) (λ t new.
+      fine_then (Fits p ms) (number_of v) (λ n. where_fit (is_permanent (class_at count.class s)) (turned (with_all count.class s) (due (created_all s.world.heap count.class n)))) (number_fine v g) (λ n u.
+      fit_fine (Fits p ms) (is_permanent (class_at count.class s)) (turned (with_all count.class s) (due (created_all s.world.heap count.class n))) (permanent_here s count.class f good.0)
+      (fine_turned (Fits p ms) (with_all count.class s) (due (created_all s.world.heap count.class n)) (due_fine (Filled s.world.heap count.class) (created_all s.world.heap count.class n) (created_all_sane s.world.heap count.class n f.sound.world.heap)) (λ t new.
       filled_fits p ms s count.class t f new))))
 
-  single_kind : (s : Store) (c : ℕ) (cl : ClassLayout) → Fits p ms s → slice_get p.layout.classes c ≡ Some cl → comes_singly cl.kind ≡ true → kind_of s.scene.heap.layout c ≡ Permanent → ⊥
+  single_kind : (s : Store) (c : ℕ) (cl : ClassLayout) → Fits p ms s → slice_get p.layout.classes c ≡ Some cl → comes_singly cl.kind ≡ true → kind_of s.world.heap.layout c ≡ Permanent → ⊥
   single_kind s c cl f q g h =
       let same : cl.kind ≡ Permanent = sym (ap (λ o. Rattle.ss_world.specs.State.kind_in o) (class_here s c cl f q)) ∙ h in
       let no_way : true ≡ false = sym g ∙ ap comes_singly same in
       absurd cc
 
-  gone_fits : (s : Store) (c : ℕ) (x : ℤ) (t : State) → Fits p ms s → Gone s.scene.heap x t → (kind_of s.scene.heap.layout c ≡ Permanent → ⊥) → Every (λ (e : PendingNotice). x ≡ e.notice → ⊥) s.scene.pending.entries → Fits p ms (with_none c x s t)
+  gone_fits : (s : Store) (c : ℕ) (x : ℤ) (t : State) → Fits p ms s → Gone s.world.heap x t → (kind_of s.world.heap.layout c ≡ Permanent → ⊥) → Every (λ (e : PendingNotice). x ≡ e.notice → ⊥) s.world.pending.entries → Fits p ms (with_none c x s t)
   gone_fits s c x t f gone single apart = record {
     sound = record {
       globals = f.sound.globals;
-      scene = record {
-        setting = f.sound.scene.setting;
-        layout = gone.layout ∙ f.sound.scene.layout;
+      world = record {
+        setting = f.sound.world.setting;
+        layout = gone.layout ∙ f.sound.world.layout;
         heap = gone.fits;
-        pending = live s.scene.pending.entries f.sound.scene.pending apart;
+        pending = live s.world.pending.entries f.sound.world.pending apart;
         histories =
-            subst (λ ss. HistoriesFit p.statistics t (ending t.layout c x ss s.scene.histories)) (sym (statistics_are p ms s f))
-            (fit_gone p.statistics s.scene.heap t c x s.scene.histories gone (λ q. single (ap (λ l. kind_of l c) (sym gone.layout) ∙ q)) f.sound.scene.histories);
+            subst (λ ss. HistoriesFit p.statistics t (ending t.layout c x ss s.world.histories)) (sym (statistics_are p ms s f))
+            (fit_gone p.statistics s.world.heap t c x s.world.histories gone (λ q. single (ap (λ l. kind_of l c) (sym gone.layout) ∙ q)) f.sound.world.histories);
       };
     };
     locals = f.locals;
   }
     where
-      live : (es : List PendingNotice) → Every (λ (e : PendingNotice). IsNotice s.scene.heap e.notice) es → Every (λ (e : PendingNotice). x ≡ e.notice → ⊥) es → Every (λ (e : PendingNotice). IsNotice t e.notice) es
+      live : (es : List PendingNotice) → Every (λ (e : PendingNotice). IsNotice s.world.heap e.notice) es → Every (λ (e : PendingNotice). x ≡ e.notice → ⊥) es → Every (λ (e : PendingNotice). IsNotice t e.notice) es
       live [] h g = tt
       live (e ∷ es) h g = ((h.0.0, gone.kept e.notice h.0.0 g.0 h.0.1, ap (λ l. kind_of l h.0.0) gone.layout ∙ h.0.2), live es h.1 g.1)
 
   -- an entity goes that isn't pending
-  pub gone_fine : (c : ℕ) (n : ℤ) (s : Store) → is_created_singly (kind_said p c) ≡ true → Every (λ (e : PendingNotice). n ≡ e.notice → ⊥) s.scene.pending.entries → Fits p ms s → Fine (Fits p ms) (gone c (Whole n) s)
+  pub gone_fine : (c : ℕ) (n : ℤ) (s : Store) → is_created_singly (kind_said p c) ≡ true → Every (λ (e : PendingNotice). n ≡ e.notice → ⊥) s.world.pending.entries → Fits p ms s → Fine (Fits p ms) (gone c (Whole n) s)
   gone_fine c n s q apart f =
       let cl = single_said p c q in
-      fit_fine (Fits p ms) (is_single (class_at c s)) (turned (with_none c n s) (due (destroyed s.scene.heap c n))) (ap is_single (class_here s c cl.0 f cl.1) ∙ cl.2)
-      (fine_turned (Fits p ms) (with_none c n s) (due (destroyed s.scene.heap c n)) (due_fine (Gone s.scene.heap n) (destroyed s.scene.heap c n) (destroyed_sane s.scene.heap c n f.sound.scene.heap (single_kind s c cl.0 f cl.1 cl.2))) (λ t g.
+      fit_fine (Fits p ms) (is_single (class_at c s)) (turned (with_none c n s) (due (destroyed s.world.heap c n))) (ap is_single (class_here s c cl.0 f cl.1) ∙ cl.2)
+      (fine_turned (Fits p ms) (with_none c n s) (due (destroyed s.world.heap c n)) (due_fine (Gone s.world.heap n) (destroyed s.world.heap c n) (destroyed_sane s.world.heap c n f.sound.world.heap (single_kind s c cl.0 f cl.1 cl.2))) (λ t g.
       gone_fits s c n t f g (single_kind s c cl.0 f cl.1 cl.2) apart))
 
   apart_from : (n : ℤ) (es : List PendingNotice) → is_pending n es ≡ false → Every (λ (e : PendingNotice). n ≡ e.notice → ⊥) es
@@ -192,9 +192,9 @@ module _ (p : Program) (typed : WellTyped p) (ms : List Mode) where
   pub without_fine : (c : ℕ) (x : Value) (s : Store) → is_created_singly (kind_said p c) ≡ true → mode_of x ≡ Integer → Fits p ms s → Fine (Fits p ms) (without c x s)
   without_fine c x s q g f =
       let cl = single_said p c q in
-      fine_then (Fits p ms) (entity c x s) (λ n. unless_fault (is_pending n s.scene.pending.entries) Scheduled (gone c x s)) (entity_fine c cl.0 x s cl.1 g f) (λ n r.
-      unless_fine (Fits p ms) (is_pending n s.scene.pending.entries) Scheduled (gone c x s) (λ free.
-      subst (λ y. Fine (Fits p ms) (gone c y s)) (sym r.0) (gone_fine c n s q (apart_from n s.scene.pending.entries free) f)))
+      fine_then (Fits p ms) (entity c x s) (λ n. unless_fault (is_pending n s.world.pending.entries) Scheduled (gone c x s)) (entity_fine c cl.0 x s cl.1 g f) (λ n r.
+      unless_fine (Fits p ms) (is_pending n s.world.pending.entries) Scheduled (gone c x s) (λ free.
+      subst (λ y. Fine (Fits p ms) (gone c y s)) (sym r.0) (gone_fine c n s q (apart_from n s.world.pending.entries free) f)))
 
   -- ## The one write
 
@@ -214,10 +214,10 @@ module _ (p : Program) (typed : WellTyped p) (ms : List Mode) where
       let it : m ≡ Integer = cc in g ∙ it
 
   globals_fit : (s : Store) (vs : List Value) → Fits p ms s → Hold vs p.globals → Fits p ms (record s { globals = vs })
-  globals_fit s vs f h = record { sound = record { globals = h; scene = f.sound.scene }; locals = f.locals }
+  globals_fit s vs f h = record { sound = record { globals = h; world = f.sound.world }; locals = f.locals }
 
   locals_fit : (s : Store) (vs : List Value) → Fits p ms s → Hold vs ms → Fits p ms (record s { locals = vs })
-  locals_fit s vs f h = record { sound = record { globals = f.sound.globals; scene = f.sound.scene }; locals = h }
+  locals_fit s vs f h = record { sound = record { globals = f.sound.globals; world = f.sound.world }; locals = h }
 
   pub global_fine : (k : ℕ) (m : Mode) (v : Value) (s : Store) → slice_get p.globals k ≡ Some m → mode_of v ≡ m → Fits p ms s → Fine (Fits p ms) (assigned_variable (Global k) v s)
   global_fine k m v s q g f =
@@ -236,17 +236,17 @@ module _ (p : Program) (typed : WellTyped p) (ms : List Mode) where
   pub attribute_assigned_fine : (c k : ℕ) (m : Mode) (x v : Value) (s : Store) → field_mode p c k ≡ Some m → mode_of x ≡ Integer → mode_of v ≡ m → Fits p ms s → Fine (Fits p ms) (assigned_attribute c k x v s)
   attribute_assigned_fine c k m x v s q gx gv f =
       let there : HasField p c k m = field_said p c k m q in
-      fine_then (Fits p ms) (entity c x s) (λ n. where_fit (is_of_mode v (field_at c k s)) (if_ok (due (assigned s.scene.heap c k n v)) (λ h. noted (OfAttribute c k) n v (with_heap s h)))) (entity_fine c there.class x s there.there gx f) (λ n r.
-      fit_fine (Fits p ms) (is_of_mode v (field_at c k s)) (if_ok (due (assigned s.scene.heap c k n v)) (λ h. noted (OfAttribute c k) n v (with_heap s h))) (of_mode s c k m v f there gv)
-      (fine_then (Fits p ms) (due (assigned s.scene.heap c k n v)) (λ h. noted (OfAttribute c k) n v (with_heap s h))
-      (due_fine (Changed s.scene.heap) (assigned s.scene.heap c k n v) (assigned_sane s.scene.heap c k n v m f.sound.scene.heap (field_here s c k m f there) gv)) (λ h g.
-      noted_fine p ms (OfAttribute c k) n v (with_heap s h) (attribute_noted c k m v q gv) (lives_on s.scene.heap h c n g.1 r.1) (heap_fits p ms s h f g))))
+      fine_then (Fits p ms) (entity c x s) (λ n. where_fit (is_of_mode v (field_at c k s)) (if_ok (due (assigned s.world.heap c k n v)) (λ h. noted (OfAttribute c k) n v (with_heap s h)))) (entity_fine c there.class x s there.there gx f) (λ n r.
+      fit_fine (Fits p ms) (is_of_mode v (field_at c k s)) (if_ok (due (assigned s.world.heap c k n v)) (λ h. noted (OfAttribute c k) n v (with_heap s h))) (of_mode s c k m v f there gv)
+      (fine_then (Fits p ms) (due (assigned s.world.heap c k n v)) (λ h. noted (OfAttribute c k) n v (with_heap s h))
+      (due_fine (Changed s.world.heap) (assigned s.world.heap c k n v) (assigned_sane s.world.heap c k n v m f.sound.world.heap (field_here s c k m f there) gv)) (λ h g.
+      noted_fine p ms (OfAttribute c k) n v (with_heap s h) (attribute_noted c k m v q gv) (lives_on s.world.heap h c n g.1 r.1) (heap_fits p ms s h f g))))
 
   pub count_fine : (count : CountedClass) (v : Value) (s : Store) → Contains p.counts count → mode_of v ≡ Integer → Fits p ms s → Fine (Fits p ms) (assigned_count count v s)
   count_fine count v s c g f =
       let good : GoodCount p count = count_said count c in
-      fit_fine (Fits p ms) (is_permanent (class_at count.class s)) (unless_fault (is_made s.scene.heap count.class) CreatedTwice (assigned_variable (Global count.variable) v s)) (permanent_here s count.class f good.0)
-      (unless_fine (Fits p ms) (is_made s.scene.heap count.class) CreatedTwice (assigned_variable (Global count.variable) v s) (λ free. global_fine count.variable Integer v s good.1 g f))
+      fit_fine (Fits p ms) (is_permanent (class_at count.class s)) (unless_fault (is_made s.world.heap count.class) CreatedTwice (assigned_variable (Global count.variable) v s)) (permanent_here s count.class f good.0)
+      (unless_fine (Fits p ms) (is_made s.world.heap count.class) CreatedTwice (assigned_variable (Global count.variable) v s) (λ free. global_fine count.variable Integer v s good.1 g f))
 
   -- a place that was looked at takes values of a mode
   abbrev pub SpotTakes : Bool → Spot → Mode → Type 0

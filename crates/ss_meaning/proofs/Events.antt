@@ -123,7 +123,7 @@ module _ (p : Program) (typed : WellTyped p) (ms : List Mode) where
   pub ranked_there : (c : ℕ) (s : Store) → kind_said p c ≡ Some Notice → Fits p ms s → There (RankedAs p.events c) (ranked c s)
   ranked_there c s q f =
       let found = contains_get (map (λ (e : Event). e.class) p.events) c (typed.served c q) in
-      subst (λ t. There (RankedAs p.events c) (ranked_from 0 t.notices c)) (sym f.sound.scene.setting)
+      subst (λ t. There (RankedAs p.events c) (ranked_from 0 t.notices c)) (sym f.sound.world.setting)
       (weaker (ranked_from 0 (map said_of p.events) c) (ranked_from_there p.events 0 found.0 c found.1))
     where
       weaker : (o : Option Ranked) → There (RankedFrom 0 p.events c) o → There (RankedAs p.events c) o
@@ -146,13 +146,13 @@ module _ (p : Program) (typed : WellTyped p) (ms : List Mode) where
   MomentOk AtOnce = Unit {0}
 
   not_past_fine : (t : ℤ) (s : Store) → Fine Any (not_past t s)
-  not_past_fine t s = unless_fine Any (int_lt t s.scene.time) faults.PastTime (Ok t) (λ e. tt)
+  not_past_fine t s = unless_fine Any (int_lt t s.world.time) faults.PastTime (Ok t) (λ e. tt)
 
   pub time_at_fine : (m : Moment) (s : Store) → MomentOk m → Fine Any (time_at m s)
   time_at_fine (AtTime v) s q = fine_then Any (number_of v) (λ t. not_past t s) (number_fine v q) (λ t u. not_past_fine t s)
   time_at_fine (Later v) s q =
-      fine_then Any (number_of v) (λ t. if_ok (due (plus_of s.scene.time t)) (λ t. not_past t s)) (number_fine v q) (λ t u.
-      fine_then Any (due (plus_of s.scene.time t)) (λ t. not_past t s) (any_due (plus_of s.scene.time t)) (λ t u. not_past_fine t s))
+      fine_then Any (number_of v) (λ t. if_ok (due (plus_of s.world.time t)) (λ t. not_past t s)) (number_fine v q) (λ t u.
+      fine_then Any (due (plus_of s.world.time t)) (λ t. not_past t s) (any_due (plus_of s.world.time t)) (λ t u. not_past_fine t s))
   time_at_fine AtOnce s q = tt
 
   -- ## Scheduling
@@ -183,8 +183,8 @@ module _ (p : Program) (typed : WellTyped p) (ms : List Mode) where
 
   with_time_fine : (x : Value) (t : ℤ) (s : Store) → mode_of x ≡ Integer → Fits p ms s → Fine (Fits p ms) (with_notice_time x t s)
   with_time_fine x t s m f =
-      fine_then (Fits p ms) (number_of x) (λ n. turned (with_heap s) (due (timed s.scene.heap n t))) (number_fine x m) (λ n u.
-      fine_turned (Fits p ms) (with_heap s) (due (timed s.scene.heap n t)) (due_fine (Changed s.scene.heap) (timed s.scene.heap n t) (timed_sane s.scene.heap n t f.sound.scene.heap)) (λ h g. heap_fits p ms s h f g))
+      fine_then (Fits p ms) (number_of x) (λ n. turned (with_heap s) (due (timed s.world.heap n t))) (number_fine x m) (λ n u.
+      fine_turned (Fits p ms) (with_heap s) (due (timed s.world.heap n t)) (due_fine (Changed s.world.heap) (timed s.world.heap n t) (timed_sane s.world.heap n t f.sound.world.heap)) (λ h g. heap_fits p ms s h f g))
 
   prepared_fine : (c : ℕ) (x : Value) (vs : List Value) (ns : List Mode) (t : ℤ) (s : Store) → Hold vs ns → FieldsAre c 0 ns → mode_of x ≡ Integer → Fits p ms s → Fine (Fits p ms) (prepared c x vs t s)
   prepared_fine c x vs ns t s h g m f =
@@ -201,38 +201,38 @@ module _ (p : Program) (typed : WellTyped p) (ms : List Mode) where
       fine_then Any (attribute c key.field x s) (λ v. turned (λ ts. record { value = v; high = key.high } ∷ ts) (ties_of c x s keys)) (attribute_fine p typed ms c key.field h.0.0 x s h.0.1 m f) (λ v g.
       fine_turned Any (λ ts. record { value = v; high = key.high } ∷ ts) (ties_of c x s keys) (ties_fine c x s keys h.1 m f) (λ ts u. tt))
 
-  pending_fits : (s : Store) (q : PendingList) → Fits p ms s → Every (λ (e : PendingNotice). IsNotice s.scene.heap e.notice) q.entries → Fits p ms (with_pending s q)
+  pending_fits : (s : Store) (q : PendingList) → Fits p ms s → Every (λ (e : PendingNotice). IsNotice s.world.heap e.notice) q.entries → Fits p ms (with_pending s q)
   pending_fits s q f h = record {
     sound = record {
       globals = f.sound.globals;
-      scene = record { setting = f.sound.scene.setting; layout = f.sound.scene.layout; heap = f.sound.scene.heap; pending = h; histories = f.sound.scene.histories };
+      world = record { setting = f.sound.world.setting; layout = f.sound.world.layout; heap = f.sound.world.heap; pending = h; histories = f.sound.world.histories };
     };
     locals = f.locals;
   }
 
-  kind_here : (c : ℕ) (s : Store) → kind_said p c ≡ Some Notice → Fits p ms s → kind_of s.scene.heap.layout c ≡ Notice
-  kind_here c s q f = let cl = class_said p c Notice q in ap (λ l. kind_in (slice_get l.classes c)) f.sound.scene.layout ∙ ap kind_in cl.1 ∙ cl.2
+  kind_here : (c : ℕ) (s : Store) → kind_said p c ≡ Some Notice → Fits p ms s → kind_of s.world.heap.layout c ≡ Notice
+  kind_here c s q f = let cl = class_said p c Notice q in ap (λ l. kind_in (slice_get l.classes c)) f.sound.world.layout ∙ ap kind_in cl.1 ∙ cl.2
 
-  is_notice_here : (c : ℕ) (n : ℤ) (s : Store) → kind_said p c ≡ Some Notice → Fits p ms s → Lives s.scene.heap c n → IsNotice s.scene.heap n
-  is_notice_here c n s q f l = (c, subst (λ k. LivesAs k s.scene.heap c n) (kind_here c s q f) l, kind_here c s q f)
+  is_notice_here : (c : ℕ) (n : ℤ) (s : Store) → kind_said p c ≡ Some Notice → Fits p ms s → Lives s.world.heap c n → IsNotice s.world.heap n
+  is_notice_here c n s q f l = (c, subst (λ k. LivesAs k s.world.heap c n) (kind_here c s q f) l, kind_here c s q f)
 
-  scheduled_sane : (key : SortKey) (n : ℤ) (s : Store) → Fits p ms s → IsNotice s.scene.heap n → Sane (λ (q : PendingList). Every (λ (e : PendingNotice). IsNotice s.scene.heap e.notice) q.entries) (scheduled key n s.scene.pending)
-  scheduled_sane key n s f h = by (is_pending n s.scene.pending.entries) (s.scene.pending.schedulings == scheduling_limit)
+  scheduled_sane : (key : SortKey) (n : ℤ) (s : Store) → Fits p ms s → IsNotice s.world.heap n → Sane (λ (q : PendingList). Every (λ (e : PendingNotice). IsNotice s.world.heap e.notice) q.entries) (scheduled key n s.world.pending)
+  scheduled_sane key n s f h = by (is_pending n s.world.pending.entries) (s.world.pending.schedulings == scheduling_limit)
     where
-      by : (b c : Bool) → Sane (λ (q : PendingList). Every (λ (e : PendingNotice). IsNotice s.scene.heap e.notice) q.entries) (if b then Err faults.AlreadyScheduled else if c then Err faults.Overflow else Ok (with_entry key n s.scene.pending))
+      by : (b c : Bool) → Sane (λ (q : PendingList). Every (λ (e : PendingNotice). IsNotice s.world.heap e.notice) q.entries) (if b then Err faults.AlreadyScheduled else if c then Err faults.Overflow else Ok (with_entry key n s.world.pending))
       by true c = tt
       by false true = tt
-      by false false = every_both (λ (e : PendingNotice). IsNotice s.scene.heap e.notice) s.scene.pending.entries (record { key = key; number = s.scene.pending.schedulings; notice = n } ∷ []) f.sound.scene.pending (h, tt)
+      by false false = every_both (λ (e : PendingNotice). IsNotice s.world.heap e.notice) s.world.pending.entries (record { key = key; number = s.world.pending.schedulings; notice = n } ∷ []) f.sound.world.pending (h, tt)
 
   pub filed_notice_fine : (c : ℕ) (x : Value) (t : ℤ) (s : Store) → kind_said p c ≡ Some Notice → mode_of x ≡ Integer → Fits p ms s → Fine (Fits p ms) (filed_notice c x t s)
   filed_notice_fine c x t s q m f =
       let cl = class_said p c Notice q in
-      fine_then (Fits p ms) (entity c x s) (λ n. if_ok (sure (ranked c s)) (λ r. if_ok (ties_of c x s r.said.ties) (λ ties. unless_fault (int_lt t s.scene.time) faults.PastTime (turned (with_pending s) (due (scheduled (record { time = t; rank = r.rank; ties = ties }) n s.scene.pending)))))) (entity_fine p typed ms c cl.0 x s cl.1 m f) (λ n l.
-      fine_then (Fits p ms) (sure (ranked c s)) (λ r. if_ok (ties_of c x s r.said.ties) (λ ties. unless_fault (int_lt t s.scene.time) faults.PastTime (turned (with_pending s) (due (scheduled (record { time = t; rank = r.rank; ties = ties }) n s.scene.pending))))) (sure_fine (RankedAs p.events c) (ranked c s) (ranked_there c s q f)) (λ r ok.
-      fine_then (Fits p ms) (ties_of c x s r.said.ties) (λ ties. unless_fault (int_lt t s.scene.time) faults.PastTime (turned (with_pending s) (due (scheduled (record { time = t; rank = r.rank; ties = ties }) n s.scene.pending)))) (ties_fine c x s r.said.ties (keys r ok) m f) (λ ties u.
-      unless_fine (Fits p ms) (int_lt t s.scene.time) faults.PastTime (turned (with_pending s) (due (scheduled (record { time = t; rank = r.rank; ties = ties }) n s.scene.pending))) (λ due_time.
-      fine_turned (Fits p ms) (with_pending s) (due (scheduled (record { time = t; rank = r.rank; ties = ties }) n s.scene.pending))
-      (due_fine (λ (q : PendingList). Every (λ (e : PendingNotice). IsNotice s.scene.heap e.notice) q.entries) (scheduled (record { time = t; rank = r.rank; ties = ties }) n s.scene.pending) (scheduled_sane (record { time = t; rank = r.rank; ties = ties }) n s f (is_notice_here c n s q f l.1))) (λ d h. pending_fits s d f h)))))
+      fine_then (Fits p ms) (entity c x s) (λ n. if_ok (sure (ranked c s)) (λ r. if_ok (ties_of c x s r.said.ties) (λ ties. unless_fault (int_lt t s.world.time) faults.PastTime (turned (with_pending s) (due (scheduled (record { time = t; rank = r.rank; ties = ties }) n s.world.pending)))))) (entity_fine p typed ms c cl.0 x s cl.1 m f) (λ n l.
+      fine_then (Fits p ms) (sure (ranked c s)) (λ r. if_ok (ties_of c x s r.said.ties) (λ ties. unless_fault (int_lt t s.world.time) faults.PastTime (turned (with_pending s) (due (scheduled (record { time = t; rank = r.rank; ties = ties }) n s.world.pending))))) (sure_fine (RankedAs p.events c) (ranked c s) (ranked_there c s q f)) (λ r ok.
+      fine_then (Fits p ms) (ties_of c x s r.said.ties) (λ ties. unless_fault (int_lt t s.world.time) faults.PastTime (turned (with_pending s) (due (scheduled (record { time = t; rank = r.rank; ties = ties }) n s.world.pending)))) (ties_fine c x s r.said.ties (keys r ok) m f) (λ ties u.
+      unless_fine (Fits p ms) (int_lt t s.world.time) faults.PastTime (turned (with_pending s) (due (scheduled (record { time = t; rank = r.rank; ties = ties }) n s.world.pending))) (λ due_time.
+      fine_turned (Fits p ms) (with_pending s) (due (scheduled (record { time = t; rank = r.rank; ties = ties }) n s.world.pending))
+      (due_fine (λ (q : PendingList). Every (λ (e : PendingNotice). IsNotice s.world.heap e.notice) q.entries) (scheduled (record { time = t; rank = r.rank; ties = ties }) n s.world.pending) (scheduled_sane (record { time = t; rank = r.rank; ties = ties }) n s f (is_notice_here c n s q f l.1))) (λ d h. pending_fits s d f h)))))
     where
       keys : (r : Ranked) → RankedAs p.events c r → GoodKeys p c r.said.ties
       keys r ok =
@@ -242,22 +242,22 @@ module _ (p : Program) (typed : WellTyped p) (ms : List Mode) where
   pub rescheduled_fine : (c : ℕ) (x : Value) (vs : List Value) (ns : List Mode) (t : ℤ) (s : Store) → kind_said p c ≡ Some Notice → Hold vs ns → FieldsAre c 0 ns → mode_of x ≡ Integer → Fits p ms s → Fine (Fits p ms) (rescheduled c x vs t s)
   rescheduled_fine c x vs ns t s q h g m f =
       let cl = class_said p c Notice q in
-      fine_then (Fits p ms) (entity c x s) (λ n. unless_fault (is_pending n s.scene.pending.entries) faults.AlreadyScheduled (if_ok (prepared c x vs t s) (filed_notice c x t))) (entity_fine p typed ms c cl.0 x s cl.1 m f) (λ n l.
-      unless_fine (Fits p ms) (is_pending n s.scene.pending.entries) faults.AlreadyScheduled (if_ok (prepared c x vs t s) (filed_notice c x t)) (λ e.
+      fine_then (Fits p ms) (entity c x s) (λ n. unless_fault (is_pending n s.world.pending.entries) faults.AlreadyScheduled (if_ok (prepared c x vs t s) (filed_notice c x t))) (entity_fine p typed ms c cl.0 x s cl.1 m f) (λ n l.
+      unless_fine (Fits p ms) (is_pending n s.world.pending.entries) faults.AlreadyScheduled (if_ok (prepared c x vs t s) (filed_notice c x t)) (λ e.
       fine_then (Fits p ms) (prepared c x vs t s) (filed_notice c x t) (prepared_fine c x vs ns t s h g m f) (λ r fr. filed_notice_fine c x t r q m fr)))
 
-  cancelled_sane : (n : ℤ) (s : Store) → Fits p ms s → Sane (λ (q : PendingList). Every (λ (e : PendingNotice). IsNotice s.scene.heap e.notice) q.entries) (cancelled n s.scene.pending)
-  cancelled_sane n s f = by (is_pending n s.scene.pending.entries)
+  cancelled_sane : (n : ℤ) (s : Store) → Fits p ms s → Sane (λ (q : PendingList). Every (λ (e : PendingNotice). IsNotice s.world.heap e.notice) q.entries) (cancelled n s.world.pending)
+  cancelled_sane n s f = by (is_pending n s.world.pending.entries)
     where
-      by : (b : Bool) → Sane (λ (q : PendingList). Every (λ (e : PendingNotice). IsNotice s.scene.heap e.notice) q.entries) (if b then Ok (record s.scene.pending { entries = without_notice n s.scene.pending.entries }) else Err faults.NotScheduled)
-      by true = every_filter (λ (e : PendingNotice). IsNotice s.scene.heap e.notice) (λ (e : PendingNotice). IsNotice s.scene.heap e.notice) (λ e. not (int_eq n e.notice)) s.scene.pending.entries f.sound.scene.pending (λ e h t. h)
+      by : (b : Bool) → Sane (λ (q : PendingList). Every (λ (e : PendingNotice). IsNotice s.world.heap e.notice) q.entries) (if b then Ok (record s.world.pending { entries = without_notice n s.world.pending.entries }) else Err faults.NotScheduled)
+      by true = every_filter (λ (e : PendingNotice). IsNotice s.world.heap e.notice) (λ (e : PendingNotice). IsNotice s.world.heap e.notice) (λ e. not (int_eq n e.notice)) s.world.pending.entries f.sound.world.pending (λ e h t. h)
       by false = tt
 
   pub unscheduled_fine : (c : ℕ) (x : Value) (s : Store) → kind_said p c ≡ Some Notice → mode_of x ≡ Integer → Fits p ms s → Fine (Fits p ms) (unscheduled c x s)
   unscheduled_fine c x s q m f =
       let cl = class_said p c Notice q in
-      fine_then (Fits p ms) (entity c x s) (λ n. turned (with_pending s) (due (cancelled n s.scene.pending))) (entity_fine p typed ms c cl.0 x s cl.1 m f) (λ n l.
-      fine_turned (Fits p ms) (with_pending s) (due (cancelled n s.scene.pending)) (due_fine (λ (q : PendingList). Every (λ (e : PendingNotice). IsNotice s.scene.heap e.notice) q.entries) (cancelled n s.scene.pending) (cancelled_sane n s f)) (λ d h. pending_fits s d f h))
+      fine_then (Fits p ms) (entity c x s) (λ n. turned (with_pending s) (due (cancelled n s.world.pending))) (entity_fine p typed ms c cl.0 x s cl.1 m f) (λ n l.
+      fine_turned (Fits p ms) (with_pending s) (due (cancelled n s.world.pending)) (due_fine (λ (q : PendingList). Every (λ (e : PendingNotice). IsNotice s.world.heap e.notice) q.entries) (cancelled n s.world.pending) (cancelled_sane n s f)) (λ d h. pending_fits s d f h))
 
   -- ## Events
 
@@ -268,52 +268,52 @@ module _ (p : Program) (typed : WellTyped p) (ms : List Mode) where
     pub ranked : RankedAs p.events class c.ranked
     pub number : ℤ
     pub notice : c.notice ≡ Whole number
-    pub apart : Every (λ (e : PendingNotice). number ≡ e.notice → ⊥) c.store.scene.pending.entries
+    pub apart : Every (λ (e : PendingNotice). number ≡ e.notice → ⊥) c.store.world.pending.entries
     pub fits : Fits p ms c.store
 
-  said_kind : (c : ℕ) (s : Store) → Fits p ms s → kind_of s.scene.heap.layout c ≡ Notice → kind_said p c ≡ Some Notice
-  said_kind c s f q = by (slice_get p.layout.classes c) (sym (ap (λ l. kind_in (slice_get l.classes c)) f.sound.scene.layout) ∙ q)
+  said_kind : (c : ℕ) (s : Store) → Fits p ms s → kind_of s.world.heap.layout c ≡ Notice → kind_said p c ≡ Some Notice
+  said_kind c s f q = by (slice_get p.layout.classes c) (sym (ap (λ l. kind_in (slice_get l.classes c)) f.sound.world.layout) ∙ q)
     where
       by : (o : Option ClassLayout) → kind_in o ≡ Notice → option_map (λ (d : ClassLayout). d.kind) o ≡ Some Notice
       by None h = absurd cc
       by (Some d) h = ap Some h
 
-  event_fits : (t : ℤ) (s : Store) (e : PendingNotice) → least s.scene.pending.entries ≡ Some e → Fits p ms s → Fits p ms (at_event t s) × Every (λ (i : PendingNotice). e.notice ≡ i.notice → ⊥) (at_event t s).scene.pending.entries
+  event_fits : (t : ℤ) (s : Store) (e : PendingNotice) → least s.world.pending.entries ≡ Some e → Fits p ms s → Fits p ms (at_event t s) × Every (λ (i : PendingNotice). e.notice ≡ i.notice → ⊥) (at_event t s).world.pending.entries
   event_fits t s e q f = (
     record {
       sound = record {
         globals = f.sound.globals;
-        scene = record {
-          setting = f.sound.scene.setting;
-          layout = f.sound.scene.layout;
-          heap = f.sound.scene.heap;
-          pending = subst (λ o. Every (λ (i : PendingNotice). IsNotice s.scene.heap i.notice) (option_map_or (λ (i : PendingNotice). without_notice i.notice s.scene.pending.entries) o [])) (sym q)
-              (every_filter (λ (i : PendingNotice). IsNotice s.scene.heap i.notice) (λ (i : PendingNotice). IsNotice s.scene.heap i.notice) (λ i. not (int_eq e.notice i.notice)) s.scene.pending.entries f.sound.scene.pending (λ i h t. h));
-          histories = f.sound.scene.histories;
+        world = record {
+          setting = f.sound.world.setting;
+          layout = f.sound.world.layout;
+          heap = f.sound.world.heap;
+          pending = subst (λ o. Every (λ (i : PendingNotice). IsNotice s.world.heap i.notice) (option_map_or (λ (i : PendingNotice). without_notice i.notice s.world.pending.entries) o [])) (sym q)
+              (every_filter (λ (i : PendingNotice). IsNotice s.world.heap i.notice) (λ (i : PendingNotice). IsNotice s.world.heap i.notice) (λ i. not (int_eq e.notice i.notice)) s.world.pending.entries f.sound.world.pending (λ i h t. h));
+          histories = f.sound.world.histories;
         };
       };
       locals = f.locals;
     },
-    subst (λ o. Every (λ (i : PendingNotice). e.notice ≡ i.notice → ⊥) (option_map_or (λ (i : PendingNotice). without_notice i.notice s.scene.pending.entries) o [])) (sym q)
-        (every_filter (λ (i : PendingNotice). IsNotice s.scene.heap i.notice) (λ (i : PendingNotice). e.notice ≡ i.notice → ⊥) (λ i. not (int_eq e.notice i.notice)) s.scene.pending.entries f.sound.scene.pending (λ i h t same. apart_by i t same)),
+    subst (λ o. Every (λ (i : PendingNotice). e.notice ≡ i.notice → ⊥) (option_map_or (λ (i : PendingNotice). without_notice i.notice s.world.pending.entries) o [])) (sym q)
+        (every_filter (λ (i : PendingNotice). IsNotice s.world.heap i.notice) (λ (i : PendingNotice). e.notice ≡ i.notice → ⊥) (λ i. not (int_eq e.notice i.notice)) s.world.pending.entries f.sound.world.pending (λ i h t same. apart_by i t same)),
   )
     where
       apart_by : (i : PendingNotice) → not (int_eq e.notice i.notice) ≡ true → e.notice ≡ i.notice → ⊥
       apart_by i t same = let are : int_eq e.notice i.notice ≡ true = (Decides-int_eq e.notice i.notice).1 same in let back : not true ≡ true = sym (ap not are) ∙ t in absurd cc
 
   pub next_event_there : (s : Store) → is_awaited s ≡ true → Fits p ms s → There ComingAs (next_event s)
-  next_event_there s a f = by (least s.scene.pending.entries) refl a
+  next_event_there s a f = by (least s.world.pending.entries) refl a
     where
-      with_class : (e : PendingNotice) → least s.scene.pending.entries ≡ Some e → (class : ℕ) → kind_said p class ≡ Some Notice → (o : Option Ranked) → There (RankedAs p.events class) o → There ComingAs (coming_as o e.key.time e.notice s)
+      with_class : (e : PendingNotice) → least s.world.pending.entries ≡ Some e → (class : ℕ) → kind_said p class ≡ Some Notice → (o : Option Ranked) → There (RankedAs p.events class) o → There ComingAs (coming_as o e.key.time e.notice s)
       with_class e q class k None h = absurd h
       with_class e q class k (Some r) h =
           let both = event_fits e.key.time s e q f in
           record { class = class; kind = k; ranked = h; number = e.notice; notice = refl; apart = both.1; fits = both.0 }
 
-      by : (o : Option PendingNotice) → least s.scene.pending.entries ≡ o → is_some (option_map event_of o) ≡ true → There ComingAs (next_event s)
+      by : (o : Option PendingNotice) → least s.world.pending.entries ≡ o → is_some (option_map event_of o) ≡ true → There ComingAs (next_event s)
       by None q h = absurd cc
       by (Some e) q h =
-          let n = notice_there s.scene.heap e.notice (least_is (λ (i : PendingNotice). IsNotice s.scene.heap i.notice) s.scene.pending.entries e f.sound.scene.pending q) in
+          let n = notice_there s.world.heap e.notice (least_is (λ (i : PendingNotice). IsNotice s.world.heap i.notice) s.world.pending.entries e f.sound.world.pending q) in
           let k : kind_said p n.0.class ≡ Some Notice = said_kind n.0.class s f n.2 in
           subst (λ o. There ComingAs (coming_with (option_map event_of o) s)) (sym q)
           (subst (λ r. There ComingAs (coming_as (ranked_as r s) e.key.time e.notice s)) (sym n.1)
@@ -325,7 +325,7 @@ module _ (p : Program) (typed : WellTyped p) (ms : List Mode) where
       fine_then (λ vs. Hold vs (n ∷ ns)) (attribute c k x s) (λ v. turned (λ vs. v ∷ vs) (attributes_given c (k + 1) (length ns) x s)) (attribute_fine p typed ms c k n x s (first_field c k n ns g) m f) (λ v h.
       fine_turned (λ vs. Hold vs (n ∷ ns)) (λ vs. v ∷ vs) (attributes_given c (k + 1) (length ns) x s) (attributes_fine c (k + 1) ns x s (later_fields c k n ns g) m f) (λ vs hs. let all : Hold (v ∷ vs) (n ∷ ns) = cc in all))
 
-  saved_fine : (o : Option ℕ) (c : ℕ) (n : ℤ) (s : Store) → IfSome o (λ k. (slice_get p.globals k ≡ Some Integer) × IsPlain p (Global k)) → kind_said p c ≡ Some Notice → Every (λ (e : PendingNotice). n ≡ e.notice → ⊥) s.scene.pending.entries → Fits p ms s → Fine (Fits p ms) (saved_or_gone o c (Whole n) s)
+  saved_fine : (o : Option ℕ) (c : ℕ) (n : ℤ) (s : Store) → IfSome o (λ k. (slice_get p.globals k ≡ Some Integer) × IsPlain p (Global k)) → kind_said p c ≡ Some Notice → Every (λ (e : PendingNotice). n ≡ e.notice → ⊥) s.world.pending.entries → Fits p ms s → Fine (Fits p ms) (saved_or_gone o c (Whole n) s)
   saved_fine (Some k) c n s h q a f = global_fine p typed ms k Integer (Whole n) s h.0 refl f
   saved_fine None c n s h q a f = gone_fine p typed ms c n s (alone c q) a f
 

@@ -20,7 +20,7 @@ use Rattle.ss_base.specs.declared.words.UnaryOperator.{UnaryOperator}
 use Rattle.ss_base.specs.declared.words.Relation.{Relation}
 use Rattle.ss_program.specs.Program.{Expression, Constant, Fetch, Attribute, OfSystemSet, OfSet, OfMember, Clock, TimeOf, Figure, FigureOf, Signed, Unary, Calculate, SetOwner, TheSystem, Entity, Test, Compare, DataEnded, Empty, Member, Condition, Guard, Place, ToVariable, ToAttribute, ToCount, Position, ByDiscipline, AsFirst, AsLast, BeforeMember, AfterMember, When, At, In, Now, PrintItem, AValue, AMean, AMeanOf, Program}
 use Rattle.ss_program.specs.WellTyped.{TypedScope, WellTyped, HasMode, HaveModes, IsSet, OwnerFits, GoodTest, GoodCondition, TakesMode, GoodPosition, GoodWhen, HasSubject, IsAlone, IsOfEntities, TakesItem}
-use Rattle.ss_meaning.specs.Values.{Trouble, if_ok, turned, due, sure, computed, calculated, operator_of, signed, computed_alone, applied, related, takes, take_all}
+use Rattle.ss_meaning.specs.Values.{Failure, if_ok, turned, due, sure, computed, calculated, operator_of, signed, computed_alone, applied, related, takes, take_all}
 use Rattle.ss_meaning.specs.Store.{Store, fetched}
 use Rattle.ss_meaning.specs.Entities.{entity, attribute, time_of}
 use Rattle.ss_meaning.specs.Places.{InAttribute}
@@ -55,7 +55,7 @@ related_there r m (Text s) (Text t) p q = tt
 related_there r m (Whole x) (Text t) p q = absurd cc
 related_there r m (Text s) (Whole y) p q = absurd cc
 
-as_integer : (m : Mode) (r : Result Value Trouble) → m ≡ Integer → Fine (HasMode_is Integer) r → Fine (HasMode_is m) r
+as_integer : (m : Mode) (r : Result Value Failure) → m ≡ Integer → Fine (HasMode_is Integer) r → Fine (HasMode_is m) r
 as_integer m r q h = subst (λ n. Fine (HasMode_is n) r) (sym q) h
 
 -- what fields take
@@ -150,7 +150,7 @@ module _ (p : Program) (typed : WellTyped p) (ms : List Mode) (b : Bool) where
 
   -- ## References
 
-  looked_fine : (known : Value → Result ℤ Trouble) (Q : ℤ → Type 0) (x : Value) → mode_of x ≡ Integer → Fine Q (known x) → Fine (HasMode_is Integer) (looked_at known x)
+  looked_fine : (known : Value → Result ℤ Failure) (Q : ℤ → Type 0) (x : Value) → mode_of x ≡ Integer → Fine Q (known x) → Fine (HasMode_is Integer) (looked_at known x)
   looked_fine known Q x m h = fine_turned (HasMode_is Integer) (λ n. x) (known x) h (λ n g. m)
 
   pub entity_value_fine : (c : ℕ) (cl : ClassLayout) (e : Expression) → Rattle.std.specs.Prelude.slice_get p.layout.classes c ≡ Some cl → HasMode here e Integer → (s : Store) → Fits p ms s → Fine (HasMode_is Integer) (entity_value c e s)
@@ -201,7 +201,7 @@ module _ (p : Program) (typed : WellTyped p) (ms : List Mode) (b : Bool) where
   passed_fine (Compare r a c) h s f =
       fine_then Any (value a s) (λ x. if_ok (value c s) (λ y. sure (related r x y))) (value_fine a h.0 h.1 s f) (λ x g.
       fine_then Any (value c s) (λ y. sure (related r x y)) (value_fine c h.0 h.2 s f) (λ y k. sure_fine Any (related r x y) (related_there r h.0 x y g k)))
-  passed_fine (DataEnded negated) h s f = fine_turned Any (not_if negated) (due (is_ended s.scene.input)) (any_due (is_ended s.scene.input)) (λ u v. tt)
+  passed_fine (DataEnded negated) h s f = fine_turned Any (not_if negated) (due (is_ended s.world.input)) (any_due (is_ended s.world.input)) (λ u v. tt)
   passed_fine (Empty negated set owner) h s f =
       fine_then Any (owner_value owner s) (λ o. turned (not_if negated) (is_empty set o s)) (owner_value_fine set owner h s f) (λ o g.
       fine_turned Any (not_if negated) (is_empty set o s) (is_empty_fine p typed ms set o s g f) (λ u v. tt))
@@ -210,11 +210,11 @@ module _ (p : Program) (typed : WellTyped p) (ms : List Mode) (b : Bool) where
       fine_then Any (owner_value owner s) (λ o. turned (not_if negated) (is_in set x o s)) (owner_value_fine set owner h.1 s f) (λ o k.
       fine_turned Any (not_if negated) (is_in set x o s) (is_in_fine p typed ms set x o s g k f) (λ u v. tt)))
 
-  both_fine : (c : Bool) (r : Result Bool Trouble) → Fine Any r → Fine Any (both c r)
+  both_fine : (c : Bool) (r : Result Bool Failure) → Fine Any r → Fine Any (both c r)
   both_fine true r h = h
   both_fine false r h = tt
 
-  either_fine : (c : Bool) (r : Result Bool Trouble) → Fine Any r → Fine Any (either c r)
+  either_fine : (c : Bool) (r : Result Bool Failure) → Fine Any r → Fine Any (either c r)
   either_fine true r h = tt
   either_fine false r h = h
 

@@ -2,14 +2,14 @@
 use Rattle.std.proofs.Common.{◌≡◌, Bool, true, false, Option, Some, None, Ok, Err, refl}
 use Rattle.std.specs.Prelude.{Result}
 use Rattle.ss_base.specs.declared.fault.FaultKind.{FaultKind}
-use Rattle.ss_meaning.specs.Values.{Trouble, Fails, Misfit, if_ok, turned, due, sure, where_fit, unless_fault}
+use Rattle.ss_meaning.specs.Values.{Failure, Fails, TypeError, if_ok, turned, due, sure, where_fit, unless_fault}
 use Rattle.ss_world.specs.State.{and_then}
 
 -- there is a value, which is so, or a fault of the run
-abbrev pub Fine : {A : Type 0} → (A → Type 0) → Result A Trouble → Type 0
+abbrev pub Fine : {A : Type 0} → (A → Type 0) → Result A Failure → Type 0
 Fine P (Ok a) = P a
 Fine P (Err (Fails k)) = Unit {0}
-Fine P (Err Misfit) = ⊥
+Fine P (Err TypeError) = ⊥
 
 -- a result has P, or is a fault
 abbrev pub Sane : {A : Type 0} → (A → Type 0) → Result A FaultKind → Type 0
@@ -23,20 +23,20 @@ There P None = ⊥
 abbrev pub Any : {A : Type 0} → A → Type 0
 Any a = Unit {0}
 
-pub fine_then : {A B : Type 0} {P : A → Type 0} (Q : B → Type 0) (r : Result A Trouble) (f : A → Result B Trouble) → Fine P r → ((a : A) → P a → Fine Q (f a)) → Fine Q (if_ok r f)
+pub fine_then : {A B : Type 0} {P : A → Type 0} (Q : B → Type 0) (r : Result A Failure) (f : A → Result B Failure) → Fine P r → ((a : A) → P a → Fine Q (f a)) → Fine Q (if_ok r f)
 fine_then Q (Ok a) f h g = g a h
 fine_then Q (Err (Fails k)) f h g = tt
-fine_then Q (Err Misfit) f h g = absurd h
+fine_then Q (Err TypeError) f h g = absurd h
 
-pub fine_turned : {A B : Type 0} {P : A → Type 0} (Q : B → Type 0) (f : A → B) (r : Result A Trouble) → Fine P r → ((a : A) → P a → Q (f a)) → Fine Q (turned f r)
+pub fine_turned : {A B : Type 0} {P : A → Type 0} (Q : B → Type 0) (f : A → B) (r : Result A Failure) → Fine P r → ((a : A) → P a → Q (f a)) → Fine Q (turned f r)
 fine_turned Q f (Ok a) h g = g a h
 fine_turned Q f (Err (Fails k)) h g = tt
-fine_turned Q f (Err Misfit) h g = absurd h
+fine_turned Q f (Err TypeError) h g = absurd h
 
-pub fine_weaker : {A : Type 0} {P : A → Type 0} (Q : A → Type 0) (r : Result A Trouble) → Fine P r → ((a : A) → P a → Q a) → Fine Q r
+pub fine_weaker : {A : Type 0} {P : A → Type 0} (Q : A → Type 0) (r : Result A Failure) → Fine P r → ((a : A) → P a → Q a) → Fine Q r
 fine_weaker Q (Ok a) h g = g a h
 fine_weaker Q (Err (Fails k)) h g = tt
-fine_weaker Q (Err Misfit) h g = absurd h
+fine_weaker Q (Err TypeError) h g = absurd h
 
 pub due_fine : {A : Type 0} (P : A → Type 0) (r : Result A FaultKind) → Sane P r → Fine P (due r)
 due_fine P (Ok a) h = h
@@ -50,11 +50,11 @@ pub sure_fine : {A : Type 0} (P : A → Type 0) (o : Option A) → There P o →
 sure_fine P (Some a) h = h
 sure_fine P None h = absurd h
 
-pub fit_fine : {A : Type 0} (P : A → Type 0) (b : Bool) (r : Result A Trouble) → b ≡ true → Fine P r → Fine P (where_fit b r)
+pub fit_fine : {A : Type 0} (P : A → Type 0) (b : Bool) (r : Result A Failure) → b ≡ true → Fine P r → Fine P (where_fit b r)
 fit_fine P true r q h = h
 fit_fine P false r q h = absurd cc
 
-pub unless_fine : {A : Type 0} (P : A → Type 0) (b : Bool) (k : FaultKind) (r : Result A Trouble) → (b ≡ false → Fine P r) → Fine P (unless_fault b k r)
+pub unless_fine : {A : Type 0} (P : A → Type 0) (b : Bool) (k : FaultKind) (r : Result A Failure) → (b ≡ false → Fine P r) → Fine P (unless_fault b k r)
 unless_fine P true k r h = tt
 unless_fine P false k r h = h refl
 

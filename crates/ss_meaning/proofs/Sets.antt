@@ -34,7 +34,7 @@ use Rattle.ss_base.specs.declared.words.End.TheVariants as ends
 use Rattle.ss_program.specs.Program.{Program}
 use Rattle.ss_program.specs.WellTyped.{WellTyped, IsSet, IsOwned, owner_of_set, GoodDiscipline, GoodKeys, GoodSubject, IsAlone, IsOfEntities}
 use Rattle.ss_stats.specs.History.{History, sum_of, mean_of}
-use Rattle.ss_meaning.specs.Values.{Trouble, Misfit, Fails, if_ok, turned, due, sure, where_fit, unless_fault, number_of}
+use Rattle.ss_meaning.specs.Values.{Failure, TypeError, Fails, if_ok, turned, due, sure, where_fit, unless_fault, number_of}
 use Rattle.ss_meaning.specs.Store.{Store, with_heap, with_histories, fetched}
 use Rattle.ss_meaning.specs.Histories.{noted, history_of_subject, folded, figure_kept, mean_kept, renewed}
 use Rattle.ss_meaning.specs.Entities.{entity}
@@ -53,12 +53,12 @@ module _ (p : Program) (typed : WellTyped p) (ms : List Mode) where
   -- ## Members and owners
 
   set_here : (set : ℕ) (t : SetLayout) (s : Store) → slice_get p.layout.sets set ≡ Some t → Fits p ms s → set_at set s ≡ Some t
-  set_here set t s q f = ap (λ l. slice_get l.sets set) f.sound.scene.layout ∙ q
+  set_here set t s q f = ap (λ l. slice_get l.sets set) f.sound.world.layout ∙ q
 
   pub member_fine : (set : ℕ) (x : Value) (s : Store) → IsSet p set → mode_of x ≡ Integer → Fits p ms s → Fine (λ n. x ≡ Whole n) (member set x s)
   member_fine set (Whole n) s q g f =
-      fit_fine (λ n'. Whole n ≡ Whole n') (is_some (set_at set s)) (turned (λ u. n) (due (joiner s.scene.heap set n))) (ap is_some (set_here set q.0 s q.1 f))
-      (fine_turned (λ n'. Whole n ≡ Whole n') (λ u. n) (due (joiner s.scene.heap set n)) (any_due (joiner s.scene.heap set n)) (λ u v. refl))
+      fit_fine (λ n'. Whole n ≡ Whole n') (is_some (set_at set s)) (turned (λ u. n) (due (joiner s.world.heap set n))) (ap is_some (set_here set q.0 s q.1 f))
+      (fine_turned (λ n'. Whole n ≡ Whole n') (λ u. n) (due (joiner s.world.heap set n)) (any_due (joiner s.world.heap set n)) (λ u v. refl))
   member_fine set (Text t) s q g f = absurd cc
 
   -- whose set it is: an entity's, or the system's
@@ -92,14 +92,14 @@ module _ (p : Program) (typed : WellTyped p) (ms : List Mode) where
   abbrev pub IsOwnerNumber : State → ℕ → ℤ → Type 0
   IsOwnerNumber h set n = owner_kind h.layout set ≡ System → n ≡ pos 0
 
-  pub owner_number_fine : (set : ℕ) (o : Option Value) (s : Store) → OwnerOk set o → Fits p ms s → Fine (IsOwnerNumber s.scene.heap set) (owner_number set o s)
+  pub owner_number_fine : (set : ℕ) (o : Option Value) (s : Store) → OwnerOk set o → Fits p ms s → Fine (IsOwnerNumber s.world.heap set) (owner_number set o s)
   owner_number_fine set o s q f =
       let t = set_of set o q in
       let here : set_at set s ≡ Some t.0 = set_here set t.0 s t.1 f in
       let said : owner_of_set p set ≡ Some t.0.owner = ap (λ l. option_map (λ (u : SetLayout). u.owner) l) t.1 in
-      let kind : owner_kind s.scene.heap.layout set ≡ t.0.owner = ap (λ l. Rattle.ss_world.specs.Sets.owner_in l) here in
-      subst (λ l. Fine (IsOwnerNumber s.scene.heap set) (owner_by_layout l o)) (sym here)
-      (fine_weaker (IsOwnerNumber s.scene.heap set) (owner_as t.0.owner o) (as_fine t.0.owner o set said q) (λ n h e. h (sym kind ∙ e)))
+      let kind : owner_kind s.world.heap.layout set ≡ t.0.owner = ap (λ l. Rattle.ss_world.specs.Sets.owner_in l) here in
+      subst (λ l. Fine (IsOwnerNumber s.world.heap set) (owner_by_layout l o)) (sym here)
+      (fine_weaker (IsOwnerNumber s.world.heap set) (owner_as t.0.owner o) (as_fine t.0.owner o set said q) (λ n h e. h (sym kind ∙ e)))
 
   owner_lives : (h : State) (c : ℕ) (n : ℤ) → Sane (λ m. Lives h c n) (owner_of_kind h (Class c) n)
   owner_lives h c n = sane_then (λ m. Lives h c n) (entity_in h c n) (λ r. Ok (number_in n)) (entity_known h c n) (λ r q. entity_lives h c n r q)
@@ -108,38 +108,38 @@ module _ (p : Program) (typed : WellTyped p) (ms : List Mode) where
   owner_bears h System n z = z refl
   owner_bears h (Class c) n z = owner_lives h c n
 
-  pub known_owner_fine : (set : ℕ) (o : Option Value) (s : Store) → OwnerOk set o → Fits p ms s → Fine (BearsSubject s.scene.heap (OfCount set)) (known_owner set o s)
+  pub known_owner_fine : (set : ℕ) (o : Option Value) (s : Store) → OwnerOk set o → Fits p ms s → Fine (BearsSubject s.world.heap (OfCount set)) (known_owner set o s)
   known_owner_fine set o s q f =
-      fine_then (BearsSubject s.scene.heap (OfCount set)) (owner_number set o s) (λ n. turned (λ u. n) (due (owner s.scene.heap set n))) (owner_number_fine set o s q f) (λ n z.
-      fine_turned (BearsSubject s.scene.heap (OfCount set)) (λ u. n) (due (owner s.scene.heap set n)) (due_fine (λ m. BearsSubject s.scene.heap (OfCount set) n) (owner s.scene.heap set n) (owner_bears s.scene.heap (owner_kind s.scene.heap.layout set) n z)) (λ u b. b))
+      fine_then (BearsSubject s.world.heap (OfCount set)) (owner_number set o s) (λ n. turned (λ u. n) (due (owner s.world.heap set n))) (owner_number_fine set o s q f) (λ n z.
+      fine_turned (BearsSubject s.world.heap (OfCount set)) (λ u. n) (due (owner s.world.heap set n)) (due_fine (λ m. BearsSubject s.world.heap (OfCount set) n) (owner s.world.heap set n) (owner_bears s.world.heap (owner_kind s.world.heap.layout set) n z)) (λ u b. b))
 
   -- ## Looking
 
   pub of_set_fine : (query : SetQuery) (set : ℕ) (o : Option Value) (s : Store) → OwnerOk set o → Fits p ms s → Fine (λ v. mode_of v ≡ Integer) (of_set query set o s)
   of_set_fine query set o s q f =
-      fine_then (λ v. mode_of v ≡ Integer) (owner_number set o s) (λ n. turned Whole (due (set_answer query s.scene.heap set n))) (owner_number_fine set o s q f) (λ n z.
-      fine_turned (λ v. mode_of v ≡ Integer) Whole (due (set_answer query s.scene.heap set n)) (any_due (set_answer query s.scene.heap set n)) (λ u v. refl))
+      fine_then (λ v. mode_of v ≡ Integer) (owner_number set o s) (λ n. turned Whole (due (set_answer query s.world.heap set n))) (owner_number_fine set o s q f) (λ n z.
+      fine_turned (λ v. mode_of v ≡ Integer) Whole (due (set_answer query s.world.heap set n)) (any_due (set_answer query s.world.heap set n)) (λ u v. refl))
 
   pub of_member_fine : (query : MemberQuery) (set : ℕ) (x : Value) (s : Store) → IsSet p set → mode_of x ≡ Integer → Fits p ms s → Fine (λ v. mode_of v ≡ Integer) (of_member query set x s)
   of_member_fine Predecessor set x s q g f =
-      fine_then (λ v. mode_of v ≡ Integer) (member set x s) (λ n. turned Whole (due (previous_in s.scene.heap set n))) (member_fine set x s q g f) (λ n z.
-      fine_turned (λ v. mode_of v ≡ Integer) Whole (due (previous_in s.scene.heap set n)) (any_due (previous_in s.scene.heap set n)) (λ u v. refl))
+      fine_then (λ v. mode_of v ≡ Integer) (member set x s) (λ n. turned Whole (due (previous_in s.world.heap set n))) (member_fine set x s q g f) (λ n z.
+      fine_turned (λ v. mode_of v ≡ Integer) Whole (due (previous_in s.world.heap set n)) (any_due (previous_in s.world.heap set n)) (λ u v. refl))
   of_member_fine Successor set x s q g f =
-      fine_then (λ v. mode_of v ≡ Integer) (member set x s) (λ n. turned Whole (due (next_in s.scene.heap set n))) (member_fine set x s q g f) (λ n z.
-      fine_turned (λ v. mode_of v ≡ Integer) Whole (due (next_in s.scene.heap set n)) (any_due (next_in s.scene.heap set n)) (λ u v. refl))
+      fine_then (λ v. mode_of v ≡ Integer) (member set x s) (λ n. turned Whole (due (next_in s.world.heap set n))) (member_fine set x s q g f) (λ n z.
+      fine_turned (λ v. mode_of v ≡ Integer) Whole (due (next_in s.world.heap set n)) (any_due (next_in s.world.heap set n)) (λ u v. refl))
   of_member_fine Membership set x s q g f =
-      fine_then (λ v. mode_of v ≡ Integer) (member set x s) (λ n. turned (λ o. Whole (is_one o)) (due (owner_of_member s.scene.heap set n))) (member_fine set x s q g f) (λ n z.
-      fine_turned (λ v. mode_of v ≡ Integer) (λ o. Whole (is_one o)) (due (owner_of_member s.scene.heap set n)) (any_due (owner_of_member s.scene.heap set n)) (λ u v. refl))
+      fine_then (λ v. mode_of v ≡ Integer) (member set x s) (λ n. turned (λ o. Whole (is_one o)) (due (owner_of_member s.world.heap set n))) (member_fine set x s q g f) (λ n z.
+      fine_turned (λ v. mode_of v ≡ Integer) (λ o. Whole (is_one o)) (due (owner_of_member s.world.heap set n)) (any_due (owner_of_member s.world.heap set n)) (λ u v. refl))
 
   pub is_empty_fine : (set : ℕ) (o : Option Value) (s : Store) → OwnerOk set o → Fits p ms s → Fine Any (is_empty set o s)
   is_empty_fine set o s q f =
-      fine_then Any (owner_number set o s) (λ n. turned is_none (due (count_in s.scene.heap set n))) (owner_number_fine set o s q f) (λ n z.
-      fine_turned Any is_none (due (count_in s.scene.heap set n)) (any_due (count_in s.scene.heap set n)) (λ u v. tt))
+      fine_then Any (owner_number set o s) (λ n. turned is_none (due (count_in s.world.heap set n))) (owner_number_fine set o s q f) (λ n z.
+      fine_turned Any is_none (due (count_in s.world.heap set n)) (any_due (count_in s.world.heap set n)) (λ u v. tt))
 
   pub is_in_fine : (set : ℕ) (x : Value) (o : Option Value) (s : Store) → mode_of x ≡ Integer → OwnerOk set o → Fits p ms s → Fine Any (is_in set x o s)
   is_in_fine set x o s g q f =
-      fine_then Any (member set x s) (λ n. if_ok (owner_number set o s) (λ m. due (member_test s.scene.heap set m n))) (member_fine set x s (set_of set o q) g f) (λ n z.
-      fine_then Any (owner_number set o s) (λ m. due (member_test s.scene.heap set m n)) (owner_number_fine set o s q f) (λ m y. any_due (member_test s.scene.heap set m n)))
+      fine_then Any (member set x s) (λ n. if_ok (owner_number set o s) (λ m. due (member_test s.world.heap set m n))) (member_fine set x s (set_of set o q) g f) (λ n z.
+      fine_then Any (owner_number set o s) (λ m. due (member_test s.world.heap set m n)) (owner_number_fine set o s q f) (λ m y. any_due (member_test s.world.heap set m n)))
 
   -- ## Filing and removing
 
@@ -148,7 +148,7 @@ module _ (p : Program) (typed : WellTyped p) (ms : List Mode) where
   count_bears h set o z =
       sane_then (λ n. BearsSubject h (OfCount set) o) (owner h set o) (λ n. Ok (pos (length (members_of h.lists set n)))) (owner_bears h (owner_kind h.layout set) o z) (λ m b. b)
 
-  pub recounted_fine : (set : ℕ) (o : ℤ) (s : Store) (h : State) → IsOwnerNumber s.scene.heap set o → Fits p ms s → Changed s.scene.heap h → Fine (Fits p ms) (recounted set o s h)
+  pub recounted_fine : (set : ℕ) (o : ℤ) (s : Store) (h : State) → IsOwnerNumber s.world.heap set o → Fits p ms s → Changed s.world.heap h → Fine (Fits p ms) (recounted set o s h)
   recounted_fine set o s h z f g =
       fine_then (Fits p ms) (due (count_in h set o)) (λ n. noted (OfCount set) o (Whole n) (with_heap s h))
       (due_fine (λ n. BearsSubject h (OfCount set) o) (count_in h set o) (count_bears h set o (λ e. z (ap (λ l. owner_kind l set) (sym g.1.layout) ∙ e)))) (λ n b.
@@ -179,20 +179,20 @@ module _ (p : Program) (typed : WellTyped p) (ms : List Mode) where
   FilingOk (JustBefore y) = mode_of y ≡ Integer
   FilingOk (JustAfter y) = mode_of y ≡ Integer
 
-  pub filed_by_fine : (filing : Filing) (set : ℕ) (o x : ℤ) (s : Store) → FilingOk filing → IsSet p set → Fits p ms s → Fine (Changed s.scene.heap) (filed_by filing set o x s)
+  pub filed_by_fine : (filing : Filing) (set : ℕ) (o x : ℤ) (s : Store) → FilingOk filing → IsSet p set → Fits p ms s → Fine (Changed s.world.heap) (filed_by filing set o x s)
   filed_by_fine ByRule set o x s g q f =
-      fine_then (Changed s.scene.heap) (sure (slice_get s.scene.setting.disciplines set)) (λ d. where_fit (is_fit s.scene.heap.layout set d) (due (filed s.scene.heap d set o x)))
-      (sure_fine (GoodDiscipline p q.0) (slice_get s.scene.setting.disciplines set) (subst (λ c. There (GoodDiscipline p q.0) (slice_get c.disciplines set)) (sym f.sound.scene.setting) (discipline_at p.layout.sets p.disciplines set q.0 typed.disciplines q.1))) (λ d good.
-      fit_fine (Changed s.scene.heap) (is_fit s.scene.heap.layout set d) (due (filed s.scene.heap d set o x)) (ap (λ l. is_fit l set d) f.sound.scene.layout ∙ discipline_fits set q.0 d q.1 good)
-      (due_fine (Changed s.scene.heap) (filed s.scene.heap d set o x) (filed_sane s.scene.heap d set o x f.sound.scene.heap)))
-  filed_by_fine Foremost set o x s g q f = due_fine (Changed s.scene.heap) (filed_first s.scene.heap set o x) (first_sane s.scene.heap set o x f.sound.scene.heap)
-  filed_by_fine Hindmost set o x s g q f = due_fine (Changed s.scene.heap) (filed_last s.scene.heap set o x) (last_sane s.scene.heap set o x f.sound.scene.heap)
+      fine_then (Changed s.world.heap) (sure (slice_get s.world.setting.disciplines set)) (λ d. where_fit (is_fit s.world.heap.layout set d) (due (filed s.world.heap d set o x)))
+      (sure_fine (GoodDiscipline p q.0) (slice_get s.world.setting.disciplines set) (subst (λ c. There (GoodDiscipline p q.0) (slice_get c.disciplines set)) (sym f.sound.world.setting) (discipline_at p.layout.sets p.disciplines set q.0 typed.disciplines q.1))) (λ d good.
+      fit_fine (Changed s.world.heap) (is_fit s.world.heap.layout set d) (due (filed s.world.heap d set o x)) (ap (λ l. is_fit l set d) f.sound.world.layout ∙ discipline_fits set q.0 d q.1 good)
+      (due_fine (Changed s.world.heap) (filed s.world.heap d set o x) (filed_sane s.world.heap d set o x f.sound.world.heap)))
+  filed_by_fine Foremost set o x s g q f = due_fine (Changed s.world.heap) (filed_first s.world.heap set o x) (first_sane s.world.heap set o x f.sound.world.heap)
+  filed_by_fine Hindmost set o x s g q f = due_fine (Changed s.world.heap) (filed_last s.world.heap set o x) (last_sane s.world.heap set o x f.sound.world.heap)
   filed_by_fine (JustBefore y) set o x s g q f =
-      fine_then (Changed s.scene.heap) (member set y s) (λ k. due (filed_before s.scene.heap set o x k)) (member_fine set y s q g f) (λ k e.
-      due_fine (Changed s.scene.heap) (filed_before s.scene.heap set o x k) (before_sane s.scene.heap set o x k f.sound.scene.heap))
+      fine_then (Changed s.world.heap) (member set y s) (λ k. due (filed_before s.world.heap set o x k)) (member_fine set y s q g f) (λ k e.
+      due_fine (Changed s.world.heap) (filed_before s.world.heap set o x k) (before_sane s.world.heap set o x k f.sound.world.heap))
   filed_by_fine (JustAfter y) set o x s g q f =
-      fine_then (Changed s.scene.heap) (member set y s) (λ k. due (filed_after s.scene.heap set o x k)) (member_fine set y s q g f) (λ k e.
-      due_fine (Changed s.scene.heap) (filed_after s.scene.heap set o x k) (after_sane s.scene.heap set o x k f.sound.scene.heap))
+      fine_then (Changed s.world.heap) (member set y s) (λ k. due (filed_after s.world.heap set o x k)) (member_fine set y s q g f) (λ k e.
+      due_fine (Changed s.world.heap) (filed_after s.world.heap set o x k) (after_sane s.world.heap set o x k f.sound.world.heap))
 
   pub filed_in_fine : (filing : Filing) (set : ℕ) (x : Value) (o : Option Value) (s : Store) → FilingOk filing → mode_of x ≡ Integer → OwnerOk set o → Fits p ms s → Fine (Fits p ms) (filed_in filing set x o s)
   filed_in_fine filing set x o s k g q f =
@@ -202,9 +202,9 @@ module _ (p : Program) (typed : WellTyped p) (ms : List Mode) where
 
   pub removed_from_fine : (set : ℕ) (x : Value) (o : Option Value) (s : Store) → mode_of x ≡ Integer → OwnerOk set o → Fits p ms s → Fine (Fits p ms) (removed_from set x o s)
   removed_from_fine set x o s g q f =
-      fine_then (Fits p ms) (member set x s) (λ n. if_ok (owner_number set o s) (λ m. if_ok (due (removed s.scene.heap set m n)) (recounted set m s))) (member_fine set x s (set_of set o q) g f) (λ n z.
-      fine_then (Fits p ms) (owner_number set o s) (λ m. if_ok (due (removed s.scene.heap set m n)) (recounted set m s)) (owner_number_fine set o s q f) (λ m y.
-      fine_then (Fits p ms) (due (removed s.scene.heap set m n)) (recounted set m s) (due_fine (Changed s.scene.heap) (removed s.scene.heap set m n) (removed_sane s.scene.heap set m n f.sound.scene.heap)) (λ h c.
+      fine_then (Fits p ms) (member set x s) (λ n. if_ok (owner_number set o s) (λ m. if_ok (due (removed s.world.heap set m n)) (recounted set m s))) (member_fine set x s (set_of set o q) g f) (λ n z.
+      fine_then (Fits p ms) (owner_number set o s) (λ m. if_ok (due (removed s.world.heap set m n)) (recounted set m s)) (owner_number_fine set o s q f) (λ m y.
+      fine_then (Fits p ms) (due (removed s.world.heap set m n)) (recounted set m s) (due_fine (Changed s.world.heap) (removed s.world.heap set m n) (removed_sane s.world.heap set m n f.sound.world.heap)) (λ h c.
       recounted_fine set m s h y f c)))
 
   end_sane : (end : End) (h : State) (set : ℕ) (o : ℤ) → HeapFits h → Sane (λ r. Changed h r.1) (end_removed end h set o)
@@ -213,18 +213,18 @@ module _ (p : Program) (typed : WellTyped p) (ms : List Mode) where
 
   pub removed_at_fine : (end : End) (set : ℕ) (o : Option Value) (s : Store) → OwnerOk set o → Fits p ms s → Fine (λ b. (mode_of b.0 ≡ Integer) × Fits p ms b.1) (removed_at end set o s)
   removed_at_fine end set o s q f =
-      fine_then (λ b. (mode_of b.0 ≡ Integer) × Fits p ms b.1) (owner_number set o s) (λ m. if_ok (due (end_removed end s.scene.heap set m)) (λ r. turned (λ t. (Whole r.0, t)) (recounted set m s r.1))) (owner_number_fine set o s q f) (λ m y.
-      fine_then (λ b. (mode_of b.0 ≡ Integer) × Fits p ms b.1) (due (end_removed end s.scene.heap set m)) (λ r. turned (λ t. (Whole r.0, t)) (recounted set m s r.1)) (due_fine (λ r. Changed s.scene.heap r.1) (end_removed end s.scene.heap set m) (end_sane end s.scene.heap set m f.sound.scene.heap)) (λ r c.
+      fine_then (λ b. (mode_of b.0 ≡ Integer) × Fits p ms b.1) (owner_number set o s) (λ m. if_ok (due (end_removed end s.world.heap set m)) (λ r. turned (λ t. (Whole r.0, t)) (recounted set m s r.1))) (owner_number_fine set o s q f) (λ m y.
+      fine_then (λ b. (mode_of b.0 ≡ Integer) × Fits p ms b.1) (due (end_removed end s.world.heap set m)) (λ r. turned (λ t. (Whole r.0, t)) (recounted set m s r.1)) (due_fine (λ r. Changed s.world.heap r.1) (end_removed end s.world.heap set m) (end_sane end s.world.heap set m f.sound.world.heap)) (λ r c.
       fine_turned (λ b. (mode_of b.0 ≡ Integer) × Fits p ms b.1) (λ t. (Whole r.0, t)) (recounted set m s r.1) (recounted_fine set m s r.1 y f c) (λ t g. (refl, g))))
 
   -- ## Going over members
 
   pub begun_fine : (reverse : Bool) (set : ℕ) (o : Option Value) (s : Store) → OwnerOk set o → Fits p ms s → Fine Any (begun reverse set o s)
   begun_fine reverse set o s q f =
-      fine_then Any (owner_number set o s) (λ m. due (outset reverse s.scene.heap set m)) (owner_number_fine set o s q f) (λ m y. any_due (outset reverse s.scene.heap set m))
+      fine_then Any (owner_number set o s) (λ m. due (outset reverse s.world.heap set m)) (owner_number_fine set o s q f) (λ m y. any_due (outset reverse s.world.heap set m))
 
   pub coming_fine : (reverse : Bool) (set : ℕ) (x : ℤ) (s : Store) → IsSet p set → Fits p ms s → Fine Any (coming reverse set x s)
-  coming_fine reverse set x s q f = fit_fine Any (is_some (set_at set s)) (due (beside reverse s.scene.heap set x)) (ap is_some (set_here set q.0 s q.1 f)) (any_due (beside reverse s.scene.heap set x))
+  coming_fine reverse set x s q f = fit_fine Any (is_some (set_at set s)) (due (beside reverse s.world.heap set x)) (ap is_some (set_here set q.0 s q.1 f)) (any_due (beside reverse s.world.heap set x))
 
   from_fine : (reverse after : Bool) (set : ℕ) (x : ℤ) (s : Store) → IsSet p set → Fits p ms s → Fine Any (from_or_after reverse after set x s)
   from_fine reverse true set x s q f = coming_fine reverse set x s q f
@@ -236,11 +236,11 @@ module _ (p : Program) (typed : WellTyped p) (ms : List Mode) where
       unless_fine Any (not b) NotFiled (if_ok (number_of x) (λ n. from_or_after reverse after set n s)) (λ e.
       fine_then Any (number_of x) (λ n. from_or_after reverse after set n s) (number_fine x g) (λ n v. from_fine reverse after set n s (set_of set o q) f)))
 
-  or_gone_fine : (r : Result Bool Trouble) → Fine Any r → Fine Any (or_gone r)
+  or_gone_fine : (r : Result Bool Failure) → Fine Any r → Fine Any (or_gone r)
   or_gone_fine (Ok true) h = tt
   or_gone_fine (Ok false) h = tt
   or_gone_fine (Err (Fails kind)) h = tt
-  or_gone_fine (Err Misfit) h = absurd h
+  or_gone_fine (Err TypeError) h = absurd h
 
   pub goes_on_fine : (set : ℕ) (x : ℤ) (o : Option Value) (s : Store) → OwnerOk set o → Fits p ms s → Fine Any (goes_on set x o s)
   goes_on_fine set x o s q f = by (is_none x)
@@ -260,13 +260,13 @@ module _ (p : Program) (typed : WellTyped p) (ms : List Mode) where
   count_owner set None q = q
   count_owner set (Some x) q = q
 
-  pub bearer_fine : (t : Subject) (o : Option Value) (s : Store) → GoodSubject p t → AskedOk t o → Fits p ms s → Fine (BearsSubject s.scene.heap t) (bearer_number t o s)
+  pub bearer_fine : (t : Subject) (o : Option Value) (s : Store) → GoodSubject p t → AskedOk t o → Fits p ms s → Fine (BearsSubject s.world.heap t) (bearer_number t o s)
   bearer_fine (OfVariable k) None s g q f = refl
   bearer_fine (OfVariable k) (Some x) s g q f = absurd q.0
   bearer_fine (OfAttribute c k) None s g q f = absurd q
   bearer_fine (OfAttribute c k) (Some x) s g q f =
       let there : HasField p c k Integer = field_said p c k Integer g in
-      fine_weaker (BearsSubject s.scene.heap (OfAttribute c k)) (entity c x s) (entity_fine p typed ms c there.class x s there.there q.1 f) (λ n r. r.1)
+      fine_weaker (BearsSubject s.world.heap (OfAttribute c k)) (entity c x s) (entity_fine p typed ms c there.class x s there.there q.1 f) (λ n r. r.1)
   bearer_fine (OfCount set) o s g q f = known_owner_fine set o s (count_owner set o q) f
 
   pub present_fine : (t : Subject) (o : Option Value) (s : Store) → GoodSubject p t → AskedOk t o → Fits p ms s → Fine (λ v. mode_of v ≡ Integer) (present t o s)
@@ -286,7 +286,7 @@ module _ (p : Program) (typed : WellTyped p) (ms : List Mode) where
 
   subject_fine : (j : ℕ) (t : Statistic) (s : Store) → slice_get p.statistics j ≡ Some t → Fits p ms s → Fine (λ u. u ≡ t.subject) (subject_of_statistic j s)
   subject_fine j t s q f =
-      fine_turned (λ u. u ≡ t.subject) (λ (u : Statistic). u.subject) (sure (slice_get s.scene.setting.statistics j)) (sure_fine (λ u. u ≡ t) (slice_get s.scene.setting.statistics j) (subst (λ o. There (λ u. u ≡ t) o) (sym (ap (λ ss. slice_get ss j) (statistics_are p ms s f) ∙ q)) refl)) (λ u e. ap (λ (v : Statistic). v.subject) e)
+      fine_turned (λ u. u ≡ t.subject) (λ (u : Statistic). u.subject) (sure (slice_get s.world.setting.statistics j)) (sure_fine (λ u. u ≡ t) (slice_get s.world.setting.statistics j) (subst (λ o. There (λ u. u ≡ t) o) (sym (ap (λ ss. slice_get ss j) (statistics_are p ms s f) ∙ q)) refl)) (λ u e. ap (λ (v : Statistic). v.subject) e)
 
   folded_fine : (fold : Fold) (now : ℤ) (h : History) → Fine (λ v. mode_of v ≡ Integer) (folded fold now h)
   folded_fine Number now h = refl
@@ -299,20 +299,20 @@ module _ (p : Program) (typed : WellTyped p) (ms : List Mode) where
       fine_then (λ v. mode_of v ≡ Integer) (subject_of_statistic j s) (λ t. if_ok (bearer_number t o s) (λ n. figure_kept fold j n s)) (subject_fine j a.statistic s a.there f) (λ t e.
       subst (λ u. Fine (λ v. mode_of v ≡ Integer) (if_ok (bearer_number u o s) (λ n. figure_kept fold j n s))) (sym e)
       (fine_then (λ v. mode_of v ≡ Integer) (bearer_number a.statistic.subject o s) (λ n. figure_kept fold j n s) (bearer_fine a.statistic.subject o s (good_subject j a.statistic a.there) a.fits f) (λ n b.
-      fine_then (λ v. mode_of v ≡ Integer) (history_of_subject j n s.scene.histories) (folded fold s.scene.time) (history_fine j n s.scene.histories (BearsSubject s.scene.heap a.statistic.subject) (f.sound.scene.histories j a.statistic a.there) b) (λ h u. folded_fine fold s.scene.time h))))
+      fine_then (λ v. mode_of v ≡ Integer) (history_of_subject j n s.world.histories) (folded fold s.world.time) (history_fine j n s.world.histories (BearsSubject s.world.heap a.statistic.subject) (f.sound.world.histories j a.statistic a.there) b) (λ h u. folded_fine fold s.world.time h))))
 
   pub mean_fine : (j : ℕ) (o : Option Value) (s : Store) → AskedStatistic j o → Fits p ms s → Fine Any (mean j o s)
   mean_fine j o s a f =
       fine_then Any (subject_of_statistic j s) (λ t. if_ok (bearer_number t o s) (λ n. mean_kept j n s)) (subject_fine j a.statistic s a.there f) (λ t e.
       subst (λ u. Fine Any (if_ok (bearer_number u o s) (λ n. mean_kept j n s))) (sym e)
       (fine_then Any (bearer_number a.statistic.subject o s) (λ n. mean_kept j n s) (bearer_fine a.statistic.subject o s (good_subject j a.statistic a.there) a.fits f) (λ n b.
-      fine_turned Any (λ (h : History). mean_of h s.scene.time) (history_of_subject j n s.scene.histories) (history_fine j n s.scene.histories (BearsSubject s.scene.heap a.statistic.subject) (f.sound.scene.histories j a.statistic a.there) b) (λ h u. tt))))
+      fine_turned Any (λ (h : History). mean_of h s.world.time) (history_of_subject j n s.world.histories) (history_fine j n s.world.histories (BearsSubject s.world.heap a.statistic.subject) (f.sound.world.histories j a.statistic a.there) b) (λ h u. tt))))
 
   pub reset_fine : (j : ℕ) (o : Option Value) (s : Store) → AskedStatistic j o → Fits p ms s → Fine (Fits p ms) (reset j o s)
   reset_fine j o s a f =
-      fine_then (Fits p ms) (subject_of_statistic j s) (λ t. if_ok (bearer_number t o s) (λ n. if_ok (present t o s) (λ v. if_ok (number_of v) (λ z. turned (with_histories s) (renewed j n s.scene.time z s.scene.histories))))) (subject_fine j a.statistic s a.there f) (λ t e.
-      subst (λ u. Fine (Fits p ms) (if_ok (bearer_number u o s) (λ n. if_ok (present u o s) (λ v. if_ok (number_of v) (λ z. turned (with_histories s) (renewed j n s.scene.time z s.scene.histories)))))) (sym e)
-      (fine_then (Fits p ms) (bearer_number a.statistic.subject o s) (λ n. if_ok (present a.statistic.subject o s) (λ v. if_ok (number_of v) (λ z. turned (with_histories s) (renewed j n s.scene.time z s.scene.histories)))) (bearer_fine a.statistic.subject o s (good_subject j a.statistic a.there) a.fits f) (λ n b.
-      fine_then (Fits p ms) (present a.statistic.subject o s) (λ v. if_ok (number_of v) (λ z. turned (with_histories s) (renewed j n s.scene.time z s.scene.histories))) (present_fine a.statistic.subject o s (good_subject j a.statistic a.there) a.fits f) (λ v g.
-      fine_then (Fits p ms) (number_of v) (λ z. turned (with_histories s) (renewed j n s.scene.time z s.scene.histories)) (number_fine v g) (λ z u.
-      fine_turned (Fits p ms) (with_histories s) (renewed j n s.scene.time z s.scene.histories) (renewed_fine j n s.scene.time z s.scene.histories (BearsSubject s.scene.heap a.statistic.subject) (f.sound.scene.histories j a.statistic a.there) b) (λ ks k. kept_fit p ms s ks f k))))))
+      fine_then (Fits p ms) (subject_of_statistic j s) (λ t. if_ok (bearer_number t o s) (λ n. if_ok (present t o s) (λ v. if_ok (number_of v) (λ z. turned (with_histories s) (renewed j n s.world.time z s.world.histories))))) (subject_fine j a.statistic s a.there f) (λ t e.
+      subst (λ u. Fine (Fits p ms) (if_ok (bearer_number u o s) (λ n. if_ok (present u o s) (λ v. if_ok (number_of v) (λ z. turned (with_histories s) (renewed j n s.world.time z s.world.histories)))))) (sym e)
+      (fine_then (Fits p ms) (bearer_number a.statistic.subject o s) (λ n. if_ok (present a.statistic.subject o s) (λ v. if_ok (number_of v) (λ z. turned (with_histories s) (renewed j n s.world.time z s.world.histories)))) (bearer_fine a.statistic.subject o s (good_subject j a.statistic a.there) a.fits f) (λ n b.
+      fine_then (Fits p ms) (present a.statistic.subject o s) (λ v. if_ok (number_of v) (λ z. turned (with_histories s) (renewed j n s.world.time z s.world.histories))) (present_fine a.statistic.subject o s (good_subject j a.statistic a.there) a.fits f) (λ v g.
+      fine_then (Fits p ms) (number_of v) (λ z. turned (with_histories s) (renewed j n s.world.time z s.world.histories)) (number_fine v g) (λ z u.
+      fine_turned (Fits p ms) (with_histories s) (renewed j n s.world.time z s.world.histories) (renewed_fine j n s.world.time z s.world.histories (BearsSubject s.world.heap a.statistic.subject) (f.sound.world.histories j a.statistic a.there) b) (λ ks k. kept_fit p ms s ks f k))))))

@@ -31,7 +31,7 @@ use Rattle.ss_meaning.specs.Sets.{is_none, begun, begun_at, coming, goes_on, fil
 use Rattle.ss_meaning.specs.Events.{made_notice, filed_notice, rescheduled, unscheduled, is_awaited}
 use Rattle.ss_meaning.specs.Statistics.{reset}
 use Rattle.ss_meaning.specs.Expressions.{value, values, shown_items as items_meant, value_if_any, entity_value, member_value, owner_value, owner_looked_at, spot, filing, time_value, holds, all_pass}
-use Rattle.ss_meaning.specs.Parts.{World, Returned, Stopped, Faulted, OutOfTicks, Wrong, Outcome, WentOn, Left, Part, outcome_then, choose, look, get, tick_from, Again, Over, go_on, loop}
+use Rattle.ss_meaning.specs.Parts.{RunState, Returned, Stopped, Faulted, OutOfTicks, Wrong, Outcome, WentOn, Left, Part, outcome_then, choose, look, get, tick_from, Again, Over, go_on, loop}
 use Rattle.ss_meaning.specs.Loops.{Turn, GoesOn, EndsLoop, IsFound, phrase, phrases, visit, range_items, after_turn, over_items, step_number, range_of, range, indices, Outset, from_member, loop_outset, next_member, member_turn, over, guarded}
 use Rattle.ss_meaning.specs.Statements.{give_to, give_each, change_by, with_input, read_value, read_each, print, create_every, file, remove, remove_end, schedule_new, schedule, next_due, event_turn, simulate, restart_each, Calls, effect, effects}
 use Rattle.ss_meaning.specs.Fitting.{Hold, Fits}
@@ -46,7 +46,7 @@ use Rattle.ss_meaning.proofs.Parts.{Kept, Safe, safe_then, safe_went, safe_look,
 -- what a call and an event do
 pub record CallsSafe (p : Program) (h : Calls) : Type 0 where
   pub call : (ms : List Mode) (k : ℕ) (r : Routine) (vs : List Value) (count : ℕ) → slice_get p.routines k ≡ Some r → Hold vs r.given → count ≡ length r.yielding → Safe p ms (λ us. Hold us r.yielding) (h.call k vs count)
-  pub event : (ms : List Mode) (w : World) → Fits p ms w.store → is_awaited w.store ≡ true → Kept p ms Any (h.event w)
+  pub event : (ms : List Mode) (w : RunState) → Fits p ms w.store → is_awaited w.store ≡ true → Kept p ms Any (h.event w)
 
 -- ## Values
 
@@ -70,8 +70,8 @@ empty_fine (Whole (Rattle.std.specs.Prelude.negsuc n)) q = tt
 empty_fine (Text t) q = absurd cc
 
 -- the next word is a value of the mode
-pub word_fine : (mode : Mode) (s : Store) → Fine (λ (g : Given Value). mode_of g.value ≡ mode) (due (value_given mode s.scene.input))
-word_fine mode s = by (next_word s.scene.input)
+pub word_fine : (mode : Mode) (s : Store) → Fine (λ (g : Given Value). mode_of g.value ≡ mode) (due (value_given mode s.world.input))
+word_fine mode s = by (next_word s.world.input)
   where
     whole_read : (o : Option ℤ) (rest : List ℕ) → Fine (λ (g : Given Value). mode_of g.value ≡ Integer) (due (if_read (as_whole o) rest))
     whole_read None rest = tt
@@ -207,11 +207,11 @@ module _ (p : Program) (typed : WellTyped p) (ms : List Mode) (b : Bool) where
       fine_then (HasMode_is Integer) (held x s) (λ v. calculated (operator_of sign) v y) (held_fine p typed ms b x Integer s q f) (λ v r. calculated_fine (operator_of sign) v y r k))) (λ v r.
       safe_write typed b l x Integer v q r)))
 
-  pub input_fits : (s : Store) (rest : List ℕ) → Fits p ms s → Fits p ms (record s { scene = record s.scene { input = rest } })
+  pub input_fits : (s : Store) (rest : List ℕ) → Fits p ms s → Fits p ms (record s { world = record s.world { input = rest } })
   input_fits s rest f = record {
     sound = record {
       globals = f.sound.globals;
-      scene = record { setting = f.sound.scene.setting; layout = f.sound.scene.layout; heap = f.sound.scene.heap; pending = f.sound.scene.pending; histories = f.sound.scene.histories };
+      world = record { setting = f.sound.world.setting; layout = f.sound.world.layout; heap = f.sound.world.heap; pending = f.sound.world.pending; histories = f.sound.world.histories };
     };
     locals = f.locals;
   }
@@ -220,7 +220,7 @@ module _ (p : Program) (typed : WellTyped p) (ms : List Mode) (b : Bool) where
   reads_safe l [] g = record { by = λ w fits. (tt, fits) }
   reads_safe l (t ∷ ts) g =
       safe_then {P = Any} (give_safe l t.place t.mode (get l (read_value t.mode)) g.0 (safe_get l (read_value t.mode) t.mode (λ s f.
-      fine_turned (λ r. HasMode_is t.mode r.0 × Fits p ms r.1) (with_input s) (due (value_given t.mode s.scene.input)) (word_fine t.mode s) (λ r q. (q, input_fits s r.rest f))))) (λ u v.
+      fine_turned (λ r. HasMode_is t.mode r.0 × Fits p ms r.1) (with_input s) (due (value_given t.mode s.world.input)) (word_fine t.mode s) (λ r q. (q, input_fits s r.rest f))))) (λ u v.
       reads_safe l ts g.1)
 
   print_safe : (l : Line) (xs : List PrintItem) (pictures : List (List ℕ)) → GoodPrint here xs pictures → Safe p ms Any (print l xs pictures)
@@ -285,9 +285,9 @@ module _ (p : Program) (typed : WellTyped p) (ms : List Mode) (b : Bool) where
 
   -- what is claimed of at most n more events
   abbrev EventsKept : Calls → ℕ → Type 0
-  EventsKept h n = (w : World) → Fits p ms w.store → is_awaited w.store ≡ true → Kept p ms Any (loop n (event_turn h.event) tt w)
+  EventsKept h n = (w : RunState) → Fits p ms w.store → is_awaited w.store ≡ true → Kept p ms Any (loop n (event_turn h.event) tt w)
 
-  over_or_on : (h : Calls) (n : ℕ) → EventsKept h n → (w : World) → Fits p ms w.store → (c : Bool) → is_awaited w.store ≡ c → Kept p ms Any (outcome_then (choose c (WentOn (Again tt)) (WentOn (Over tt)) w) (go_on (loop n (event_turn h.event))))
+  over_or_on : (h : Calls) (n : ℕ) → EventsKept h n → (w : RunState) → Fits p ms w.store → (c : Bool) → is_awaited w.store ≡ c → Kept p ms Any (outcome_then (choose c (WentOn (Again tt)) (WentOn (Over tt)) w) (go_on (loop n (event_turn h.event))))
   over_or_on h n more w fits true q = more w fits q
   over_or_on h n more w fits false q = (tt, fits)
 
@@ -299,7 +299,7 @@ module _ (p : Program) (typed : WellTyped p) (ms : List Mode) (b : Bool) where
   event_went h n more (Left OutOfTicks w) k = k
   event_went h n more (Left Wrong w) k = absurd k
 
-  event_ticked : (h : Calls) (n : ℕ) → CallsSafe p h → EventsKept h n → (w : World) → Fits p ms w.store → is_awaited w.store ≡ true → (t : ℕ) → Kept p ms Any (tick_from t (λ w. outcome_then (event_turn h.event tt w) (go_on (loop n (event_turn h.event)))) w)
+  event_ticked : (h : Calls) (n : ℕ) → CallsSafe p h → EventsKept h n → (w : RunState) → Fits p ms w.store → is_awaited w.store ≡ true → (t : ℕ) → Kept p ms Any (tick_from t (λ w. outcome_then (event_turn h.event tt w) (go_on (loop n (event_turn h.event)))) w)
   event_ticked h n ok more w fits a zero = fits.sound
   event_ticked h n ok more w fits a (suc t) = event_went h n more (h.event (record w { ticks = t })) (ok.event ms (record w { ticks = t }) fits a)
 
@@ -310,7 +310,7 @@ module _ (p : Program) (typed : WellTyped p) (ms : List Mode) (b : Bool) where
   simulate_safe : (h : Calls) → CallsSafe p h → (n : ℕ) → Safe p ms Any (simulate n h.event)
   simulate_safe h ok n = record { by = λ w fits. by w fits (is_awaited w.store) refl }
     where
-      by : (w : World) → Fits p ms w.store → (c : Bool) → is_awaited w.store ≡ c → Kept p ms Any (choose c (loop n (event_turn h.event) tt) (WentOn tt) w)
+      by : (w : RunState) → Fits p ms w.store → (c : Bool) → is_awaited w.store ≡ c → Kept p ms Any (choose c (loop n (event_turn h.event) tt) (WentOn tt) w)
       by w fits true q = events_kept h ok n w fits q
       by w fits false q = (tt, fits)
 

@@ -1,4 +1,4 @@
--- Stores that fit a program: their variables, and what becomes of the scene.
+-- Stores that fit a program: their variables, and what becomes of the world.
 use Rattle.std.proofs.Common.{arith, inl, inr, ◌⊎◌, ◌≡◌, ℕ, zero, suc, ◌+◌, ◌<◌, Bool, true, false, List, [], ◌∷◌, ◌++◌, Some, Ok, Err, ℤ, pos, negsuc, refl, sym, ap, ◌∙◌, subst}
 use Rattle.std.proofs.lemmas.Bool.{eqb-true, eqb-false, le-leb}
 use Rattle.std.proofs.lemmas.Bool.Decides.{Decides-int_eq}
@@ -17,7 +17,7 @@ use Rattle.ss_world.specs.State.{State, kind_of}
 use Rattle.ss_program.specs.declared.sections.Subject.{Subject}
 use Rattle.ss_program.specs.declared.sections.Statistic.{Statistic}
 use Rattle.ss_program.specs.Program.{Program}
-use Rattle.ss_meaning.specs.Values.{Misfit, same_mode}
+use Rattle.ss_meaning.specs.Values.{TypeError, same_mode}
 use Rattle.ss_meaning.specs.Store.{Column, Store, with_heap, with_histories, put_at}
 use Rattle.ss_meaning.specs.Histories.{home, starting, started, all_started, all_noting, noted}
 use Rattle.ss_meaning.specs.Fitting.{Hold, HeapFits, made, IsIndex, Lives, LivesAs, IsNotice, BearsBy, BearsSubject, Has, HasHistories, HistoriesFit, Fits}
@@ -44,47 +44,47 @@ put_at_fine [] (n ∷ ms) k m v h q g = absurd cc
 put_at_fine (w ∷ vs) (n ∷ ms) zero m v h q g =
     let same : mode_of v ≡ mode_of w = cc in
     let all : Hold (v ∷ vs) (n ∷ ms) = cc in
-    subst (λ b. Fine (λ us. Hold us (n ∷ ms)) (if b then Ok (v ∷ vs) else Err Misfit)) (sym (ap (λ m. same_mode m (mode_of w)) same ∙ same_is (mode_of w))) all
+    subst (λ b. Fine (λ us. Hold us (n ∷ ms)) (if b then Ok (v ∷ vs) else Err TypeError)) (sym (ap (λ m. same_mode m (mode_of w)) same ∙ same_is (mode_of w))) all
 put_at_fine (w ∷ vs) (n ∷ ms) (suc k) m v h q g =
     let rest : Hold vs ms = cc in
     let here : mode_of w ≡ n = cc in
     fine_turned (λ us. Hold us (n ∷ ms)) (λ us. w ∷ us) (put_at vs k v) (put_at_fine vs ms k m v rest q g) (λ us p. let all : Hold (w ∷ us) (n ∷ ms) = cc in all)
 
--- ## The scene
+-- ## The world
 
 -- a notice that lives goes on to live
 pub notice_same : (h t : State) (x : ℤ) → Same h t → IsNotice h x → IsNotice t x
 notice_same h t x same n = (n.0, same.living x ∙ n.1, ap (λ l. kind_of l n.0) same.layout ∙ n.2)
 
-pub heap_fits : (p : Program) (ms : List Mode) (s : Store) (h : State) → Fits p ms s → HeapFits h × Same s.scene.heap h → Fits p ms (with_heap s h)
+pub heap_fits : (p : Program) (ms : List Mode) (s : Store) (h : State) → Fits p ms s → HeapFits h × Same s.world.heap h → Fits p ms (with_heap s h)
 heap_fits p ms s h f g = record {
   sound = record {
     globals = f.sound.globals;
-    scene = record {
-      setting = f.sound.scene.setting;
-      layout = g.1.layout ∙ f.sound.scene.layout;
+    world = record {
+      setting = f.sound.world.setting;
+      layout = g.1.layout ∙ f.sound.world.layout;
       heap = g.0;
-      pending = every_weaker (λ e. IsNotice s.scene.heap e.notice) (λ e. IsNotice h e.notice) s.scene.pending.entries f.sound.scene.pending (λ e n. notice_same s.scene.heap h e.notice g.1 n);
-      histories = fit_same p.statistics s.scene.heap h s.scene.histories s.scene.histories g.1 (keeps_same s.scene.histories) f.sound.scene.histories;
+      pending = every_weaker (λ e. IsNotice s.world.heap e.notice) (λ e. IsNotice h e.notice) s.world.pending.entries f.sound.world.pending (λ e n. notice_same s.world.heap h e.notice g.1 n);
+      histories = fit_same p.statistics s.world.heap h s.world.histories s.world.histories g.1 (keeps_same s.world.histories) f.sound.world.histories;
     };
   };
   locals = f.locals;
 }
 
-pub histories_fit : (p : Program) (ms : List Mode) (s : Store) (ks : List Column) → Fits p ms s → HistoriesFit p.statistics s.scene.heap ks → Fits p ms (with_histories s ks)
+pub histories_fit : (p : Program) (ms : List Mode) (s : Store) (ks : List Column) → Fits p ms s → HistoriesFit p.statistics s.world.heap ks → Fits p ms (with_histories s ks)
 histories_fit p ms s ks f g = record {
   sound = record {
     globals = f.sound.globals;
-    scene = record { setting = f.sound.scene.setting; layout = f.sound.scene.layout; heap = f.sound.scene.heap; pending = f.sound.scene.pending; histories = g };
+    world = record { setting = f.sound.world.setting; layout = f.sound.world.layout; heap = f.sound.world.heap; pending = f.sound.world.pending; histories = g };
   };
   locals = f.locals;
 }
 
-pub kept_fit : (p : Program) (ms : List Mode) (s : Store) (ks : List Column) → Fits p ms s → KeepsAll s.scene.histories ks → Fits p ms (with_histories s ks)
-kept_fit p ms s ks f g = histories_fit p ms s ks f (λ j t q. kept_on j s.scene.histories ks (BearsSubject s.scene.heap t.subject) g (f.sound.scene.histories j t q))
+pub kept_fit : (p : Program) (ms : List Mode) (s : Store) (ks : List Column) → Fits p ms s → KeepsAll s.world.histories ks → Fits p ms (with_histories s ks)
+kept_fit p ms s ks f g = histories_fit p ms s ks f (λ j t q. kept_on j s.world.histories ks (BearsSubject s.world.heap t.subject) g (f.sound.world.histories j t q))
 
-pub statistics_are : (p : Program) (ms : List Mode) (s : Store) → Fits p ms s → s.scene.setting.statistics ≡ p.statistics
-statistics_are p ms s f = ap (λ t. t.statistics) f.sound.scene.setting
+pub statistics_are : (p : Program) (ms : List Mode) (s : Store) → Fits p ms s → s.world.setting.statistics ≡ p.statistics
+statistics_are p ms s f = ap (λ t. t.statistics) f.sound.world.setting
 
 -- what lives goes on to live
 pub lives_on : (h t : State) (c : ℕ) (x : ℤ) → Same h t → Lives h c x → Lives t c x
@@ -96,11 +96,11 @@ all_there ss h cs subject x fit b j t q = (k.0, k.1, λ e. k.2 x (subst (λ u. B
     k : HasHistories j cs (BearsSubject h t.subject)
     k = fit j t q
 
-pub noted_fine : (p : Program) (ms : List Mode) (subject : Subject) (x : ℤ) (v : Value) (s : Store) → Noteworthy p.statistics subject v → BearsSubject s.scene.heap subject x → Fits p ms s → Fine (Fits p ms) (noted subject x v s)
+pub noted_fine : (p : Program) (ms : List Mode) (subject : Subject) (x : ℤ) (v : Value) (s : Store) → Noteworthy p.statistics subject v → BearsSubject s.world.heap subject x → Fits p ms s → Fine (Fits p ms) (noted subject x v s)
 noted_fine p ms subject x v s h b f =
-    fine_turned (Fits p ms) (with_histories s) (all_noting subject x s.scene.time v s.scene.setting.statistics s.scene.histories)
-    (all_noting_fine subject x s.scene.time v s.scene.setting.statistics s.scene.histories (subst (λ ss. Noteworthy ss subject v) (sym (statistics_are p ms s f)) h)
-    (subst (λ ss. AreThere ss subject x s.scene.histories) (sym (statistics_are p ms s f)) (all_there p.statistics s.scene.heap s.scene.histories subject x f.sound.scene.histories b)))
+    fine_turned (Fits p ms) (with_histories s) (all_noting subject x s.world.time v s.world.setting.statistics s.world.histories)
+    (all_noting_fine subject x s.world.time v s.world.setting.statistics s.world.histories (subst (λ ss. Noteworthy ss subject v) (sym (statistics_are p ms s f)) h)
+    (subst (λ ss. AreThere ss subject x s.world.histories) (sym (statistics_are p ms s f)) (all_there p.statistics s.world.heap s.world.histories subject x f.sound.world.histories b)))
     (λ ks g. kept_fit p ms s ks f g)
 
 -- ## Entities that come into being
@@ -132,18 +132,18 @@ fit_created ss h class b now cs new fit j t q = (d.0, d.1, λ x g. by x (bears_n
     by x (inr r) = d.3 x r.1 ((Decides-int_eq b.0 x).1 (sym r.0))
 
 -- a store with a new entity fits
-pub created_fits : (p : Program) (ms : List Mode) (s : Store) (class : ℕ) (b : ℤ × State) → Fits p ms s → Created s.scene.heap class b → Fits p ms (started (Class class) b.0 (with_heap s b.1))
+pub created_fits : (p : Program) (ms : List Mode) (s : Store) (class : ℕ) (b : ℤ × State) → Fits p ms s → Created s.world.heap class b → Fits p ms (started (Class class) b.0 (with_heap s b.1))
 created_fits p ms s class b f new = record {
   sound = record {
     globals = f.sound.globals;
-    scene = record {
-      setting = f.sound.scene.setting;
-      layout = new.layout ∙ f.sound.scene.layout;
+    world = record {
+      setting = f.sound.world.setting;
+      layout = new.layout ∙ f.sound.world.layout;
       heap = new.fits;
-      pending = every_weaker (λ e. IsNotice s.scene.heap e.notice) (λ e. IsNotice b.1 e.notice) s.scene.pending.entries f.sound.scene.pending (λ e n. (n.0, new.kept e.notice n.0 n.1, ap (λ l. kind_of l n.0) new.layout ∙ n.2));
+      pending = every_weaker (λ e. IsNotice s.world.heap e.notice) (λ e. IsNotice b.1 e.notice) s.world.pending.entries f.sound.world.pending (λ e n. (n.0, new.kept e.notice n.0 n.1, ap (λ l. kind_of l n.0) new.layout ∙ n.2));
       histories =
-          subst (λ ss. HistoriesFit p.statistics b.1 (starting b.1.layout (Class class) (int_eq b.0) s.scene.time ss s.scene.histories)) (sym (statistics_are p ms s f))
-          (fit_created p.statistics s.scene.heap class b s.scene.time s.scene.histories new f.sound.scene.histories);
+          subst (λ ss. HistoriesFit p.statistics b.1 (starting b.1.layout (Class class) (int_eq b.0) s.world.time ss s.world.histories)) (sym (statistics_are p ms s f))
+          (fit_created p.statistics s.world.heap class b s.world.time s.world.histories new f.sound.world.histories);
     };
   };
   locals = f.locals;
@@ -178,34 +178,34 @@ bears_filled (Class c) h t class x new g = by (lives_filled (kind_of h.layout c)
     by (inr q) = inr (ap Class (sym q.0), q.1)
 
 -- a store with all entities of a class fits
-pub filled_fits : (p : Program) (ms : List Mode) (s : Store) (class : ℕ) (t : State) → Fits p ms s → Filled s.scene.heap class t → Fits p ms (all_started class (made t class) (with_heap s t))
+pub filled_fits : (p : Program) (ms : List Mode) (s : Store) (class : ℕ) (t : State) → Fits p ms s → Filled s.world.heap class t → Fits p ms (all_started class (made t class) (with_heap s t))
 filled_fits p ms s class t f new = all
   where
     ks : List Column
-    ks = (all_started class (made t class) (with_heap s t)).scene.histories
+    ks = (all_started class (made t class) (with_heap s t)).world.histories
 
     fit : HistoriesFit p.statistics t ks
-    fit j u q = (d.0, d.1, λ x g. by x (bears_filled (home t.layout u.subject) s.scene.heap t class x new g))
+    fit j u q = (d.0, d.1, λ x g. by x (bears_filled (home t.layout u.subject) s.world.heap t class x new g))
       where
-        k : HasHistories j s.scene.histories (BearsSubject s.scene.heap u.subject)
-        k = f.sound.scene.histories j u q
+        k : HasHistories j s.world.histories (BearsSubject s.world.heap u.subject)
+        k = f.sound.world.histories j u q
 
         d : (d : Column) × (slice_get ks j ≡ Some d) × KeepsColumn k.0 d × ((x : ℤ) → home t.layout u.subject ≡ Class class → is_within (made t class) x ≡ true → Has d x)
-        d = starting_kept t.layout (Class class) (is_within (made t class)) s.scene.time s.scene.setting.statistics s.scene.histories j u k.0 (ap (λ ss. slice_get ss j) (statistics_are p ms s f) ∙ q) k.1
+        d = starting_kept t.layout (Class class) (is_within (made t class)) s.world.time s.world.setting.statistics s.world.histories j u k.0 (ap (λ ss. slice_get ss j) (statistics_are p ms s f) ∙ q) k.1
 
-        by : (x : ℤ) → BearsBy (home t.layout u.subject) s.scene.heap x ⊎ ((home t.layout u.subject ≡ Class class) × IsIndex (made t class) x) → Has d.0 x
-        by x (inl r) = d.2 x (k.2 x (subst (λ l. BearsBy (home l u.subject) s.scene.heap x) new.layout r))
+        by : (x : ℤ) → BearsBy (home t.layout u.subject) s.world.heap x ⊎ ((home t.layout u.subject ≡ Class class) × IsIndex (made t class) x) → Has d.0 x
+        by x (inl r) = d.2 x (k.2 x (subst (λ l. BearsBy (home l u.subject) s.world.heap x) new.layout r))
         by x (inr r) = d.3 x r.0 (within (made t class) x r.1)
 
     all : Fits p ms (with_histories (with_heap s t) ks)
     all = record {
       sound = record {
         globals = f.sound.globals;
-        scene = record {
-          setting = f.sound.scene.setting;
-          layout = new.layout ∙ f.sound.scene.layout;
+        world = record {
+          setting = f.sound.world.setting;
+          layout = new.layout ∙ f.sound.world.layout;
           heap = new.fits;
-          pending = every_weaker (λ e. IsNotice s.scene.heap e.notice) (λ e. IsNotice t e.notice) s.scene.pending.entries f.sound.scene.pending (λ e n. (n.0, new.living e.notice ∙ n.1, ap (λ l. kind_of l n.0) new.layout ∙ n.2));
+          pending = every_weaker (λ e. IsNotice s.world.heap e.notice) (λ e. IsNotice t e.notice) s.world.pending.entries f.sound.world.pending (λ e n. (n.0, new.living e.notice ∙ n.1, ap (λ l. kind_of l n.0) new.layout ∙ n.2));
           histories = fit;
         };
       };

@@ -22,9 +22,9 @@ use Rattle.ss_meaning.specs.Values.{same_mode}
 use Rattle.ss_meaning.specs.Store.{Column, Store, prepended, first_values, taken_by_modes, appended, opened, front, yielded}
 use Rattle.ss_meaning.specs.Histories.{home, no_history, no_histories, starting}
 use Rattle.ss_meaning.specs.Events.{Beginning, Coming, next_event, event_begun, is_awaited}
-use Rattle.ss_meaning.specs.Parts.{World, Returned, Stopped, Faulted, OutOfTicks, Wrong, Outcome, WentOn, Left, Part, outcome_then, needed, take_tick}
+use Rattle.ss_meaning.specs.Parts.{RunState, Returned, Stopped, Faulted, OutOfTicks, Wrong, Outcome, WentOn, Left, Part, outcome_then, needed, take_tick}
 use Rattle.ss_meaning.specs.Statements.{Calls, effects}
-use Rattle.ss_meaning.specs.Meaning.{with_locals, go_back, come_back, enclosed, routine_called, event_routine, begin, event_taken, calls, WentWrong, run_of, first_store, first_world, meaning}
+use Rattle.ss_meaning.specs.Meaning.{with_locals, go_back, come_back, enclosed, routine_called, event_routine, begin, event_taken, calls, WentWrong, run_of, first_store, first_run_state, meaning}
 use Rattle.ss_meaning.specs.Fitting.{Hold, made, LivesAs, BearsBy, Has, Sound, Fits}
 use Rattle.ss_meaning.specs.Laws.{FitsAfter}
 use Rattle.ss_meaning.proofs.Fine.{There, Any}
@@ -92,9 +92,9 @@ yielded_there (g ∷ gs) ys os (l ∷ ls) h = let rest : Hold ls (gs ++ (ys ++ o
 
 -- a store with other local variables
 other_locals : (p : Program) (s : Store) (ls : List Value) → Sound p s → Sound p (record s { locals = ls })
-other_locals p s ls f = record { globals = f.globals; scene = f.scene }
+other_locals p s ls f = record { globals = f.globals; world = f.world }
 
-back_kept : (p : Program) (ms : List Mode) (P : List Value → Type 0) (first count : ℕ) (ls : List Value) (w : World) → There P (yielded first count w.store.locals) → Sound p w.store → Hold ls ms → Stays p ms P (go_back first count ls w)
+back_kept : (p : Program) (ms : List Mode) (P : List Value → Type 0) (first count : ℕ) (ls : List Value) (w : RunState) → There P (yielded first count w.store.locals) → Sound p w.store → Hold ls ms → Stays p ms P (go_back first count ls w)
 back_kept p ms P first count ls w h f g = by (yielded first count w.store.locals) h
   where
     by : (o : Option (List Value)) → There P o → Stays p ms P (outcome_then (needed o w) (λ vs w. WentOn vs (with_locals ls w)))
@@ -112,7 +112,7 @@ come_kept p ms ns P first count ls (Left Wrong w) h g k = absurd k
 enclosed_safe : (p : Program) (ms given others : List Mode) (P : List Value → Type 0) (body : Part (Unit {0})) (vs : List Value) (count : ℕ) → Hold vs given → ((us : List Value) → Hold us (given ++ others) → There P (yielded (length given) count us)) → Safe p (given ++ others) Any body → Safe p ms P (enclosed given others body vs count)
 enclosed_safe p ms given others P body vs count q h safe = record { by = λ w fits. by w fits (opened given others vs) (opened_there given others vs q) }
   where
-    by : (w : World) → Fits p ms w.store → (o : Option (List Value)) → There (λ ls. Hold ls (given ++ others)) o → Stays p ms P (outcome_then (needed o w) (λ ls w. come_back (length given) count w.store.locals (body (with_locals ls w))))
+    by : (w : RunState) → Fits p ms w.store → (o : Option (List Value)) → There (λ ls. Hold ls (given ++ others)) o → Stays p ms P (outcome_then (needed o w) (λ ls w. come_back (length given) count w.store.locals (body (with_locals ls w))))
     by w fits (Some ls) g =
         come_kept p ms (given ++ others) P (length given) count w.store.locals (body (with_locals ls w)) h fits.locals
         (safe.by (with_locals ls w) (record { sound = other_locals p w.store ls fits.sound; locals = g }))
@@ -134,7 +134,7 @@ module _ (p : Program) (typed : WellTyped p) where
       body : Safe p (r.given ++ (r.yielding ++ r.others)) Any (effects h n r.body)
       body = block_safe p typed (r.given ++ (r.yielding ++ r.others)) false h ok n r.body good
 
-      by : (w : World) → Fits p ms w.store → (b : Bool) → b ≡ true → Stays p ms (λ us. Hold us r.yielding) (if b then enclosed r.given (r.yielding ++ r.others) (effects h n r.body) vs count w else Left Wrong w)
+      by : (w : RunState) → Fits p ms w.store → (b : Bool) → b ≡ true → Stays p ms (λ us. Hold us r.yielding) (if b then enclosed r.given (r.yielding ++ r.others) (effects h n r.body) vs count w else Left Wrong w)
       by w fits true e = (enclosed_safe p ms r.given (r.yielding ++ r.others) (λ us. Hold us r.yielding) (effects h n r.body) vs count q yields body).by w fits
       by w fits false e = absurd cc
 
@@ -158,7 +158,7 @@ module _ (p : Program) (typed : WellTyped p) where
       body : Safe p (e.given ++ e.others) Any (effects h n e.body)
       body = block_safe p typed (e.given ++ e.others) false h ok n e.body good.body
 
-  taken_kept : (n : ℕ) (h : Calls) → CallsSafe p h → (ms : List Mode) (w : World) → Fits p ms w.store → is_awaited w.store ≡ true → Stays p ms Any (event_taken p.events h n w)
+  taken_kept : (n : ℕ) (h : Calls) → CallsSafe p h → (ms : List Mode) (w : RunState) → Fits p ms w.store → is_awaited w.store ≡ true → Stays p ms Any (event_taken p.events h n w)
   taken_kept n h ok ms w fits a = by (next_event w.store) (next_event_there p typed ms w.store a fits)
     where
       body : (b : Beginning) → BegunAs p typed ms b → Safe p ms Any (event_routine (slice_get p.events b.rank) h n b.given)
@@ -213,7 +213,7 @@ pub first_fits : (p : Program) (input : List ℕ) → Fits p p.locals (first_sto
 first_fits p input = record {
   sound = record {
     globals = firsts_modes p.globals;
-    scene = record {
+    world = record {
       setting = refl;
       layout = refl;
       heap = (tt, λ k rs q. absurd (none_made p.layout.classes k rs q));
@@ -244,8 +244,8 @@ ending_right p (Left Wrong w) h q = absurd h
 
 pub never_wrong : (p : Program) → WellTyped p → (input : List ℕ) (n : ℕ) → (meaning p input n).ending ≢ WentWrong
 never_wrong p typed input n =
-    ending_right p (effects (calls p n) n p.main (first_world p input n))
-    ((block_safe p typed p.locals true (calls p n) (calls_safe p typed n) n p.main typed.main).by (first_world p input n) (first_fits p input))
+    ending_right p (effects (calls p n) n p.main (first_run_state p input n))
+    ((block_safe p typed p.locals true (calls p n) (calls_safe p typed n) n p.main typed.main).by (first_run_state p input n) (first_fits p input))
 
 after_fits : (p : Program) (ms : List Mode) (o : Outcome (Unit {0})) → Stays p ms Any o → FitsAfter p ms o
 after_fits p ms (WentOn u w) h = h.1
@@ -255,6 +255,6 @@ after_fits p ms (Left (Faulted kind line) w) h = h
 after_fits p ms (Left OutOfTicks w) h = h
 after_fits p ms (Left Wrong w) h = h
 
-pub keeps_modes : (p : Program) → WellTyped p → (main : Bool) (ms : List Mode) (b : Block) → GoodBlock (record { program = p; locals = ms; is_main = main }) b → (n : ℕ) (w : World) → Fits p ms w.store → FitsAfter p ms (effects (calls p n) n b w)
+pub keeps_modes : (p : Program) → WellTyped p → (main : Bool) (ms : List Mode) (b : Block) → GoodBlock (record { program = p; locals = ms; is_main = main }) b → (n : ℕ) (w : RunState) → Fits p ms w.store → FitsAfter p ms (effects (calls p n) n b w)
 keeps_modes p typed main ms b good n w fits =
     after_fits p ms (effects (calls p n) n b w) ((block_safe p typed ms main (calls p n) (calls_safe p typed n) n b good).by w fits)

@@ -14,7 +14,7 @@ use Rattle.ss_stats.specs.History.{History}
 use Rattle.ss_program.specs.declared.sections.Subject.{Subject}
 use Rattle.ss_program.specs.declared.sections.Statistic.{Statistic}
 use Rattle.ss_program.specs.Program.{Program}
-use Rattle.ss_meaning.specs.Store.{Column, Scene, Store}
+use Rattle.ss_meaning.specs.Store.{Column, World, Store}
 use Rattle.ss_meaning.specs.Histories.{home}
 use Rattle.ss_meaning.specs.Meaning.{setting_of}
 
@@ -90,7 +90,7 @@ HistoriesFit ss h cs = (j : ℕ) (t : Statistic) → slice_get ss j ≡ Some t �
 
 -- ## Stores
 
-pub record SceneFits (p : Program) (c : Scene) : Type 0 where
+pub record WorldFits (p : Program) (c : World) : Type 0 where
   pub setting : c.setting ≡ setting_of p
   pub layout : c.heap.layout ≡ p.layout
   pub heap : HeapFits c.heap
@@ -101,7 +101,7 @@ pub record SceneFits (p : Program) (c : Scene) : Type 0 where
 -- a store apart from its local variables
 pub record Sound (p : Program) (s : Store) : Type 0 where
   pub globals : Hold s.globals p.globals
-  pub scene : SceneFits p s.scene
+  pub world : WorldFits p s.world
 
 -- with local variables of these modes
 pub record Fits (p : Program) (modes : List Mode) (s : Store) : Type 0 where

@@ -17,7 +17,7 @@ use Rattle.ss_program.specs.declared.sections.Subject.TheVariants.{OfVariable, O
 use Rattle.ss_base.specs.declared.words.Weighting.{Weighting}
 use Rattle.ss_base.specs.declared.words.Weighting.TheVariants as weightings
 use Rattle.ss_program.specs.declared.sections.Statistic.{Statistic}
-use Rattle.ss_meaning.specs.Values.{Trouble, Misfit, if_ok, turned, due, sure, unless_fault, number_of}
+use Rattle.ss_meaning.specs.Values.{Failure, TypeError, if_ok, turned, due, sure, unless_fault, number_of}
 use Rattle.ss_meaning.specs.Store.{Column, Store, with_histories}
 
 abbrev pub same_subject : Subject → Subject → Bool
@@ -64,7 +64,7 @@ starting l whose here now (s ∷ ss) (c ∷ cs) =
 
 abbrev pub started_here : Owner → (here : ℤ → Bool) → Store → Store
 started_here whose here s =
-    with_histories s (starting s.scene.heap.layout whose here s.scene.time s.scene.setting.statistics s.scene.histories)
+    with_histories s (starting s.world.heap.layout whose here s.world.time s.world.setting.statistics s.world.histories)
 
 -- the store once they started as an entity of a class came into being, or those of the system, 0
 abbrev pub started : Owner → (entity : ℤ) → Store → Store
@@ -87,7 +87,7 @@ ending l class x (s ∷ ss) (c ∷ cs) = (if same_owner (home l s.subject) (Clas
 
 -- the store once they ended, as the entity went
 abbrev pub ended : (class : ℕ) → (entity : ℤ) → Store → Store
-ended class x s = with_histories s (ending s.scene.heap.layout class x s.scene.setting.statistics s.scene.histories)
+ended class x s = with_histories s (ending s.world.heap.layout class x s.world.setting.statistics s.world.histories)
 
 -- ## What a history notes
 
@@ -96,52 +96,52 @@ abbrev pub with_history : (entity : ℤ) → History → Column → Column
 with_history x h c y = if int_eq x y then Some h else c y
 
 -- the histories of a statistic with one value more in that of an entity; where that is full there is the fault OVERFLOW
-abbrev pub noting_in : (entity now : ℤ) → Value → Option History → Column → Result Column Trouble
-noting_in x now v None c = Err Misfit
+abbrev pub noting_in : (entity now : ℤ) → Value → Option History → Column → Result Column Failure
+noting_in x now v None c = Err TypeError
 noting_in x now v (Some h) c =
     if_ok (number_of v) (λ z. unless_fault (is_full h) Overflow (Ok (with_history x (with_noted_value h now z) c)))
 
-abbrev pub noting : (entity now : ℤ) → Value → Column → Result Column Trouble
+abbrev pub noting : (entity now : ℤ) → Value → Column → Result Column Failure
 noting x now v c = noting_in x now v (c x) c
 
 -- the histories with one value more in those of an entity, in each statistic of a subject
-abbrev pub all_noting : Subject → (entity now : ℤ) → Value → List Statistic → List Column → Result (List Column) Trouble
+abbrev pub all_noting : Subject → (entity now : ℤ) → Value → List Statistic → List Column → Result (List Column) Failure
 all_noting subject x now v [] cs = Ok cs
-all_noting subject x now v (s ∷ ss) [] = Err Misfit
+all_noting subject x now v (s ∷ ss) [] = Err TypeError
 all_noting subject x now v (s ∷ ss) (c ∷ cs) =
     if_ok (if same_subject s.subject subject then noting x now v c else Ok c) (λ d. turned (λ ds. d ∷ ds) (all_noting subject x now v ss cs))
 
 -- the store once a value of a subject was noted in each history of it
-abbrev pub noted : Subject → (entity : ℤ) → Value → Store → Result Store Trouble
+abbrev pub noted : Subject → (entity : ℤ) → Value → Store → Result Store Failure
 noted subject x v s =
-    turned (with_histories s) (all_noting subject x s.scene.time v s.scene.setting.statistics s.scene.histories)
+    turned (with_histories s) (all_noting subject x s.world.time v s.world.setting.statistics s.world.histories)
 
 -- ## What is read of a history, and starting it afresh
 
 -- the history of a statistic of an entity
-abbrev pub history_in : Option Column → (entity : ℤ) → Result History Trouble
-history_in None x = Err Misfit
+abbrev pub history_in : Option Column → (entity : ℤ) → Result History Failure
+history_in None x = Err TypeError
 history_in (Some c) x = sure (c x)
 
-abbrev pub history_of_subject : (statistic : ℕ) → (entity : ℤ) → List Column → Result History Trouble
+abbrev pub history_of_subject : (statistic : ℕ) → (entity : ℤ) → List Column → Result History Failure
 history_of_subject j x cs = history_in (slice_get cs j) x
 
 -- what is asked of a history, now
-abbrev pub folded : Fold → (now : ℤ) → History → Result Value Trouble
+abbrev pub folded : Fold → (now : ℤ) → History → Result Value Failure
 folded Number now h = Ok (Whole (count_of h now))
 folded Sum now h = turned Whole (due (sum_of h now))
 folded Maximum now h = Ok (Whole (maximum_of h))
 folded Minimum now h = Ok (Whole (minimum_of h))
 
-abbrev pub figure_kept : Fold → (statistic : ℕ) → (entity : ℤ) → Store → Result Value Trouble
-figure_kept fold j x s = if_ok (history_of_subject j x s.scene.histories) (folded fold s.scene.time)
+abbrev pub figure_kept : Fold → (statistic : ℕ) → (entity : ℤ) → Store → Result Value Failure
+figure_kept fold j x s = if_ok (history_of_subject j x s.world.histories) (folded fold s.world.time)
 
 -- the mean of a history, now: its exact sum and its number
-abbrev pub mean_kept : (statistic : ℕ) → (entity : ℤ) → Store → Result (ℤ × ℤ) Trouble
-mean_kept j x s = turned (λ h. mean_of h s.scene.time) (history_of_subject j x s.scene.histories)
+abbrev pub mean_kept : (statistic : ℕ) → (entity : ℤ) → Store → Result (ℤ × ℤ) Failure
+mean_kept j x s = turned (λ h. mean_of h s.world.time) (history_of_subject j x s.world.histories)
 
 -- the histories of which that of a statistic of an entity starts afresh, with the present value
-abbrev pub renewed : (statistic : ℕ) → (entity now present : ℤ) → List Column → Result (List Column) Trouble
-renewed j x now z [] = Err Misfit
+abbrev pub renewed : (statistic : ℕ) → (entity now present : ℤ) → List Column → Result (List Column) Failure
+renewed j x now z [] = Err TypeError
 renewed zero x now z (c ∷ cs) = turned (λ h. with_history x (restarted h now z) c ∷ cs) (sure (c x))
 renewed (suc j) x now z (c ∷ cs) = turned (λ ds. c ∷ ds) (renewed j x now z cs)

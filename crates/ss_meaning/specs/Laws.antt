@@ -3,7 +3,7 @@ use Rattle.std.specs.Prelude.{◌≢◌, ℕ, Bool, List}
 use Rattle.ss_base.specs.declared.layout.Mode.{Mode}
 use Rattle.ss_program.specs.Program.{Block, Program}
 use Rattle.ss_program.specs.WellTyped.{WellTyped, GoodBlock}
-use Rattle.ss_meaning.specs.Parts.{World, Returned, Stopped, Faulted, OutOfTicks, Wrong, Outcome, WentOn, Left}
+use Rattle.ss_meaning.specs.Parts.{RunState, Returned, Stopped, Faulted, OutOfTicks, Wrong, Outcome, WentOn, Left}
 use Rattle.ss_meaning.specs.Statements.{effects}
 use Rattle.ss_meaning.specs.Meaning.{calls, first_store, meaning, WentWrong}
 use Rattle.ss_meaning.specs.Fitting.{Sound, Fits}
@@ -29,4 +29,4 @@ BeginsFit = (p : Program) (input : List ℕ) → Fits p p.locals (first_store p 
 abbrev pub KeepsModes : Type 0
 KeepsModes =
     (p : Program) → WellTyped p → (main : Bool) (modes : List Mode) (b : Block) → GoodBlock (record { program = p; locals = modes; is_main = main }) b
-    → (n : ℕ) (w : World) → Fits p modes w.store → FitsAfter p modes (effects (calls p n) n b w)
+    → (n : ℕ) (w : RunState) → Fits p modes w.store → FitsAfter p modes (effects (calls p n) n b w)

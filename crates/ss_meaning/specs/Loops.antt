@@ -9,7 +9,7 @@ use Rattle.ss_program.specs.declared.expression.Variable.{Variable}
 use Rattle.ss_base.specs.declared.words.PhraseKind.{PhraseKind}
 use Rattle.ss_base.specs.declared.words.PhraseKind.TheVariants as kinds
 use Rattle.ss_program.specs.Program.{Expression, SetOwner, Head, Numbers, Members, Each, Start, AtEnd, From, After, Phrase, Guard}
-use Rattle.ss_meaning.specs.Values.{Trouble, if_ok, turned, where_fit, unless_fault, number_of}
+use Rattle.ss_meaning.specs.Values.{Failure, if_ok, turned, where_fit, unless_fault, number_of}
 use Rattle.ss_meaning.specs.Store.{Store}
 use Rattle.ss_meaning.specs.Entities.{class_at, is_permanent, made_count}
 use Rattle.ss_meaning.specs.Places.{InVariable}
@@ -73,21 +73,21 @@ abbrev pub over_items : (go : ℤ → Part Turn) → List ℤ → Part Bool
 over_items go [] w = WentOn false w
 over_items go (i ∷ is) w = take_tick (λ w. outcome_then (go i w) (λ t. after_turn t (over_items go is))) w
 
-abbrev pub step_number : Option Value → Result ℤ Trouble
+abbrev pub step_number : Option Value → Result ℤ Failure
 step_number None = Ok (pos 1)
 step_number (Some v) = number_of v
 
 -- the numbers that values say; a step below 1 is the fault LOOP STEP
-abbrev pub range_of : (first limit : Value) → (step : Option Value) → Result Range Trouble
+abbrev pub range_of : (first limit : Value) → (step : Option Value) → Result Range Failure
 range_of a b c =
     if_ok (number_of a) (λ x. if_ok (number_of b) (λ y. if_ok (step_number c) (λ z.
     unless_fault (int_lt z (pos 1)) LoopStep (Ok (record { first = x; limit = y; step = z })))))
 
-abbrev pub range : (first limit : Expression) → (step : Option Expression) → Store → Result Range Trouble
+abbrev pub range : (first limit : Expression) → (step : Option Expression) → Store → Result Range Failure
 range a b c s = if_ok (value a s) (λ x. if_ok (value b s) (λ y. if_ok (value_if_any c s) (λ z. range_of x y z)))
 
 -- the indices of the entities of a permanent class
-abbrev pub indices : (class : ℕ) → Store → Result Range Trouble
+abbrev pub indices : (class : ℕ) → Store → Result Range Failure
 indices class s = where_fit (is_permanent (class_at class s)) (Ok (record { first = pos 1; limit = pos (made_count class s); step = pos 1 }))
 
 -- ## FOR over the members of a set
@@ -97,12 +97,12 @@ pub record Outset : Type 0 where
   pub first : ℤ
   pub owner : Option Value
 
-abbrev pub from_member : (after reverse : Bool) → (set : ℕ) → SetOwner → Expression → Store → Result Outset Trouble
+abbrev pub from_member : (after reverse : Bool) → (set : ℕ) → SetOwner → Expression → Store → Result Outset Failure
 from_member after reverse set owner e s =
     if_ok (owner_looked_at set owner s) (λ o. if_ok (member_value set e s) (λ y.
     turned (λ x. record { first = x; owner = o }) (begun_at reverse after set y o s)))
 
-abbrev pub loop_outset : Start → (reverse : Bool) → (set : ℕ) → SetOwner → Store → Result Outset Trouble
+abbrev pub loop_outset : Start → (reverse : Bool) → (set : ℕ) → SetOwner → Store → Result Outset Failure
 loop_outset AtEnd reverse set owner s =
     if_ok (owner_value owner s) (λ o. turned (λ x. record { first = x; owner = o }) (begun reverse set o s))
 loop_outset (From e) reverse set owner s = from_member false reverse set owner e s

@@ -2,8 +2,8 @@
 --
 -- `meaning program input n` is the report of a run with n ticks, and how the run ends: it ended, a fault at a line, it paused where a tick was
 -- due and none was left, or it went wrong, which no well-typed program does. The meaning goes through the program's statements and knows
--- no jump, no stack and no link. A statement is a part (Parts): it takes a world, which is the store, the report so far and the ticks that are
--- left, and goes on with a value or is left. The store (Store) has the variables and, in the scene, everything else.
+-- no jump, no stack and no link. A statement is a part (Parts): it takes a run state, which is the store, the report so far and the ticks that are
+-- left, and goes on with a value or is left. The store (Store) has the variables and, in the world, everything else.
 use Rattle.std.specs.Prelude.{ℕ, zero, suc, ◌==◌, Bool, ◌++◌, List, [], ◌∷◌, map, length, pos, Option, Some, None, slice_get, if◌then◌else◌}
 use Rattle.std.specs.List.{flat_map}
 use Rattle.ss_base.specs.declared.line.Line.{Line}
@@ -16,16 +16,16 @@ use Rattle.ss_world.specs.State.{first_state, modes_of}
 use Rattle.ss_world.specs.declared.ties.TieShape.{TieShape}
 use Rattle.ss_world.specs.PendingList.{none_pending}
 use Rattle.ss_program.specs.Program.{Routine, Event, Program}
-use Rattle.ss_meaning.specs.Store.{Notices, Setting, Scene, Store, first_values, opened, yielded}
+use Rattle.ss_meaning.specs.Store.{Notices, Setting, World, Store, first_values, opened, yielded}
 use Rattle.ss_meaning.specs.Histories.{no_histories, started}
 use Rattle.ss_meaning.specs.Events.{Beginning, Coming, next_event, event_begun}
-use Rattle.ss_meaning.specs.Parts.{World, Exit, Returned, Stopped, Faulted, OutOfTicks, Wrong, Outcome, WentOn, Left, Part, outcome_then, then_nothing, looked, needed, take_tick}
+use Rattle.ss_meaning.specs.Parts.{RunState, Exit, Returned, Stopped, Faulted, OutOfTicks, Wrong, Outcome, WentOn, Left, Part, outcome_then, then_nothing, looked, needed, take_tick}
 use Rattle.ss_meaning.specs.Statements.{Calls, effects}
 
 -- ## Routines
 
--- a world with other local variables
-abbrev pub with_locals : List Value → World → World
+-- a run state with other local variables
+abbrev pub with_locals : List Value → RunState → RunState
 with_locals ls w = record w { store = record w.store { locals = ls } }
 
 -- after a routine: the values of so many variables from a number on, and the caller's own variables
@@ -96,7 +96,7 @@ pub record Run : Type 0 where
   pub ending : Ending
   pub ticks : ℕ
 
-abbrev pub run_at : Ending → World → Run
+abbrev pub run_at : Ending → RunState → Run
 run_at e w = record { report = w.report; ending = e; ticks = w.ticks }
 
 abbrev pub run_of : Outcome (Unit {0}) → Run
@@ -119,8 +119,8 @@ abbrev pub tie_shapes : Layout → Event → List TieShape
 tie_shapes l e = flat_map (λ key. tie_shape key.high (slice_get (modes_of l e.class) key.field)) e.ties
 
 -- before MAIN: no entity, nothing pending, at the time 0
-abbrev pub first_scene : Program → List ℕ → Scene
-first_scene p input = record {
+abbrev pub first_world : Program → List ℕ → World
+first_world p input = record {
   setting = setting_of p;
   heap = first_state p.layout;
   time = pos 0;
@@ -132,11 +132,11 @@ first_scene p input = record {
 -- the variables at first, and the histories of global variables and of the system's sets
 abbrev pub first_store : Program → List ℕ → Store
 first_store p input =
-    started System (pos 0) (record { globals = first_values p.globals; locals = first_values p.locals; scene = first_scene p input })
+    started System (pos 0) (record { globals = first_values p.globals; locals = first_values p.locals; world = first_world p input })
 
-abbrev pub first_world : Program → List ℕ → (ticks : ℕ) → World
-first_world p input n = record { store = first_store p input; report = []; ticks = n }
+abbrev pub first_run_state : Program → List ℕ → (ticks : ℕ) → RunState
+first_run_state p input n = record { store = first_store p input; report = []; ticks = n }
 
 -- what a program does with an input and n ticks
 abbrev pub meaning : Program → (input : List ℕ) → (ticks : ℕ) → Run
-meaning p input n = run_of (effects (calls p n) n p.main (first_world p input n))
+meaning p input n = run_of (effects (calls p n) n p.main (first_run_state p input n))

@@ -1,14 +1,14 @@
--- Parts of a program: each does something to the world, and goes on with a value or is left; and ticks, which bound them.
+-- Parts of a program: each does something to the run state, and goes on with a value or is left; and ticks, which bound them.
 use Rattle.std.specs.Prelude.{ℕ, zero, suc, Bool, true, false, List, ◌++◌, Option, Some, None, Result, Ok, Err}
 use Rattle.ss_base.specs.declared.line.Line.{Line}
 use Rattle.ss_base.specs.declared.fault.FaultKind.{FaultKind}
 use Rattle.ss_base.specs.declared.value.Value.{Value}
-use Rattle.ss_meaning.specs.Values.{Trouble, Fails, Misfit}
+use Rattle.ss_meaning.specs.Values.{Failure, Fails, TypeError}
 use Rattle.ss_meaning.specs.Store.{Store}
 use Rattle.ss_meaning.specs.Places.{Spot, written}
 
 -- the store, the report so far, and the ticks that are left
-pub record World : Type 0 where
+pub record RunState : Type 0 where
   pub store : Store
   pub report : List ℕ
   pub ticks : ℕ
@@ -23,12 +23,12 @@ pub data Exit : Type 0 where
 
 -- a part goes on with a value, or is left
 pub data Outcome (A : Type 0) : Type 0 where
-  WentOn : A → World → Outcome A
-  Left : Exit → World → Outcome A
+  WentOn : A → RunState → Outcome A
+  Left : Exit → RunState → Outcome A
 
 -- a part of a program, which gives an A
 abbrev pub Part : Type 0 → Type 0
-Part A = World → Outcome A
+Part A = RunState → Outcome A
 
 -- one part, and then another that takes its value
 abbrev pub outcome_then : {A B : Type 0} → Outcome A → (A → Part B) → Outcome B
@@ -45,13 +45,13 @@ choose false a b w = b w
 
 -- ## Operations, each at the line of a statement
 
-abbrev pub looked : {A : Type 0} → Line → Result A Trouble → Part A
+abbrev pub looked : {A : Type 0} → Line → Result A Failure → Part A
 looked l (Ok a) w = WentOn a w
 looked l (Err (Fails kind)) w = Left (Faulted kind l) w
-looked l (Err Misfit) w = Left Wrong w
+looked l (Err TypeError) w = Left Wrong w
 
 -- looks at the store
-abbrev pub look : {A : Type 0} → Line → (Store → Result A Trouble) → Part A
+abbrev pub look : {A : Type 0} → Line → (Store → Result A Failure) → Part A
 look l f w = looked l (f w.store) w
 
 -- what has to be there
@@ -64,14 +64,14 @@ abbrev pub settle : Store → Part (Unit {0})
 settle s w = WentOn tt (record w { store = s })
 
 -- changes the store
-abbrev pub change : Line → (Store → Result Store Trouble) → Part (Unit {0})
+abbrev pub change : Line → (Store → Result Store Failure) → Part (Unit {0})
 change l f w = outcome_then (look l f w) settle
 
 -- changes the store, and gives a value
 abbrev pub settle_with : Value × Store → Part Value
 settle_with b w = WentOn b.0 (record w { store = b.1 })
 
-abbrev pub get : Line → (Store → Result (Value × Store) Trouble) → Part Value
+abbrev pub get : Line → (Store → Result (Value × Store) Failure) → Part Value
 get l f w = outcome_then (look l f w) settle_with
 
 -- the one write: a value is assigned to a place

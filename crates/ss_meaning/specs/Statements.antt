@@ -1,4 +1,4 @@
--- Statements: what each does to the world, in the order of the manual.
+-- Statements: what each does to the run state, in the order of the manual.
 use Rattle.std.specs.Prelude.{ℕ, List, [], ◌∷◌, length, Result}
 use Rattle.ss_base.specs.declared.line.Line.{Line}
 use Rattle.ss_base.specs.declared.value.Value.{Value}
@@ -8,7 +8,7 @@ use Rattle.ss_base.specs.declared.words.Sign.{Sign}
 use Rattle.ss_base.specs.declared.words.End.{End}
 use Rattle.ss_program.specs.declared.statement.CountedClass.{CountedClass}
 use Rattle.ss_program.specs.Program.{Expression, PrintItem, SetOwner, Place, InputTarget, Position, When, Restart, Statement, Let, Change, Call, Return, Stop, Read, Simulate, If, Loop, For, Find, Create, CreateEvery, Destroy, File, RemoveEnd, Remove, ScheduleNew, Schedule, Cancel, Reset, Print, Skip, Block, Done, Then}
-use Rattle.ss_meaning.specs.Values.{Trouble, if_ok, turned, due, sure, calculated, operator_of, printed, empty_lines}
+use Rattle.ss_meaning.specs.Values.{Failure, if_ok, turned, due, sure, calculated, operator_of, printed, empty_lines}
 use Rattle.ss_meaning.specs.Store.{Store}
 use Rattle.ss_meaning.specs.Entities.{made_one, made_all, without}
 use Rattle.ss_meaning.specs.Places.{held}
@@ -42,10 +42,10 @@ change_by l sign t e w =
 
 -- the value that the next word of the input is, and the store without the word
 abbrev pub with_input : Store → Given Value → Value × Store
-with_input s g = (g.value, record s { scene = record s.scene { input = g.rest } })
+with_input s g = (g.value, record s { world = record s.world { input = g.rest } })
 
-abbrev pub read_value : Mode → Store → Result (Value × Store) Trouble
-read_value mode s = turned (with_input s) (due (value_given mode s.scene.input))
+abbrev pub read_value : Mode → Store → Result (Value × Store) Failure
+read_value mode s = turned (with_input s) (due (value_given mode s.world.input))
 
 abbrev pub read_each : Line → List InputTarget → Part (Unit {0})
 read_each l [] w = WentOn tt w

@@ -1,4 +1,4 @@
--- What a program works on: its variables, and the scene with everything else.
+-- What a program works on: its variables, and the world with everything else.
 use Rattle.std.specs.Prelude.{ℕ, zero, suc, List, [], ◌∷◌, ◌++◌, map, ℤ, Option, Some, None, Result, Ok, Err, slice_get, if◌then◌else◌}
 use Rattle.ss_base.specs.declared.line.Line.{Line}
 use Rattle.ss_base.specs.declared.value.Value.{Value}
@@ -12,7 +12,7 @@ use Rattle.ss_stats.specs.History.{History}
 use Rattle.ss_program.specs.declared.expression.Variable.{Variable}
 use Rattle.ss_program.specs.declared.expression.Variable.TheVariants.{Global, Local}
 use Rattle.ss_program.specs.declared.sections.Statistic.{Statistic}
-use Rattle.ss_meaning.specs.Values.{Trouble, Misfit, same_mode, turned}
+use Rattle.ss_meaning.specs.Values.{Failure, TypeError, same_mode, turned}
 
 -- what a program says of a class of notices: the attributes that break ties, the line of its event routine, how many attributes that takes,
 -- and the global variable that a notice is saved in, if it is saved
@@ -34,7 +34,7 @@ abbrev pub Column : Type 0
 Column = (entity : ℤ) → Option History
 
 -- the entities, the time, the notices that are pending, the histories of each statistic, and the input that is not yet read
-pub record Scene : Type 0 where
+pub record World : Type 0 where
   pub setting : Setting
   pub heap : State
   pub time : ℤ
@@ -46,17 +46,17 @@ pub record Scene : Type 0 where
 pub record Store : Type 0 where
   pub globals : List Value
   pub locals : List Value
-  pub scene : Scene
+  pub world : World
 
 -- the store with other entities, other notices pending, other histories
 abbrev pub with_heap : Store → State → Store
-with_heap s h = record s { scene = record s.scene { heap = h } }
+with_heap s h = record s { world = record s.world { heap = h } }
 
 abbrev pub with_pending : Store → PendingList → Store
-with_pending s p = record s { scene = record s.scene { pending = p } }
+with_pending s p = record s { world = record s.world { pending = p } }
 
 abbrev pub with_histories : Store → List Column → Store
-with_histories s hs = record s { scene = record s.scene { histories = hs } }
+with_histories s hs = record s { world = record s.world { histories = hs } }
 
 -- ## Variables
 
@@ -66,13 +66,13 @@ fetched (Global k) s = slice_get s.globals k
 fetched (Local k) s = slice_get s.locals k
 
 -- values, of which one is changed to another of its mode
-abbrev pub put_at : List Value → ℕ → Value → Result (List Value) Trouble
-put_at [] k v = Err Misfit
-put_at (old ∷ vs) zero v = if same_mode (mode_of v) (mode_of old) then Ok (v ∷ vs) else Err Misfit
+abbrev pub put_at : List Value → ℕ → Value → Result (List Value) Failure
+put_at [] k v = Err TypeError
+put_at (old ∷ vs) zero v = if same_mode (mode_of v) (mode_of old) then Ok (v ∷ vs) else Err TypeError
 put_at (old ∷ vs) (suc k) v = turned (λ rest. old ∷ rest) (put_at vs k v)
 
 -- the store with another value of a variable
-abbrev pub put : Variable → Value → Store → Result Store Trouble
+abbrev pub put : Variable → Value → Store → Result Store Failure
 put (Global k) v s = turned (λ vs. record s { globals = vs }) (put_at s.globals k v)
 put (Local k) v s = turned (λ vs. record s { locals = vs }) (put_at s.locals k v)
 

@@ -28,40 +28,40 @@ use Rattle.ss_base.specs.declared.words.Relation.TheVariants.{Equal, NotEqual, L
 -- ## Answers
 
 -- why an operation gives nothing: a fault of the run; or numbers, kinds or counts do not fit, which happens in no well-typed program
-pub data Trouble : Type 0 where
-  Fails : (kind : FaultKind) → Trouble
-  Misfit : Trouble
+pub data Failure : Type 0 where
+  Fails : (kind : FaultKind) → Failure
+  TypeError : Failure
 
 -- what an operation gives
 abbrev pub Answer : Type 0 → Type 0
-Answer A = Result A Trouble
+Answer A = Result A Failure
 
--- a value, and then what is made of it; a trouble stays
-abbrev pub if_ok : {A B : Type 0} → Result A Trouble → (A → Result B Trouble) → Result B Trouble
+-- a value, and then what is made of it; a failure stays
+abbrev pub if_ok : {A B : Type 0} → Result A Failure → (A → Result B Failure) → Result B Failure
 if_ok (Ok a) go = go a
 if_ok (Err t) go = Err t
 
-abbrev pub turned : {A B : Type 0} → (A → B) → Result A Trouble → Result B Trouble
+abbrev pub turned : {A B : Type 0} → (A → B) → Result A Failure → Result B Failure
 turned f (Ok a) = Ok (f a)
 turned f (Err t) = Err t
 
 -- what gives a value or a fault
-abbrev pub due : {A : Type 0} → Result A FaultKind → Result A Trouble
+abbrev pub due : {A : Type 0} → Result A FaultKind → Result A Failure
 due (Ok a) = Ok a
 due (Err kind) = Err (Fails kind)
 
 -- what has to be there
-abbrev pub sure : {A : Type 0} → Option A → Result A Trouble
-sure None = Err Misfit
+abbrev pub sure : {A : Type 0} → Option A → Result A Failure
+sure None = Err TypeError
 sure (Some a) = Ok a
 
 -- an answer where something fits
-abbrev pub where_fit : {A : Type 0} → Bool → Result A Trouble → Result A Trouble
+abbrev pub where_fit : {A : Type 0} → Bool → Result A Failure → Result A Failure
 where_fit true answer = answer
-where_fit false answer = Err Misfit
+where_fit false answer = Err TypeError
 
 -- an answer unless there is a fault
-abbrev pub unless_fault : {A : Type 0} → Bool → FaultKind → Result A Trouble → Result A Trouble
+abbrev pub unless_fault : {A : Type 0} → Bool → FaultKind → Result A Failure → Result A Failure
 unless_fault true kind answer = Err (Fails kind)
 unless_fault false kind answer = answer
 
@@ -74,9 +74,9 @@ same_mode Alpha Integer = false
 same_mode Alpha Alpha = true
 
 -- the number that a value is
-abbrev pub number_of : Value → Result ℤ Trouble
+abbrev pub number_of : Value → Result ℤ Failure
 number_of (Whole z) = Ok z
-number_of (Text t) = Err Misfit
+number_of (Text t) = Err TypeError
 
 -- ## Numbers
 
@@ -91,18 +91,18 @@ computed Least x y = Ok (int_min x y)
 computed Greatest x y = Ok (int_max x y)
 
 -- an operator applied to two values
-abbrev pub calculated : Operator → Value → Value → Result Value Trouble
+abbrev pub calculated : Operator → Value → Value → Result Value Failure
 calculated op (Whole x) (Whole y) = turned Whole (due (computed op x y))
-calculated op (Whole x) (Text t) = Err Misfit
-calculated op (Text s) (Whole y) = Err Misfit
-calculated op (Text s) (Text t) = Err Misfit
+calculated op (Whole x) (Text t) = Err TypeError
+calculated op (Text s) (Whole y) = Err TypeError
+calculated op (Text s) (Text t) = Err TypeError
 
 abbrev pub operator_of : Sign → Operator
 operator_of Plus = Add
 operator_of Minus = Subtract
 
 -- a sign is 0 plus or 0 minus its term
-abbrev pub signed : Sign → Value → Result Value Trouble
+abbrev pub signed : Sign → Value → Result Value Failure
 signed sign v = calculated (operator_of sign) (Whole (pos 0)) v
 
 -- the distance of a number from 0
@@ -114,9 +114,9 @@ abbrev pub computed_alone : UnaryOperator → ℤ → Result ℤ FaultKind
 computed_alone Absolute z = distance z
 
 -- an operator applied to one value
-abbrev pub applied : UnaryOperator → Value → Result Value Trouble
+abbrev pub applied : UnaryOperator → Value → Result Value Failure
 applied op (Whole z) = turned Whole (due (computed_alone op z))
-applied op (Text t) = Err Misfit
+applied op (Text t) = Err TypeError
 
 -- ## Relations
 
@@ -176,7 +176,7 @@ abbrev pub printed : List (List ℕ) → List Item → Option (List ℕ)
 printed pictures items = if take_all (flat_map picture_fields pictures) items then Some (lines_with pictures items) else None
 
 -- so many empty lines; below 0 or above 1,000 is the fault BAD COUNT
-abbrev pub empty_lines : Value → Result (List ℕ) Trouble
+abbrev pub empty_lines : Value → Result (List ℕ) Failure
 empty_lines (Whole (pos n)) = unless_fault (nat_lt 1000 n) BadCount (Ok (replicate n line_end))
 empty_lines (Whole (negsuc n)) = Err (Fails BadCount)
-empty_lines (Text t) = Err Misfit
+empty_lines (Text t) = Err TypeError

@@ -5,7 +5,7 @@ use Rattle.std.proofs.lemmas.List.Sums.{fold-append}
 use Rattle.ss_base.specs.declared.line.Line.{Line}
 use Rattle.ss_base.specs.Lines.{line_if}
 use Rattle.ss_tree.specs.Names.{NameBytes}
-use Rattle.ss_names_declarations.specs.Firsts.{first_entries, value_for, with_first}
+use Rattle.ss_names_declarations.specs.NameTable.{first_entries, value_for, with_first}
 use Rattle.ss_names_declarations.specs.declared.declaration.Declaration.{Declaration}
 use Rattle.ss_names_declarations.proofs.Entries.{value_in_firsts}
 use Rattle.ss_names.specs.declared.meaning.Meaning.{Meaning}

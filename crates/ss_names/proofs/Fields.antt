@@ -12,7 +12,7 @@ use Rattle.std.proofs.lemmas.Option.{none-some, same_Some}
 use Rattle.ss_base.specs.declared.layout.Mode.{Mode}
 use Rattle.ss_base.specs.declared.layout.ClassKind.{ClassKind}
 use Rattle.ss_tree.specs.Names.{NameBytes}
-use Rattle.ss_names_declarations.specs.Firsts.{entry_beside, entry_if, first_entries, place_among, place_in, same_name, value_for, with_first}
+use Rattle.ss_names_declarations.specs.NameTable.{entry_beside, entry_if, first_entries, place_among, place_in, same_name, value_for, with_first}
 use Rattle.ss_names_declarations.specs.declared.declaration.Declared.{Declared}
 use Rattle.ss_names_declarations.specs.declared.declaration.Declared.TheVariants as declared
 use Rattle.ss_names_declarations.specs.declared.declaration.Declaration.{Declaration}

@@ -8,7 +8,7 @@ use Rattle.std.proofs.lemmas.List.FromFn.{length-map-range_with_len}
 use Rattle.std.proofs.lemmas.List.Sums.{fold-append}
 use Rattle.ss_base.specs.declared.layout.Mode.{Mode}
 use Rattle.ss_tree.specs.Names.{NameBytes}
-use Rattle.ss_names_declarations.specs.Firsts.{with_first, with_name}
+use Rattle.ss_names_declarations.specs.NameTable.{with_first, with_name}
 use Rattle.ss_names_declarations.specs.declared.declaration.Declaration.{Declaration}
 use Rattle.ss_names.specs.Entries.{attribute_by, attributes_of_class, class_by, classes, event_by, events, given_by, histories, history_by, mode_by, mode_of_name, modes, notice_by, priority_by, rank_key_by, routine_by, routines, set_by, set_names, sets, tie_key_by, usual_by, usual_mode, variable_by, number_added}
 use Rattle.ss_names.specs.Table.{Table, clashes, declared, numbered}

@@ -11,7 +11,7 @@ use Rattle.std.proofs.lemmas.Map.Keys.{IsDistinct-push}
 use Rattle.ss_base.specs.declared.layout.ClassKind.{ClassKind}
 use Rattle.ss_base.specs.declared.layout.Owner.{Owner}
 use Rattle.ss_tree.specs.Names.{NameBytes}
-use Rattle.ss_names_declarations.specs.Firsts.{entry_if, is_one_of, place_among, place_in, same_name, value_for, with_name}
+use Rattle.ss_names_declarations.specs.NameTable.{entry_if, is_one_of, place_among, place_in, same_name, value_for, with_name}
 use Rattle.ss_names_declarations.specs.declared.declaration.Declared.{Declared}
 use Rattle.ss_names_declarations.specs.declared.declaration.Declared.TheVariants as declared
 use Rattle.ss_names_declarations.specs.declared.declaration.Declaration.{Declaration}

@@ -7,7 +7,7 @@ use Rattle.std.specs.Cmp.Lexicographic.{bytes_decides}
 use Rattle.std.proofs.lemmas.Bool.Decides.{nat_tests}
 use Rattle.std.proofs.lemmas.List.Folds.{list_all-append}
 use Rattle.ss_tree.specs.Names.{NameBytes}
-use Rattle.ss_names_declarations.specs.Firsts.{entry_beside, place_in, same_name, value_for, with_first}
+use Rattle.ss_names_declarations.specs.NameTable.{entry_beside, place_in, same_name, value_for, with_first}
 use Rattle.ss_names_declarations.proofs.Entries.{keys_append}
 use Rattle.ss_base.specs.Spellings.{are_short, spelling_of}
 

@@ -14,7 +14,7 @@ use Rattle.ss_tree.specs.Names.{NameBytes}
 use Rattle.ss_tree.specs.declared.preamble.ModeWord.{ModeWord}
 use Rattle.ss_tree.specs.declared.preamble.ModeWord.TheVariants as words
 use Rattle.ss_base.specs.declared.words.Weighting.{Weighting}
-use Rattle.ss_names_declarations.specs.Firsts.{each_once, entry_if, first_entries, place_in, value_for}
+use Rattle.ss_names_declarations.specs.NameTable.{each_once, entry_if, first_entries, place_in, value_for}
 use Rattle.ss_names_declarations.specs.declared.declaration.Declared.{Declared}
 use Rattle.ss_names_declarations.specs.declared.declaration.Declared.TheVariants as d
 use Rattle.ss_names_declarations.specs.declared.declaration.Declaration.{Declaration}

@@ -12,7 +12,7 @@ use Rattle.ss_program.specs.declared.expression.SetQuery.TheVariants.{FirstMembe
 use Rattle.ss_program.specs.declared.expression.MemberQuery.{MemberQuery}
 use Rattle.ss_program.specs.declared.expression.MemberQuery.TheVariants.{Predecessor, Successor, Membership}
 use Rattle.ss_tree.specs.Names.{NameBytes}
-use Rattle.ss_names_declarations.specs.Firsts.{place_among, place_in, value_for, with_first, with_name}
+use Rattle.ss_names_declarations.specs.NameTable.{place_among, place_in, value_for, with_first, with_name}
 use Rattle.ss_names_declarations.specs.declared.declaration.Declared.{Declared}
 use Rattle.ss_names_declarations.specs.declared.declaration.Declared.TheVariants as d
 use Rattle.ss_names_declarations.specs.declared.declaration.Declaration.{Declaration}

@@ -23,7 +23,7 @@ use Rattle.ss_tree.specs.declared.preamble.StatisticKind.{StatisticKind}
 use Rattle.ss_tree.specs.declared.preamble.StatisticKind.TheVariants as kinds
 use Rattle.ss_base.specs.declared.words.Weighting.{Weighting}
 use Rattle.ss_names_declarations.specs.Declarations.{declarations}
-use Rattle.ss_names_declarations.specs.Firsts.{entry_if, first_entries, place_among, place_in, value_for}
+use Rattle.ss_names_declarations.specs.NameTable.{entry_if, first_entries, place_among, place_in, value_for}
 use Rattle.ss_names_declarations.specs.declared.declaration.Declared.{Declared}
 use Rattle.ss_names_declarations.specs.declared.declaration.Declared.TheVariants as d
 use Rattle.ss_names_declarations.specs.declared.declaration.Declaration.{Declaration}

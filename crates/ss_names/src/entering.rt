@@ -2,7 +2,7 @@
 
 ghost use Rattle.std.specs.Prelude.{◌≡◌, ◌++◌, Some, option_map, OnOk, IfOk};
 ghost use Rattle.std.specs.List.{fold};
-ghost use Rattle.ss_names_declarations.specs.Firsts.{entry_if, place_among, place_in, value_for};
+ghost use Rattle.ss_names_declarations.specs.NameTable.{entry_if, place_among, place_in, value_for};
 ghost use Rattle.ss_names.specs.declared.meaning.Meaning.TheVariants as m;
 ghost use Rattle.ss_names.specs.Entries.{count_name};
 ghost use Rattle.ss_names.specs.Table.{attribute_meaning, class_meaning, class_entry, count_meaning, count_entry, declares, derived_name, fold_of, same_of_set, set_meanings, subject_of, subjects_by, variable_meaning};

@@ -4,7 +4,7 @@ ghost use Rattle.std.specs.Prelude.{IfOk, None, OnOk, [], if◌then◌else◌, i
 ghost use Rattle.std.specs.List.{fold};
 ghost use Rattle.ss_base.specs.declared.layout.Owner.TheVariants as owners;
 ghost use Rattle.ss_tree.specs.Names.{NameBytes};
-ghost use Rattle.ss_names_declarations.specs.Firsts.{entry_if, place_among, place_in, value_for, with_first};
+ghost use Rattle.ss_names_declarations.specs.NameTable.{entry_if, place_among, place_in, value_for, with_first};
 ghost use Rattle.ss_names.specs.Entries.{class_variables, fields_by_class, notice_number, owner_named, row_of, usual_of, number_added};
 ghost use Rattle.ss_names.specs.Table.{clashes, declared};
 ghost use Rattle.ss_names.specs.Filling.{HasRows, add_entities, add_names, add_variables, entities_pass, field_pushed, fields_added, table_fields, first_line, kept_mode, merged_at, merged_with, mode_named, names_pass, no_names, no_set, pushed, row_pushed, variables_pass, with_field, with_fields, with_ranks, with_rows, with_set, with_sets, with_variables};

@@ -2,7 +2,7 @@
 
 ghost use Rattle.std.specs.Prelude.{◌≡◌, ◌<◌, [], length, slice_get, Some, OnOk};
 ghost use Rattle.std.specs.Map.{keys_of, values_of};
-ghost use Rattle.ss_names_declarations.specs.Firsts.{place_in, value_for, with_first};
+ghost use Rattle.ss_names_declarations.specs.NameTable.{place_in, value_for, with_first};
 
 use crate::meaning::Meaning;
 use ss_base::Spelling;

@@ -3,7 +3,7 @@
 ghost use Rattle.std.specs.Prelude.{◌≡◌, ◌<◌, length, map, slice_get, get_or, option_map, unwrap_or, Some, [], IfOk};
 ghost use Rattle.std.specs.Map.{keys_of};
 ghost use Rattle.ss_base.specs.declared.layout.Owner.TheVariants as owners;
-ghost use Rattle.ss_names_declarations.specs.Firsts.{place_in, value_for};
+ghost use Rattle.ss_names_declarations.specs.NameTable.{place_in, value_for};
 ghost use Rattle.ss_names.specs.Modes.{value_mode};
 ghost use Rattle.ss_names.specs.Entries.{is_notice_class, row_of};
 ghost use Rattle.ss_names.specs.Filling.{first_line};

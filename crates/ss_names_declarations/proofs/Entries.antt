@@ -9,7 +9,7 @@ use Rattle.std.proofs.lemmas.Bool.Decides.{nat_tests}
 use Rattle.std.proofs.lemmas.Cmp.{nat_list_eq_equiv}
 use Rattle.std.proofs.lemmas.Map.Entries.{lookup_from_place}
 use Rattle.std.proofs.lemmas.Option.{slice_get-map}
-use Rattle.ss_names_declarations.specs.Firsts.{entry_beside, first_entries, place_in, same_name, value_for, with_first}
+use Rattle.ss_names_declarations.specs.NameTable.{entry_beside, first_entries, place_in, same_name, value_for, with_first}
 
 -- ---- by places
 

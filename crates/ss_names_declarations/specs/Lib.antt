@@ -1,5 +1,5 @@
 pub mod Declarations
 pub mod Earliest
 pub mod Examples
-pub mod Firsts
+pub mod NameTable
 pub use Rattle.ss_base.specs.Spellings

@@ -3,7 +3,7 @@
 ghost use Rattle.std.specs.Prelude.{◌≡◌, is_some, slice_get, OnOk};
 ghost use Rattle.std.specs.List.{fold};
 ghost use Rattle.std.specs.Map.{keys_of, values_of};
-ghost use Rattle.ss_names_declarations.specs.Firsts.{entry_if, value_for, with_first};
+ghost use Rattle.ss_names_declarations.specs.NameTable.{entry_if, value_for, with_first};
 
 use crate::table::Table;
 use ss_base::Name;

@@ -2,7 +2,7 @@
 
 ghost use Rattle.std.specs.Prelude.{◌≡◌, slice_get, OnErr, OnOk};
 ghost use Rattle.std.specs.Map.{values_of};
-ghost use Rattle.ss_names_declarations.specs.Firsts.{with_first};
+ghost use Rattle.ss_names_declarations.specs.NameTable.{with_first};
 
 use crate::table::Table;
 use ss_base::Spelling;

@@ -8,7 +8,7 @@ use Rattle.ss_program.specs.declared.statement.CountedClass.{CountedClass}
 use Rattle.ss_tree.specs.Names.{NameBytes}
 use Rattle.ss_tree.specs.Tree.{ProgramTree}
 use Rattle.ss_names_declarations.specs.Declarations.{at_line, declarations}
-use Rattle.ss_names_declarations.specs.Firsts.{entry_if, place_in, value_for}
+use Rattle.ss_names_declarations.specs.NameTable.{entry_if, place_in, value_for}
 use Rattle.ss_names_declarations.specs.declared.declaration.Declared.{Declared}
 use Rattle.ss_names_declarations.specs.declared.declaration.Declared.TheVariants as d
 use Rattle.ss_names_declarations.specs.declared.declaration.Declaration.{Declaration}
@@ -17,7 +17,7 @@ use Rattle.ss_names.specs.declared.meaning.Meaning.TheVariants as m
 use Rattle.ss_names.specs.Entries.{attributes, class_by, class_variables, classes, count_name, variable_by, global_variables}
 use Rattle.ss_names.specs.Table.{class_meaning, class_entry, count_meaning, count_entry, declares, numbered, table}
 use Rattle.ss_tables_rules.specs.Broken.{refusal_of_declarations}
-use Rattle.ss_names_laws.proofs.Firsts.{declared_value, entry_here, value_declared}
+use Rattle.ss_names_laws.proofs.NameTable.{declared_value, entry_here, value_declared}
 use Rattle.ss_names_laws.proofs.Items.{Among, in_left, in_right}
 use Rattle.ss_names_laws.proofs.Kept.{declared_once, meant}
 

@@ -4,9 +4,9 @@ use Rattle.std.specs.Prelude.{option_to_list, slice_get}
 use Rattle.std.specs.List.{AllByRecursion as Every, filter, flat_map}
 use Rattle.ss_tree.specs.Names.{NameBytes}
 use Rattle.ss_names_declarations.specs.Declarations.{flat_map_from}
-use Rattle.ss_names_declarations.specs.Firsts.{entry_if, first_entries}
+use Rattle.ss_names_declarations.specs.NameTable.{entry_if, first_entries}
 use Rattle.ss_names_declarations.proofs.Entries.{value_in_firsts}
-use Rattle.ss_names_laws.proofs.Firsts.{value_among, value_of_entry}
+use Rattle.ss_names_laws.proofs.NameTable.{value_among, value_of_entry}
 use Rattle.ss_names_laws.proofs.Items.{Among, at_item, each_item}
 use Rattle.ss_names_laws.proofs.Kept.{both_empty}
 

@@ -12,7 +12,7 @@ use Rattle.ss_tree.specs.Names.{NameBytes}
 use Rattle.ss_tree.specs.Tree.{ProgramTree}
 use Rattle.ss_names_declarations.specs.Declarations.{declarations}
 use Rattle.ss_names_declarations.specs.Earliest.{precedes, earlier_of, earliest}
-use Rattle.ss_names_declarations.specs.Firsts.{value_for}
+use Rattle.ss_names_declarations.specs.NameTable.{value_for}
 use Rattle.ss_names_declarations.specs.declared.declaration.Declaration.{Declaration}
 use Rattle.ss_names_declarations.proofs.EarliestBreach.{found_and_rest}
 use Rattle.ss_names_declarations.proofs.Entries.{value_append, value_in_firsts}
@@ -27,7 +27,7 @@ use Rattle.ss_tables_rules.specs.Keys.{misranked}
 use Rattle.ss_tables_rules.specs.Once.{is_among, once_of, repeats, repeats_after, repeated_breach, same_once, again, once_added}
 use Rattle.ss_tables_rules.specs.Order.{table_error_order}
 use Rattle.ss_tables_rules.specs.Rules.{broken_by}
-use Rattle.ss_names_laws.proofs.Firsts.{has_value}
+use Rattle.ss_names_laws.proofs.NameTable.{has_value}
 use Rattle.std.specs.Prelude.{option_to_list}
 use Rattle.ss_names_laws.proofs.Items.{Among, in_image, in_pieces, in_right}
 

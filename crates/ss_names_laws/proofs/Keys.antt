@@ -14,7 +14,7 @@ use Rattle.ss_tree.specs.Names.{NameBytes}
 use Rattle.ss_tree.specs.Tree.{OrderTree, ranked, PreambleTree, define_sets, ProgramTree}
 use Rattle.ss_tree.specs.declared.preamble.NamedKey.{NamedKey}
 use Rattle.ss_names_declarations.specs.Declarations.{declarations}
-use Rattle.ss_names_declarations.specs.Firsts.{place_in, same_name, value_for}
+use Rattle.ss_names_declarations.specs.NameTable.{place_in, same_name, value_for}
 use Rattle.ss_names_declarations.specs.declared.declaration.Declared.{Declared}
 use Rattle.ss_names_declarations.specs.declared.declaration.Declared.TheVariants as d
 use Rattle.ss_names_declarations.specs.declared.declaration.Declaration.{Declaration}
@@ -35,7 +35,7 @@ use Rattle.ss_tables_rules.specs.Rules.{broken_in, is_attribute_of, is_class_of}
 use Rattle.ss_names_meaning.specs.Answers.{where_holds}
 use Rattle.ss_names_meaning.specs.Layouts.{discipline, disciplines, rank_key, ordered, rank_keys, ranked_by, ruled, tie_keys, tied_by}
 use Rattle.ss_names_laws.proofs.Each.{at_place, each_empty, every_image, every_passed, every_piece}
-use Rattle.ss_names_laws.proofs.Firsts.{value_among}
+use Rattle.ss_names_laws.proofs.NameTable.{value_among}
 use Rattle.ss_names_laws.proofs.Items.{Among, at_item}
 use Rattle.ss_names_laws.proofs.Kept.{none_misranked}
 use Rattle.ss_names_laws.proofs.Owners.{IsOwned, all_owned}

@@ -6,7 +6,7 @@ use Rattle.ss_base.specs.declared.layout.ClassKind.TheVariants.{Permanent}
 use Rattle.ss_base.specs.declared.layout.Mode.{Mode}
 use Rattle.ss_program.specs.declared.expression.Variable.TheVariants.{Global, Local}
 use Rattle.ss_tree.specs.Names.{NameBytes}
-use Rattle.ss_names_declarations.specs.Firsts.{entry_if, place_among, place_in, value_for}
+use Rattle.ss_names_declarations.specs.NameTable.{entry_if, place_among, place_in, value_for}
 use Rattle.ss_names_declarations.specs.declared.declaration.Declared.{Declared}
 use Rattle.ss_names_declarations.specs.declared.declaration.Declared.TheVariants as d
 use Rattle.ss_names_declarations.specs.declared.declaration.Declaration.{Declaration}
@@ -15,7 +15,7 @@ use Rattle.ss_names.specs.declared.meaning.Meaning.TheVariants as m
 use Rattle.ss_names.specs.Entries.{count_name}
 use Rattle.ss_names.specs.Modes.{value_mode}
 use Rattle.ss_names.specs.Table.{Table, attribute_meaning, class_meaning, class_entry, count_meaning, count_entry, declares, fold_of, meanings, numbered, set_meanings, variable_meaning}
-use Rattle.ss_names_laws.proofs.Firsts.{entry_from, mapped, place_below, value_declared}
+use Rattle.ss_names_laws.proofs.NameTable.{entry_from, mapped, place_below, value_declared}
 use Rattle.ss_names_laws.proofs.Items.{Among, at_item, in_one_of}
 
 -- what a table has of a name that is declared as this

@@ -14,7 +14,7 @@ use Rattle.ss_base.specs.Plain.{PlainClass, PlainLayout}
 use Rattle.ss_tree.specs.Names.{NameBytes}
 use Rattle.ss_tree.specs.Tree.{ProgramTree}
 use Rattle.ss_names_declarations.specs.Declarations.{declarations}
-use Rattle.ss_names_declarations.specs.Firsts.{value_for}
+use Rattle.ss_names_declarations.specs.NameTable.{value_for}
 use Rattle.ss_names_declarations.proofs.Entries.{there, value_at}
 use Rattle.ss_names.specs.declared.entry.Attribute.{Attribute}
 use Rattle.ss_names.specs.declared.entry.Set.{Set}
@@ -25,7 +25,7 @@ use Rattle.ss_names_meaning.specs.Answers.{each, upto}
 use Rattle.ss_names_meaning.specs.Layouts.{class_layout, layout, set_layout}
 use Rattle.ss_names_laws.specs.Laws.{LayoutsAreThere}
 use Rattle.ss_names_laws.proofs.Each.{every_image, every_passed}
-use Rattle.ss_names_laws.proofs.Firsts.{has_value}
+use Rattle.ss_names_laws.proofs.NameTable.{has_value}
 use Rattle.ss_names_laws.proofs.Items.{Among, at_item, each_item}
 use Rattle.ss_names_laws.proofs.Limits.{few_attributes, few_classes, few_sets}
 use Rattle.ss_names_laws.proofs.Owners.{IsOwned, all_owned}

@@ -1,5 +1,5 @@
 pub mod Items
-mod Firsts
+mod NameTable
 pub mod Kept
 mod Known
 mod Classes

@@ -11,7 +11,7 @@ use Rattle.ss_base.specs.declared.layout.Mode.{Mode}
 use Rattle.ss_tree.specs.Names.{NameBytes}
 use Rattle.ss_tree.specs.Tree.{ProgramTree}
 use Rattle.ss_names_declarations.specs.Declarations.{declarations}
-use Rattle.ss_names_declarations.specs.Firsts.{first_entries, place_among, place_in, same_name, value_for}
+use Rattle.ss_names_declarations.specs.NameTable.{first_entries, place_among, place_in, same_name, value_for}
 use Rattle.ss_names_declarations.specs.declared.declaration.Declared.{Declared}
 use Rattle.ss_names_declarations.specs.declared.declaration.Declared.TheVariants as d
 use Rattle.ss_names_declarations.proofs.Entries.{firsts_once, keys_append, place_from, there, value_from_place}

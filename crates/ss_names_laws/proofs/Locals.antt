@@ -13,7 +13,7 @@ use Rattle.ss_tree.specs.Tree.{DefinitionTree, SectionKindTree, main, routine, e
 use Rattle.ss_tree.specs.declared.expression.Designator.{Designator}
 use Rattle.ss_tree.specs.declared.expression.Designator.TheVariants as designators
 use Rattle.ss_names_declarations.specs.Declarations.{flat_map_from, in_definition, in_section_head, in_section, in_preamble_statement, local_declaration, parameter_declaration}
-use Rattle.ss_names_declarations.specs.Firsts.{first_entries, place_in, same_name, value_for}
+use Rattle.ss_names_declarations.specs.NameTable.{first_entries, place_in, same_name, value_for}
 use Rattle.ss_names_declarations.specs.declared.declaration.Declaration.{Declaration}
 use Rattle.ss_names_declarations.proofs.Entries.{firsts_once, there, value_at, value_by_place, value_from_place}
 use Rattle.ss_names_uses.specs.declared.used.Role.{Role}

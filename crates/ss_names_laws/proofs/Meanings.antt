@@ -16,7 +16,7 @@ use Rattle.ss_program.specs.declared.sections.Subject.{Subject}
 use Rattle.ss_tree.specs.Names.{NameBytes}
 use Rattle.ss_tree.specs.Tree.{ProgramTree}
 use Rattle.ss_names_declarations.specs.Declarations.{declarations}
-use Rattle.ss_names_declarations.specs.Firsts.{place_in, value_for}
+use Rattle.ss_names_declarations.specs.NameTable.{place_in, value_for}
 use Rattle.ss_names_declarations.proofs.Entries.{firsts_once, key_at, place_from, there, value_at, value_by_place, value_from_place}
 use Rattle.ss_names.specs.declared.entry.Attribute.{Attribute}
 use Rattle.ss_names.specs.declared.meaning.Meaning.{Meaning}
@@ -32,7 +32,7 @@ use Rattle.ss_names_laws.specs.ValidTables.{IsClassAt, IsMeant, IsNamedClass, Is
 use Rattle.ss_names_laws.proofs.Attributes.{attribute_there}
 use Rattle.ss_names_laws.proofs.Classes.{class_meant, class_said, class_there, count_meant}
 use Rattle.ss_names_laws.proofs.Items.{contains, in_image, in_pieces}
-use Rattle.ss_names_laws.proofs.Firsts.{place_in_below, value_among}
+use Rattle.ss_names_laws.proofs.NameTable.{place_in_below, value_among}
 use Rattle.ss_names_laws.proofs.Known.{IsKnown, name_known}
 use Rattle.ss_names_laws.proofs.Parts.{class_parts, laid_of, numbers_length, parts_of, subject_kept}
 use Rattle.ss_names_laws.proofs.Steps.{each_at, numbers_at}

@@ -14,7 +14,7 @@ use Rattle.ss_base.specs.Layout.{owns_among}
 use Rattle.ss_tree.specs.Names.{NameBytes}
 use Rattle.ss_tree.specs.Tree.{ProgramTree}
 use Rattle.ss_names_declarations.specs.Declarations.{declarations}
-use Rattle.ss_names_declarations.specs.Firsts.{place_among, place_in, same_name, value_for}
+use Rattle.ss_names_declarations.specs.NameTable.{place_among, place_in, same_name, value_for}
 use Rattle.ss_names_declarations.specs.declared.declaration.Declared.{Declared}
 use Rattle.ss_names_declarations.specs.declared.declaration.Declared.TheVariants as d
 use Rattle.ss_names_declarations.specs.declared.declaration.Declaration.{Declaration}
@@ -25,7 +25,7 @@ use Rattle.ss_tables_rules.specs.declared.error.TableError.TheVariants as errors
 use Rattle.ss_tables_rules.specs.Broken.{refusal_of_declarations}
 use Rattle.ss_tables_rules.specs.Rules.{broken_in, has_member, has_owner, is_too_many, table_set_at, set_by_name}
 use Rattle.ss_names_laws.proofs.Each.{every_if, every_piece}
-use Rattle.ss_names_laws.proofs.Firsts.{mapped, place_in_below, value_among}
+use Rattle.ss_names_laws.proofs.NameTable.{mapped, place_in_below, value_among}
 use Rattle.ss_names_laws.proofs.Items.{at_item}
 use Rattle.ss_names_laws.proofs.Names.{every_once}
 use Rattle.ss_names_laws.proofs.Unbroken.{every_given, two_fit}

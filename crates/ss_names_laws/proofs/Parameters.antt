@@ -14,7 +14,7 @@ use Rattle.ss_base.specs.declared.layout.Mode.{Mode}
 use Rattle.ss_tree.specs.Names.{NameBytes}
 use Rattle.ss_tree.specs.Tree.{SectionKindTree, main, routine, event, SectionTree, ProgramTree}
 use Rattle.ss_names_declarations.specs.Declarations.{at_line, flat_map_from, in_definition, in_section_head, in_section, in_preamble_statement, parameter_declaration}
-use Rattle.ss_names_declarations.specs.Firsts.{entry_beside, first_entries, same_name, value_for, with_first}
+use Rattle.ss_names_declarations.specs.NameTable.{entry_beside, first_entries, same_name, value_for, with_first}
 use Rattle.ss_names_declarations.specs.declared.declaration.Declared.TheVariants as d
 use Rattle.ss_names_declarations.specs.declared.declaration.Declaration.{Declaration}
 use Rattle.ss_names_declarations.proofs.Entries.{keys_append, value_append}

@@ -14,7 +14,7 @@ use Rattle.ss_program.specs.declared.sections.Subject.TheVariants.{OfVariable, O
 use Rattle.ss_tree.specs.Names.{NameBytes}
 use Rattle.ss_tree.specs.Tree.{PreambleTree, statistics, ProgramTree}
 use Rattle.ss_names_declarations.specs.Declarations.{declarations}
-use Rattle.ss_names_declarations.specs.Firsts.{value_for}
+use Rattle.ss_names_declarations.specs.NameTable.{value_for}
 use Rattle.ss_names_declarations.specs.declared.declaration.Declared.{Declared}
 use Rattle.ss_names_declarations.specs.declared.declaration.Declared.TheVariants as d
 use Rattle.ss_names_declarations.specs.declared.declaration.Declaration.{Declaration}

@@ -24,7 +24,7 @@ use Rattle.ss_program.specs.WellTyped as typed
 use Rattle.ss_tree.specs.Names.{NameBytes}
 use Rattle.ss_tree.specs.Tree.{ProgramTree}
 use Rattle.ss_names_declarations.specs.Declarations.{declarations}
-use Rattle.ss_names_declarations.specs.Firsts.{same_name, value_for}
+use Rattle.ss_names_declarations.specs.NameTable.{same_name, value_for}
 use Rattle.ss_names_declarations.specs.declared.declaration.SetRule.{SetRule}
 use Rattle.ss_names_declarations.specs.declared.declaration.SetRule.TheVariants as rules
 use Rattle.ss_names_declarations.proofs.Entries.{entry_of_key, value_at, value_by_place}
@@ -45,7 +45,7 @@ use Rattle.ss_names_laws.specs.Laws.{HasLayout, IsWellLaid, LayoutsAreWellTyped,
 use Rattle.ss_names_laws.specs.ValidTables.{IsMeant, IsValidTable}
 use Rattle.ss_names_laws.proofs.Attributes.{attribute_there}
 use Rattle.ss_names_laws.proofs.Each.{at_place, every_piece}
-use Rattle.ss_names_laws.proofs.Firsts.{mapped, value_of_entry}
+use Rattle.ss_names_laws.proofs.NameTable.{mapped, value_of_entry}
 use Rattle.ss_names_laws.proofs.Items.{from_image}
 use Rattle.ss_names_laws.proofs.Keys.{disciplines_there, ties_there}
 use Rattle.ss_names_laws.proofs.Known.{name_known}

@@ -14,7 +14,7 @@ use Rattle.ss_tree.specs.Names.{NameBytes}
 use Rattle.ss_tree.specs.Tree.{ProgramTree}
 use Rattle.ss_tree.specs.declared.preamble.ModeWord.{ModeWord}
 use Rattle.ss_names_declarations.specs.Declarations.{at_line, declarations}
-use Rattle.ss_names_declarations.specs.Firsts.{place_in, value_for}
+use Rattle.ss_names_declarations.specs.NameTable.{place_in, value_for}
 use Rattle.ss_names_declarations.specs.declared.declaration.Declared.{Declared}
 use Rattle.ss_names_declarations.specs.declared.declaration.Declared.TheVariants as d
 use Rattle.ss_names_declarations.proofs.Entries.{place_of_value, value_at, value_by_place}
@@ -27,7 +27,7 @@ use Rattle.ss_names_scopes.specs.Scopes.{mode_of_meaning}
 use Rattle.ss_tables_rules.specs.Broken.{refusal_of_declarations}
 use Rattle.ss_names_meaning.specs.Layouts.{count_by, counts}
 use Rattle.ss_names_laws.proofs.Classes.{class_meant, class_there, count_meant}
-use Rattle.ss_names_laws.proofs.Firsts.{declared_value, entry_here, value_declared, value_of_entry}
+use Rattle.ss_names_laws.proofs.NameTable.{declared_value, entry_here, value_declared, value_of_entry}
 use Rattle.ss_names_laws.proofs.Items.{Among, at_item, each_item, from_image, from_pieces}
 use Rattle.ss_names_laws.proofs.Kept.{meant}
 use Rattle.ss_names_laws.proofs.Known.{name_known}

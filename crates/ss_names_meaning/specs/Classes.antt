@@ -1,7 +1,7 @@
 -- Classes by the kind that their place needs.
 use Rattle.std.specs.Prelude.{ℕ, Option, Some, None, length, get_or, []}
 use Rattle.ss_tree.specs.Names.{NameBytes}
-use Rattle.ss_names_declarations.specs.Firsts.{value_for}
+use Rattle.ss_names_declarations.specs.NameTable.{value_for}
 use Rattle.ss_names_uses.specs.declared.used.ClassNeed.{ClassNeed}
 use Rattle.ss_names.specs.declared.meaning.Meaning.{Meaning}
 use Rattle.ss_names.specs.declared.meaning.Meaning.TheVariants as meanings

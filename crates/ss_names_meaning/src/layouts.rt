@@ -1,7 +1,7 @@
 //! Classes and sets.
 
 ghost use Rattle.std.specs.Prelude.{◌≡◌, IfOk};
-ghost use Rattle.ss_names_declarations.specs.Firsts.{value_for};
+ghost use Rattle.ss_names_declarations.specs.NameTable.{value_for};
 ghost use Rattle.ss_names_meaning.specs.Answers.{Gives, each, upto};
 ghost use Rattle.ss_names.specs.Table.{mode_of_attribute};
 ghost use Rattle.ss_names_meaning.specs.Layouts.{class_layout, layout, set_layout};

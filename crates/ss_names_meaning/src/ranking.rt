@@ -3,7 +3,7 @@
 ghost use Rattle.std.specs.Prelude.{◌≡◌, ◌==◌, IfOk};
 ghost use Rattle.std.specs.List.{filter};
 ghost use Rattle.std.specs.Option.{option_map};
-ghost use Rattle.ss_names_declarations.specs.Firsts.{same_name};
+ghost use Rattle.ss_names_declarations.specs.NameTable.{same_name};
 ghost use Rattle.ss_names_meaning.specs.Answers.{Gives, each};
 ghost use Rattle.ss_names_meaning.specs.Layouts.{discipline, disciplines, rank_key, ordered, rank_keys, ranked_by, tie_keys, tied_by};
 

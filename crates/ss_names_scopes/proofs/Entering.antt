@@ -7,7 +7,7 @@ use Rattle.std.proofs.lemmas.List.{map-append}
 use Rattle.std.proofs.lemmas.List.Sums.{fold-append}
 use Rattle.ss_base.specs.declared.layout.Mode.{Mode}
 use Rattle.ss_tree.specs.Names.{NameBytes}
-use Rattle.ss_names_declarations.specs.Firsts.{first_entries, with_first}
+use Rattle.ss_names_declarations.specs.NameTable.{first_entries, with_first}
 use Rattle.ss_names_declarations.proofs.Entries.{value_in_firsts}
 use Rattle.ss_names_scopes.specs.Locals.{moded_in}
 use Rattle.ss_names_scopes.proofs.Finding.{list_more}

@@ -14,7 +14,7 @@ use Rattle.ss_tree.specs.Names.{NameBytes}
 use Rattle.ss_tree.specs.Tree.{SectionKindTree, main, SectionTree}
 use Rattle.ss_tree.specs.declared.expression.Designator.{Designator}
 use Rattle.ss_tree.specs.declared.expression.Designator.TheVariants as designators
-use Rattle.ss_names_declarations.specs.Firsts.{place_in, same_name, value_for}
+use Rattle.ss_names_declarations.specs.NameTable.{place_in, same_name, value_for}
 use Rattle.ss_names_uses.specs.declared.used.ClassNeed.{ClassNeed}
 use Rattle.ss_names_uses.specs.declared.used.ClassNeed.TheVariants as needs
 use Rattle.ss_names.specs.declared.meaning.Meaning.{Meaning}

@@ -4,7 +4,7 @@ ghost use Rattle.std.specs.Prelude.{◌≡◌, ◌==◌, map, length, slice_get,
 ghost use Rattle.std.specs.List.{flat_map, fold, position};
 ghost use Rattle.std.specs.Map.{keys_of, values_of, lookup};
 ghost use Rattle.std.specs.Option.{option_or};
-ghost use Rattle.ss_names_declarations.specs.Firsts.{first_entries, same_name, value_for, with_first};
+ghost use Rattle.ss_names_declarations.specs.NameTable.{first_entries, same_name, value_for, with_first};
 ghost use Rattle.ss_names_scopes.specs.Locals.{defined, defined_by, is_local_place, may_be_variable, local_of, local_place, local_used, locals, moded_in, uses_seen};
 
 use ss_base::{Mode, Name};

@@ -6,8 +6,8 @@ use Rattle.ss_lex.specs.declared.token.TokenKind.TheVariants as kinds
 use Rattle.ss_lex.specs.declared.token.Token.{Token}
 use Rattle.ss_tree.specs.declared.preamble.NamedKey.{NamedKey}
 use Rattle.ss_tree.specs.Tree.{OrderTree, fifo, lifo, ranked}
-use Rattle.ss_parse_expressions.specs.declared.failure.Failure.{Failure}
-use Rattle.ss_parse_expressions.specs.declared.failure.Failure.TheVariants as failures
+use Rattle.ss_parse_expressions.specs.declared.failure.ParseFailure.{ParseFailure}
+use Rattle.ss_parse_expressions.specs.declared.failure.ParseFailure.TheVariants as failures
 use Rattle.ss_parse_expressions.specs.declared.classes.WordClass.TheVariants as alike
 use Rattle.ss_parse_expressions.specs.Shapes.{Shape, ◌▷◌, nothing, either_shape, provided, Word_is, Name_is, Word_for}
 use Rattle.ss_parse_expressions.specs.Reading.{FailsReading, word, begins, begins_by, in_table, taken, name_in_token, comma, begins_more}
@@ -147,12 +147,12 @@ pub then_key_read : (ts a b : List Token) (high : Bool) (n : List ℕ) → then_
 unfolding then_key
 then_key_read ts a b high n e f g = rw (e, f, g) refl
 
-pub then_key_no_rank : (ts : List Token) (e : Failure) → FailsReading e (then_rank ts) → FailsReading e (then_key ts)
+pub then_key_no_rank : (ts : List Token) (e : ParseFailure) → FailsReading e (then_rank ts) → FailsReading e (then_key ts)
 unfolding then_key
 then_key_no_rank ts failures.Memory f = tt
 then_key_no_rank ts (failures.Refused d left) f = rw f refl
 
-pub then_key_no_name : (ts a : List Token) (high : Bool) (e : Failure) → then_rank ts ≡ Ok (high, a) → FailsReading e (taken name_in_token a) → FailsReading e (then_key ts)
+pub then_key_no_name : (ts a : List Token) (high : Bool) (e : ParseFailure) → then_rank ts ≡ Ok (high, a) → FailsReading e (taken name_in_token a) → FailsReading e (then_key ts)
 unfolding then_key
 then_key_no_name ts a high failures.Memory r f = tt
 then_key_no_name ts a high (failures.Refused d left) r f = rw (r, f) refl

@@ -9,8 +9,8 @@ use Rattle.ss_base.specs.declared.words.Weighting.TheVariants as weightings
 use Rattle.ss_tree.specs.declared.preamble.StatisticKind.{StatisticKind}
 use Rattle.ss_tree.specs.declared.preamble.NamedStatistic.{NamedStatistic}
 use Rattle.ss_tree.specs.Tree.{PreambleTree, statistics}
-use Rattle.ss_parse_expressions.specs.declared.failure.Failure.{Failure}
-use Rattle.ss_parse_expressions.specs.declared.failure.Failure.TheVariants as failures
+use Rattle.ss_parse_expressions.specs.declared.failure.ParseFailure.{ParseFailure}
+use Rattle.ss_parse_expressions.specs.declared.failure.ParseFailure.TheVariants as failures
 use Rattle.ss_parse_expressions.specs.Shapes.{separated_list}
 use Rattle.ss_parse_expressions.specs.Reading.{FailsReading, word, is, begins, taken, name_in_token, skip_separator, begins_more}
 use Rattle.ss_parse_expressions.specs.ReadWords.{begins_name}
@@ -77,7 +77,7 @@ pub statistic_read : (ts a b rest : List Token) (n : List ℕ) (kind : Statistic
 unfolding statistic
 statistic_read ts a b rest n kind same e f g = rw (sym same, e, sym f, g) refl
 
-pub statistic_no_kind : (ts a b : List Token) (n : List ℕ) (e : Failure) → a ≡ ts → taken name_in_token a ≡ Ok (n, drop 1 a) → b ≡ drop 1 a → FailsReading e (statistic_kind b) → FailsReading e (statistic ts)
+pub statistic_no_kind : (ts a b : List Token) (n : List ℕ) (e : ParseFailure) → a ≡ ts → taken name_in_token a ≡ Ok (n, drop 1 a) → b ≡ drop 1 a → FailsReading e (statistic_kind b) → FailsReading e (statistic ts)
 unfolding statistic
 statistic_no_kind ts a b n failures.Memory same e f g = tt
 statistic_no_kind ts a b n (failures.Refused d left) same e f g = rw (sym same, e, sym f, g) refl

@@ -11,8 +11,8 @@ use Rattle.ss_base.specs.declared.layout.ClassKind.{ClassKind}
 use Rattle.ss_tree.specs.declared.preamble.PreambleStatement.{PreambleStatement}
 use Rattle.ss_tree.specs.Tree.{PreambleTree}
 use Rattle.ss_parse_expressions.specs.declared.failure.ParseFault.{ParseFault}
-use Rattle.ss_parse_expressions.specs.declared.failure.Failure.{Failure}
-use Rattle.ss_parse_expressions.specs.declared.failure.Failure.TheVariants as failures
+use Rattle.ss_parse_expressions.specs.declared.failure.ParseFailure.{ParseFailure}
+use Rattle.ss_parse_expressions.specs.declared.failure.ParseFailure.TheVariants as failures
 use Rattle.ss_parse_expressions.specs.Openers.{openers}
 use Rattle.ss_parse_expressions.specs.Shapes.{Shape, ◌▷◌, Word_is, first_token_line}
 use Rattle.ss_parse_expressions.specs.Reading.{◌>>=◌, FailsReading, word, begins}
@@ -184,6 +184,6 @@ preamble_grows view old new x group group' ts rest total pushed started e goes s
 pub preamble_ends : (view : PreambleStatement → PreambleTree) (read : List PreambleStatement) (group : Option ClassKind) (ts : List Token) (total : Result (List PreambleTree × List Token) ParseFault) → begins_preamble ts ≡ false → with_front (map view read) (preambles group ts) ≡ total → total ≡ Ok (map view read, ts)
 preamble_ends view read group ts total over so_far = sym so_far ∙ ap (with_front (map view read)) (preambles_done group ts over) ∙ ap (λ (ys : List PreambleTree). Ok (ys, ts)) (append-nil (map view read))
 
-pub preamble_breaks : (view : PreambleStatement → PreambleTree) (read : List PreambleStatement) (group : Option ClassKind) (ts : List Token) (e : Failure) (total : Result (List PreambleTree × List Token) ParseFault) → begins_preamble ts ≡ true → FailsReading e (preamble_in group ts) → with_front (map view read) (preambles group ts) ≡ total → FailsReading e total
+pub preamble_breaks : (view : PreambleStatement → PreambleTree) (read : List PreambleStatement) (group : Option ClassKind) (ts : List Token) (e : ParseFailure) (total : Result (List PreambleTree × List Token) ParseFault) → begins_preamble ts ≡ true → FailsReading e (preamble_in group ts) → with_front (map view read) (preambles group ts) ≡ total → FailsReading e total
 preamble_breaks view read group ts failures.Memory total started f so_far = tt
 preamble_breaks view read group ts (failures.Refused f left) total started e so_far = sym so_far ∙ ap (with_front (map view read)) (preambles_fail group ts f started e)

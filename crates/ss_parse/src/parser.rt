@@ -10,7 +10,7 @@ use crate::error::ParseError;
 use crate::reading::programs::program;
 use ss_base::Line;
 use ss_lex::{Token, Tokens};
-use ss_parse_expressions::failure::{Failure, ParseFault};
+use ss_parse_expressions::failure::{ParseFailure, ParseFault};
 use ss_tree::program::Program;
 use std::alloc::Global;
 
@@ -37,8 +37,8 @@ pub fn parse(alloc: Global, tokens: &Tokens) -> Result<Program, ParseError>
     let list = tokens.list();
     match program(alloc, list) {
         Ok(program) => Ok(program),
-        Err(Failure::Memory) => Err(ParseError::Memory),
-        Err(Failure::Refused(fault, left)) => {
+        Err(ParseFailure::Memory) => Err(ParseError::Memory),
+        Err(ParseFailure::Refused(fault, left)) => {
             let line = line_of(list, list.len().saturating_sub(left));
             match fault {
                 ParseFault::Syntax => Err(ParseError::Syntax(line)),

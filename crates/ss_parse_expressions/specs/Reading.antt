@@ -13,8 +13,8 @@ use Rattle.ss_base.specs.declared.line.Line.{Line}
 use Rattle.ss_parse_expressions.specs.Shapes.{first_token_line}
 use Rattle.ss_parse_expressions.specs.declared.failure.ParseFault.{ParseFault}
 use Rattle.ss_parse_expressions.specs.declared.failure.ParseFault.TheVariants.{Syntax, TooDeep}
-use Rattle.ss_parse_expressions.specs.declared.failure.Failure.{Failure}
-use Rattle.ss_parse_expressions.specs.declared.failure.Failure.TheVariants as failures
+use Rattle.ss_parse_expressions.specs.declared.failure.ParseFailure.{ParseFailure}
+use Rattle.ss_parse_expressions.specs.declared.failure.ParseFailure.TheVariants as failures
 
 -- A reader gives what it read and the tokens after it, or a fault.
 abbrev pub Reader : Type 0 → Type 0
@@ -26,11 +26,11 @@ abbrev pub ◌>>=◌ : {A B : Type 0} → Result A ParseFault → (A → Result 
 (Err e) >>= f = Err e
 
 -- What a function returned, seen through `view`, is what reading gives, unless memory ran out.
-abbrev pub FailsReading : {Y : Type 0} → Failure → Result Y ParseFault → Type 0
+abbrev pub FailsReading : {Y : Type 0} → ParseFailure → Result Y ParseFault → Type 0
 FailsReading failures.Memory read = Unit {0}
 FailsReading (failures.Refused f left) read = read ≡ Err f
 
-abbrev pub GivesReading : {X Y : Type 0} → (X → Y) → Result X Failure → Result Y ParseFault → Type 0
+abbrev pub GivesReading : {X Y : Type 0} → (X → Y) → Result X ParseFailure → Result Y ParseFault → Type 0
 GivesReading view (Ok x) read = read ≡ Ok (view x)
 GivesReading view (Err e) read = FailsReading e read
 

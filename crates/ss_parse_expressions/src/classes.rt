@@ -5,7 +5,7 @@ ghost use Rattle.ss_parse_expressions.specs.Words.{has_word};
 ghost use Rattle.ss_parse_expressions.specs.ReadWords.{begins_class, skip_class, expect_class};
 ghost use Rattle.ss_parse_expressions.specs.Reading.{GivesReading};
 
-use crate::failure::Failure;
+use crate::failure::ParseFailure;
 use crate::tokens::syntax;
 use ss_lex::{Token, TokenKind, Word};
 
@@ -62,7 +62,7 @@ pub fn skip_class(tokens: &[Token], class: WordClass) -> &[Token]
 }
 
 /// What follows a word of the class, one of which has to be first.
-pub fn expect_class(tokens: &[Token], class: WordClass) -> Result<&[Token], Failure>
+pub fn expect_class(tokens: &[Token], class: WordClass) -> Result<&[Token], ParseFailure>
     ensures { GivesReading (λ rest. (tt, rest.now)) result (expect_class class tokens.now) }
 {
     if begins_class(tokens, class) {

@@ -9,7 +9,7 @@ ghost use Rattle.ss_parse_expressions.specs.declared.conditions.Verb.TheVariants
 ghost use Rattle.ss_parse_expressions.specs.ReadConditions.{relation_symbol, test_word_of, verb_end, worded_verb, verb, is_short, is_reference, reference_of, data_test, test_end, sum_test, test_in, conjunction_in, condition_in};
 
 use crate::expressions::sum;
-use crate::failure::Failure;
+use crate::failure::ParseFailure;
 use crate::places::reference;
 use crate::steps::{alone, beside};
 use crate::tables::{WordTable, take_word_of};
@@ -72,7 +72,7 @@ impl WordTable for TestWords {
 }
 
 /// A verb that compares, and ends with the word.
-fn compares(relation: Relation, tokens: &[Token], last: Word) -> Result<(Verb, &[Token]), Failure>
+fn compares(relation: Relation, tokens: &[Token], last: Word) -> Result<(Verb, &[Token]), ParseFailure>
     ensures { GivesReading (λ x. (x.0, x.1.now)) result (apply (λ u. Compares relation) (expect (word last)) tokens.now) }
 {
     let rest = expect_word(tokens, last)?;
@@ -85,7 +85,7 @@ fn verb_end(
     negated: bool,
     tested: TestWord,
     tokens: &[Token],
-) -> Result<(Verb, &[Token]), Failure>
+) -> Result<(Verb, &[Token]), ParseFailure>
     ensures { GivesReading (λ x. (x.0, x.1.now)) result (verb_end tested is negated tokens.now) }
 {
     match tested {
@@ -103,7 +103,7 @@ fn verb_end(
 
 /// A test's verb in words.
 #[tactic(auto, unfolding(crate::specs::ReadConditions::worded_verb))]
-fn worded_verb(tokens: &[Token]) -> Result<(Verb, &[Token]), Failure>
+fn worded_verb(tokens: &[Token]) -> Result<(Verb, &[Token]), ParseFailure>
     ensures { GivesReading (λ x. (x.0, x.1.now)) result (worded_verb tokens.now) }
 {
     let is = begins_word(tokens, Word::Is);
@@ -115,7 +115,7 @@ fn worded_verb(tokens: &[Token]) -> Result<(Verb, &[Token]), Failure>
 
 /// A test's verb.
 #[tactic(auto, unfolding(crate::specs::ReadConditions::verb))]
-fn any_verb(tokens: &[Token]) -> Result<(Verb, &[Token]), Failure>
+fn any_verb(tokens: &[Token]) -> Result<(Verb, &[Token]), ParseFailure>
     ensures { GivesReading (λ x. (x.0, x.1.now)) result (verb tokens.now) }
 {
     match tokens {
@@ -181,7 +181,7 @@ fn test_end(
     verb: Verb,
     tokens: &[Token],
     room: u8,
-) -> Result<(Test, &[Token]), Failure>
+) -> Result<(Test, &[Token]), ParseFailure>
     ensures { GivesReading (λ x. (view_test_tree x.0, x.1.now)) result (test_end room (view_expression_tree left) verb tokens.now) }
 {
     match verb {
@@ -213,7 +213,7 @@ fn test_end(
 
 /// DATA IS ENDED.
 #[tactic(auto, unfolding(crate::specs::ReadConditions::data_test))]
-fn data_test(tokens: &[Token]) -> Result<(Test, &[Token]), Failure>
+fn data_test(tokens: &[Token]) -> Result<(Test, &[Token]), ParseFailure>
     ensures { GivesReading (λ x. (view_test_tree x.0, x.1.now)) result (data_test tokens.now) }
 {
     let rest = expect_word(tokens, Word::Data)?;
@@ -225,7 +225,7 @@ fn data_test(tokens: &[Token]) -> Result<(Test, &[Token]), Failure>
 
 /// A test that begins with an expression.
 #[tactic(auto, unfolding(crate::specs::ReadConditions::sum_test))]
-fn sum_test(alloc: Global, tokens: &[Token], room: u8) -> Result<(Test, &[Token]), Failure>
+fn sum_test(alloc: Global, tokens: &[Token], room: u8) -> Result<(Test, &[Token]), ParseFailure>
     ensures { GivesReading (λ x. (view_test_tree x.0, x.1.now)) result (sum_test room tokens.now) }
 {
     let (left, rest) = sum(alloc, tokens, room)?;
@@ -235,7 +235,7 @@ fn sum_test(alloc: Global, tokens: &[Token], room: u8) -> Result<(Test, &[Token]
 
 /// A test, where this many levels of nesting, one around it among them, may be opened.
 #[tactic(auto, unfolding(crate::specs::ReadConditions::test_in))]
-fn test(alloc: Global, tokens: &[Token], room: u8) -> Result<(Test, &[Token]), Failure>
+fn test(alloc: Global, tokens: &[Token], room: u8) -> Result<(Test, &[Token]), ParseFailure>
     ensures { GivesReading (λ x. (view_test_tree x.0, x.1.now)) result (test_in room tokens.now) }
 {
     if room == 0 {
@@ -253,7 +253,7 @@ fn conjunction(
     alloc: Global,
     tokens: &[Token],
     room: u8,
-) -> Result<(Conjunction, &[Token]), Failure>
+) -> Result<(Conjunction, &[Token]), ParseFailure>
     ensures { GivesReading (λ x. (view_conjunction_tree x.0, x.1.now)) result (conjunction_in room tokens.now) }
 {
     let (first, mut rest) = test(alloc, tokens, room)?;
@@ -271,7 +271,7 @@ pub fn condition(
     alloc: Global,
     tokens: &[Token],
     room: u8,
-) -> Result<(Condition, &[Token]), Failure>
+) -> Result<(Condition, &[Token]), ParseFailure>
     ensures { GivesReading (λ x. (view_condition_tree x.0, x.1.now)) result (condition_in room tokens.now) }
 {
     let (first, mut rest) = conjunction(alloc, tokens, room)?;

@@ -7,7 +7,7 @@ ghost use Rattle.ss_parse_expressions.specs.WordTables.{function_of};
 ghost use Rattle.ss_parse_expressions.specs.Reading.{GivesReading, word, begins_by, taken, begins_more};
 ghost use Rattle.ss_parse_expressions.specs.ReadExpressions.{sum_of_terms, product_of, sign_of_token, begins_sign, designator_of_word, begins_sum, arguments_with, enclosed_with, subscripts_with, named_with, call_with, parenthesised_with, factor_in_words, factor_with, further_factors_with, term_with, signed_term_with, first_term_with, further_terms_with, sum_with, sum_in};
 
-use crate::failure::Failure;
+use crate::failure::ParseFailure;
 use crate::steps::{alone, beside};
 use crate::tokens::{
     begins_symbol, begins_word, expect_symbol, skip_separator, skip_symbol, syntax, too_deep,
@@ -24,7 +24,7 @@ fn begins_sign(tokens: &[Token]) -> bool
 }
 
 /// A sign.
-fn sign(tokens: &[Token]) -> Result<(Sign, &[Token]), Failure>
+fn sign(tokens: &[Token]) -> Result<(Sign, &[Token]), ParseFailure>
     ensures { GivesReading (λ x. (x.0, x.1.now)) result (taken sign_of_token tokens.now) }
 {
     match tokens {
@@ -118,7 +118,7 @@ fn signed(alloc: Global, term: Term) -> Result<Expression, AllocError>
 /// An expression, where this many levels of nesting, itself among them, may be opened.
 #[cycle(expressions)]
 #[tactic(auto, unfolding(crate::specs::ReadExpressions::sum_in, crate::specs::ReadExpressions::sum_with))]
-pub fn sum(alloc: Global, tokens: &[Token], room: u8) -> Result<(Expression, &[Token]), Failure>
+pub fn sum(alloc: Global, tokens: &[Token], room: u8) -> Result<(Expression, &[Token]), ParseFailure>
     ensures { GivesReading (λ x. (view_expression_tree x.0, x.1.now)) result (sum_in room tokens.now) }
 {
     if room == 0 {
@@ -132,7 +132,7 @@ pub fn sum(alloc: Global, tokens: &[Token], room: u8) -> Result<(Expression, &[T
 /// The first term of a sum, which may have a sign.
 #[cycle(expressions)]
 #[tactic(auto, unfolding(crate::specs::ReadExpressions::first_term_with))]
-fn first_term(alloc: Global, tokens: &[Token], room: u8) -> Result<(Expression, &[Token]), Failure>
+fn first_term(alloc: Global, tokens: &[Token], room: u8) -> Result<(Expression, &[Token]), ParseFailure>
     ensures { GivesReading (λ x. (view_expression_tree x.0, x.1.now)) result (first_term_with (sum_in room) tokens.now) }
 {
     if begins_sign(tokens) {
@@ -146,7 +146,7 @@ fn first_term(alloc: Global, tokens: &[Token], room: u8) -> Result<(Expression, 
 /// A sign and a term.
 #[cycle(expressions)]
 #[tactic(auto, unfolding(crate::specs::ReadExpressions::signed_term_with))]
-fn signed_term(alloc: Global, tokens: &[Token], room: u8) -> Result<(Term, &[Token]), Failure>
+fn signed_term(alloc: Global, tokens: &[Token], room: u8) -> Result<(Term, &[Token]), ParseFailure>
     ensures { GivesReading (λ x. (view_term x.0, x.1.now)) result (signed_term_with (sum_in room) tokens.now) }
 {
     let (sign, rest) = sign(tokens)?;
@@ -160,7 +160,7 @@ fn further_terms(
     alloc: Global,
     tokens: &[Token],
     room: u8,
-) -> Result<(Vec<Term>, &[Token]), Failure>
+) -> Result<(Vec<Term>, &[Token]), ParseFailure>
     ensures { GivesReading (λ x. (map view_term x.0.items, x.1.now)) result (further_terms_with (sum_in room) tokens.now) }
 {
     let mut all = Vec::new(alloc);
@@ -176,7 +176,7 @@ fn further_terms(
 /// A factor and further ones.
 #[cycle(expressions)]
 #[tactic(auto, unfolding(crate::specs::ReadExpressions::term_with))]
-fn term(alloc: Global, tokens: &[Token], room: u8) -> Result<(Expression, &[Token]), Failure>
+fn term(alloc: Global, tokens: &[Token], room: u8) -> Result<(Expression, &[Token]), ParseFailure>
     ensures { GivesReading (λ x. (view_expression_tree x.0, x.1.now)) result (term_with (sum_in room) tokens.now) }
 {
     let (first, rest) = factor(alloc, tokens, room)?;
@@ -190,7 +190,7 @@ fn further_factors(
     alloc: Global,
     tokens: &[Token],
     room: u8,
-) -> Result<(Vec<Expression>, &[Token]), Failure>
+) -> Result<(Vec<Expression>, &[Token]), ParseFailure>
     ensures { GivesReading (λ x. (map view_expression_tree x.0.items, x.1.now)) result (further_factors_with (sum_in room) tokens.now) }
 {
     let mut all = Vec::new(alloc);
@@ -206,7 +206,7 @@ fn further_factors(
 /// A factor.
 #[cycle(expressions)]
 #[tactic(auto, unfolding(crate::specs::ReadExpressions::factor_at, ss_tree::specs::View::view_expression_tree))]
-fn factor(alloc: Global, tokens: &[Token], room: u8) -> Result<(Expression, &[Token]), Failure>
+fn factor(alloc: Global, tokens: &[Token], room: u8) -> Result<(Expression, &[Token]), ParseFailure>
     ensures { GivesReading (λ x. (view_expression_tree x.0, x.1.now)) result (factor_with (sum_in room) tokens.now) }
 {
     match tokens {
@@ -230,7 +230,7 @@ fn factor_in_words(
     word: Word,
     tokens: &[Token],
     room: u8,
-) -> Result<(Expression, &[Token]), Failure>
+) -> Result<(Expression, &[Token]), ParseFailure>
     ensures { GivesReading (λ x. (view_expression_tree x.0, x.1.now)) result (factor_in_words (sum_in room) (designator_of_word word) (function_of word) tokens.now) }
 {
     if let Some(designator) = designator_of_word(word) {
@@ -250,7 +250,7 @@ fn named(
     designator: Designator,
     tokens: &[Token],
     room: u8,
-) -> Result<(Expression, &[Token]), Failure>
+) -> Result<(Expression, &[Token]), ParseFailure>
     ensures { GivesReading (λ x. (view_expression_tree x.0, x.1.now)) result (named_with (sum_in room) designator tokens.now) }
 {
     let (subscripts, rest) = subscripts(alloc, tokens, room)?;
@@ -269,7 +269,7 @@ fn call(
     function: Function,
     tokens: &[Token],
     room: u8,
-) -> Result<(Expression, &[Token]), Failure>
+) -> Result<(Expression, &[Token]), ParseFailure>
     ensures { GivesReading (λ x. (view_expression_tree x.0, x.1.now)) result (call_with (sum_in room) function tokens.now) }
 {
     let (arguments, rest) = enclosed(alloc, tokens, room)?;
@@ -287,7 +287,7 @@ fn parenthesised(
     alloc: Global,
     tokens: &[Token],
     room: u8,
-) -> Result<(Expression, &[Token]), Failure>
+) -> Result<(Expression, &[Token]), ParseFailure>
     ensures { GivesReading (λ x. (view_expression_tree x.0, x.1.now)) result (parenthesised_with (sum_in room) tokens.now) }
 {
     let (inner, rest) = sum(alloc, tokens, room)?;
@@ -302,7 +302,7 @@ fn subscripts(
     alloc: Global,
     tokens: &[Token],
     room: u8,
-) -> Result<(Vec<Expression>, &[Token]), Failure>
+) -> Result<(Vec<Expression>, &[Token]), ParseFailure>
     ensures { GivesReading (λ x. (map view_expression_tree x.0.items, x.1.now)) result (subscripts_with (sum_in room) tokens.now) }
 {
     if begins_symbol(tokens, Symbol::OpenParenthesis) {
@@ -319,7 +319,7 @@ fn enclosed(
     alloc: Global,
     tokens: &[Token],
     room: u8,
-) -> Result<(Vec<Expression>, &[Token]), Failure>
+) -> Result<(Vec<Expression>, &[Token]), ParseFailure>
     ensures { GivesReading (λ x. (map view_expression_tree x.0.items, x.1.now)) result (enclosed_with (sum_in room) tokens.now) }
 {
     let rest = expect_symbol(tokens, Symbol::OpenParenthesis)?;
@@ -334,7 +334,7 @@ pub fn sums(
     alloc: Global,
     tokens: &[Token],
     room: u8,
-) -> Result<(Vec<Expression>, &[Token]), Failure>
+) -> Result<(Vec<Expression>, &[Token]), ParseFailure>
     ensures { GivesReading (λ x. (map view_expression_tree x.0.items, x.1.now)) result (arguments_with (sum_in room) tokens.now) }
 {
     let (first, mut rest) = sum(alloc, tokens, room)?;

@@ -1,7 +1,7 @@
 //! Why reading stopped.
 
 ghost use Rattle.std.specs.Prelude.{◌≡◌};
-ghost use Rattle.ss_parse_expressions.specs.declared.failure.Failure.TheVariants.{Memory};
+ghost use Rattle.ss_parse_expressions.specs.declared.failure.ParseFailure.TheVariants.{Memory};
 
 use std::alloc::{AllocError, AllocFailed};
 
@@ -14,24 +14,24 @@ pub enum ParseFault {
 
 /// Why nothing was read.
 #[derive(Drop)]
-pub enum Failure {
+pub enum ParseFailure {
     Memory,
     /// A fault, and how many tokens were left where it was found.
     Refused(ParseFault, usize),
 }
 
-impl From<AllocError> for Failure {
+impl From<AllocError> for ParseFailure {
     ghost from_gives = { λ _ e. e ≡ Memory };
 
-    fn from(_e: AllocError) -> Failure {
-        Failure::Memory
+    fn from(_e: AllocError) -> ParseFailure {
+        ParseFailure::Memory
     }
 }
 
-impl<T: Drop> From<AllocFailed<T>> for Failure {
+impl<T: Drop> From<AllocFailed<T>> for ParseFailure {
     ghost from_gives = { λ _ e. e ≡ Memory };
 
-    fn from(_e: AllocFailed<T>) -> Failure {
-        Failure::Memory
+    fn from(_e: AllocFailed<T>) -> ParseFailure {
+        ParseFailure::Memory
     }
 }

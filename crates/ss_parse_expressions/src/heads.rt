@@ -9,7 +9,7 @@ ghost use Rattle.ss_parse_expressions.specs.ReadHeads.{begins_phrase, begins_gua
 use crate::classes::{WordClass, begins_class, expect_class};
 use crate::conditions::condition;
 use crate::expressions::sum;
-use crate::failure::Failure;
+use crate::failure::ParseFailure;
 use crate::names::name;
 use crate::places::reference;
 use crate::steps::{alone, beside};
@@ -31,7 +31,7 @@ fn begins_phrase(tokens: &[Token]) -> bool
 
 /// A phrase.
 #[tactic(auto, unfolding(crate::specs::ReadHeads::phrase_in))]
-fn phrase(alloc: Global, tokens: &[Token], room: u8) -> Result<(Phrase, &[Token]), Failure>
+fn phrase(alloc: Global, tokens: &[Token], room: u8) -> Result<(Phrase, &[Token]), ParseFailure>
     ensures { GivesReading (λ x. (view_phrase_tree x.0, x.1.now)) result (phrase_in room tokens.now) }
 {
     let (kind, rest) = take_word_of::<PhraseWords>(tokens)?;
@@ -40,7 +40,7 @@ fn phrase(alloc: Global, tokens: &[Token], room: u8) -> Result<(Phrase, &[Token]
 }
 
 /// Phrases, each with a comma before it or not.
-fn phrases(alloc: Global, tokens: &[Token], room: u8) -> Result<(Vec<Phrase>, &[Token]), Failure>
+fn phrases(alloc: Global, tokens: &[Token], room: u8) -> Result<(Vec<Phrase>, &[Token]), ParseFailure>
     ensures { GivesReading (λ x. (map view_phrase_tree x.0.items, x.1.now)) result (phrases_in room tokens.now) }
 {
     let mut all = Vec::new(alloc);
@@ -69,7 +69,7 @@ fn begins_next_guard(tokens: &[Token]) -> bool
 
 /// WHILE or UNTIL and its condition.
 #[tactic(auto, unfolding(crate::specs::ReadHeads::guard_in))]
-fn guard(alloc: Global, tokens: &[Token], room: u8) -> Result<(Guard, &[Token]), Failure>
+fn guard(alloc: Global, tokens: &[Token], room: u8) -> Result<(Guard, &[Token]), ParseFailure>
     ensures { GivesReading (λ x. (view_guard_tree x.0, x.1.now)) result (guard_in room tokens.now) }
 {
     let (kind, rest) = take_word_of::<GuardWords>(tokens)?;
@@ -83,7 +83,7 @@ fn guards(
     first: Guard,
     tokens: &[Token],
     room: u8,
-) -> Result<(Vec<Guard>, &[Token]), Failure>
+) -> Result<(Vec<Guard>, &[Token]), ParseFailure>
     ensures { GivesReading (λ x. (map view_guard_tree x.0.items, x.1.now)) result (further_guards room (view_guard_tree first) tokens.now) }
 {
     let mut all = alone(alloc, first)?;
@@ -101,7 +101,7 @@ fn step(
     alloc: Global,
     tokens: &[Token],
     room: u8,
-) -> Result<(Option<Expression>, &[Token]), Failure>
+) -> Result<(Option<Expression>, &[Token]), ParseFailure>
     ensures { GivesReading (λ x. (option_map view_expression_tree x.0, x.1.now)) result (step_in room tokens.now) }
 {
     if !begins_word(tokens, Word::By) {
@@ -113,7 +113,7 @@ fn step(
 
 /// The head of a FOR over numbers, after FOR.
 #[tactic(auto, unfolding(crate::specs::ReadHeads::range_in))]
-fn range(alloc: Global, tokens: &[Token], room: u8) -> Result<(Head, &[Token]), Failure>
+fn range(alloc: Global, tokens: &[Token], room: u8) -> Result<(Head, &[Token]), ParseFailure>
     ensures { GivesReading (λ x. (view_head_tree x.0, x.1.now)) result (range_in room tokens.now) }
 {
     let variable = name(tokens)?;
@@ -136,7 +136,7 @@ fn range(alloc: Global, tokens: &[Token], room: u8) -> Result<(Head, &[Token]), 
 
 /// The member with which a loop over a set begins.
 #[tactic(auto, unfolding(crate::specs::ReadHeads::start_in))]
-fn start(alloc: Global, tokens: &[Token], room: u8) -> Result<(MemberStart, &[Token]), Failure>
+fn start(alloc: Global, tokens: &[Token], room: u8) -> Result<(MemberStart, &[Token]), ParseFailure>
     ensures { GivesReading (λ x. (view_start_tree x.0, x.1.now)) result (start_in room tokens.now) }
 {
     if begins_word(tokens, Word::From) {
@@ -152,7 +152,7 @@ fn start(alloc: Global, tokens: &[Token], room: u8) -> Result<(MemberStart, &[To
 
 /// Whether a loop over a set goes in reverse order.
 #[tactic(auto, unfolding(crate::specs::ReadHeads::reverse))]
-fn reverse(tokens: &[Token]) -> Result<(bool, &[Token]), Failure>
+fn reverse(tokens: &[Token]) -> Result<(bool, &[Token]), ParseFailure>
     ensures { GivesReading (λ x. (x.0, x.1.now)) result (reverse tokens.now) }
 {
     if !begins_word(tokens, Word::In) {
@@ -170,7 +170,7 @@ fn members(
     variable: Name,
     tokens: &[Token],
     room: u8,
-) -> Result<(Head, &[Token]), Failure>
+) -> Result<(Head, &[Token]), ParseFailure>
     ensures { GivesReading (λ x. (view_head_tree x.0, x.1.now)) result (members_in room variable tokens.now) }
 {
     let rest = expect_word(tokens, Word::In)?;
@@ -195,7 +195,7 @@ fn class_phrases(
     called: Option<Name>,
     tokens: &[Token],
     room: u8,
-) -> Result<(Head, &[Token]), Failure>
+) -> Result<(Head, &[Token]), ParseFailure>
     ensures { GivesReading (λ x. (view_head_tree x.0, x.1.now)) result (apply (λ ps. class_tree class (called, ps)) (phrases_in room) tokens.now) }
 {
     let (phrases, rest) = phrases(alloc, tokens, room)?;
@@ -214,7 +214,7 @@ fn class(
     class: Name,
     tokens: &[Token],
     room: u8,
-) -> Result<(Head, &[Token]), Failure>
+) -> Result<(Head, &[Token]), ParseFailure>
     ensures { GivesReading (λ x. (view_head_tree x.0, x.1.now)) result (class_in room class tokens.now) }
 {
     if !begins_word(tokens, Word::Called) {
@@ -231,7 +231,7 @@ fn each_named(
     name: Name,
     tokens: &[Token],
     room: u8,
-) -> Result<(Head, &[Token]), Failure>
+) -> Result<(Head, &[Token]), ParseFailure>
     ensures { GivesReading (λ x. (view_head_tree x.0, x.1.now)) result (each_named room name tokens.now) }
 {
     if begins_word(tokens, Word::In) {
@@ -243,7 +243,7 @@ fn each_named(
 
 /// The head of a FOR over a set or a class, after FOR.
 #[tactic(auto, unfolding(crate::specs::ReadHeads::each_in))]
-fn each(alloc: Global, tokens: &[Token], room: u8) -> Result<(Head, &[Token]), Failure>
+fn each(alloc: Global, tokens: &[Token], room: u8) -> Result<(Head, &[Token]), ParseFailure>
     ensures { GivesReading (λ x. (view_head_tree x.0, x.1.now)) result (each_in room tokens.now) }
 {
     let rest = expect_class(tokens, WordClass::Each)?;
@@ -253,7 +253,7 @@ fn each(alloc: Global, tokens: &[Token], room: u8) -> Result<(Head, &[Token]), F
 
 /// The head of a FOR, after its first word.
 #[tactic(auto, unfolding(crate::specs::ReadHeads::for_in))]
-pub fn for_head(alloc: Global, tokens: &[Token], room: u8) -> Result<(Head, &[Token]), Failure>
+pub fn for_head(alloc: Global, tokens: &[Token], room: u8) -> Result<(Head, &[Token]), ParseFailure>
     ensures { GivesReading (λ x. (view_head_tree x.0, x.1.now)) result (for_in room tokens.now) }
 {
     if begins_class(tokens, WordClass::Each) {
@@ -270,7 +270,7 @@ pub fn guarded_head(
     kind: GuardKind,
     tokens: &[Token],
     room: u8,
-) -> Result<(LoopHead, &[Token]), Failure>
+) -> Result<(LoopHead, &[Token]), ParseFailure>
     ensures { GivesReading (λ x. (view_loop_head x.0, x.1.now)) result (guarded_in room kind tokens.now) }
 {
     let (condition, rest) = condition(alloc, tokens, room)?;

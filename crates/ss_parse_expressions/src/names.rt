@@ -5,7 +5,7 @@ ghost use Rattle.ss_parse_expressions.specs.Reading.{GivesReading, taken, name_i
 ghost use Rattle.ss_parse_expressions.specs.ReadWords.{begins_name, names, begins_item, items};
 
 use crate::classes::{WordClass, skip_class};
-use crate::failure::Failure;
+use crate::failure::ParseFailure;
 use crate::steps::alone;
 use crate::tokens::{after_first, begins_symbol, begins_word, skip_separator, syntax};
 use ss_base::Name;
@@ -26,7 +26,7 @@ pub fn begins_name(tokens: &[Token]) -> bool
 }
 
 /// The first token, which must be a name.
-pub fn name(tokens: &[Token]) -> Result<Name, Failure>
+pub fn name(tokens: &[Token]) -> Result<Name, ParseFailure>
     ensures { GivesReading (λ x. (x, drop 1 tokens.now)) result (taken name_in_token tokens.now) }
 {
     match tokens {
@@ -47,7 +47,7 @@ fn begins_more_names(tokens: &[Token]) -> bool
 }
 
 /// Names with separators between.
-pub fn names(alloc: Global, tokens: &[Token]) -> Result<(Vec<Name>, &[Token]), Failure>
+pub fn names(alloc: Global, tokens: &[Token]) -> Result<(Vec<Name>, &[Token]), ParseFailure>
     ensures { GivesReading (λ x. (x.0.items, x.1.now)) result (names tokens.now) }
 {
     let first = name(tokens)?;
@@ -77,7 +77,7 @@ fn begins_more_items(tokens: &[Token]) -> bool
 }
 
 /// Names with separators between, each with an article before it or not.
-pub fn items(alloc: Global, tokens: &[Token]) -> Result<(Vec<Name>, &[Token]), Failure>
+pub fn items(alloc: Global, tokens: &[Token]) -> Result<(Vec<Name>, &[Token]), ParseFailure>
     ensures { GivesReading (λ x. (x.0.items, x.1.now)) result (items tokens.now) }
 {
     let from = skip_class(tokens, WordClass::Article);

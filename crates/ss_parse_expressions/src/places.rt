@@ -9,7 +9,7 @@ ghost use Rattle.ss_parse_expressions.specs.ReadExpressions.{opening, designator
 ghost use Rattle.ss_parse_expressions.specs.ReadPlaces.{subscript_row, subscript_with, plain_of, target_in, reference_in, begins_target, targets_in};
 
 use crate::expressions::{designator_of_word, sum};
-use crate::failure::Failure;
+use crate::failure::ParseFailure;
 use crate::steps::{alone, beside};
 use crate::tokens::{
     after_first, begins_symbol, begins_word, expect_symbol, skip_separator, skip_symbol, syntax,
@@ -20,7 +20,7 @@ use ss_tree::expression::{Designator, Expression, Named};
 use std::alloc::{AllocError, Global};
 
 /// The name at the front, or TIME.V or TIME.A.
-fn designator(tokens: &[Token]) -> Result<Designator, Failure>
+fn designator(tokens: &[Token]) -> Result<Designator, ParseFailure>
     ensures { GivesReading (λ x. (x, drop 1 tokens.now)) result (taken designator_of tokens.now) }
 {
     match tokens {
@@ -37,7 +37,7 @@ fn designator(tokens: &[Token]) -> Result<Designator, Failure>
 }
 
 /// The first token, which must be a name.
-fn plain_designator(tokens: &[Token]) -> Result<Designator, Failure>
+fn plain_designator(tokens: &[Token]) -> Result<Designator, ParseFailure>
     ensures { GivesReading (λ x. (x, drop 1 tokens.now)) result (taken plain_of tokens.now) }
 {
     match tokens {
@@ -55,7 +55,7 @@ fn subscript(
     alloc: Global,
     tokens: &[Token],
     room: u8,
-) -> Result<(Option<Expression>, &[Token]), Failure>
+) -> Result<(Option<Expression>, &[Token]), ParseFailure>
     ensures { GivesReading (λ x. (option_map view_expression_tree x.0, x.1.now)) result (maybe (begins opening) (subscript_with (sum_in room)) tokens.now) }
 {
     if !begins_symbol(tokens, Symbol::OpenParenthesis) {
@@ -81,7 +81,7 @@ fn subscripts_of(
 
 /// What a value is put into, where this many levels of nesting, itself among them, may be opened.
 #[tactic(auto, unfolding(crate::specs::ReadPlaces::named_place_in))]
-pub fn target(alloc: Global, tokens: &[Token], room: u8) -> Result<(Named, &[Token]), Failure>
+pub fn target(alloc: Global, tokens: &[Token], room: u8) -> Result<(Named, &[Token]), ParseFailure>
     ensures { GivesReading (λ x. (view_named x.0, x.1.now)) result (target_in room tokens.now) }
 {
     if room == 0 {
@@ -99,7 +99,7 @@ pub fn target(alloc: Global, tokens: &[Token], room: u8) -> Result<(Named, &[Tok
 
 /// A reference to a set, where this many levels of nesting, itself among them, may be opened.
 #[tactic(auto, unfolding(crate::specs::ReadPlaces::named_place_in))]
-pub fn reference(alloc: Global, tokens: &[Token], room: u8) -> Result<(Named, &[Token]), Failure>
+pub fn reference(alloc: Global, tokens: &[Token], room: u8) -> Result<(Named, &[Token]), ParseFailure>
     ensures { GivesReading (λ x. (view_named x.0, x.1.now)) result (reference_in room tokens.now) }
 {
     if room == 0 {
@@ -137,7 +137,7 @@ fn begins_more_targets(tokens: &[Token]) -> bool
 }
 
 /// Targets with separators between.
-pub fn targets(alloc: Global, tokens: &[Token], room: u8) -> Result<(Vec<Named>, &[Token]), Failure>
+pub fn targets(alloc: Global, tokens: &[Token], room: u8) -> Result<(Vec<Named>, &[Token]), ParseFailure>
     ensures { GivesReading (λ x. (map view_named x.0.items, x.1.now)) result (targets_in room tokens.now) }
 {
     let (first, mut rest) = target(alloc, tokens, room)?;

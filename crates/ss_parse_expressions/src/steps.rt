@@ -3,11 +3,11 @@
 ghost use Rattle.std.specs.Prelude.{◌≡◌, IfOk, [], ◌∷◌};
 ghost use Rattle.ss_parse_expressions.specs.Steps.{Beside};
 
-use crate::failure::Failure;
+use crate::failure::ParseFailure;
 use std::alloc::{AllocError, Global};
 
 /// What was read first together with what was read next, unless that failed.
-pub fn beside<A: Drop, B>(first: A, next: Result<B, Failure>) -> Result<(A, B), Failure>
+pub fn beside<A: Drop, B>(first: A, next: Result<B, ParseFailure>) -> Result<(A, B), ParseFailure>
     ensures { Beside first next result }
 {
     match next {

@@ -2,24 +2,24 @@
 
 ghost use Rattle.std.specs.Prelude.{◌≡◌, length, drop};
 ghost use Rattle.ss_parse_expressions.specs.declared.failure.ParseFault.TheVariants.{Syntax, TooDeep};
-ghost use Rattle.ss_parse_expressions.specs.declared.failure.Failure.TheVariants.{Refused};
+ghost use Rattle.ss_parse_expressions.specs.declared.failure.ParseFailure.TheVariants.{Refused};
 ghost use Rattle.ss_parse_expressions.specs.Reading.{GivesReading, word, symbol, same_symbol, expect, begins, skip, skip_separator};
 
-use crate::failure::{Failure, ParseFault};
+use crate::failure::{ParseFailure, ParseFault};
 use ss_lex::{Symbol, Token, TokenKind, Word};
 
 /// The failure where these tokens spell nothing that may be here.
-pub fn syntax(tokens: &[Token]) -> Failure
+pub fn syntax(tokens: &[Token]) -> ParseFailure
     ensures { result ≡ Refused Syntax (length tokens.now) }
 {
-    Failure::Refused(ParseFault::Syntax, tokens.len())
+    ParseFailure::Refused(ParseFault::Syntax, tokens.len())
 }
 
 /// The failure where these tokens go deeper than is allowed.
-pub fn too_deep(tokens: &[Token]) -> Failure
+pub fn too_deep(tokens: &[Token]) -> ParseFailure
     ensures { result ≡ Refused TooDeep (length tokens.now) }
 {
-    Failure::Refused(ParseFault::TooDeep, tokens.len())
+    ParseFailure::Refused(ParseFault::TooDeep, tokens.len())
 }
 
 fn same_symbol(found: Symbol, wanted: Symbol) -> bool
@@ -87,7 +87,7 @@ pub fn skip_symbol(tokens: &[Token], wanted: Symbol) -> &[Token]
 }
 
 /// What follows this word, which has to be first.
-pub fn expect_word(tokens: &[Token], wanted: Word) -> Result<&[Token], Failure>
+pub fn expect_word(tokens: &[Token], wanted: Word) -> Result<&[Token], ParseFailure>
     ensures { GivesReading (λ rest. (tt, rest.now)) result (expect (word wanted) tokens.now) }
 {
     if begins_word(tokens, wanted) {
@@ -98,7 +98,7 @@ pub fn expect_word(tokens: &[Token], wanted: Word) -> Result<&[Token], Failure>
 }
 
 /// What follows this symbol, which has to be first.
-pub fn expect_symbol(tokens: &[Token], wanted: Symbol) -> Result<&[Token], Failure>
+pub fn expect_symbol(tokens: &[Token], wanted: Symbol) -> Result<&[Token], ParseFailure>
     ensures { GivesReading (λ rest. (tt, rest.now)) result (expect (symbol wanted) tokens.now) }
 {
     if begins_symbol(tokens, wanted) {

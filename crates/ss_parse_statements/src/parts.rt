@@ -13,7 +13,7 @@ use ss_base::PictureLine;
 use ss_lex::{Symbol, Token, TokenKind, Word};
 use ss_parse_expressions::classes::{WordClass, begins_class, skip_class};
 use ss_parse_expressions::expressions::{sum, sums};
-use ss_parse_expressions::failure::Failure;
+use ss_parse_expressions::failure::ParseFailure;
 use ss_parse_expressions::places::{reference, target, targets};
 use ss_parse_expressions::steps::beside;
 use ss_parse_expressions::tables::WordTable;
@@ -40,7 +40,7 @@ impl WordTable for EndWords {
 }
 
 /// A number of pictures, 1 at least.
-pub fn positive(tokens: &[Token]) -> Result<(u64, &[Token]), Failure>
+pub fn positive(tokens: &[Token]) -> Result<(u64, &[Token]), ParseFailure>
     ensures { GivesReading (λ x. (x.0, x.1.now)) result (taken positive_of tokens.now) }
 {
     match tokens {
@@ -63,7 +63,7 @@ pub fn items(
     alloc: Global,
     tokens: &[Token],
     room: u8,
-) -> Result<(Vec<Expression>, &[Token]), Failure>
+) -> Result<(Vec<Expression>, &[Token]), ParseFailure>
     ensures { GivesReading (λ x. (map view_expression_tree x.0.items, x.1.now)) result (items_in room tokens.now) }
 {
     if !begins_word(tokens, Word::With) {
@@ -74,7 +74,7 @@ pub fn items(
 
 /// The words of a PRINT before its pictures.
 #[tactic(auto, unfolding(crate::specs::ReadSimple::trigger))]
-pub fn trigger(tokens: &[Token]) -> Result<&[Token], Failure>
+pub fn trigger(tokens: &[Token]) -> Result<&[Token], ParseFailure>
     ensures { GivesReading (λ rest. (tt, rest.now)) result (trigger tokens.now) }
 {
     if begins_word(tokens, Word::Thus) {
@@ -88,7 +88,7 @@ pub fn trigger(tokens: &[Token]) -> Result<&[Token], Failure>
 }
 
 /// The bytes of a picture.
-fn picture(alloc: Global, tokens: &[Token]) -> Result<(PictureLine, &[Token]), Failure>
+fn picture(alloc: Global, tokens: &[Token]) -> Result<(PictureLine, &[Token]), ParseFailure>
     ensures { GivesReading (λ x. (x.0, x.1.now)) result (taken picture_token tokens.now) }
 {
     match tokens {
@@ -105,7 +105,7 @@ pub fn pictures(
     alloc: Global,
     tokens: &[Token],
     count: u64,
-) -> Result<(Vec<PictureLine>, &[Token]), Failure>
+) -> Result<(Vec<PictureLine>, &[Token]), ParseFailure>
     ensures { GivesReading (λ x. (x.0.items, x.1.now)) result (pictures_at count tokens.now) }
 {
     let mut all = Vec::new(alloc);
@@ -123,7 +123,7 @@ pub fn given(
     alloc: Global,
     tokens: &[Token],
     room: u8,
-) -> Result<(Vec<Expression>, &[Token]), Failure>
+) -> Result<(Vec<Expression>, &[Token]), ParseFailure>
     ensures { GivesReading (λ x. (map view_expression_tree x.0.items, x.1.now)) result (given_in room tokens.now) }
 {
     if !begins_class(tokens, WordClass::Given) {
@@ -137,7 +137,7 @@ pub fn yielding(
     alloc: Global,
     tokens: &[Token],
     room: u8,
-) -> Result<(Vec<Named>, &[Token]), Failure>
+) -> Result<(Vec<Named>, &[Token]), ParseFailure>
     ensures { GivesReading (λ x. (map view_named x.0.items, x.1.now)) result (yielding_in room tokens.now) }
 {
     if !begins_word(tokens, Word::Yielding) {
@@ -151,7 +151,7 @@ pub fn called_value(
     alloc: Global,
     tokens: &[Token],
     room: u8,
-) -> Result<(Option<Expression>, &[Token]), Failure>
+) -> Result<(Option<Expression>, &[Token]), ParseFailure>
     ensures { GivesReading (λ x. (option_map view_expression_tree x.0, x.1.now)) result (called (sum_in room) tokens.now) }
 {
     if !begins_word(tokens, Word::Called) {
@@ -166,7 +166,7 @@ pub fn called_target(
     alloc: Global,
     tokens: &[Token],
     room: u8,
-) -> Result<(Option<Named>, &[Token]), Failure>
+) -> Result<(Option<Named>, &[Token]), ParseFailure>
     ensures { GivesReading (λ x. (option_map view_named x.0, x.1.now)) result (called (target_in room) tokens.now) }
 {
     if !begins_word(tokens, Word::Called) {
@@ -178,7 +178,7 @@ pub fn called_target(
 
 /// Where a member is filed.
 #[tactic(auto, unfolding(crate::specs::ReadSimple::position_in))]
-pub fn place(alloc: Global, tokens: &[Token], room: u8) -> Result<(Position, &[Token]), Failure>
+pub fn place(alloc: Global, tokens: &[Token], room: u8) -> Result<(Position, &[Token]), ParseFailure>
     ensures { GivesReading (λ x. (view_position_tree x.0, x.1.now)) result (position_in room tokens.now) }
 {
     if begins_word(tokens, Word::First) {
@@ -198,7 +198,7 @@ pub fn place(alloc: Global, tokens: &[Token], room: u8) -> Result<(Position, &[T
 
 /// When a notice is due.
 #[tactic(auto, unfolding(crate::specs::ReadSimple::when_in))]
-pub fn due(alloc: Global, tokens: &[Token], room: u8) -> Result<(When, &[Token]), Failure>
+pub fn due(alloc: Global, tokens: &[Token], room: u8) -> Result<(When, &[Token]), ParseFailure>
     ensures { GivesReading (λ x. (view_when_tree x.0, x.1.now)) result (when_in room tokens.now) }
 {
     if begins_word(tokens, Word::At) {
@@ -219,7 +219,7 @@ pub fn given_and_due(
     alloc: Global,
     tokens: &[Token],
     room: u8,
-) -> Result<(Vec<Expression>, When, &[Token]), Failure>
+) -> Result<(Vec<Expression>, When, &[Token]), ParseFailure>
     ensures { GivesReading (λ x. ((map view_expression_tree x.0.items, view_when_tree x.1), x.2.now)) result (due_in room tokens.now) }
 {
     let (given, rest) = given(alloc, tokens, room)?;
@@ -232,7 +232,7 @@ pub fn value_set(
     alloc: Global,
     tokens: &[Token],
     room: u8,
-) -> Result<(Expression, &[Token]), Failure>
+) -> Result<(Expression, &[Token]), ParseFailure>
     ensures { GivesReading (λ x. (view_expression_tree x.0, x.1.now)) result (after_dropped (expect equals) (sum_in room) tokens.now) }
 {
     let rest = expect_symbol(tokens, Symbol::Equals)?;
@@ -245,7 +245,7 @@ pub fn target_after(
     wanted: Word,
     tokens: &[Token],
     room: u8,
-) -> Result<(Named, &[Token]), Failure>
+) -> Result<(Named, &[Token]), ParseFailure>
     ensures { GivesReading (λ x. (view_named x.0, x.1.now)) result (after_dropped (expect (word wanted)) (target_in room) tokens.now) }
 {
     let rest = expect_word(tokens, wanted)?;
@@ -258,7 +258,7 @@ pub fn set_after(
     wanted: Word,
     tokens: &[Token],
     room: u8,
-) -> Result<(Named, &[Token]), Failure>
+) -> Result<(Named, &[Token]), ParseFailure>
     ensures { GivesReading (λ x. (view_named x.0, x.1.now)) result (after_dropped (expect (word wanted)) (set_reader room) tokens.now) }
 {
     let rest = expect_word(tokens, wanted)?;

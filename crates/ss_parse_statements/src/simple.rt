@@ -13,7 +13,7 @@ use ss_base::Line;
 use ss_lex::{Token, Word};
 use ss_parse_expressions::classes::{WordClass, expect_class, skip_class};
 use ss_parse_expressions::expressions::sum;
-use ss_parse_expressions::failure::Failure;
+use ss_parse_expressions::failure::ParseFailure;
 use ss_parse_expressions::names::{name, names};
 use ss_parse_expressions::places::{target, targets};
 use ss_parse_expressions::steps::beside;
@@ -30,7 +30,7 @@ fn let_form(
     line: Line,
     tokens: &[Token],
     room: u8,
-) -> Result<(Statement, &[Token]), Failure>
+) -> Result<(Statement, &[Token]), ParseFailure>
     ensures { GivesReading (λ x. (view_statement_tree x.0, x.1.now)) result (let_at line room tokens.now) }
 {
     let (target, rest) = target(alloc, tokens, room)?;
@@ -50,7 +50,7 @@ fn add_form(
     line: Line,
     tokens: &[Token],
     room: u8,
-) -> Result<(Statement, &[Token]), Failure>
+) -> Result<(Statement, &[Token]), ParseFailure>
     ensures { GivesReading (λ x. (view_statement_tree x.0, x.1.now)) result (add_at line room tokens.now) }
 {
     let (amount, rest) = sum(alloc, tokens, room)?;
@@ -70,7 +70,7 @@ fn subtract_form(
     line: Line,
     tokens: &[Token],
     room: u8,
-) -> Result<(Statement, &[Token]), Failure>
+) -> Result<(Statement, &[Token]), ParseFailure>
     ensures { GivesReading (λ x. (view_statement_tree x.0, x.1.now)) result (subtract_at line room tokens.now) }
 {
     let (amount, rest) = sum(alloc, tokens, room)?;
@@ -90,7 +90,7 @@ fn call_form(
     line: Line,
     tokens: &[Token],
     room: u8,
-) -> Result<(Statement, &[Token]), Failure>
+) -> Result<(Statement, &[Token]), ParseFailure>
     ensures { GivesReading (λ x. (view_statement_tree x.0, x.1.now)) result (call_at line room tokens.now) }
 {
     let routine = name(tokens)?;
@@ -112,7 +112,7 @@ fn read_form(
     line: Line,
     tokens: &[Token],
     room: u8,
-) -> Result<(Statement, &[Token]), Failure>
+) -> Result<(Statement, &[Token]), ParseFailure>
     ensures { GivesReading (λ x. (view_statement_tree x.0, x.1.now)) result (read_at line room tokens.now) }
 {
     let (targets, rest) = targets(alloc, tokens, room)?;
@@ -121,7 +121,7 @@ fn read_form(
 
 /// The rest of a START SIMULATION, after its first word.
 #[tactic(auto, unfolding(crate::specs::ReadSimple::start_at, ss_tree::specs::View::view_statement_tree))]
-fn start_form(line: Line, tokens: &[Token]) -> Result<(Statement, &[Token]), Failure>
+fn start_form(line: Line, tokens: &[Token]) -> Result<(Statement, &[Token]), ParseFailure>
     ensures { GivesReading (λ x. (view_statement_tree x.0, x.1.now)) result (start_at line tokens.now) }
 {
     let rest = expect_word(tokens, Word::Simulation)?;
@@ -135,7 +135,7 @@ fn new_form(
     line: Line,
     tokens: &[Token],
     room: u8,
-) -> Result<(Statement, &[Token]), Failure>
+) -> Result<(Statement, &[Token]), ParseFailure>
     ensures { GivesReading (λ x. (view_statement_tree x.0, x.1.now)) result (new_at line room tokens.now) }
 {
     let rest = skip_class(tokens, WordClass::Indefinite);
@@ -156,7 +156,7 @@ fn create_form(
     line: Line,
     tokens: &[Token],
     room: u8,
-) -> Result<(Statement, &[Token]), Failure>
+) -> Result<(Statement, &[Token]), ParseFailure>
     ensures { GivesReading (λ x. (view_statement_tree x.0, x.1.now)) result (create_at line room tokens.now) }
 {
     if !begins_word(tokens, Word::Every) {
@@ -173,7 +173,7 @@ fn destroy_form(
     line: Line,
     tokens: &[Token],
     room: u8,
-) -> Result<(Statement, &[Token]), Failure>
+) -> Result<(Statement, &[Token]), ParseFailure>
     ensures { GivesReading (λ x. (view_statement_tree x.0, x.1.now)) result (destroy_at line room tokens.now) }
 {
     let rest = skip_word(tokens, Word::The);
@@ -194,7 +194,7 @@ fn cancel_form(
     line: Line,
     tokens: &[Token],
     room: u8,
-) -> Result<(Statement, &[Token]), Failure>
+) -> Result<(Statement, &[Token]), ParseFailure>
     ensures { GivesReading (λ x. (view_statement_tree x.0, x.1.now)) result (cancel_at line room tokens.now) }
 {
     let rest = skip_word(tokens, Word::The);
@@ -215,7 +215,7 @@ fn file_form(
     line: Line,
     tokens: &[Token],
     room: u8,
-) -> Result<(Statement, &[Token]), Failure>
+) -> Result<(Statement, &[Token]), ParseFailure>
     ensures { GivesReading (λ x. (view_statement_tree x.0, x.1.now)) result (file_at line room tokens.now) }
 {
     let (member, rest) = sum(alloc, skip_word(tokens, Word::The), room)?;
@@ -238,7 +238,7 @@ fn remove_end_form(
     line: Line,
     tokens: &[Token],
     room: u8,
-) -> Result<(Statement, &[Token]), Failure>
+) -> Result<(Statement, &[Token]), ParseFailure>
     ensures { GivesReading (λ x. (view_statement_tree x.0, x.1.now)) result (remove_end_at line room tokens.now) }
 {
     let (end, rest) = take_word_of::<EndWords>(tokens)?;
@@ -260,7 +260,7 @@ fn remove_this_form(
     line: Line,
     tokens: &[Token],
     room: u8,
-) -> Result<(Statement, &[Token]), Failure>
+) -> Result<(Statement, &[Token]), ParseFailure>
     ensures { GivesReading (λ x. (view_statement_tree x.0, x.1.now)) result (remove_this_at line room tokens.now) }
 {
     let (member, rest) = sum(alloc, tokens, room)?;
@@ -275,7 +275,7 @@ fn remove_form(
     line: Line,
     tokens: &[Token],
     room: u8,
-) -> Result<(Statement, &[Token]), Failure>
+) -> Result<(Statement, &[Token]), ParseFailure>
     ensures { GivesReading (λ x. (view_statement_tree x.0, x.1.now)) result (remove_at line room tokens.now) }
 {
     let rest = skip_word(tokens, Word::The);
@@ -293,7 +293,7 @@ fn schedule_the_form(
     line: Line,
     tokens: &[Token],
     room: u8,
-) -> Result<(Statement, &[Token]), Failure>
+) -> Result<(Statement, &[Token]), ParseFailure>
     ensures { GivesReading (λ x. (view_statement_tree x.0, x.1.now)) result (schedule_the_at line room tokens.now) }
 {
     let rest = expect_word(tokens, Word::The)?;
@@ -317,7 +317,7 @@ fn schedule_a_form(
     line: Line,
     tokens: &[Token],
     room: u8,
-) -> Result<(Statement, &[Token]), Failure>
+) -> Result<(Statement, &[Token]), ParseFailure>
     ensures { GivesReading (λ x. (view_statement_tree x.0, x.1.now)) result (schedule_a_at line room tokens.now) }
 {
     let rest = expect_class(tokens, WordClass::Indefinite)?;
@@ -341,7 +341,7 @@ fn schedule_form(
     line: Line,
     tokens: &[Token],
     room: u8,
-) -> Result<(Statement, &[Token]), Failure>
+) -> Result<(Statement, &[Token]), ParseFailure>
     ensures { GivesReading (λ x. (view_statement_tree x.0, x.1.now)) result (schedule_at line room tokens.now) }
 {
     if begins_word(tokens, Word::The) {
@@ -358,7 +358,7 @@ fn reset_form(
     line: Line,
     tokens: &[Token],
     room: u8,
-) -> Result<(Statement, &[Token]), Failure>
+) -> Result<(Statement, &[Token]), ParseFailure>
     ensures { GivesReading (λ x. (view_statement_tree x.0, x.1.now)) result (reset_at line room tokens.now) }
 {
     let rest = expect_word(skip_word(tokens, Word::The), Word::Totals)?;
@@ -373,7 +373,7 @@ fn print_head(
     alloc: Global,
     tokens: &[Token],
     room: u8,
-) -> Result<(u64, Vec<Expression>, &[Token]), Failure>
+) -> Result<(u64, Vec<Expression>, &[Token]), ParseFailure>
     ensures { GivesReading (λ x. ((x.0, map view_expression_tree x.1.items), x.2.now)) result (print_head room tokens.now) }
 {
     let (count, rest) = positive(tokens)?;
@@ -390,7 +390,7 @@ fn print_form(
     line: Line,
     tokens: &[Token],
     room: u8,
-) -> Result<(Statement, &[Token]), Failure>
+) -> Result<(Statement, &[Token]), ParseFailure>
     ensures { GivesReading (λ x. (view_statement_tree x.0, x.1.now)) result (print_at line room tokens.now) }
 {
     let (count, items, rest) = print_head(alloc, tokens, room)?;
@@ -410,7 +410,7 @@ fn skip_form(
     line: Line,
     tokens: &[Token],
     room: u8,
-) -> Result<(Statement, &[Token]), Failure>
+) -> Result<(Statement, &[Token]), ParseFailure>
     ensures { GivesReading (λ x. (view_statement_tree x.0, x.1.now)) result (skip_at line room tokens.now) }
 {
     let (count, rest) = sum(alloc, tokens, room)?;
@@ -427,7 +427,7 @@ pub fn simple_form(
     word: Word,
     tokens: &[Token],
     room: u8,
-) -> Result<(Statement, &[Token]), Failure>
+) -> Result<(Statement, &[Token]), ParseFailure>
     ensures { GivesReading (λ x. (view_statement_tree x.0, x.1.now)) result (simple_at line room word tokens.now) }
 {
     match word {

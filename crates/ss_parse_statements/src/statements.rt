@@ -13,7 +13,7 @@ use crate::simple::simple_form;
 use ss_base::Line;
 use ss_lex::{Symbol, Token, TokenKind, Word};
 use ss_parse_expressions::conditions::condition;
-use ss_parse_expressions::failure::Failure;
+use ss_parse_expressions::failure::ParseFailure;
 use ss_parse_expressions::heads::{begins_guard, for_head, guarded_head};
 use ss_parse_expressions::steps::{alone, beside};
 use ss_parse_expressions::tables::{begins_word_of, take_word_of};
@@ -33,7 +33,7 @@ pub fn begins_noisy(tokens: &[Token], wanted: Word) -> bool
 }
 
 /// What follows this word, which has to be first but for a comma.
-pub fn expect_noisy(tokens: &[Token], wanted: Word) -> Result<&[Token], Failure>
+pub fn expect_noisy(tokens: &[Token], wanted: Word) -> Result<&[Token], ParseFailure>
     ensures { GivesReading (λ rest. (tt, rest.now)) result (expect_noisy (word wanted) tokens.now) }
 {
     expect_word(skip_symbol(tokens, Symbol::Comma), wanted)
@@ -106,7 +106,7 @@ fn begins_find_if(tokens: &[Token]) -> bool
 
 /// FIND THE FIRST CASE.
 #[tactic(auto, unfolding(crate::specs::ReadStatements::find_words))]
-fn find_words(tokens: &[Token]) -> Result<&[Token], Failure>
+fn find_words(tokens: &[Token]) -> Result<&[Token], ParseFailure>
     ensures { GivesReading (λ rest. (tt, rest.now)) result (find_words tokens.now) }
 {
     let rest = expect_noisy(tokens, Word::Find)?;
@@ -120,7 +120,7 @@ pub fn statements(
     alloc: Global,
     tokens: &[Token],
     room: u8,
-) -> Result<(Vec<Statement>, &[Token]), Failure>
+) -> Result<(Vec<Statement>, &[Token]), ParseFailure>
     ensures { GivesReading (λ x. (map view_statement_tree x.0.items, x.1.now)) result (statements_in room tokens.now) }
 {
     let mut all = Vec::new(alloc);
@@ -140,7 +140,7 @@ fn otherwise(
     alloc: Global,
     tokens: &[Token],
     room: u8,
-) -> Result<(Vec<Statement>, &[Token]), Failure>
+) -> Result<(Vec<Statement>, &[Token]), ParseFailure>
     ensures { GivesReading (λ x. (map view_statement_tree x.0.items, x.1.now)) result (else_with (statement_in room) tokens.now) }
 {
     if !begins_noisy(tokens, Word::Else) {
@@ -156,7 +156,7 @@ fn branches(
     alloc: Global,
     tokens: &[Token],
     room: u8,
-) -> Result<(Vec<Statement>, Vec<Statement>, &[Token]), Failure>
+) -> Result<(Vec<Statement>, Vec<Statement>, &[Token]), ParseFailure>
     ensures { GivesReading (λ x. ((statement_row (map view_statement_tree x.0.items), statement_row (map view_statement_tree x.1.items)), x.2.now)) result (branches_with (statement_in room) tokens.now) }
 {
     let (then, rest) = statements(alloc, tokens, room)?;
@@ -168,7 +168,7 @@ fn branches(
 /// The statements between DO and LOOP.
 #[cycle(statements)]
 #[tactic(auto, unfolding(crate::specs::ReadStatements::do_with))]
-fn do_body(alloc: Global, tokens: &[Token], room: u8) -> Result<(Vec<Statement>, &[Token]), Failure>
+fn do_body(alloc: Global, tokens: &[Token], room: u8) -> Result<(Vec<Statement>, &[Token]), ParseFailure>
     ensures { GivesReading (λ x. (map view_statement_tree x.0.items, x.1.now)) result (do_with (statement_in room) tokens.now) }
 {
     let rest = expect_noisy(tokens, Word::Do)?;
@@ -184,7 +184,7 @@ fn governed(
     alloc: Global,
     tokens: &[Token],
     room: u8,
-) -> Result<(Vec<Statement>, &[Token]), Failure>
+) -> Result<(Vec<Statement>, &[Token]), ParseFailure>
     ensures { GivesReading (λ x. (map view_statement_tree x.0.items, x.1.now)) result (governed_with (statement_in room) tokens.now) }
 {
     let tokens = skip_symbol(tokens, Symbol::Comma);
@@ -198,7 +198,7 @@ fn governed(
 /// What a loop repeats.
 #[cycle(statements)]
 #[tactic(auto, unfolding(crate::specs::ReadStatements::body_with))]
-fn body(alloc: Global, tokens: &[Token], room: u8) -> Result<(Vec<Statement>, &[Token]), Failure>
+fn body(alloc: Global, tokens: &[Token], room: u8) -> Result<(Vec<Statement>, &[Token]), ParseFailure>
     ensures { GivesReading (λ x. (statement_row (map view_statement_tree x.0.items), x.1.now)) result (body_with (statement_in room) tokens.now) }
 {
     if begins_noisy(tokens, Word::Do) {
@@ -216,7 +216,7 @@ fn if_form(
     line: Line,
     tokens: &[Token],
     room: u8,
-) -> Result<(Statement, &[Token]), Failure>
+) -> Result<(Statement, &[Token]), ParseFailure>
     ensures { GivesReading (λ x. (view_statement_tree x.0, x.1.now)) result (if_with line room (statement_in room) tokens.now) }
 {
     let (condition, rest) = condition(alloc, tokens, room)?;
@@ -240,7 +240,7 @@ fn loop_form(
     head: LoopHead,
     tokens: &[Token],
     room: u8,
-) -> Result<(Statement, &[Token]), Failure>
+) -> Result<(Statement, &[Token]), ParseFailure>
     ensures { GivesReading (λ x. (view_statement_tree x.0, x.1.now)) result (loop_with line room (statement_in room) (view_loop_head head) tokens.now) }
 {
     let (head, (body, rest)) = beside(head, body(alloc, tokens, room))?;
@@ -254,7 +254,7 @@ fn outcome_and_branches(
     alloc: Global,
     tokens: &[Token],
     room: u8,
-) -> Result<(FindOutcome, (Vec<Statement>, Vec<Statement>), &[Token]), Failure>
+) -> Result<(FindOutcome, (Vec<Statement>, Vec<Statement>), &[Token]), ParseFailure>
     ensures { GivesReading (λ x. ((x.0, (statement_row (map view_statement_tree x.1.0.items), statement_row (map view_statement_tree x.1.1.items))), x.2.now)) result (after_dropped (expect_noisy (word If)) (seq (taken (in_table outcome_of)) (branches_with (statement_in room))) tokens.now) }
 {
     let rest = expect_noisy(tokens, Word::If)?;
@@ -272,7 +272,7 @@ fn find_if_form(
     head: Head,
     tokens: &[Token],
     room: u8,
-) -> Result<(Statement, &[Token]), Failure>
+) -> Result<(Statement, &[Token]), ParseFailure>
     ensures { GivesReading (λ x. (view_statement_tree x.0, x.1.now)) result (find_if_with line room (statement_in room) (view_head_tree head) tokens.now) }
 {
     let (head, (outcome, (then, otherwise), rest)) = beside(
@@ -298,7 +298,7 @@ fn find_form(
     head: Head,
     tokens: &[Token],
     room: u8,
-) -> Result<(Statement, &[Token]), Failure>
+) -> Result<(Statement, &[Token]), ParseFailure>
     ensures { GivesReading (λ x. (view_statement_tree x.0, x.1.now)) result (find_with line room (statement_in room) (view_head_tree head) tokens.now) }
 {
     let (head, rest) = beside(head, find_words(tokens))?;
@@ -317,7 +317,7 @@ fn for_form(
     line: Line,
     tokens: &[Token],
     room: u8,
-) -> Result<(Statement, &[Token]), Failure>
+) -> Result<(Statement, &[Token]), ParseFailure>
     ensures { GivesReading (λ x. (view_statement_tree x.0, x.1.now)) result (for_with line room (statement_in room) tokens.now) }
 {
     let (head, rest) = for_head(alloc, tokens, room)?;
@@ -337,7 +337,7 @@ fn guarded_form(
     kind: GuardKind,
     tokens: &[Token],
     room: u8,
-) -> Result<(Statement, &[Token]), Failure>
+) -> Result<(Statement, &[Token]), ParseFailure>
     ensures { GivesReading (λ x. (view_statement_tree x.0, x.1.now)) result (guarded_with line room (statement_in room) kind tokens.now) }
 {
     let (head, rest) = guarded_head(alloc, kind, tokens, room)?;
@@ -354,7 +354,7 @@ fn nested_form(
     word: Word,
     tokens: &[Token],
     room: u8,
-) -> Result<(Statement, &[Token]), Failure>
+) -> Result<(Statement, &[Token]), ParseFailure>
     ensures { GivesReading (λ x. (view_statement_tree x.0, x.1.now)) result (nested_in room (statement_in room) line word tokens.now) }
 {
     if room == 0 {
@@ -372,7 +372,7 @@ fn nested_form(
 /// A statement, where this many levels of nesting, itself among them, may be opened.
 #[cycle(statements)]
 #[tactic(auto, unfolding(crate::specs::ReadStatements::statement_in))]
-fn statement(alloc: Global, tokens: &[Token], room: u8) -> Result<(Statement, &[Token]), Failure>
+fn statement(alloc: Global, tokens: &[Token], room: u8) -> Result<(Statement, &[Token]), ParseFailure>
     ensures { GivesReading (λ x. (view_statement_tree x.0, x.1.now)) result (statement_in room tokens.now) }
 {
     if room == 0 {

@@ -12,7 +12,7 @@ use ss_records_blocks::{EntityBlock, LinkPosition};
 
 // An owner of a set, and one that may be in the set.
 #[derive(Clone, Copy)]
-struct Pair {
+struct OwnerAndMember {
     owner: EntityBlock,
     x: EntityBlock,
 }
@@ -27,24 +27,24 @@ struct Triple {
 
 // Two neighbours in a set between which there is a place for one more.
 #[derive(Clone, Copy)]
-struct Gap {
+struct Neighbours {
     before: EntityBlock,
     after: EntityBlock,
 }
 
 // The gap before a member, or after it, by the neighbour on that side.
 #[inline(always)]
-fn gap_beside(member: EntityBlock, neighbour: EntityBlock, is_before: bool) -> Gap
+fn gap_beside(member: EntityBlock, neighbour: EntityBlock, is_before: bool) -> Neighbours
     ensures before { result.before ≡ (if is_before then neighbour else member) }
     ensures after { result.after ≡ (if is_before then member else neighbour) }
 {
     if is_before {
-        return Gap {
+        return Neighbours {
             before: neighbour,
             after: member,
         };
     }
-    Gap {
+    Neighbours {
         before: member,
         after: neighbour,
     }
@@ -53,14 +53,14 @@ fn gap_beside(member: EntityBlock, neighbour: EntityBlock, is_before: bool) -> G
 impl Records {
     // The entities that x and then o refer to.
     #[inline(always)]
-    fn pair(&self, s: usize, o: i64, x: i64) -> Result<Pair, FaultKind>
+    fn pair(&self, s: usize, o: i64, x: i64) -> Result<OwnerAndMember, FaultKind>
         requires kept { IsKept self.now }
         requires set { s < length self.now.layout.sets }
         ensures found { MatchResult result (λ p. Owns self.now s p.owner × Joins self.now s p.x × (joiner (state self.now) s x ≡ Ok p.x.number) × (owner (state self.now) s o ≡ Ok p.owner.number)) (λ f. (g : ℕ → ℕ → Result State FaultKind) → and_then (joiner (state self.now) s x) (λ n. and_then (owner (state self.now) s o) (g n)) ≡ Err f) }
     {
         match self.joiner(s, x) {
             Ok(x) => match self.owner(s, o) {
-                Ok(owner) => Ok(Pair { owner, x }),
+                Ok(owner) => Ok(OwnerAndMember { owner, x }),
                 Err(fault) => Err(fault),
             },
             Err(fault) => Err(fault),

@@ -12,7 +12,7 @@ use Rattle.ss_base.specs.declared.layout.Layout.{Layout}
 use Rattle.ss_stats.specs.History.{History, mean_of, is_full, with_noted_value, restarted}
 use Rattle.ss_program.specs.declared.sections.Subject.{Subject}
 use Rattle.ss_program.specs.declared.sections.Statistic.{Statistic}
-use Rattle.ss_meaning.specs.Values.{Trouble, Misfit, if_ok, turned, due, sure, unless_fault}
+use Rattle.ss_meaning.specs.Values.{Failure, TypeError, if_ok, turned, due, sure, unless_fault}
 use Rattle.ss_meaning.specs.Store.{Column}
 use Rattle.ss_meaning.specs.Histories.{starting, ending, noting_in, all_noting, with_history, history_of_subject, folded, renewed}
 use Rattle.ss_stats_histories.specs.declared.unnoted.Unnoted.{Unnoted}
@@ -84,7 +84,7 @@ not_both e = cc
 -- why a history takes no such value
 abbrev pub stops_in : Value → Option History → Option Unnoted
 stops_in (Whole z) o = refused_in o
-stops_in (Text t) o = Some unnoted.Misfit
+stops_in (Text t) o = Some unnoted.TypeError
 
 abbrev pub stopped_by : Bool → Value → Option History → Option Unnoted
 stopped_by b v o = if b then stops_in v o else None
@@ -119,7 +119,7 @@ stops_places s x v (z ∷ zs) =
 -- ## What noting changes
 
 -- what is answered where there is a reason, and where there is none
-abbrev pub unless : {A : Type 0} → Option Unnoted → A → Result A Trouble
+abbrev pub unless : {A : Type 0} → Option Unnoted → A → Result A Failure
 unless None a = Ok a
 unless (Some e) a = Err (why e)
 
@@ -162,8 +162,8 @@ noted_is s x now v (k ∷ ks) =
     let d : Column = if b then noted_in x now v (c x) c else c in
     let ds : List Column = map (λ (z : StatisticHistories). z.1) (map (noted_where s x now v) (map shown ks)) in
     let rest = all_noting s x now v (statistics_of ks) (columns_of (rows_of ks)) in
-    ap (λ (r : Result Column Trouble). if_ok r (λ d. turned (λ ds. d ∷ ds) rest)) (taken b (c x) x now v c) ∙
-    ap (λ (r : Result (List Column) Trouble). if_ok (unless (stopped_by b v (c x)) d) (λ d. turned (λ ds. d ∷ ds) r)) (noted_is s x now v ks) ∙
+    ap (λ (r : Result Column Failure). if_ok r (λ d. turned (λ ds. d ∷ ds) rest)) (taken b (c x) x now v c) ∙
+    ap (λ (r : Result (List Column) Failure). if_ok (unless (stopped_by b v (c x)) d) (λ d. turned (λ ds. d ∷ ds) r)) (noted_is s x now v ks) ∙
     both (stopped_by b v (c x)) (first_stopped s x v (map shown ks)) d ds ∙
     ap (λ (d : Column). unless (first_stopped s x v (map shown (k ∷ ks))) (d ∷ ds)) (of_both b x now v (shown k))
 
@@ -178,17 +178,17 @@ pub renewed_there : (x now v : ℤ) (zs : List StatisticHistories) (j : ℕ) →
     renewed j x now v (map (λ (z : StatisticHistories). z.1) zs) ≡ Ok (map (λ (z : StatisticHistories). z.1) (changed_at (renewed_one x now v) zs j))
 renewed_there x now v [] j e = absurd (not_both (sym e))
 renewed_there x now v (z ∷ zs) zero e = fresh_first x now v (z.1 x) z.1 (map (λ (z : StatisticHistories). z.1) zs) e
-renewed_there x now v (z ∷ zs) (suc j) e = ap (λ (r : Result (List Column) Trouble). turned (λ ds. z.1 ∷ ds) r) (renewed_there x now v zs j e)
+renewed_there x now v (z ∷ zs) (suc j) e = ap (λ (r : Result (List Column) Failure). turned (λ ds. z.1 ∷ ds) r) (renewed_there x now v zs j e)
 
 none_first : (x now v : ℤ) (o : Option History) (c : Column) (cs : List Column) → is_some o ≡ false →
-    turned (λ h. with_history x (restarted h now v) c ∷ cs) (sure o) ≡ Err Misfit
+    turned (λ h. with_history x (restarted h now v) c ∷ cs) (sure o) ≡ Err TypeError
 none_first x now v None c cs e = refl
 none_first x now v (Some h) c cs e = absurd (not_both e)
 
-pub renewed_nowhere : (x now v : ℤ) (zs : List StatisticHistories) (j : ℕ) → has_at x zs j ≡ false → renewed j x now v (map (λ (z : StatisticHistories). z.1) zs) ≡ Err Misfit
+pub renewed_nowhere : (x now v : ℤ) (zs : List StatisticHistories) (j : ℕ) → has_at x zs j ≡ false → renewed j x now v (map (λ (z : StatisticHistories). z.1) zs) ≡ Err TypeError
 renewed_nowhere x now v [] j e = refl
 renewed_nowhere x now v (z ∷ zs) zero e = none_first x now v (z.1 x) z.1 (map (λ (z : StatisticHistories). z.1) zs) e
-renewed_nowhere x now v (z ∷ zs) (suc j) e = ap (λ (r : Result (List Column) Trouble). turned (λ ds. z.1 ∷ ds) r) (renewed_nowhere x now v zs j e)
+renewed_nowhere x now v (z ∷ zs) (suc j) e = ap (λ (r : Result (List Column) Failure). turned (λ ds. z.1 ∷ ds) r) (renewed_nowhere x now v zs j e)
 
 pub renewed_statistics : (x now v : ℤ) (j : ℕ) (ks ns : List Recorded) → map shown ns ≡ changed_at (renewed_one x now v) (map shown ks) j → statistics_of ns ≡ statistics_of ks
 renewed_statistics x now v j [] [] e = refl
@@ -296,7 +296,7 @@ figure_there fold x now (n ∷ ns) zero k e =
     asked_in fold now (column_of n.rows x) ∙ ap (λ (r : Recorded). figured (option_map (figure_of fold now) (column_of r.rows x))) (some_there n k e)
 figure_there fold x now (n ∷ ns) (suc j) k e = figure_there fold x now ns j k e
 
-pub figure_nowhere : (fold : Fold) (x now : ℤ) (ks : List Recorded) (j : ℕ) → slice_get ks j ≡ None → if_ok (history_of_subject j x (columns_of (rows_of ks))) (folded fold now) ≡ Err Misfit
+pub figure_nowhere : (fold : Fold) (x now : ℤ) (ks : List Recorded) (j : ℕ) → slice_get ks j ≡ None → if_ok (history_of_subject j x (columns_of (rows_of ks))) (folded fold now) ≡ Err TypeError
 figure_nowhere fold x now [] j e = refl
 figure_nowhere fold x now (n ∷ ns) zero e = absurd (none_there n (sym e))
 figure_nowhere fold x now (n ∷ ns) (suc j) e = figure_nowhere fold x now ns j e
@@ -312,7 +312,7 @@ mean_there x now (n ∷ ns) zero k e =
     mean_asked now (column_of n.rows x) ∙ ap (λ (r : Recorded). sure (option_map (λ (h : History). mean_of h now) (column_of r.rows x))) (some_there n k e)
 mean_there x now (n ∷ ns) (suc j) k e = mean_there x now ns j k e
 
-pub mean_nowhere : (x now : ℤ) (ks : List Recorded) (j : ℕ) → slice_get ks j ≡ None → mean_in j x now (columns_of (rows_of ks)) ≡ Err Misfit
+pub mean_nowhere : (x now : ℤ) (ks : List Recorded) (j : ℕ) → slice_get ks j ≡ None → mean_in j x now (columns_of (rows_of ks)) ≡ Err TypeError
 mean_nowhere x now [] j e = refl
 mean_nowhere x now (n ∷ ns) zero e = absurd (none_there n (sym e))
 mean_nowhere x now (n ∷ ns) (suc j) e = mean_nowhere x now ns j e

@@ -10,7 +10,7 @@ use Rattle.ss_stats.specs.History.{History, is_full}
 use Rattle.ss_meaning.specs.Store.{Column}
 use Rattle.ss_meaning.specs.Histories.{at_start, begun_in, ended_in}
 use Rattle.ss_stats_histories.specs.declared.unnoted.Unnoted.{Unnoted}
-use Rattle.ss_stats_histories.specs.declared.unnoted.Unnoted.TheVariants.{Full, Misfit}
+use Rattle.ss_stats_histories.specs.declared.unnoted.Unnoted.TheVariants.{Full, TypeError}
 use Rattle.ss_stats_histories.specs.Records.{Recorded, Rows, column_of, IsUntil, noted_column, renewed_column, is_home}
 
 -- a statistic and its histories
@@ -53,7 +53,7 @@ changed_at f (x ∷ xs) (suc j) = x ∷ changed_at f xs j
 
 -- why the history of an entity takes no number
 abbrev pub refused_in : Option History → Option Unnoted
-refused_in None = Some Misfit
+refused_in None = Some TypeError
 refused_in (Some h) = if is_full h then Some Full else None
 
 -- why the history of an entity in the statistic at a place takes none
@@ -67,7 +67,7 @@ refused_at x zs j = refused_of x (slice_get zs j)
 -- why the history of an entity in the statistic at a place takes no such value
 abbrev pub stops_at : Value → (entity : ℤ) → List StatisticHistories → ℕ → Option Unnoted
 stops_at (Whole z) x zs j = refused_at x zs j
-stops_at (Text t) x zs j = Some Misfit
+stops_at (Text t) x zs j = Some TypeError
 
 -- the first of them, place by place
 abbrev pub first_at : (ℕ → Option Unnoted) → List ℕ → Option Unnoted

@@ -12,7 +12,7 @@ use Rattle.ss_program.specs.declared.expression.Fold.{Fold}
 use Rattle.ss_program.specs.declared.expression.Fold.TheVariants.{Number, Sum, Maximum, Minimum}
 use Rattle.ss_program.specs.declared.sections.Statistic.{Statistic}
 use Rattle.ss_stats.specs.History.{History, last_moment, number_noted, sum_of, mean_of, maximum_of, minimum_of, is_full, with_noted_value, restarted}
-use Rattle.ss_meaning.specs.Values.{Trouble, Fails, Misfit, turned, due}
+use Rattle.ss_meaning.specs.Values.{Failure, Fails, TypeError, turned, due}
 use Rattle.ss_meaning.specs.Store.{Column}
 use Rattle.ss_base.specs.Layout.{same_owner}
 use Rattle.ss_meaning.specs.Histories.{history_of_subject, with_history, home}
@@ -115,23 +115,23 @@ abbrev pub none_in : Statistic → Rows
 none_in s = none_yet
 
 -- what is asked of a statistic
-abbrev pub figured : Option (Result ℤ FaultKind) → Result Value Trouble
-figured None = Err Misfit
+abbrev pub figured : Option (Result ℤ FaultKind) → Result Value Failure
+figured None = Err TypeError
 figured (Some answer) = turned Whole (due answer)
 
 -- the mean of the history of a statistic of an entity, now: its exact sum and its number
-abbrev pub mean_in : (statistic : ℕ) → (entity now : ℤ) → List Column → Result (ℤ × ℤ) Trouble
+abbrev pub mean_in : (statistic : ℕ) → (entity now : ℤ) → List Column → Result (ℤ × ℤ) Failure
 mean_in j x now cs = turned (λ h. mean_of h now) (history_of_subject j x cs)
 
 -- the histories once one was started afresh, where there is one to start
-abbrev pub renewed_where : Bool → List Column → Result (List Column) Trouble
+abbrev pub renewed_where : Bool → List Column → Result (List Column) Failure
 renewed_where true cs = Ok cs
-renewed_where false cs = Err Misfit
+renewed_where false cs = Err TypeError
 
 -- why a value is not noted
-abbrev pub why : Unnoted → Trouble
+abbrev pub why : Unnoted → Failure
 why Full = Fails Overflow
-why unnoted.Misfit = Misfit
+why unnoted.TypeError = TypeError
 
 abbrev pub statistics_of : List Recorded → List Statistic
 statistics_of ks = map (λ k. k.statistic) ks

@@ -13,17 +13,17 @@ use std::marker::Model;
 
 /// Numbers under each subject.
 #[derive(Drop)]
-struct Tables {
+struct SubjectTables {
     variables: HistoryTable,
     attributes: Grid,
     sets: HistoryTable,
 }
 
-impl Tables {
-    fn new(alloc: Global) -> Tables
+impl SubjectTables {
+    fn new(alloc: Global) -> SubjectTables
         ensures { (s : TheSubject) → place_found s result.variables result.attributes result.sets ≡ [] }
     {
-        Tables {
+        SubjectTables {
             variables: HistoryTable::new(alloc),
             attributes: Grid::new(alloc),
             sets: HistoryTable::new(alloc),
@@ -71,7 +71,7 @@ impl Tables {
 #[derive(Drop)]
 pub(crate) struct About {
     statistics: Vec<Statistic>,
-    tables: Tables,
+    tables: SubjectTables,
 }
 
 impl Model for About {
@@ -118,10 +118,10 @@ impl About {
 }
 
 // The places of the statistics of each subject.
-fn tables_of(alloc: Global, statistics: &[Statistic]) -> Result<Tables, AllocError>
+fn tables_of(alloc: Global, statistics: &[Statistic]) -> Result<SubjectTables, AllocError>
     ensures { IfOk result (λ t. (s : TheSubject) → place_found s t.variables t.attributes t.sets ≡ places_where (is_about s) statistics.now) }
 {
-    let mut tables = Tables::new(alloc);
+    let mut tables = SubjectTables::new(alloc);
     for (place, statistic) in statistics.iter().enumerate() {
         tables.add(alloc, statistic.subject, place)?;
     }

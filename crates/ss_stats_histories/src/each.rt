@@ -173,7 +173,7 @@ pub(crate) fn note_all(
     match value {
         Value::Whole(number) => note_number(kept, places, entity, now, number),
         Value::Text(_) => if has_some(places) {
-            Err(Unnoted::Misfit)
+            Err(Unnoted::TypeError)
         } else {
             Ok(())
         },

@@ -128,7 +128,7 @@ impl Kept {
         match self.of(entity) {
             Some(watched) if watched.is_full(now) => Some(Unnoted::Full),
             Some(_) => None,
-            None => Some(Unnoted::Misfit),
+            None => Some(Unnoted::TypeError),
         }
     }
 
@@ -215,7 +215,7 @@ fn note_system(system: &mut Option<Watched>, now: i64, value: i64) -> Option<Unn
     ensures same { IfSome result (λ _. system.new ≡ system.old) }
 {
     match system {
-        None => Some(Unnoted::Misfit),
+        None => Some(Unnoted::TypeError),
         Some(watched) => {
             if watched.note(now, value) {
                 None
@@ -241,7 +241,7 @@ fn note_found(
     ensures same { IfSome result (λ _. others.new.entries ≡ others.old.entries) }
 {
     match others.get_mut(&entity) {
-        None => Some(Unnoted::Misfit),
+        None => Some(Unnoted::TypeError),
         Some(watched) => {
             if watched.note(now, value) {
                 None

@@ -6,5 +6,5 @@ pub enum Unnoted {
     /// A history takes no further value: the fault 14.
     Full,
     /// There is no history, or the value is a text. This never comes of a well-typed program.
-    Misfit,
+    TypeError,
 }

@@ -8,7 +8,7 @@ use Rattle.std.proofs.lemmas.Option.{slice_get-get_or}
 use Rattle.ss_tree.specs.Tree.{ProgramTree}
 use Rattle.ss_tree.specs.Names.{NameBytes}
 use Rattle.ss_names_declarations.specs.Declarations.{declarations}
-use Rattle.ss_names_declarations.specs.Firsts.{first_entries, place_among, place_in, same_name, value_for}
+use Rattle.ss_names_declarations.specs.NameTable.{first_entries, place_among, place_in, same_name, value_for}
 use Rattle.ss_names_declarations.proofs.Entries.{entry_of_key, firsts_once, no_place, place_from, place_of_value}
 use Rattle.ss_names.specs.declared.meaning.Meaning.{Meaning}
 use Rattle.ss_names.specs.declared.names.NameId.{NameId}

@@ -2,7 +2,7 @@
 use Rattle.std.specs.Prelude.{◌≡◌, Bool, is_some, Option, Some, None, Result, Ok, Err}
 use Rattle.ss_tree.specs.Tree.{ProgramTree}
 use Rattle.ss_tree.specs.Names.{NameBytes}
-use Rattle.ss_names_declarations.specs.Firsts.{value_for}
+use Rattle.ss_names_declarations.specs.NameTable.{value_for}
 use Rattle.ss_names.specs.Table.{Table, table}
 use Rattle.ss_tables_rules.specs.Broken.{refusal_of_declarations}
 use Rattle.ss_tables_rules.specs.declared.error.TableError.{TableError}

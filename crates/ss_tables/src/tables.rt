@@ -5,7 +5,7 @@ ghost use Rattle.std.specs.Map.{keys_of};
 ghost use Rattle.ss_tree.specs.Tree.{ProgramTree};
 ghost use Rattle.ss_tree.specs.View.{view_program_tree};
 ghost use Rattle.ss_names_declarations.specs.Declarations.{declarations as declarations_seen};
-ghost use Rattle.ss_names_declarations.specs.Firsts.{place_in};
+ghost use Rattle.ss_names_declarations.specs.NameTable.{place_in};
 ghost use Rattle.ss_tables_rules.specs.Broken.{refusal_of_declarations};
 ghost use Rattle.ss_names_meaning.specs.Layouts.{layout};
 ghost use Rattle.ss_tables.specs.Tables.{AreTablesOf, NamesUnless, ReportsTableError, is_declared};

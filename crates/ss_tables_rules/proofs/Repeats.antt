@@ -11,7 +11,7 @@ use Rattle.ss_names.specs.Table.{Table}
 use Rattle.ss_tables_rules.specs.declared.once.Once.{Once}
 use Rattle.ss_tables_rules.specs.declared.once.Once.TheVariants as o
 use Rattle.ss_tables_rules.specs.declared.error.TableError.{TableError}
-use Rattle.ss_tables_rules.specs.Keyed.{Key, again_by_key, has_key, key_if, key_of, repeats_by_key, same_key, with_key}
+use Rattle.ss_tables_rules.specs.Keyed.{OnceKey, again_by_key, has_key, key_if, key_of, repeats_by_key, same_key, with_key}
 use Rattle.ss_tables_rules.specs.Once.{again, is_among, once_of, repeats_after, repeated_breach, same_once, once_added}
 use Rattle.ss_tables_rules.specs.Order.{table_error_order}
 use Rattle.std.specs.Prelude.{option_to_list}
@@ -63,7 +63,7 @@ repeats_keyed t said (x ∷ ds) =
 
 -- ---- one declaration more
 
-pub repeat_more : (t : Table) (said after : List Key) (found next total : Option TableError) (ds : List Declaration) (i : ℕ) (x : Declaration) → i < length ds → x ≡ get_or ds i x
+pub repeat_more : (t : Table) (said after : List OnceKey) (found next total : Option TableError) (ds : List Declaration) (i : ℕ) (x : Declaration) → i < length ds → x ≡ get_or ds i x
     → next ≡ earlier_of table_error_order found (again_by_key said x.line x.what (key_if (once_of t x.what))) → after ≡ with_key said (key_if (once_of t x.what))
     → fold (earlier table_error_order) found (repeats_by_key t said (drop i ds)) ≡ total → fold (earlier table_error_order) next (repeats_by_key t after (drop (i + 1) ds)) ≡ total
 repeat_more t said after found next total ds i x lt is n a h =

@@ -5,7 +5,7 @@ use Rattle.ss_base.specs.declared.line.Line.{Line}
 use Rattle.ss_tree.specs.Names.{NameBytes}
 use Rattle.ss_tree.specs.Tree.{OrderTree, ranked, PreambleTree, define_sets}
 use Rattle.ss_tree.specs.declared.preamble.NamedKey.{NamedKey}
-use Rattle.ss_names_declarations.specs.Firsts.{value_for}
+use Rattle.ss_names_declarations.specs.NameTable.{value_for}
 use Rattle.ss_names.specs.declared.entry.Attribute.{Attribute}
 use Rattle.ss_names.specs.declared.entry.Set.{Set}
 use Rattle.ss_names.specs.Table.{Table}

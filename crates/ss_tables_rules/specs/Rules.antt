@@ -10,7 +10,7 @@ use Rattle.ss_tree.specs.Tree.{SectionTree}
 use Rattle.ss_tree.specs.declared.preamble.ModeWord.{ModeWord}
 use Rattle.ss_tree.specs.declared.preamble.ModeWord.TheVariants as modes
 use Rattle.ss_names_declarations.specs.Earliest.{unless}
-use Rattle.ss_names_declarations.specs.Firsts.{is_one_of, place_among, place_in, same_name, value_for}
+use Rattle.ss_names_declarations.specs.NameTable.{is_one_of, place_among, place_in, same_name, value_for}
 use Rattle.ss_names_declarations.specs.declared.declaration.Declared.{Declared}
 use Rattle.ss_names_declarations.specs.declared.declaration.Declared.TheVariants as d
 use Rattle.ss_names_declarations.specs.declared.declaration.Declaration.{Declaration}

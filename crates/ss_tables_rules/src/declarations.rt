@@ -4,7 +4,7 @@ ghost use Rattle.std.specs.Prelude.{◌≡◌, ◌||◌, not, is_some};
 ghost use Rattle.std.specs.List.{flat_map, fold};
 ghost use Rattle.std.specs.Option.{option_or};
 ghost use Rattle.ss_names_declarations.specs.Earliest.{earlier, unless};
-ghost use Rattle.ss_names_declarations.specs.Firsts.{place_among, value_for};
+ghost use Rattle.ss_names_declarations.specs.NameTable.{place_among, value_for};
 ghost use Rattle.ss_names.specs.Entries.{is_notice_class};
 ghost use Rattle.ss_tables_rules.specs.declared.error.TableError.TheVariants as e;
 ghost use Rattle.ss_tables_rules.specs.Broken.{declaration_breaches};

@@ -5,7 +5,7 @@ ghost use Rattle.std.specs.List.{flat_map, fold};
 ghost use Rattle.std.specs.Option.{option_or};
 ghost use Rattle.ss_tree.specs.View.{view_order, view_preamble};
 ghost use Rattle.ss_names_declarations.specs.Earliest.{earlier, unless};
-ghost use Rattle.ss_names_declarations.specs.Firsts.{value_for};
+ghost use Rattle.ss_names_declarations.specs.NameTable.{value_for};
 ghost use Rattle.ss_tables_rules.specs.Keys.{class_of, is_foreign, is_foreign_to_any, keys_of_order, member_named, member_of, misranked, misranked_in, misranked_key};
 ghost use Rattle.ss_tables_rules.specs.Order.{table_error_order};
 ghost use Rattle.ss_tables_rules.specs.declared.error.TableError.TheVariants as e;

@@ -3,7 +3,7 @@
 ghost use Rattle.std.specs.Prelude.{◌≡◌, Some, None, is_some, if◌then◌else◌, IfOk, OnOk};
 ghost use Rattle.std.specs.List.{fold};
 ghost use Rattle.ss_names_declarations.specs.Earliest.{earlier};
-ghost use Rattle.ss_names_declarations.specs.Firsts.{is_one_of, value_for};
+ghost use Rattle.ss_names_declarations.specs.NameTable.{is_one_of, value_for};
 ghost use Rattle.ss_tables_rules.specs.declared.once.Once.TheVariants as o;
 ghost use Rattle.ss_tables_rules.specs.Once.{if_class, once_of, repeats, repeated_breach};
 ghost use Rattle.ss_tables_rules.specs.Keyed.{again_by_key, key_if, key_of, with_key};
@@ -43,10 +43,10 @@ pub enum Once {
 }
 
 // The key of what may be said once, in a table of what was said: the number of its kind, that of its section, and its name.
-type Key = (usize, (usize, Option<Name>));
+type OnceKey = (usize, (usize, Option<Name>));
 
 // The key of what may be said once.
-fn key_of(once: &Once) -> Key
+fn key_of(once: &Once) -> OnceKey
     ensures { result ≡ key_of once.now }
 {
     match once {
@@ -135,7 +135,7 @@ pub fn once_of(names: &Names, what: &Declared) -> Option<Once>
 }
 
 // The key of what a declaration says that may be said once.
-fn key_said(names: &Names, what: &Declared) -> Option<Key>
+fn key_said(names: &Names, what: &Declared) -> Option<OnceKey>
     ensures { result ≡ key_if (once_of names.now what.now) }
 {
     match once_of(names, what) {
@@ -156,8 +156,8 @@ fn repeated_breach(line: Line, what: &Declared) -> TableError
 
 // The breach of a declaration with this key, after what was said.
 fn again_by_key(
-    said: &Keys<Key>,
-    key: &Option<Key>,
+    said: &Keys<OnceKey>,
+    key: &Option<OnceKey>,
     declaration: &Declaration,
 ) -> Option<TableError>
     ensures { result ≡ again_by_key said.now declaration.now.line declaration.now.what key.now }
@@ -175,7 +175,7 @@ fn again_by_key(
 }
 
 // Notes a key.
-fn note_key(said: &mut Keys<Key>, key: Option<Key>) -> Result<(), AllocError>
+fn note_key(said: &mut Keys<OnceKey>, key: Option<OnceKey>) -> Result<(), AllocError>
     ensures { OnOk result (said.new ≡ with_key said.old key) }
 {
     match key {

@@ -19,9 +19,9 @@ impl CaseStreams {
     /// The streams of a case before its run.
     pub fn new(alloc: Global, case: &Case<'_>, plan: Plan) -> Result<CaseStreams, AllocError> {
         let reader = MemoryRead::new(alloc, &case.input, plan)?;
-        let StreamPlan { plan, trouble } = case.writer();
+        let StreamPlan { plan, failure } = case.writer();
         let room = case.report.len().saturating_add(MORE_ROOM);
-        let writer = MemoryWrite::new(alloc, room, plan, trouble)?;
+        let writer = MemoryWrite::new(alloc, room, plan, failure)?;
         Ok(CaseStreams { reader, writer })
     }
 }

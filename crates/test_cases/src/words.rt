@@ -49,7 +49,7 @@ fn size(word: &str) -> Result<usize, Wrong> {
 pub struct StreamPlan {
     pub plan: Plan,
     /// What goes wrong at a call of a writer; a reader's call answers an error.
-    pub trouble: WriteFailure,
+    pub failure: WriteFailure,
 }
 
 impl StreamPlan {
@@ -57,7 +57,7 @@ impl StreamPlan {
     pub fn smooth(per_call: usize) -> StreamPlan {
         StreamPlan {
             plan: Plan::smooth(per_call),
-            trouble: WriteFailure::Error,
+            failure: WriteFailure::Error,
         }
     }
 }
@@ -76,7 +76,7 @@ enum Start {
 struct Phrase {
     before: &'static str,
     after: &'static str,
-    trouble: WriteFailure,
+    failure: WriteFailure,
     start: Start,
 }
 
@@ -85,25 +85,25 @@ static PHRASES: [Phrase; 4] = [
     Phrase {
         before: "fails from call ",
         after: "",
-        trouble: WriteFailure::Error,
+        failure: WriteFailure::Error,
         start: Start::Call,
     },
     Phrase {
         before: "fails after ",
         after: " bytes",
-        trouble: WriteFailure::Error,
+        failure: WriteFailure::Error,
         start: Start::Bytes,
     },
     Phrase {
         before: "takes nothing from call ",
         after: "",
-        trouble: WriteFailure::NoByte,
+        failure: WriteFailure::NoByte,
         start: Start::Call,
     },
     Phrase {
         before: "takes nothing after ",
         after: " bytes",
-        trouble: WriteFailure::NoByte,
+        failure: WriteFailure::NoByte,
         start: Start::Bytes,
     },
 ];
@@ -123,7 +123,7 @@ impl Phrase {
         };
         Ok(StreamPlan {
             plan,
-            trouble: self.trouble,
+            failure: self.failure,
         })
     }
 }

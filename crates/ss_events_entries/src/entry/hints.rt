@@ -11,7 +11,7 @@ pub(super) const HINTS: usize = 4096;
 
 // A slot to look in for the last of a line of entries that come at a time.
 #[derive(Clone, Copy)]
-pub(super) struct Hint {
+pub(super) struct SlotHint {
     pub(super) time: i64,
     pub(super) slot: usize,
 }
@@ -24,7 +24,7 @@ fn hint_of(mark: Mark) -> usize {
 
 // The slot in which to look for the last of a line that an entry may join, or none.
 #[inline(always)]
-pub(super) fn hinted(hints: &[Hint], mark: Mark) -> usize {
+pub(super) fn hinted(hints: &[SlotHint], mark: Mark) -> usize {
     let hint = hint_of(mark);
     if hint < hints.len() && hints[hint].time == mark.time {
         return hints[hint].slot;
@@ -34,17 +34,17 @@ pub(super) fn hinted(hints: &[Hint], mark: Mark) -> usize {
 
 // Remembers in which slot the last of a line is, where there are many heads.
 #[inline(always)]
-pub(super) fn remember(hints: &mut [Hint], heads: usize, mark: Mark, slot: usize) {
+pub(super) fn remember(hints: &mut [SlotHint], heads: usize, mark: Mark, slot: usize) {
     if heads >= MANY {
         give_hint(hints, mark, slot);
     }
 }
 
 #[inline(never)]
-fn give_hint(hints: &mut [Hint], mark: Mark, slot: usize) {
+fn give_hint(hints: &mut [SlotHint], mark: Mark, slot: usize) {
     let hint = hint_of(mark);
     if hint < hints.len() {
-        hints[hint] = Hint {
+        hints[hint] = SlotHint {
             time: mark.time,
             slot,
         };

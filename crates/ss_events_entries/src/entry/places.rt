@@ -11,7 +11,7 @@ ghost use Rattle.ss_events_entries.specs.Slots.{mark_of, not_plain, order_of, Is
 
 use super::counter::WorkCounter;
 use super::directory::SlotDirectory;
-use super::hints::{HINTS, Hint, MANY, hinted, remember};
+use super::hints::{HINTS, SlotHint, MANY, hinted, remember};
 use super::slots::{
     FOLLOWING, HeapNode, NO_SLOT, Slot, advance, alone, clear, close_up, exchange, is_last_before,
     keep, line_up, reach, release, slot_of, some_free,
@@ -37,7 +37,7 @@ pub struct Places {
     count: usize,
     // How many slots are free.
     free: usize,
-    hints: Vec<Hint>,
+    hints: Vec<SlotHint>,
     directory: SlotDirectory,
     // What `look_ahead` read. Nothing depends on it.
     ahead: u64,
@@ -369,7 +369,7 @@ impl Places {
 #[inline(always)]
 fn make_cells(
     directory: &mut SlotDirectory,
-    hints: &mut Vec<Hint>,
+    hints: &mut Vec<SlotHint>,
     slots: &[Slot],
     count: usize,
     free: usize,
@@ -389,7 +389,7 @@ fn make_cells(
 #[inline(never)]
 fn make_twice_the_cells(
     directory: &mut SlotDirectory,
-    hints: &mut Vec<Hint>,
+    hints: &mut Vec<SlotHint>,
     slots: &[Slot],
     count: usize,
 ) -> Result<(), AllocError>
@@ -401,7 +401,7 @@ fn make_twice_the_cells(
     if hints.is_empty() {
         *hints = Vec::from_elem(
             alloc,
-            Hint {
+            SlotHint {
                 time: 0,
                 slot: NO_SLOT,
             },

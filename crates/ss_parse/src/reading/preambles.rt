@@ -12,7 +12,7 @@ ghost use Rattle.ss_parse.specs.ReadPreambles.{then_rank, keys, statistic_kind, 
 use ss_base::{Line, Name};
 use ss_lex::{Symbol, Token, TokenKind, Word};
 use ss_parse_expressions::classes::{WordClass, skip_class};
-use ss_parse_expressions::failure::Failure;
+use ss_parse_expressions::failure::ParseFailure;
 use ss_parse_expressions::names::{begins_name, items, name, names};
 use ss_parse_expressions::steps::{alone, beside};
 use ss_parse_expressions::tables::{begins_word_of, take_word_of};
@@ -28,14 +28,14 @@ use ss_tree::preamble::{
 use std::alloc::Global;
 
 /// A mode.
-fn mode(tokens: &[Token]) -> Result<(ModeWord, &[Token]), Failure>
+fn mode(tokens: &[Token]) -> Result<(ModeWord, &[Token]), ParseFailure>
     ensures { GivesReading (λ x. (x.0, x.1.now)) result (taken (in_table mode_of_word) tokens.now) }
 {
     take_word_of::<ModeWords>(tokens)
 }
 
 /// The end of a DEFINE of variables: a mode.
-pub fn variable_mode(tokens: &[Token]) -> Result<(ModeWord, &[Token]), Failure>
+pub fn variable_mode(tokens: &[Token]) -> Result<(ModeWord, &[Token]), ParseFailure>
     ensures { GivesReading (λ x. (x.0, x.1.now)) result (closed (taken (in_table mode_of_word)) (expect (word Variable)) tokens.now) }
 {
     let (mode, rest) = mode(tokens)?;
@@ -44,7 +44,7 @@ pub fn variable_mode(tokens: &[Token]) -> Result<(ModeWord, &[Token]), Failure>
 }
 
 /// HIGH or LOW.
-fn rank(tokens: &[Token]) -> Result<(bool, &[Token]), Failure>
+fn rank(tokens: &[Token]) -> Result<(bool, &[Token]), ParseFailure>
     ensures { GivesReading (λ x. (x.0, x.1.now)) result (taken (in_table rank_of) tokens.now) }
 {
     take_word_of::<RankWords>(tokens)
@@ -52,7 +52,7 @@ fn rank(tokens: &[Token]) -> Result<(bool, &[Token]), Failure>
 
 /// A clause of an EVERY.
 #[tactic(auto, unfolding(crate::specs::ReadPreambles::clause))]
-fn clause(alloc: Global, tokens: &[Token]) -> Result<(Clause, &[Token]), Failure>
+fn clause(alloc: Global, tokens: &[Token]) -> Result<(Clause, &[Token]), ParseFailure>
     ensures { GivesReading (λ x. (view_clause x.0, x.1.now)) result (clause tokens.now) }
 {
     if begins_word(tokens, Word::Has) {
@@ -71,7 +71,7 @@ fn clause(alloc: Global, tokens: &[Token]) -> Result<(Clause, &[Token]), Failure
 }
 
 /// THEN BY, and HIGH or LOW.
-fn then_rank(tokens: &[Token]) -> Result<(bool, &[Token]), Failure>
+fn then_rank(tokens: &[Token]) -> Result<(bool, &[Token]), ParseFailure>
     ensures { GivesReading (λ x. (x.0, x.1.now)) result (then_rank tokens.now) }
 {
     let rest = expect_noisy(tokens, Word::Then)?;
@@ -81,7 +81,7 @@ fn then_rank(tokens: &[Token]) -> Result<(bool, &[Token]), Failure>
 
 /// Keys, the further ones after THEN BY.
 #[tactic(auto, unfolding(crate::specs::ReadPreambles::key))]
-fn keys(alloc: Global, tokens: &[Token]) -> Result<(Vec<NamedKey>, &[Token]), Failure>
+fn keys(alloc: Global, tokens: &[Token]) -> Result<(Vec<NamedKey>, &[Token]), ParseFailure>
     ensures { GivesReading (λ x. (x.0.items, x.1.now)) result (keys tokens.now) }
 {
     let (high, from) = rank(tokens)?;
@@ -101,7 +101,7 @@ fn keys(alloc: Global, tokens: &[Token]) -> Result<(Vec<NamedKey>, &[Token]), Fa
 }
 
 /// AS and the kind of a statistic.
-fn statistic_kind(tokens: &[Token]) -> Result<(StatisticKind, &[Token]), Failure>
+fn statistic_kind(tokens: &[Token]) -> Result<(StatisticKind, &[Token]), ParseFailure>
     ensures { GivesReading (λ x. (x.0, x.1.now)) result (statistic_kind tokens.now) }
 {
     let rest = expect_word(tokens, Word::As)?;
@@ -118,7 +118,7 @@ fn begins_more_statistics(tokens: &[Token]) -> bool
 
 /// Statistics with separators between.
 #[tactic(auto, unfolding(crate::specs::ReadPreambles::statistic))]
-fn found(alloc: Global, tokens: &[Token]) -> Result<(Vec<NamedStatistic>, &[Token]), Failure>
+fn found(alloc: Global, tokens: &[Token]) -> Result<(Vec<NamedStatistic>, &[Token]), ParseFailure>
     ensures { GivesReading (λ x. (x.0.items, x.1.now)) result (found tokens.now) }
 {
     let first = name(tokens)?;
@@ -159,7 +159,7 @@ fn begins_more_clauses(tokens: &[Token]) -> bool
 }
 
 /// Clauses with separators between.
-fn clause_list(alloc: Global, tokens: &[Token]) -> Result<(Vec<Clause>, &[Token]), Failure>
+fn clause_list(alloc: Global, tokens: &[Token]) -> Result<(Vec<Clause>, &[Token]), ParseFailure>
     ensures { GivesReading (λ x. (map view_clause x.0.items, x.1.now)) result (clause_list tokens.now) }
 {
     let (first, mut rest) = clause(alloc, tokens)?;
@@ -173,7 +173,7 @@ fn clause_list(alloc: Global, tokens: &[Token]) -> Result<(Vec<Clause>, &[Token]
 }
 
 /// The clauses of an EVERY, if there are any.
-fn clauses(alloc: Global, tokens: &[Token]) -> Result<(Vec<Clause>, &[Token]), Failure>
+fn clauses(alloc: Global, tokens: &[Token]) -> Result<(Vec<Clause>, &[Token]), ParseFailure>
     ensures { GivesReading (λ x. (map view_clause x.0.items, x.1.now)) result (clauses tokens.now) }
 {
     if begins_clause(tokens) {
@@ -184,7 +184,7 @@ fn clauses(alloc: Global, tokens: &[Token]) -> Result<(Vec<Clause>, &[Token]), F
 }
 
 /// The ranking of a set, after SET.
-fn ranking(alloc: Global, tokens: &[Token]) -> Result<(SetOrder, &[Token]), Failure>
+fn ranking(alloc: Global, tokens: &[Token]) -> Result<(SetOrder, &[Token]), ParseFailure>
     ensures { GivesReading (λ x. (view_order x.0, x.1.now)) result (ranking tokens.now) }
 {
     if !begins_word(tokens, Word::Ranked) {
@@ -197,7 +197,7 @@ fn ranking(alloc: Global, tokens: &[Token]) -> Result<(SetOrder, &[Token]), Fail
 
 /// How a set is ordered.
 #[tactic(auto, unfolding(crate::specs::ReadPreambles::order))]
-fn order(alloc: Global, tokens: &[Token]) -> Result<(SetOrder, &[Token]), Failure>
+fn order(alloc: Global, tokens: &[Token]) -> Result<(SetOrder, &[Token]), ParseFailure>
     ensures { GivesReading (λ x. (view_order x.0, x.1.now)) result (order tokens.now) }
 {
     if begins_word(tokens, Word::Fifo) {
@@ -214,7 +214,7 @@ fn order(alloc: Global, tokens: &[Token]) -> Result<(SetOrder, &[Token]), Failur
 
 /// The rest of PERMANENT ENTITIES, after its first word.
 #[tactic(auto, unfolding(crate::specs::ReadPreambles::permanent_at))]
-fn permanent(line: Line, tokens: &[Token]) -> Result<(PreambleStatement, &[Token]), Failure>
+fn permanent(line: Line, tokens: &[Token]) -> Result<(PreambleStatement, &[Token]), ParseFailure>
     ensures { GivesReading (λ x. (view_preamble x.0, x.1.now)) result (permanent_at line tokens.now) }
 {
     let rest = expect_word(tokens, Word::Entities)?;
@@ -223,7 +223,7 @@ fn permanent(line: Line, tokens: &[Token]) -> Result<(PreambleStatement, &[Token
 
 /// The rest of TEMPORARY ENTITIES, after its first word.
 #[tactic(auto, unfolding(crate::specs::ReadPreambles::temporary_at))]
-fn temporary(line: Line, tokens: &[Token]) -> Result<(PreambleStatement, &[Token]), Failure>
+fn temporary(line: Line, tokens: &[Token]) -> Result<(PreambleStatement, &[Token]), ParseFailure>
     ensures { GivesReading (λ x. (view_preamble x.0, x.1.now)) result (temporary_at line tokens.now) }
 {
     let rest = expect_word(tokens, Word::Entities)?;
@@ -231,7 +231,7 @@ fn temporary(line: Line, tokens: &[Token]) -> Result<(PreambleStatement, &[Token
 }
 
 /// The classes that EVENT NOTICES includes, if there are any.
-fn included(alloc: Global, tokens: &[Token]) -> Result<(Vec<Name>, &[Token]), Failure>
+fn included(alloc: Global, tokens: &[Token]) -> Result<(Vec<Name>, &[Token]), ParseFailure>
     ensures { GivesReading (λ x. (x.0.items, x.1.now)) result (maybe_list (begins (word Include)) (after_dropped (expect (word Include)) names) tokens.now) }
 {
     if !begins_word(tokens, Word::Include) {
@@ -246,7 +246,7 @@ fn notices(
     alloc: Global,
     line: Line,
     tokens: &[Token],
-) -> Result<(PreambleStatement, &[Token]), Failure>
+) -> Result<(PreambleStatement, &[Token]), ParseFailure>
     ensures { GivesReading (λ x. (view_preamble x.0, x.1.now)) result (notices_at line tokens.now) }
 {
     let rest = expect_word(tokens, Word::Notices)?;
@@ -261,7 +261,7 @@ fn every(
     group: Option<ClassKind>,
     line: Line,
     tokens: &[Token],
-) -> Result<(PreambleStatement, &[Token]), Failure>
+) -> Result<(PreambleStatement, &[Token]), ParseFailure>
     ensures { GivesReading (λ x. (view_preamble x.0, x.1.now)) result (every_at group line tokens.now) }
 {
     match group {
@@ -282,7 +282,7 @@ fn every(
 
 /// The rest of NORMALLY, after its first word.
 #[tactic(auto, unfolding(crate::specs::ReadPreambles::normally_at))]
-fn normally(line: Line, tokens: &[Token]) -> Result<(PreambleStatement, &[Token]), Failure>
+fn normally(line: Line, tokens: &[Token]) -> Result<(PreambleStatement, &[Token]), ParseFailure>
     ensures { GivesReading (λ x. (view_preamble x.0, x.1.now)) result (normally_at line tokens.now) }
 {
     let rest = expect_noisy(tokens, Word::Mode)?;
@@ -297,7 +297,7 @@ fn system(
     alloc: Global,
     line: Line,
     tokens: &[Token],
-) -> Result<(PreambleStatement, &[Token]), Failure>
+) -> Result<(PreambleStatement, &[Token]), ParseFailure>
     ensures { GivesReading (λ x. (view_preamble x.0, x.1.now)) result (system_at line tokens.now) }
 {
     let rest = expect_word(tokens, Word::System)?;
@@ -312,7 +312,7 @@ fn define_end(
     line: Line,
     names: Vec<Name>,
     tokens: &[Token],
-) -> Result<(PreambleStatement, &[Token]), Failure>
+) -> Result<(PreambleStatement, &[Token]), ParseFailure>
     ensures { GivesReading (λ x. (view_preamble x.0, x.1.now)) result (define_end line names.items tokens.now) }
 {
     if begins_word_of::<ModeWords>(tokens) {
@@ -333,7 +333,7 @@ fn define(
     alloc: Global,
     line: Line,
     tokens: &[Token],
-) -> Result<(PreambleStatement, &[Token]), Failure>
+) -> Result<(PreambleStatement, &[Token]), ParseFailure>
     ensures { GivesReading (λ x. (view_preamble x.0, x.1.now)) result (define_at line tokens.now) }
 {
     let (names, rest) = names(alloc, tokens)?;
@@ -347,7 +347,7 @@ fn priority(
     alloc: Global,
     line: Line,
     tokens: &[Token],
-) -> Result<(PreambleStatement, &[Token]), Failure>
+) -> Result<(PreambleStatement, &[Token]), ParseFailure>
     ensures { GivesReading (λ x. (view_preamble x.0, x.1.now)) result (priority_at line tokens.now) }
 {
     let rest = expect_word(tokens, Word::Order)?;
@@ -362,7 +362,7 @@ fn break_form(
     alloc: Global,
     line: Line,
     tokens: &[Token],
-) -> Result<(PreambleStatement, &[Token]), Failure>
+) -> Result<(PreambleStatement, &[Token]), ParseFailure>
     ensures { GivesReading (λ x. (view_preamble x.0, x.1.now)) result (break_at line tokens.now) }
 {
     let class = name(tokens)?;
@@ -379,7 +379,7 @@ fn statistics(
     line: Line,
     weighting: Weighting,
     tokens: &[Token],
-) -> Result<(PreambleStatement, &[Token]), Failure>
+) -> Result<(PreambleStatement, &[Token]), ParseFailure>
     ensures { GivesReading (λ x. (view_preamble x.0, x.1.now)) result (statistics_at line weighting tokens.now) }
 {
     let (statistics, rest) = found(alloc, tokens)?;
@@ -402,7 +402,7 @@ fn statement_rest(
     line: Line,
     word: Word,
     tokens: &[Token],
-) -> Result<(PreambleStatement, &[Token]), Failure>
+) -> Result<(PreambleStatement, &[Token]), ParseFailure>
     ensures { GivesReading (λ x. (view_preamble x.0, x.1.now)) result (preamble_at group line word tokens.now) }
 {
     match word {
@@ -452,7 +452,7 @@ fn preamble_statement(
     alloc: Global,
     group: Option<ClassKind>,
     tokens: &[Token],
-) -> Result<(PreambleStatement, &[Token]), Failure>
+) -> Result<(PreambleStatement, &[Token]), ParseFailure>
     ensures { GivesReading (λ x. (view_preamble x.0, x.1.now)) result (preamble_in group tokens.now) }
 {
     match tokens {
@@ -480,7 +480,7 @@ fn group_after(group: Option<ClassKind>, statement: &PreambleStatement) -> Optio
 fn preamble_statements(
     alloc: Global,
     tokens: &[Token],
-) -> Result<(Vec<PreambleStatement>, &[Token]), Failure>
+) -> Result<(Vec<PreambleStatement>, &[Token]), ParseFailure>
     ensures { GivesReading (λ x. (map view_preamble x.0.items, x.1.now)) result (preambles None tokens.now) }
 {
     let mut all = Vec::new(alloc);
@@ -500,7 +500,7 @@ fn preamble_statements(
 pub fn preamble(
     alloc: Global,
     tokens: &[Token],
-) -> Result<(Vec<PreambleStatement>, &[Token]), Failure>
+) -> Result<(Vec<PreambleStatement>, &[Token]), ParseFailure>
     ensures { GivesReading (λ x. (map view_preamble x.0.items, x.1.now)) result (whole_preamble tokens.now) }
 {
     if !begins_word(tokens, Word::Preamble) {

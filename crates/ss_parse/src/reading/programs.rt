@@ -12,7 +12,7 @@ use crate::reading::preambles::{preamble, variable_mode};
 use ss_base::{Line, Name};
 use ss_lex::{Token, TokenKind, Word};
 use ss_parse_expressions::classes::{WordClass, skip_class};
-use ss_parse_expressions::failure::Failure;
+use ss_parse_expressions::failure::ParseFailure;
 use ss_parse_expressions::names::{name, names};
 use ss_parse_expressions::nesting::levels;
 use ss_parse_expressions::steps::beside;
@@ -38,7 +38,7 @@ fn names_after(
     alloc: Global,
     tokens: &[Token],
     wanted: Word,
-) -> Result<(Vec<Name>, &[Token]), Failure>
+) -> Result<(Vec<Name>, &[Token]), ParseFailure>
     ensures { GivesReading (λ x. (x.0.items, x.1.now)) result (maybe_list (begins (word wanted)) (after_dropped (expect (word wanted)) names) tokens.now) }
 {
     if !begins_word(tokens, wanted) {
@@ -49,7 +49,7 @@ fn names_after(
 
 /// Whether SAVING THE EVENT NOTICE is first.
 #[tactic(auto, unfolding(crate::specs::ReadPrograms::saving))]
-fn saving(tokens: &[Token]) -> Result<(bool, &[Token]), Failure>
+fn saving(tokens: &[Token]) -> Result<(bool, &[Token]), ParseFailure>
     ensures { GivesReading (λ x. (x.0, x.1.now)) result (saving tokens.now) }
 {
     if !begins_word(tokens, Word::Saving) {
@@ -63,7 +63,7 @@ fn saving(tokens: &[Token]) -> Result<(bool, &[Token]), Failure>
 
 /// The rest of the header of a routine, after its first word.
 #[tactic(auto, unfolding(crate::specs::ReadPrograms::routine_kind))]
-fn routine(alloc: Global, tokens: &[Token]) -> Result<(SectionKind, &[Token]), Failure>
+fn routine(alloc: Global, tokens: &[Token]) -> Result<(SectionKind, &[Token]), ParseFailure>
     ensures { GivesReading (λ x. (view_kind x.0, x.1.now)) result (routine_kind tokens.now) }
 {
     let rest = skip_class(tokens, WordClass::Towards);
@@ -81,7 +81,7 @@ fn routine(alloc: Global, tokens: &[Token]) -> Result<(SectionKind, &[Token]), F
 
 /// The rest of the header of an event routine, after its first word.
 #[tactic(auto, unfolding(crate::specs::ReadPrograms::event_kind))]
-fn event(alloc: Global, tokens: &[Token]) -> Result<(SectionKind, &[Token]), Failure>
+fn event(alloc: Global, tokens: &[Token]) -> Result<(SectionKind, &[Token]), ParseFailure>
     ensures { GivesReading (λ x. (view_kind x.0, x.1.now)) result (event_kind tokens.now) }
 {
     let name = name(tokens)?;
@@ -100,7 +100,7 @@ fn section_kind(
     alloc: Global,
     word: Word,
     tokens: &[Token],
-) -> Result<(SectionKind, &[Token]), Failure>
+) -> Result<(SectionKind, &[Token]), ParseFailure>
     ensures { GivesReading (λ x. (view_kind x.0, x.1.now)) result (kind_after word tokens.now) }
 {
     match word {
@@ -113,7 +113,7 @@ fn section_kind(
 
 /// Names and their mode, after DEFINE.
 #[tactic(auto, unfolding(crate::specs::ReadPrograms::variables))]
-fn variables(alloc: Global, tokens: &[Token]) -> Result<(Vec<Name>, ModeWord, &[Token]), Failure>
+fn variables(alloc: Global, tokens: &[Token]) -> Result<(Vec<Name>, ModeWord, &[Token]), ParseFailure>
     ensures { GivesReading (λ x. ((x.0.items, x.1), x.2.now)) result (variables tokens.now) }
 {
     let (names, rest) = names(alloc, tokens)?;
@@ -125,7 +125,7 @@ fn variables(alloc: Global, tokens: &[Token]) -> Result<(Vec<Name>, ModeWord, &[
 
 /// A DEFINE at the head of a section's body.
 #[tactic(auto, unfolding(crate::specs::ReadPrograms::definition_at))]
-fn definition(alloc: Global, tokens: &[Token]) -> Result<(LocalDefinition, &[Token]), Failure>
+fn definition(alloc: Global, tokens: &[Token]) -> Result<(LocalDefinition, &[Token]), ParseFailure>
     ensures { GivesReading (λ x. (view_definition x.0, x.1.now)) result (definition tokens.now) }
 {
     let line = line_at(tokens);
@@ -135,7 +135,7 @@ fn definition(alloc: Global, tokens: &[Token]) -> Result<(LocalDefinition, &[Tok
 }
 
 /// The DEFINEs at the head of a section's body.
-fn definitions(alloc: Global, tokens: &[Token]) -> Result<(Vec<LocalDefinition>, &[Token]), Failure>
+fn definitions(alloc: Global, tokens: &[Token]) -> Result<(Vec<LocalDefinition>, &[Token]), ParseFailure>
     ensures { GivesReading (λ x. (map view_definition x.0.items, x.1.now)) result (definitions tokens.now) }
 {
     let mut all = Vec::new(alloc);
@@ -153,7 +153,7 @@ fn body(
     alloc: Global,
     tokens: &[Token],
     room: u8,
-) -> Result<(Vec<LocalDefinition>, Vec<Statement>, &[Token]), Failure>
+) -> Result<(Vec<LocalDefinition>, Vec<Statement>, &[Token]), ParseFailure>
     ensures { GivesReading (λ x. ((map view_definition x.0.items, map view_statement_tree x.1.items), x.2.now)) result (body_in room tokens.now) }
 {
     let (definitions, rest) = definitions(alloc, tokens)?;
@@ -170,7 +170,7 @@ fn section_rest(
     word: Word,
     tokens: &[Token],
     room: u8,
-) -> Result<(Section, &[Token]), Failure>
+) -> Result<(Section, &[Token]), ParseFailure>
     ensures { GivesReading (λ x. (view_section x.0, x.1.now)) result (section_at room line word tokens.now) }
 {
     let (kind, rest) = section_kind(alloc, word, tokens)?;
@@ -185,7 +185,7 @@ fn section_rest(
 }
 
 /// A section.
-fn section(alloc: Global, tokens: &[Token], room: u8) -> Result<(Section, &[Token]), Failure>
+fn section(alloc: Global, tokens: &[Token], room: u8) -> Result<(Section, &[Token]), ParseFailure>
     ensures { GivesReading (λ x. (view_section x.0, x.1.now)) result (section_in room tokens.now) }
 {
     match tokens {
@@ -211,7 +211,7 @@ fn begins_section(tokens: &[Token]) -> bool
 }
 
 /// The sections of a program.
-fn sections(alloc: Global, tokens: &[Token], room: u8) -> Result<(Vec<Section>, &[Token]), Failure>
+fn sections(alloc: Global, tokens: &[Token], room: u8) -> Result<(Vec<Section>, &[Token]), ParseFailure>
     ensures { GivesReading (λ x. (map view_section x.0.items, x.1.now)) result (rows begins_section (section_in room) tokens.now) }
 {
     let mut all = Vec::new(alloc);
@@ -226,7 +226,7 @@ fn sections(alloc: Global, tokens: &[Token], room: u8) -> Result<(Vec<Section>, 
 
 /// A program, where this many levels of nesting, a statement's own among them, may be opened.
 #[tactic(auto, unfolding(crate::specs::ReadPrograms::program_in))]
-fn parts(alloc: Global, tokens: &[Token], room: u8) -> Result<(Program, &[Token]), Failure>
+fn parts(alloc: Global, tokens: &[Token], room: u8) -> Result<(Program, &[Token]), ParseFailure>
     ensures { GivesReading (λ x. (view_program_tree x.0, x.1.now)) result (program_in room tokens.now) }
 {
     let (preamble, rest) = preamble(alloc, tokens)?;
@@ -236,7 +236,7 @@ fn parts(alloc: Global, tokens: &[Token], room: u8) -> Result<(Program, &[Token]
 
 /// A program to the end of the tokens.
 #[tactic(auto, unfolding(crate::specs::ReadPrograms::program_of))]
-pub fn program(alloc: Global, tokens: &[Token]) -> Result<Program, Failure>
+pub fn program(alloc: Global, tokens: &[Token]) -> Result<Program, ParseFailure>
     ensures { GivesReading view_program_tree result (program_of nesting_limit tokens.now) }
 {
     let (program, rest) = parts(alloc, tokens, levels() + 1)?;

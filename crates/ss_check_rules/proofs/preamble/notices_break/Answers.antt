@@ -1,6 +1,6 @@
 use Rattle.std.proofs.Common.{is_some, ap, ◌∙◌}
 use Rattle.ss_names_declarations.specs.Earliest.{earlier, earlier_of, unless}
-use Rattle.ss_names_declarations.specs.Firsts.{value_for}
+use Rattle.ss_names_declarations.specs.NameTable.{value_for}
 use Rattle.ss_names_scopes.proofs.Finding.{earlier_of_list, found_after}
 use Rattle.ss_check_rules.specs.Order.{check_error_order}
 use Rattle.ss_check_rules.specs.Refusal.{eventless}

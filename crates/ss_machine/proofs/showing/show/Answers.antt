@@ -11,7 +11,7 @@ loop-kind-init c =
     record {
       low = search rules;
       can = c.requires.can;
-      shown = subst (AreSoFar s.scene s.rows c.args.from c.args.from c.args.kinds.now c.args.kinds.now) (sym empty) (none_yet s.scene s.rows c.args.from c.args.kinds.now);
+      shown = subst (AreSoFar s.world s.rows c.args.from c.args.from c.args.kinds.now c.args.kinds.now) (sym empty) (none_yet s.world s.rows c.args.from c.args.kinds.now);
       printable = subst (AllByRecursion IsPrintable) (sym empty) tt;
     }
 
@@ -19,13 +19,13 @@ pub item_of-item-requires : goal.item_of-item-requires
 item_of-item-requires c =
     let s = c.args.state.now in
     let l = c.loop-kind in
-    can_now s.scene s.rows c.args.from c.args.kinds.now l.at l.kind-index _ c.loop-kind-test.true l.invariant.can
+    can_now s.world s.rows c.args.from c.args.kinds.now l.at l.kind-index _ c.loop-kind-test.true l.invariant.can
 
 pub overflow_add-at : goal.overflow_add-at
 overflow_add-at c =
     let s = c.args.state.now in
     let l = c.loop-kind in
-    record { fits = small_then s.scene s.rows c.args.from c.args.kinds.now l.at l.kind-index _ c.loop-kind-test.true _ c.cells_of-at.ensures l.invariant.can c.requires.small l.invariant.low }
+    record { fits = small_then s.world s.rows c.args.from c.args.kinds.now l.at l.kind-index _ c.loop-kind-test.true _ c.cells_of-at.ensures l.invariant.can c.requires.small l.invariant.low }
 
 pub loop-kind-preserved : goal.loop-kind-preserved
 loop-kind-preserved c =
@@ -35,9 +35,9 @@ loop-kind-preserved c =
     let x = c.item_of-item.result in
     let pushed : c.push.new.self.items ≡ xs ++ x ∷ [] = search rules in
     record {
-      low = small_then s.scene s.rows c.args.from c.args.kinds.now l.at l.kind-index _ c.loop-kind-test.true _ c.cells_of-at.ensures l.invariant.can c.requires.small l.invariant.low;
-      can = can_then s.scene s.rows c.args.from c.args.kinds.now l.at l.kind-index _ c.loop-kind-test.true _ c.cells_of-at.ensures l.invariant.can;
-      shown = one_more s.scene s.rows c.args.from c.args.kinds.now l.at l.kind-index _ c.loop-kind-test.true _ c.cells_of-at.ensures xs c.push.new.self.items x l.invariant.shown c.item_of-item.ensures.shown pushed;
+      low = small_then s.world s.rows c.args.from c.args.kinds.now l.at l.kind-index _ c.loop-kind-test.true _ c.cells_of-at.ensures l.invariant.can c.requires.small l.invariant.low;
+      can = can_then s.world s.rows c.args.from c.args.kinds.now l.at l.kind-index _ c.loop-kind-test.true _ c.cells_of-at.ensures l.invariant.can;
+      shown = one_more s.world s.rows c.args.from c.args.kinds.now l.at l.kind-index _ c.loop-kind-test.true _ c.cells_of-at.ensures xs c.push.new.self.items x l.invariant.shown c.item_of-item.ensures.shown pushed;
       printable = subst (AllByRecursion IsPrintable) (sym pushed) (printable_more xs x l.invariant.printable c.item_of-item.ensures.printable);
     }
 
@@ -45,4 +45,4 @@ pub returns-clause-shown : goal.returns-clause-shown
 returns-clause-shown c =
     let s = c.args.state.now in
     let l = c.loop-kind in
-    all_shown s.scene s.rows c.args.from c.args.kinds.now l.at l.kind-index l.items.items (omega (arith, c.loop-kind-test.false)) l.invariant.shown
+    all_shown s.world s.rows c.args.from c.args.kinds.now l.at l.kind-index l.items.items (omega (arith, c.loop-kind-test.false)) l.invariant.shown

@@ -13,8 +13,8 @@ schedule_untied-requires-clause-untied c = λ r is. no_keys r.said.ties (sym (c.
 
 pub returns-then-has_ties : goal.returns-then-has_ties
 returns-then-has_ties c =
-    let class = c.args.class in let n = c.args.notice in let time = c.args.time in let e = c.args.scene.now in
-    let new = c.schedule_tied.new.scene in let b = c.schedule_tied.result in
+    let class = c.args.class in let n = c.args.notice in let time = c.args.time in let e = c.args.world.now in
+    let new = c.schedule_tied.new.world in let b = c.schedule_tied.result in
     let number : to_z w64 (of_z w64 n) ≡ n = search rules in
     let same : to_z w64 (of_z w64 time) ≡ time = search rules in
     subst (λ (m : ℤ). DoesIf (filed_notice class (Whole m) time) b e new) number
@@ -22,8 +22,8 @@ returns-then-has_ties c =
 
 pub returns-else-has_ties : goal.returns-else-has_ties
 returns-else-has_ties c =
-    let class = c.args.class in let n = c.args.notice in let time = c.args.time in let e = c.args.scene.now in
-    let new = c.schedule_untied.new.scene in let b = c.schedule_untied.result in
+    let class = c.args.class in let n = c.args.notice in let time = c.args.time in let e = c.args.world.now in
+    let new = c.schedule_untied.new.world in let b = c.schedule_untied.result in
     let number : to_z w64 (of_z w64 n) ≡ n = search rules in
     let same : to_z w64 (of_z w64 time) ≡ time = search rules in
     subst (λ (m : ℤ). DoesIf (filed_notice class (Whole m) time) b e new) number

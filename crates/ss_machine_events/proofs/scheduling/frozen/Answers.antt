@@ -11,7 +11,7 @@ use Rattle.ss_machine_events.proofs.scheduling.frozen.Goals as goal
 
 pub loop-key-init : goal.loop-key-init
 loop-key-init c = λ s.
-    let class = c.args.class in let x = Whole (to_z w64 (of_z w64 c.args.notice)) in let e = c.args.scene.now in let keys = c.args.keys.now in
+    let class = c.args.class in let x = Whole (to_z w64 (of_z w64 c.args.notice)) in let e = c.args.world.now in let keys = c.args.keys.now in
     none_frozen class x (with_seen s e) keys
     ∙ ap (λ (us : List Tie). turned (λ ts. us ++ ts) (ties_of class x (with_seen s e) keys)) (sym c.new-ties.ensures.items)
 
@@ -20,7 +20,7 @@ freeze_one-requires-clause-field c = c.requires.fields c.loop-key.key-index _ c.
 
 pub loop-key-preserved : goal.loop-key-preserved
 loop-key-preserved c = λ s.
-    let class = c.args.class in let n = to_z w64 (of_z w64 c.args.notice) in let e = c.args.scene.now in let keys = c.args.keys.now in let at = c.loop-key.key-index in
+    let class = c.args.class in let n = to_z w64 (of_z w64 c.args.notice) in let e = c.args.world.now in let keys = c.args.keys.now in let at = c.loop-key.key-index in
     let d = c.in-Ok.ensures in
     c.loop-key.invariant s
     ∙ frozen_on class (Whole n) (with_seen s e) c.loop-key.ties.items (drop at keys) (drop_more keys at _ c.loop-key-test.true) d.0 (d.2 s)
@@ -28,7 +28,7 @@ loop-key-preserved c = λ s.
 
 pub returns : goal.returns
 returns c = λ s.
-    let class = c.args.class in let n = c.args.notice in let e = c.args.scene.now in let keys = c.args.keys.now in let at = c.loop-key.key-index in
+    let class = c.args.class in let n = c.args.notice in let e = c.args.world.now in let keys = c.args.keys.now in let at = c.loop-key.key-index in
     let number : to_z w64 (of_z w64 n) ≡ n = search rules in
     let x = Whole (to_z w64 (of_z w64 n)) in
     ap (λ (m : ℤ). ties_of class (Whole m) (with_seen s e) keys) (sym number)

@@ -8,4 +8,4 @@ use Rattle.ss_machine_events.proofs.scheduling.frozen.Given as goal
 
 abbrev pub invariant-loop-key : goal.invariant-loop-key
 invariant-loop-key l =
-    (s : Store) → ties_of l.class (Whole l.notice) (with_seen s l.scene) l.keys ≡ turned (λ ts. l.ties.items ++ ts) (ties_of l.class (Whole l.notice) (with_seen s l.scene) (drop l.key-index l.keys))
+    (s : Store) → ties_of l.class (Whole l.notice) (with_seen s l.world) l.keys ≡ turned (λ ts. l.ties.items ++ ts) (ties_of l.class (Whole l.notice) (with_seen s l.world) (drop l.key-index l.keys))

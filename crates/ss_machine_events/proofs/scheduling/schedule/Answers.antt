@@ -9,19 +9,19 @@ use Rattle.ss_machine_events.proofs.Filing.{none_filed, not_filed}
 use Rattle.ss_machine_events.proofs.scheduling.schedule.Goals as goal
 
 pub known-requires : goal.known-requires
-known-requires c = record { class = subst (λ (e : Seen). c.args.class < length e.heap.layout.classes) (sym c.scene.view_is) c.requires.notices.within }
+known-requires c = record { class = subst (λ (e : Seen). c.args.class < length e.heap.layout.classes) (sym c.world.view_is) c.requires.notices.within }
 
 pub returns-in-Err : goal.returns-in-Err
 returns-in-Err c =
-    let class = c.args.class in let n = c.args.notice in let e = c.args.scene.now in
+    let class = c.args.class in let n = c.args.notice in let e = c.args.world.now in
     let fits = c.ranges.notice in let h = simp to_z-of_z at c.in-Err.ensures in
-    let known : known_in e.heap class n ≡ Err c.in-Err.kind = subst (λ (e : Seen). known_in e.heap class n ≡ Err c.in-Err.kind) c.scene.view_is (sym h) in
+    let known : known_in e.heap class n ≡ Err c.in-Err.kind = subst (λ (e : Seen). known_in e.heap class n ≡ Err c.in-Err.kind) c.world.view_is (sym h) in
     none_filed e class n c.args.time c.requires.notices c.in-Err.kind known
 
 pub returns-then-file : goal.returns-then-file
 returns-then-file c =
-    let class = c.args.class in let n = c.args.notice in let time = c.args.time in let e = c.args.scene.now in
-    let new = c.file.new.scene in
+    let class = c.args.class in let n = c.args.notice in let time = c.args.time in let e = c.args.world.now in
+    let new = c.file.new.world in
     let number : to_z w64 (of_z w64 n) ≡ n = search rules in
     let same : to_z w64 (of_z w64 time) ≡ time = search rules in
     subst (λ (m : ℤ). DoesIf (filed_notice class (Whole m) time) true e new) number
@@ -30,12 +30,12 @@ returns-then-file c =
 
 pub returns-else-file : goal.returns-else-file
 returns-else-file c =
-    let class = c.args.class in let n = c.args.notice in let time = c.args.time in let e = c.args.scene.now in
-    let new = c.file.new.scene in let u = c.unfiled.result in
+    let class = c.args.class in let n = c.args.notice in let time = c.args.time in let e = c.args.world.now in
+    let new = c.file.new.world in let u = c.unfiled.result in
     let number : to_z w64 (of_z w64 n) ≡ n = search rules in
     let same : to_z w64 (of_z w64 time) ≡ time = search rules in
     let fits = c.ranges.notice in let h = simp to_z-of_z at c.in-Ok.ensures in
-    let known : known_in e.heap class n ≡ Ok tt = subst (λ (e : Seen). known_in e.heap class n ≡ Ok tt) c.scene.view_is (sym h) in
+    let known : known_in e.heap class n ≡ Ok tt = subst (λ (e : Seen). known_in e.heap class n ≡ Ok tt) c.world.view_is (sym h) in
     let kept : new ≡ e = subst (λ (b : Bool). DoesIf (filed_notice class (Whole (to_z w64 (of_z w64 n))) (to_z w64 (of_z w64 time))) b e new) c.if-file.false c.file.ensures in
     let why : IsUnfiled time n new u = subst (λ (m : ℤ). IsUnfiled time m new u) number (subst (λ (t : ℤ). IsUnfiled t (to_z w64 (of_z w64 n)) new u) same c.unfiled.ensures) in
     subst (λ (m : Seen). ChangesWithMemory (filed_notice class (Whole n) time) e m (Err u)) (sym kept)

@@ -16,7 +16,7 @@ rank-rank-requires c = record { class = c.requires.notices.within }
 
 pub keys_of-keys-requires : goal.keys_of-keys-requires
 keys_of-keys-requires c =
-    let k = c.requires.notices in let es = c.args.scene.now.notices in
+    let k = c.requires.notices in let es = c.args.world.now.notices in
     let rank : c.rank-rank.result ≡ k.ranked.rank = c.rank-rank.ensures k.ranked k.is in
     omega (arith, rank, slice_get_within es k.ranked.rank k.ranked.said (said_there es c.args.class k.ranked k.is))
 
@@ -25,15 +25,15 @@ frozen-requires-clause-class c = c.requires.notices.within
 
 pub frozen-requires-clause-fields : goal.frozen-requires-clause-fields
 frozen-requires-clause-fields c =
-    let k = c.requires.notices in let e = c.args.scene.now in
+    let k = c.requires.notices in let e = c.args.world.now in
     let rank : c.rank-rank.result ≡ k.ranked.rank = c.rank-rank.ensures k.ranked k.is in
     let keys : c.keys_of-keys.result.now ≡ k.ranked.said.ties = c.keys_of-keys.ensures k.ranked.said (ap (slice_get e.notices) rank ∙ said_there e.notices c.args.class k.ranked k.is) in
     subst (λ (ks : List RankKey). All (HasKeyField e.heap.layout c.args.class) ks) (sym keys) k.fields
 
 pub returns-in-Ok : goal.returns-in-Ok
 returns-in-Ok c =
-    let k = c.requires.notices in let class = c.args.class in let n = c.args.notice in let time = c.args.time in let e = c.args.scene.now in
-    let new = c.file_under.new.scene in let b = c.file_under.result in
+    let k = c.requires.notices in let class = c.args.class in let n = c.args.notice in let time = c.args.time in let e = c.args.world.now in
+    let new = c.file_under.new.world in let b = c.file_under.result in
     let number : to_z w64 (of_z w64 n) ≡ n = search rules in
     let same : to_z w64 (of_z w64 time) ≡ time = search rules in
     let rank : c.rank-rank.result ≡ k.ranked.rank = c.rank-rank.ensures k.ranked k.is in

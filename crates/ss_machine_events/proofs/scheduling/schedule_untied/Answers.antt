@@ -9,8 +9,8 @@ rank-rank-requires c = record { class = c.requires.notices.within }
 
 pub returns : goal.returns
 returns c =
-    let k = c.requires.notices in let n = c.args.notice in let time = c.args.time in let e = c.args.scene.now in
-    let new = c.file_under.new.scene in let b = c.file_under.result in
+    let k = c.requires.notices in let n = c.args.notice in let time = c.args.time in let e = c.args.world.now in
+    let new = c.file_under.new.world in let b = c.file_under.result in
     let number : to_z w64 (of_z w64 n) ≡ n = search rules in
     let same : to_z w64 (of_z w64 time) ≡ time = search rules in
     let rank : c.rank-rank.result ≡ k.ranked.rank = c.rank-rank.ensures k.ranked k.is in

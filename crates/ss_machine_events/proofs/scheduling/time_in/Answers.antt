@@ -8,7 +8,7 @@ use Rattle.ss_machine_events.proofs.scheduling.time_in.Goals as goal
 
 pub returns-in-Ok : goal.returns-in-Ok
 returns-in-Ok c = λ s right.
-    let e = c.args.scene.now in
+    let e = c.args.world.now in
     let sum : plus_of e.time c.args.units ≡ Ok c.in-Ok.time = search rules in
     let same : to_z w64 (of_z w64 c.in-Ok.time) ≡ c.in-Ok.time = search rules in
     ap (λ r. if_ok (due r) (λ t. not_past t (with_seen s e))) sum

@@ -7,11 +7,11 @@ use Rattle.ss_machine_world.specs.Seen.{Seen}
 use Rattle.ss_machine_world.proofs.Said.{said_still}
 use Rattle.ss_machine_instructions.proofs.attributes.assign_number.Goals as goal
 
-pub invariant_of-scene : goal.invariant_of-scene
-invariant_of-scene c =
-    let i = c.scene.inside in
+pub invariant_of-world : goal.invariant_of-world
+invariant_of-world c =
+    let i = c.world.inside in
     let ss = i.timeline.histories.statistics in
-    said_still i.population.layout c.set_whole.new.self.layout i.notices.items ss ss i.classes.items c.set_whole.ensures.layout refl c.scene.invariant
+    said_still i.population.layout c.set_whole.new.self.layout i.notices.items ss ss i.classes.items c.set_whole.ensures.layout refl c.world.invariant
 
 pub returns-clause-done : goal.returns-clause-done
 returns-clause-done c =
@@ -19,10 +19,10 @@ returns-clause-done c =
     let h = c.set_whole.new.self in let r = c.set_whole.result in
     let same_n : to_z w64 (of_z w64 n) ≡ n = search rules in
     let same_x : to_z w64 (of_z w64 x) ≡ x = search rules in
-    subst (λ (old : Seen). MatchResult r (λ _. IsAssigned old.heap c.args.class c.args.field n x h) (λ kind. (assigned old.heap c.args.class c.args.field n (Whole x) ≡ Err kind) × (h ≡ old.heap))) c.scene.view_is (simp (same_n, same_x) at c.set_whole.ensures.done)
+    subst (λ (old : Seen). MatchResult r (λ _. IsAssigned old.heap c.args.class c.args.field n x h) (λ kind. (assigned old.heap c.args.class c.args.field n (Whole x) ≡ Err kind) × (h ≡ old.heap))) c.world.view_is (simp (same_n, same_x) at c.set_whole.ensures.done)
 
 pub returns-clause-layout : goal.returns-clause-layout
-returns-clause-layout c = subst (λ (old : Seen). c.set_whole.new.self.layout ≡ old.heap.layout) c.scene.view_is c.set_whole.ensures.layout
+returns-clause-layout c = subst (λ (old : Seen). c.set_whole.new.self.layout ≡ old.heap.layout) c.world.view_is c.set_whole.ensures.layout
 
 pub returns-clause-same : goal.returns-clause-same
-returns-clause-same c = let h = c.set_whole.new.self in ap (λ (old : Seen). record old { heap = h }) c.scene.view_is
+returns-clause-same c = let h = c.set_whole.new.self in ap (λ (old : Seen). record old { heap = h }) c.world.view_is

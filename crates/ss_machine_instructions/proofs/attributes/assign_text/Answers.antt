@@ -6,18 +6,18 @@ use Rattle.ss_machine_world.specs.Seen.{Seen}
 use Rattle.ss_machine_world.proofs.Said.{said_still}
 use Rattle.ss_machine_instructions.proofs.attributes.assign_text.Goals as goal
 
-pub invariant_of-scene : goal.invariant_of-scene
-invariant_of-scene c =
-    let i = c.scene.inside in
+pub invariant_of-world : goal.invariant_of-world
+invariant_of-world c =
+    let i = c.world.inside in
     let ss = i.timeline.histories.statistics in
-    said_still i.population.layout c.set_text.new.self.layout i.notices.items ss ss i.classes.items c.set_text.ensures.layout refl c.scene.invariant
+    said_still i.population.layout c.set_text.new.self.layout i.notices.items ss ss i.classes.items c.set_text.ensures.layout refl c.world.invariant
 
 pub returns-clause-done : goal.returns-clause-done
 returns-clause-done c =
     let n = c.args.entity in let t = c.args.text in
     let h = c.set_text.new.self in let r = c.set_text.result in
     let same_n : to_z w64 (of_z w64 n) ≡ n = search rules in
-    subst (λ (old : Seen). MatchResult r (λ _. assigned old.heap c.args.class c.args.field n (Text t) ≡ Ok h) (λ kind. (assigned old.heap c.args.class c.args.field n (Text t) ≡ Err kind) × (h ≡ old.heap))) c.scene.view_is (simp same_n at c.set_text.ensures.done)
+    subst (λ (old : Seen). MatchResult r (λ _. assigned old.heap c.args.class c.args.field n (Text t) ≡ Ok h) (λ kind. (assigned old.heap c.args.class c.args.field n (Text t) ≡ Err kind) × (h ≡ old.heap))) c.world.view_is (simp same_n at c.set_text.ensures.done)
 
 pub returns-clause-same : goal.returns-clause-same
-returns-clause-same c = let h = c.set_text.new.self in ap (λ (old : Seen). record old { heap = h }) c.scene.view_is
+returns-clause-same c = let h = c.set_text.new.self in ap (λ (old : Seen). record old { heap = h }) c.world.view_is

@@ -3,8 +3,8 @@ use Rattle.ss_world.specs.State.{State}
 use Rattle.ss_machine_world.proofs.Said.{said_still}
 use Rattle.ss_machine_instructions.proofs.jumps.number_in.Goals as goal
 
-pub invariant_of-scene : goal.invariant_of-scene
-invariant_of-scene c =
-    let i = c.scene.inside in
+pub invariant_of-world : goal.invariant_of-world
+invariant_of-world c =
+    let i = c.world.inside in
     let ss = i.timeline.histories.statistics in
-    said_still i.population.layout c.member_count.new.self.layout i.notices.items ss ss i.classes.items (ap (λ (h : State). h.layout) c.member_count.ensures.same) refl c.scene.invariant
+    said_still i.population.layout c.member_count.new.self.layout i.notices.items ss ss i.classes.items (ap (λ (h : State). h.layout) c.member_count.ensures.same) refl c.world.invariant

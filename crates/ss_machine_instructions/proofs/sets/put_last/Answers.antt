@@ -10,27 +10,27 @@ use Rattle.ss_machine_instructions.specs.Worldly.{Counted, Files}
 use Rattle.ss_machine_instructions.proofs.Filing.{rearranged, within_there, last_filed}
 use Rattle.ss_machine_instructions.proofs.sets.put_last.Goals as goal
 
-pub invariant_of-scene : goal.invariant_of-scene
-invariant_of-scene c =
-    let i = c.scene.inside in
+pub invariant_of-world : goal.invariant_of-world
+invariant_of-world c =
+    let i = c.world.inside in
     let ss = i.timeline.histories.statistics in
-    said_still i.population.layout c.file_last-changed.new.self.layout i.notices.items ss ss i.classes.items c.file_last-changed.ensures.layout refl c.scene.invariant
+    said_still i.population.layout c.file_last-changed.new.self.layout i.notices.items ss ss i.classes.items c.file_last-changed.ensures.layout refl c.world.invariant
 
 pub counted-requires : goal.counted-requires
 counted-requires c =
-    let layout = c.file_last-changed.ensures.layout ∙ ap (λ (v : Seen). v.heap.layout) c.scene.view_is in
+    let layout = c.file_last-changed.ensures.layout ∙ ap (λ (v : Seen). v.heap.layout) c.world.view_is in
     record { set = subst (λ (l : Layout). c.args.set < length l.sets) (sym layout) c.requires.set }
 
 pub returns : goal.returns
 returns c =
     let set = c.args.set in let m = c.args.owner in let x = c.args.member in let notes = c.args.noted in
-    let i = c.scene.inside in let h = c.file_last-changed.new.self in
-    let new = c.counted.new.scene in let q = c.file_last-changed.result in let r = c.counted.result in
+    let i = c.world.inside in let h = c.file_last-changed.new.self in
+    let new = c.counted.new.world in let q = c.file_last-changed.result in let r = c.counted.result in
     let e : Seen = seen_of i.disciplines.items i.notices.items i.population i.timeline in
     let mid : Seen = seen_of i.disciplines.items i.notices.items h i.timeline in
     let same_m : to_z w64 (of_z w64 m) ≡ m = search rules in
     let same_x : to_z w64 (of_z w64 x) ≡ x = search rules in
-    let there = within_there e.heap.layout.sets set (subst (λ (v : Seen). set < length v.heap.layout.sets) (sym c.scene.view_is) c.requires.set) in
+    let there = within_there e.heap.layout.sets set (subst (λ (v : Seen). set < length v.heap.layout.sets) (sym c.world.view_is) c.requires.set) in
     let re = rearranged (λ (h : State). filed_last h set m x) e h q (simp (same_m, same_x) at c.file_last-changed.ensures.done) in
     let note = subst (λ (z : ℤ). Counted set z q notes mid new r) same_m c.counted.ensures in
-    subst (λ (old : Seen). Files Hindmost set notes old new r m x) c.scene.view_is (last_filed e set m mid new notes there x q r re note)
+    subst (λ (old : Seen). Files Hindmost set notes old new r m x) c.world.view_is (last_filed e set m mid new notes there x q r re note)

@@ -10,19 +10,19 @@ use Rattle.ss_machine_instructions.proofs.sets.put_ranked.Goals as goal
 pub file_ranked-changed-requires-clause-keys : goal.file_ranked-changed-requires-clause-keys
 file_ranked-changed-requires-clause-keys c = λ d has.
     let k = c.requires.ruled in
-    subst (λ (d : Discipline). FitsMembers c.args.scene.now.heap.layout c.args.set d) (one (sym k.there ∙ has)) k.keys
+    subst (λ (d : Discipline). FitsMembers c.args.world.now.heap.layout c.args.set d) (one (sym k.there ∙ has)) k.keys
 
 pub counted-requires : goal.counted-requires
 counted-requires c =
     let k = c.requires.ruled in
-    let layout = ruled_layout c.args.scene.now c.file_ranked-changed.new.self k.discipline c.args.set (to_z w64 (of_z w64 c.args.owner)) (to_z w64 (of_z w64 c.args.member)) c.file_ranked-changed.result (c.file_ranked-changed.ensures k.discipline k.there) in
+    let layout = ruled_layout c.args.world.now c.file_ranked-changed.new.self k.discipline c.args.set (to_z w64 (of_z w64 c.args.owner)) (to_z w64 (of_z w64 c.args.member)) c.file_ranked-changed.result (c.file_ranked-changed.ensures k.discipline k.there) in
     record { set = subst (λ (l : Layout). c.args.set < length l.sets) (sym layout) c.requires.set }
 
 pub returns : goal.returns
 returns c =
     let set = c.args.set in let m = c.args.owner in let x = c.args.member in let notes = c.args.noted in let k = c.requires.ruled in
-    let e = c.args.scene.now in let mid = c.file_ranked-changed.new.self in let q = c.file_ranked-changed.result in
-    let new = c.counted.new.scene in let r = c.counted.result in
+    let e = c.args.world.now in let mid = c.file_ranked-changed.new.self in let q = c.file_ranked-changed.result in
+    let new = c.counted.new.world in let r = c.counted.result in
     let same_m : to_z w64 (of_z w64 m) ≡ m = search rules in
     let same_x : to_z w64 (of_z w64 x) ≡ x = search rules in
     let re =

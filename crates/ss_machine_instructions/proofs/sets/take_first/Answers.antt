@@ -8,26 +8,26 @@ use Rattle.ss_machine_instructions.specs.Worldly.{CountedOut, Takes}
 use Rattle.ss_machine_instructions.proofs.Filing.{within_there, end_taken}
 use Rattle.ss_machine_instructions.proofs.sets.take_first.Goals as goal
 
-pub invariant_of-scene : goal.invariant_of-scene
-invariant_of-scene c =
-    let i = c.scene.inside in
+pub invariant_of-world : goal.invariant_of-world
+invariant_of-world c =
+    let i = c.world.inside in
     let ss = i.timeline.histories.statistics in
-    said_still i.population.layout c.remove_first-taken.new.self.layout i.notices.items ss ss i.classes.items c.remove_first-taken.ensures.layout refl c.scene.invariant
+    said_still i.population.layout c.remove_first-taken.new.self.layout i.notices.items ss ss i.classes.items c.remove_first-taken.ensures.layout refl c.world.invariant
 
 pub counted_out-requires : goal.counted_out-requires
 counted_out-requires c =
-    let layout = c.remove_first-taken.ensures.layout ∙ ap (λ (v : Seen). v.heap.layout) c.scene.view_is in
+    let layout = c.remove_first-taken.ensures.layout ∙ ap (λ (v : Seen). v.heap.layout) c.world.view_is in
     record { set = subst (λ (l : Layout). c.args.set < length l.sets) (sym layout) c.requires.set }
 
 pub returns : goal.returns
 returns c =
     let set = c.args.set in let m = c.args.owner in let notes = c.args.noted in
-    let i = c.scene.inside in let h = c.remove_first-taken.new.self in
-    let new = c.counted_out.new.scene in let q = c.remove_first-taken.result in let r = c.counted_out.result in
+    let i = c.world.inside in let h = c.remove_first-taken.new.self in
+    let new = c.counted_out.new.world in let q = c.remove_first-taken.result in let r = c.counted_out.result in
     let e : Seen = seen_of i.disciplines.items i.notices.items i.population i.timeline in
     let mid : Seen = seen_of i.disciplines.items i.notices.items h i.timeline in
     let same : to_z w64 (of_z w64 m) ≡ m = search rules in
-    let there = within_there e.heap.layout.sets set (subst (λ (v : Seen). set < length v.heap.layout.sets) (sym c.scene.view_is) c.requires.set) in
+    let there = within_there e.heap.layout.sets set (subst (λ (v : Seen). set < length v.heap.layout.sets) (sym c.world.view_is) c.requires.set) in
     let note = subst (λ (z : ℤ). CountedOut set z q notes mid new r) same c.counted_out.ensures in
-    subst (λ (old : Seen). Takes ends.First set notes old new r m) c.scene.view_is
+    subst (λ (old : Seen). Takes ends.First set notes old new r m) c.world.view_is
     (end_taken e set m mid new notes there ends.First q r refl (simp same at c.remove_first-taken.ensures.done) note)

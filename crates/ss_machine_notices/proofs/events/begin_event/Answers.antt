@@ -56,26 +56,26 @@ unbegun-requires-clause-rank c =
     let z = c.requires in
     let refused : IsOutOfMemory c.args.state.now c.enter.new.self = search rules in
     let rank : c.rank-rank.result ≡ z.3.coming.ranked.rank = c.rank-rank.ensures z.3.coming.ranked z.3.place in
-    omega (arith, rank, begun_rank z.0 z.1 c.args.here c.args.state.now c.args.cell c.args.notice c.args.class z.3, ap (λ (e : Seen). length e.notices) refused.scene)
+    omega (arith, rank, begun_rank z.0 z.1 c.args.here c.args.state.now c.args.cell c.args.notice c.args.class z.3, ap (λ (e : Seen). length e.notices) refused.world)
 
 pub unbegun-requires-clause-class : goal.unbegun-requires-clause-class
 unbegun-requires-clause-class c =
     let z = c.requires in
     let refused : IsOutOfMemory c.args.state.now c.enter.new.self = search rules in
-    omega (arith, begun_class z.0 z.1 c.args.here c.args.state.now c.args.cell c.args.notice c.args.class z.3, ap (λ (e : Seen). length e.heap.layout.classes) refused.scene)
+    omega (arith, begun_class z.0 z.1 c.args.here c.args.state.now c.args.cell c.args.notice c.args.class z.3, ap (λ (e : Seen). length e.heap.layout.classes) refused.world)
 
 pub unbegun-requires-clause-single : goal.unbegun-requires-clause-single
 unbegun-requires-clause-single c =
     let z = c.requires in
     let refused : IsOutOfMemory c.args.state.now c.enter.new.self = search rules in
-    ap (λ (e : Seen). is_single (slice_get e.heap.layout.classes c.args.class)) refused.scene ∙ begun_single z.0 z.1 c.args.here c.args.state.now c.args.cell c.args.notice c.args.class z.3
+    ap (λ (e : Seen). is_single (slice_get e.heap.layout.classes c.args.class)) refused.world ∙ begun_single z.0 z.1 c.args.here c.args.state.now c.args.cell c.args.notice c.args.class z.3
 
 pub unbegun-requires-clause-saved : goal.unbegun-requires-clause-saved
 unbegun-requires-clause-saved c = λ said here.
     let z = c.requires in
     let refused : IsOutOfMemory c.args.state.now c.enter.new.self = search rules in
     let rank : c.rank-rank.result ≡ z.3.coming.ranked.rank = c.rank-rank.ensures z.3.coming.ranked z.3.place in
-    let it : z.3.coming.ranked.said ≡ said = one (sym (begun_said z.0 z.1 c.args.here c.args.state.now c.args.cell c.args.notice c.args.class z.3) ∙ ap (λ (e : Seen). slice_get e.notices z.3.coming.ranked.rank) (sym refused.scene) ∙ ap (slice_get c.enter.new.self.scene.notices) (sym rank) ∙ here) in
+    let it : z.3.coming.ranked.said ≡ said = one (sym (begun_said z.0 z.1 c.args.here c.args.state.now c.args.cell c.args.notice c.args.class z.3) ∙ ap (λ (e : Seen). slice_get e.notices z.3.coming.ranked.rank) (sym refused.world) ∙ ap (slice_get c.enter.new.self.world.notices) (sym rank) ∙ here) in
     let low = subst (λ (m : Notices). IfSome m.saved (λ k. k < c.args.here.frame)) it (begun_saved z.0 z.1 c.args.here c.args.state.now c.args.cell c.args.notice c.args.class z.3) in
     saved_within said.saved c.args.here.frame (length c.enter.new.self.rows.numbers) (omega (arith, frame_within z.0 z.1 c.args.here c.args.state.now c.args.cell c.args.notice c.args.class z.3, refused.longer)) low
 
@@ -94,7 +94,7 @@ returns-in_default c = λ w core all n.
     let rank : k ≡ n.coming.ranked.rank = c.rank-rank.ensures n.coming.ranked n.place in
     let within : k < length es = omega (arith, rank, begun_entry_within w core c.args.here s c.args.cell c.args.notice c.args.class n, ap length all) in
     let at : slice_get w.run.events n.coming.ranked.rank ≡ Some d = ap (slice_get w.run.events) (sym rank) ∙ ap (λ (l : List SectionEntry). slice_get l k) (sym all) ∙ slice_get_read es (length es) k d refl within c.index-events-rank.is in
-    let here : slice_get s1.scene.notices k ≡ Some n.coming.ranked.said = ap (slice_get s1.scene.notices) rank ∙ ap (λ (e : Seen). slice_get e.notices n.coming.ranked.rank) refused.scene ∙ begun_said w core c.args.here s c.args.cell c.args.notice c.args.class n in
+    let here : slice_get s1.world.notices k ≡ Some n.coming.ranked.said = ap (slice_get s1.world.notices) rank ∙ ap (λ (e : Seen). slice_get e.notices n.coming.ranked.rank) refused.world ∙ begun_said w core c.args.here s c.args.cell c.args.notice c.args.class n in
     let u = subst (λ (y : ℤ). IsUnbegun n.coming.ranked.said class y s1 new) same (c.unbegun.ensures.state n.coming.ranked.said here) in
     unbegun_as w core c.args.here s c.args.cell c.args.notice c.args.class n d at s1 new (begun_event_at c.args.here c.args.cell c.unbegun.result) refused u (ap (begun_event_at c.args.here c.args.cell) c.unbegun.ensures.none)
 
@@ -103,26 +103,26 @@ receive-requires-clause-rank c =
     let z = c.requires in
     let enters : Enters c.args.here c.args.state.now c.enter.new.self c.index-events-rank.result c.args.cell c.in-Ok.frame = search rules in
     let rank : c.rank-rank.result ≡ z.3.coming.ranked.rank = c.rank-rank.ensures z.3.coming.ranked z.3.place in
-    omega (arith, rank, begun_rank z.0 z.1 c.args.here c.args.state.now c.args.cell c.args.notice c.args.class z.3, ap (λ (t : State). length t.scene.notices) enters.is)
+    omega (arith, rank, begun_rank z.0 z.1 c.args.here c.args.state.now c.args.cell c.args.notice c.args.class z.3, ap (λ (t : State). length t.world.notices) enters.is)
 
 pub receive-requires-clause-class : goal.receive-requires-clause-class
 receive-requires-clause-class c =
     let z = c.requires in
     let enters : Enters c.args.here c.args.state.now c.enter.new.self c.index-events-rank.result c.args.cell c.in-Ok.frame = search rules in
-    omega (arith, begun_class z.0 z.1 c.args.here c.args.state.now c.args.cell c.args.notice c.args.class z.3, ap (λ (t : State). length t.scene.heap.layout.classes) enters.is)
+    omega (arith, begun_class z.0 z.1 c.args.here c.args.state.now c.args.cell c.args.notice c.args.class z.3, ap (λ (t : State). length t.world.heap.layout.classes) enters.is)
 
 pub receive-requires-clause-single : goal.receive-requires-clause-single
 receive-requires-clause-single c =
     let z = c.requires in
     let enters : Enters c.args.here c.args.state.now c.enter.new.self c.index-events-rank.result c.args.cell c.in-Ok.frame = search rules in
-    ap (λ (t : State). is_single (slice_get t.scene.heap.layout.classes c.args.class)) enters.is ∙ begun_single z.0 z.1 c.args.here c.args.state.now c.args.cell c.args.notice c.args.class z.3
+    ap (λ (t : State). is_single (slice_get t.world.heap.layout.classes c.args.class)) enters.is ∙ begun_single z.0 z.1 c.args.here c.args.state.now c.args.cell c.args.notice c.args.class z.3
 
 pub receive-requires-clause-saved : goal.receive-requires-clause-saved
 receive-requires-clause-saved c = λ said here.
     let z = c.requires in
     let enters : Enters c.args.here c.args.state.now c.enter.new.self c.index-events-rank.result c.args.cell c.in-Ok.frame = search rules in
     let rank : c.rank-rank.result ≡ z.3.coming.ranked.rank = c.rank-rank.ensures z.3.coming.ranked z.3.place in
-    let it : z.3.coming.ranked.said ≡ said = one (sym (begun_said z.0 z.1 c.args.here c.args.state.now c.args.cell c.args.notice c.args.class z.3) ∙ ap (λ (t : State). slice_get t.scene.notices z.3.coming.ranked.rank) (sym enters.is) ∙ ap (slice_get c.enter.new.self.scene.notices) (sym rank) ∙ here) in
+    let it : z.3.coming.ranked.said ≡ said = one (sym (begun_said z.0 z.1 c.args.here c.args.state.now c.args.cell c.args.notice c.args.class z.3) ∙ ap (λ (t : State). slice_get t.world.notices z.3.coming.ranked.rank) (sym enters.is) ∙ ap (slice_get c.enter.new.self.world.notices) (sym rank) ∙ here) in
     let low = subst (λ (m : Notices). IfSome m.saved (λ k. k < c.args.here.frame)) it (begun_saved z.0 z.1 c.args.here c.args.state.now c.args.cell c.args.notice c.args.class z.3) in
     saved_within said.saved c.args.here.frame c.in-Ok.frame (omega (arith, enters.begin)) low
 
@@ -134,7 +134,7 @@ receive-requires-clause-modes c = λ i m e.
     let within : k < length es = omega (arith, rank, begun_entry_within z.0 z.1 c.args.here c.args.state.now c.args.cell c.args.notice c.args.class z.3, ap length z.2) in
     let at : slice_get z.0.run.events z.3.coming.ranked.rank ≡ Some d = ap (slice_get z.0.run.events) (sym rank) ∙ ap (λ (l : List SectionEntry). slice_get l k) (sym z.2) ∙ slice_get_read es (length es) k d refl within c.index-events-rank.is in
     let given = c.deref.ensures.value ∙ (entry_is z.0 z.1 c.args.here c.args.state.now c.args.cell c.args.notice c.args.class z.3 d at).given in
-    ap (λ (t : State). slice_get (modes_of t.scene.heap.layout c.args.class) i) enters.is ∙ begun_modes z.0 z.1 c.args.here c.args.state.now c.args.cell c.args.notice c.args.class z.3 i m (ap (λ (ms : List Mode). slice_get ms i) (sym given) ∙ e)
+    ap (λ (t : State). slice_get (modes_of t.world.heap.layout c.args.class) i) enters.is ∙ begun_modes z.0 z.1 c.args.here c.args.state.now c.args.cell c.args.notice c.args.class z.3 i m (ap (λ (ms : List Mode). slice_get ms i) (sym given) ∙ e)
 
 pub receive-requires-clause-places : goal.receive-requires-clause-places
 receive-requires-clause-places c =
@@ -151,9 +151,9 @@ fault_of_event-requires c =
     let z = c.requires in
     let enters : Enters c.args.here c.args.state.now c.enter.new.self c.index-events-rank.result c.args.cell c.in-Ok.frame = search rules in
     let rank : c.rank-rank.result ≡ z.3.coming.ranked.rank = c.rank-rank.ensures z.3.coming.ranked z.3.place in
-    let here : slice_get c.enter.new.self.scene.notices c.rank-rank.result ≡ Some z.3.coming.ranked.said = ap (slice_get c.enter.new.self.scene.notices) rank ∙ ap (λ (t : State). slice_get t.scene.notices z.3.coming.ranked.rank) enters.is ∙ begun_said z.0 z.1 c.args.here c.args.state.now c.args.cell c.args.notice c.args.class z.3 in
+    let here : slice_get c.enter.new.self.world.notices c.rank-rank.result ≡ Some z.3.coming.ranked.said = ap (slice_get c.enter.new.self.world.notices) rank ∙ ap (λ (t : State). slice_get t.world.notices z.3.coming.ranked.rank) enters.is ∙ begun_said z.0 z.1 c.args.here c.args.state.now c.args.cell c.args.notice c.args.class z.3 in
     let kept = receives_not z.3.coming.ranked.said c.args.class (to_z w64 (of_z w64 c.args.notice)) c.deref.result.now c.in-Ok.frame c.enter.new.self c.receive.new.state c.in-Err.kind (c.in-Err.ensures z.3.coming.ranked.said here) in
-    omega (arith, rank, begun_rank z.0 z.1 c.args.here c.args.state.now c.args.cell c.args.notice c.args.class z.3, ap (λ (e : Seen). length e.notices) kept, ap (λ (t : State). length t.scene.notices) enters.is)
+    omega (arith, rank, begun_rank z.0 z.1 c.args.here c.args.state.now c.args.cell c.args.notice c.args.class z.3, ap (λ (e : Seen). length e.notices) kept, ap (λ (t : State). length t.world.notices) enters.is)
 
 pub returns-in-Ok-receive : goal.returns-in-Ok-receive
 returns-in-Ok-receive c = λ w core all n.
@@ -163,7 +163,7 @@ returns-in-Ok-receive c = λ w core all n.
     let rank : k ≡ n.coming.ranked.rank = c.rank-rank.ensures n.coming.ranked n.place in
     let within : k < length es = omega (arith, rank, begun_entry_within w core c.args.here s c.args.cell c.args.notice c.args.class n, ap length all) in
     let at : slice_get w.run.events n.coming.ranked.rank ≡ Some d = ap (slice_get w.run.events) (sym rank) ∙ ap (λ (l : List SectionEntry). slice_get l k) (sym all) ∙ slice_get_read es (length es) k d refl within c.index-events-rank.is in
-    let here : slice_get s1.scene.notices k ≡ Some n.coming.ranked.said = ap (slice_get s1.scene.notices) rank ∙ ap (λ (t : State). slice_get t.scene.notices n.coming.ranked.rank) enters.is ∙ begun_said w core c.args.here s c.args.cell c.args.notice c.args.class n in
+    let here : slice_get s1.world.notices k ≡ Some n.coming.ranked.said = ap (slice_get s1.world.notices) rank ∙ ap (λ (t : State). slice_get t.world.notices n.coming.ranked.rank) enters.is ∙ begun_said w core c.args.here s c.args.cell c.args.notice c.args.class n in
     let same : to_z w64 (of_z w64 x) ≡ x = search rules in
     let got =
     subst (λ (ms : List Mode). Receives n.coming.ranked.said class x ms frame s1 c.receive.new.state (Ok tt)) c.deref.ensures.value
@@ -178,13 +178,13 @@ returns-in-Err c = λ w core all n.
     let rank : k ≡ n.coming.ranked.rank = c.rank-rank.ensures n.coming.ranked n.place in
     let within : k < length es = omega (arith, rank, begun_entry_within w core c.args.here s c.args.cell c.args.notice c.args.class n, ap length all) in
     let at : slice_get w.run.events n.coming.ranked.rank ≡ Some d = ap (slice_get w.run.events) (sym rank) ∙ ap (λ (l : List SectionEntry). slice_get l k) (sym all) ∙ slice_get_read es (length es) k d refl within c.index-events-rank.is in
-    let here : slice_get s1.scene.notices k ≡ Some n.coming.ranked.said = ap (slice_get s1.scene.notices) rank ∙ ap (λ (t : State). slice_get t.scene.notices n.coming.ranked.rank) enters.is ∙ begun_said w core c.args.here s c.args.cell c.args.notice c.args.class n in
+    let here : slice_get s1.world.notices k ≡ Some n.coming.ranked.said = ap (slice_get s1.world.notices) rank ∙ ap (λ (t : State). slice_get t.world.notices n.coming.ranked.rank) enters.is ∙ begun_said w core c.args.here s c.args.cell c.args.notice c.args.class n in
     let same : to_z w64 (of_z w64 x) ≡ x = search rules in
     let got =
     subst (λ (ms : List Mode). Receives n.coming.ranked.said class x ms frame s1 c.receive.new.state (Err c.in-Err.kind)) c.deref.ensures.value
     (subst (λ (y : ℤ). Receives n.coming.ranked.said class y c.deref.result.now frame s1 c.receive.new.state (Err c.in-Err.kind)) same (c.in-Err.ensures n.coming.ranked.said here)) in
     let kept = receives_not n.coming.ranked.said class x d.given.items frame s1 c.receive.new.state c.in-Err.kind got in
-    let still : slice_get c.receive.new.state.scene.notices k ≡ Some n.coming.ranked.said = ap (λ (e : Seen). slice_get e.notices k) kept ∙ here in
+    let still : slice_get c.receive.new.state.world.notices k ≡ Some n.coming.ranked.said = ap (λ (e : Seen). slice_get e.notices k) kept ∙ here in
     begins_fault w core c.args.here s c.args.cell c.args.notice c.args.class n d at s1 frame enters c.receive.new.state c.in-Err.kind got c.fault_of_event.new.state (begun_event_at c.args.here c.args.cell c.fault_of_event.result) (c.fault_of_event.ensures.state n.coming.ranked.said still) (ap (begun_event_at c.args.here c.args.cell) c.fault_of_event.ensures.none)
 
 pub receive-requires-clause-small : goal.receive-requires-clause-small

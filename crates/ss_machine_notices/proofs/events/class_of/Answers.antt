@@ -7,4 +7,4 @@ pub returns : goal.returns
 returns c =
     let n = c.args.notice in let r = c.class_of.result in
     let same : to_z w64 (of_z w64 n) ≡ n = search rules in
-    subst (λ (v : Seen). r ≡ living v.heap n) c.scene.view_is (subst (λ (z : ℤ). r ≡ living c.scene.inside.population z) same c.class_of.ensures)
+    subst (λ (v : Seen). r ≡ living v.heap n) c.world.view_is (subst (λ (z : ℤ). r ≡ living c.world.inside.population z) same c.class_of.ensures)

@@ -4,7 +4,7 @@ use Rattle.ss_machine_notices.proofs.Receiving.{none_received, one_received, all
 use Rattle.ss_machine_notices.proofs.events.read_given.Goals as goal
 
 pub loop-field-init : goal.loop-field-init
-loop-field-init c = record { long = refl; most = omega arith; received = λ even. none_received c.args.scene.now.heap c.args.what.class c.args.what.notice c.args.modes.now c.args.what.from c.args.rows.now }
+loop-field-init c = record { long = refl; most = omega arith; received = λ even. none_received c.args.world.now.heap c.args.what.class c.args.what.notice c.args.modes.now c.args.what.from c.args.rows.now }
 
 pub read_one-requires-clause-mode : goal.read_one-requires-clause-mode
 read_one-requires-clause-mode c =
@@ -22,7 +22,7 @@ loop-field-preserved c =
       long = longer c.loop-field.rows c.read_one.new.rows (c.args.what.from + i) v.0 v.3 ∙ c.loop-field.invariant.long;
       most = omega (arith, c.loop-field-test.true);
       received = λ even.
-          one_received c.args.scene.now.heap c.args.what.class c.args.what.notice c.args.modes.now c.args.what.from c.args.rows.now i c.loop-field.rows c.read_one.new.rows m v.0 (c.loop-field.invariant.received even)
+          one_received c.args.world.now.heap c.args.what.class c.args.what.notice c.args.modes.now c.args.what.from c.args.rows.now i c.loop-field.rows c.read_one.new.rows m v.0 (c.loop-field.invariant.received even)
           c.given_mode.ensures even
           (omega (arith, c.requires.places, c.loop-field-test.true)) v.1 v.2 v.3;
     }
@@ -39,7 +39,7 @@ returns-clause-long c = c.loop-field.invariant.long
 pub returns-clause-received : goal.returns-clause-received
 returns-clause-received c = λ even.
     let i = c.loop-field.field in
-    all_received c.args.scene.now.heap c.args.what.class c.args.what.notice c.args.modes.now c.args.what.from c.args.rows.now i c.loop-field.rows (c.loop-field.invariant.received even) (omega (arith, c.loop-field-test.false, c.loop-field.invariant.most))
+    all_received c.args.world.now.heap c.args.what.class c.args.what.notice c.args.modes.now c.args.what.from c.args.rows.now i c.loop-field.rows (c.loop-field.invariant.received even) (omega (arith, c.loop-field-test.false, c.loop-field.invariant.most))
 
 pub read_one-requires-clause-small : goal.read_one-requires-clause-small
 read_one-requires-clause-small c = omega (arith, c.requires.small, c.loop-field-test.true)

@@ -7,5 +7,5 @@ abbrev pub invariant-loop-field : goal.invariant-loop-field
 invariant-loop-field l = record {
   long : length l.rows.numbers ≡ length l.fn.rows.numbers;
   most : l.field ≤ length l.modes;
-  received : length l.fn.rows.texts ≡ length l.fn.rows.numbers → Receiving l.scene.heap l.what.class l.what.notice l.modes l.what.from l.fn.rows l.field l.rows;
+  received : length l.fn.rows.texts ≡ length l.fn.rows.numbers → Receiving l.world.heap l.what.class l.what.notice l.modes l.what.from l.fn.rows l.field l.rows;
 }

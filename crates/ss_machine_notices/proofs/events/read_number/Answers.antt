@@ -11,7 +11,7 @@ pub returns-in-Err : goal.returns-in-Err
 returns-in-Err c =
     let n = c.args.what.notice in
     let same : to_z w64 (of_z w64 n) ≡ n = search rules in
-    (subst (λ (z : ℤ). value_in c.args.scene.now.heap c.args.what.class c.args.field z ≡ Err c.in-Err.kind) same c.in-Err.ensures, refl)
+    (subst (λ (z : ℤ). value_in c.args.world.now.heap c.args.what.class c.args.field z ≡ Err c.in-Err.kind) same c.in-Err.ensures, refl)
 
 pub returns-in-Ok : goal.returns-in-Ok
 returns-in-Ok c =
@@ -19,7 +19,7 @@ returns-in-Ok c =
     let same : to_z w64 (of_z w64 n) ≡ n = search rules in
     let same_x : to_z w64 (of_z w64 x) ≡ x = search rules in (
       Whole x,
-      subst (λ (z : ℤ). value_in c.args.scene.now.heap c.args.what.class c.args.field z ≡ Ok (Whole x)) same c.in-Ok.ensures,
+      subst (λ (z : ℤ). value_in c.args.world.now.heap c.args.what.class c.args.field z ≡ Ok (Whole x)) same c.in-Ok.ensures,
       refl,
       c.set_number_at.ensures ∙ ap (with_number c.args.rows.now (c.args.what.from + c.args.field)) same_x,
     )

@@ -11,8 +11,8 @@ read_text-requires-clause-mode c = c.requires.mode ∙ ap Some c.in-Alpha.is
 
 pub returns-in-Integer : goal.returns-in-Integer
 returns-in-Integer c =
-    subst (λ (m : Mode). IsReadTo c.args.scene.now.heap c.args.what.class c.args.field c.args.what.notice m (c.args.what.from + c.args.field) c.args.rows.now c.read_number.new.rows c.read_number.result) (sym c.in-Integer.is) c.read_number.ensures
+    subst (λ (m : Mode). IsReadTo c.args.world.now.heap c.args.what.class c.args.field c.args.what.notice m (c.args.what.from + c.args.field) c.args.rows.now c.read_number.new.rows c.read_number.result) (sym c.in-Integer.is) c.read_number.ensures
 
 pub returns-in-Alpha : goal.returns-in-Alpha
 returns-in-Alpha c =
-    subst (λ (m : Mode). IsReadTo c.args.scene.now.heap c.args.what.class c.args.field c.args.what.notice m (c.args.what.from + c.args.field) c.args.rows.now c.read_text.new.rows c.read_text.result) (sym c.in-Alpha.is) c.read_text.ensures
+    subst (λ (m : Mode). IsReadTo c.args.world.now.heap c.args.what.class c.args.field c.args.what.notice m (c.args.what.from + c.args.field) c.args.rows.now c.read_text.new.rows c.read_text.result) (sym c.in-Alpha.is) c.read_text.ensures

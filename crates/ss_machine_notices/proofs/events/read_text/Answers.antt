@@ -10,14 +10,14 @@ pub returns-in-Err : goal.returns-in-Err
 returns-in-Err c =
     let n = c.args.what.notice in
     let same : to_z w64 (of_z w64 n) ≡ n = search rules in
-    (subst (λ (z : ℤ). value_in c.args.scene.now.heap c.args.what.class c.args.field z ≡ Err c.in-Err.kind) same c.in-Err.ensures, refl)
+    (subst (λ (z : ℤ). value_in c.args.world.now.heap c.args.what.class c.args.field z ≡ Err c.in-Err.kind) same c.in-Err.ensures, refl)
 
 pub returns-in-Ok : goal.returns-in-Ok
 returns-in-Ok c =
     let n = c.args.what.notice in let x = c.in-Ok.text in
     let same : to_z w64 (of_z w64 n) ≡ n = search rules in (
       Text x,
-      subst (λ (z : ℤ). value_in c.args.scene.now.heap c.args.what.class c.args.field z ≡ Ok (Text x)) same c.in-Ok.ensures,
+      subst (λ (z : ℤ). value_in c.args.world.now.heap c.args.what.class c.args.field z ≡ Ok (Text x)) same c.in-Ok.ensures,
       refl,
       c.set_text_at.ensures,
     )

@@ -25,40 +25,40 @@ returns-then-not-has_taken_tick c = λ w core all r.
 -- no notice is pending
 pub returns-in_default : goal.returns-in_default
 returns-in_default c = λ w core all r.
-    let s = c.args.state.now in let e = c.next_event.new.scene in
+    let s = c.args.state.now in let e = c.next_event.new.world in
     let some : c.has_taken_tick.result ≡ true = search rules in
     let took = c.has_taken_tick.ensures.taken some in
-    let kept : e ≡ s.scene = c.in_default.ensures.1 ∙ ap (λ (t : State). t.scene) took.2 in
-    let none : least_event s.scene.pending ≡ None = sym (ap (λ (t : State). least_event t.scene.pending) took.2) ∙ c.in_default.ensures.0 in
-    let same : record c.has_taken_tick.new.self { scene = e } ≡ record s { ticks = took.0 } = ap (λ (t : State). record t { scene = e }) took.2 ∙ ap (λ (v : Seen). record s { ticks = took.0; scene = v }) kept in
-    ticks w core c.args.here s (Runs c.args.cell) r took.0 (record c.has_taken_tick.new.self { scene = e }) (led c.on-on.result) (ap is_due r.runs.carries.2) took.1
-    (goes_past w core c.args.here s c.args.cell r took.0 (record c.has_taken_tick.new.self { scene = e }) (led c.on-on.result) none same (ap led c.on-on.ensures))
+    let kept : e ≡ s.world = c.in_default.ensures.1 ∙ ap (λ (t : State). t.world) took.2 in
+    let none : least_event s.world.pending ≡ None = sym (ap (λ (t : State). least_event t.world.pending) took.2) ∙ c.in_default.ensures.0 in
+    let same : record c.has_taken_tick.new.self { world = e } ≡ record s { ticks = took.0 } = ap (λ (t : State). record t { world = e }) took.2 ∙ ap (λ (v : Seen). record s { ticks = took.0; world = v }) kept in
+    ticks w core c.args.here s (Runs c.args.cell) r took.0 (record c.has_taken_tick.new.self { world = e }) (led c.on-on.result) (ap is_due r.runs.carries.2) took.1
+    (goes_past w core c.args.here s c.args.cell r took.0 (record c.has_taken_tick.new.self { world = e }) (led c.on-on.result) none same (ap led c.on-on.ensures))
 
 -- the one that comes next is not gone
 pub returns-in-None : goal.returns-in-None
 returns-in-None c = λ w core all r.
-    let x = c.in-Some.notice in let e = c.next_event.new.scene in
+    let x = c.in-Some.notice in let e = c.next_event.new.world in
     let some : c.has_taken_tick.result ≡ true = search rules in
     let took = c.has_taken_tick.ensures.taken some in
     let same : to_z w64 (of_z w64 x) ≡ x = search rules in
-    let comes = subst (λ (t : State). IsNextNotice t.scene e (Some x)) took.2 c.in-Some.ensures in
+    let comes = subst (λ (t : State). IsNextNotice t.world e (Some x)) took.2 c.in-Some.ensures in
     let gone = subst (λ (y : ℤ). living e.heap y ≡ None) same (sym c.in-None.ensures) in
     absurd (lives_as w core c.args.here c.args.state.now c.args.cell r e x comes gone)
 
 pub begin_event-place-requires : goal.begin_event-place-requires
 begin_event-place-requires c =
-    let z = c.requires in let s = c.args.state.now in let x = c.in-Some.notice in let class = c.in-Some-class_of.class in let e = c.next_event.new.scene in
+    let z = c.requires in let s = c.args.state.now in let x = c.in-Some.notice in let class = c.in-Some-class_of.class in let e = c.next_event.new.world in
     let some : c.has_taken_tick.result ≡ true = search rules in
     let took = c.has_taken_tick.ensures.taken some in
     let same : to_z w64 (of_z w64 x) ≡ x = search rules in
-    let comes = subst (λ (t : State). IsNextNotice t.scene e (Some x)) took.2 c.in-Some.ensures in
+    let comes = subst (λ (t : State). IsNextNotice t.world e (Some x)) took.2 c.in-Some.ensures in
     let lives = subst (λ (y : ℤ). living e.heap y ≡ Some class) same (sym c.in-Some-class_of.ensures) in
     let n = next_taken z.0 z.1 c.args.here s c.args.cell z.3 took.0 e x class took.1 (c.has_taken_tick.ensures.few some) comes lives in
-    let taken : record c.has_taken_tick.new.self { scene = e } ≡ record s { ticks = took.0; scene = e } = ap (λ (t : State). record t { scene = e }) took.2 in (
+    let taken : record c.has_taken_tick.new.self { world = e } ≡ record s { ticks = took.0; world = e } = ap (λ (t : State). record t { world = e }) took.2 in (
       z.0,
       z.1,
       z.2,
-      subst (λ (y : ℤ). ComesNext z.0 z.1 c.args.here (record c.has_taken_tick.new.self { scene = e }) c.args.cell y class) (sym same)
+      subst (λ (y : ℤ). ComesNext z.0 z.1 c.args.here (record c.has_taken_tick.new.self { world = e }) c.args.cell y class) (sym same)
           (subst (λ (t : State). ComesNext z.0 z.1 c.args.here t c.args.cell x class) (sym taken) n),
     )
 
@@ -67,16 +67,16 @@ cell-requires c = let z = c.requires in frame_small z.0 z.1 c.args.here c.args.s
 
 pub returns-in-Some-class_of : goal.returns-in-Some-class_of
 returns-in-Some-class_of c = λ w core all r.
-    let s = c.args.state.now in let x = c.in-Some.notice in let class = c.in-Some-class_of.class in let e = c.next_event.new.scene in
+    let s = c.args.state.now in let x = c.in-Some.notice in let class = c.in-Some-class_of.class in let e = c.next_event.new.world in
     let new = c.begin_event-place.new.state in let result = begun_event_at c.args.here c.args.cell c.begin_event-place.result in
     let some : c.has_taken_tick.result ≡ true = search rules in
     let took = c.has_taken_tick.ensures.taken some in
     let same : to_z w64 (of_z w64 x) ≡ x = search rules in
-    let comes = subst (λ (t : State). IsNextNotice t.scene e (Some x)) took.2 c.in-Some.ensures in
+    let comes = subst (λ (t : State). IsNextNotice t.world e (Some x)) took.2 c.in-Some.ensures in
     let lives = subst (λ (y : ℤ). living e.heap y ≡ Some class) same (sym c.in-Some-class_of.ensures) in
-    let taken : record c.has_taken_tick.new.self { scene = e } ≡ record s { ticks = took.0; scene = e } = ap (λ (t : State). record t { scene = e }) took.2 in
+    let taken : record c.has_taken_tick.new.self { world = e } ≡ record s { ticks = took.0; world = e } = ap (λ (t : State). record t { world = e }) took.2 in
     let begun =
     subst (λ (t : State). (n : ComesNext w core c.args.here t c.args.cell x class) → OneTick t.ticks w n.ready.placed.line (act w.code n.ready.placed.line n.ready.placed.instruction core) n.before new result) taken
-    (subst (λ (y : ℤ). (n : ComesNext w core c.args.here (record c.has_taken_tick.new.self { scene = e }) c.args.cell y class) → OneTick c.has_taken_tick.new.self.ticks w n.ready.placed.line (act w.code n.ready.placed.line n.ready.placed.instruction core) n.before new result) same (c.begin_event-place.ensures w core all)) in
+    (subst (λ (y : ℤ). (n : ComesNext w core c.args.here (record c.has_taken_tick.new.self { world = e }) c.args.cell y class) → OneTick c.has_taken_tick.new.self.ticks w n.ready.placed.line (act w.code n.ready.placed.line n.ready.placed.instruction core) n.before new result) same (c.begin_event-place.ensures w core all)) in
     let way : led c.begun.result ≡ result = c.begun.ensures ∙ ap (led_to c.begin_event-place.result) c.cell.ensures ∙ begun_is c.args.here c.args.cell c.begin_event-place.result in
     ticks w core c.args.here s (Runs c.args.cell) r took.0 new (led c.begun.result) (ap is_due r.runs.carries.2) took.1 (subst (λ (o : Option Here). OneTick took.0 w r.placed.line (act w.code r.placed.line r.placed.instruction core) s new o) (sym way) (begun (next_taken w core c.args.here s c.args.cell r took.0 e x class took.1 (c.has_taken_tick.ensures.few some) comes lives)))

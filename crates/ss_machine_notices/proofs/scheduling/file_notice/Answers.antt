@@ -20,10 +20,10 @@ pub returns : goal.returns
 returns c = λ w core r.
     let s = c.args.state.now in let class = c.args.class in
     let n = c.number-notice.result in let t = c.number-time.result in
-    let e = c.schedule-answer.new.scene in let q = c.schedule-answer.result in
+    let e = c.schedule-answer.new.world in let q = c.schedule-answer.result in
     let same_n : to_z w64 (of_z w64 n) ≡ n = search rules in
     let same_t : to_z w64 (of_z w64 t) ≡ t = search rules in
     let filed =
-    subst (λ (x : ℤ). ChangesWithMemory (filed_notice class (Whole x) t) s.scene e q) same_n
-    (subst (λ (y : ℤ). ChangesWithMemory (filed_notice class (Whole (to_z w64 (of_z w64 n))) y) s.scene e q) same_t c.schedule-answer.ensures) in
+    subst (λ (x : ℤ). ChangesWithMemory (filed_notice class (Whole x) t) s.world e q) same_n
+    (subst (λ (y : ℤ). ChangesWithMemory (filed_notice class (Whole (to_z w64 (of_z w64 n))) y) s.world e q) same_t c.schedule-answer.ensures) in
     file_notices w core c.args.here s (Runs c.args.class c.args.notice.now c.args.time.now) r class c.args.notice.now c.args.time.now n t e q c.settled.new.state (on_after c.args.here c.settled.result) r.runs.carries c.number-notice.ensures c.number-time.ensures filed c.settled.ensures.state (ap (on_after c.args.here) c.settled.ensures.way)

@@ -10,10 +10,10 @@ use Rattle.ss_machine_notices.proofs.Giving.{suiting_as, suits_class, suits_fiel
 use Rattle.ss_machine_notices.proofs.scheduling.give_one.Goals as goal
 
 pub mode_at-requires-clause-class : goal.mode_at-requires-clause-class
-mode_at-requires-clause-class c = suits_class c.args.what.class c.args.field c.args.what.notice c.requires.value c.args.what.noted c.args.scene.now c.requires.suits
+mode_at-requires-clause-class c = suits_class c.args.what.class c.args.field c.args.what.notice c.requires.value c.args.what.noted c.args.world.now c.requires.suits
 
 pub mode_at-requires-clause-field : goal.mode_at-requires-clause-field
-mode_at-requires-clause-field c = suits_field c.args.what.class c.args.field c.args.what.notice c.requires.value c.args.what.noted c.args.scene.now c.requires.suits
+mode_at-requires-clause-field c = suits_field c.args.what.class c.args.field c.args.what.notice c.requires.value c.args.what.noted c.args.world.now c.requires.suits
 
 pub number_at-requires : goal.number_at-requires
 number_at-requires c = c.requires.within
@@ -23,7 +23,7 @@ text_at-requires c = c.requires.within
 
 pub give_number-requires : goal.give_number-requires
 give_number-requires c =
-    let class = c.args.what.class in let field = c.args.field in let notes = c.args.what.noted in let e = c.args.scene.now in
+    let class = c.args.what.class in let field = c.args.field in let notes = c.args.what.noted in let e = c.args.world.now in
     let g = c.requires in let x = c.number_at.result in
     let same : to_z w64 (of_z w64 x) ≡ x = search rules in
     let mode : g.suits.mode ≡ Integer = one (sym (suits_mode class field c.args.what.notice g.value notes e g.suits) ∙ c.mode_at.ensures) ∙ c.in-Integer.is in
@@ -31,8 +31,8 @@ give_number-requires c =
 
 pub returns-in-Integer : goal.returns-in-Integer
 returns-in-Integer c = λ g.
-    let class = c.args.what.class in let field = c.args.field in let notes = c.args.what.noted in let e = c.args.scene.now in
-    let n = c.args.what.notice in let x = c.number_at.result in let new = c.give_number.new.scene in let q = c.give_number.result in
+    let class = c.args.what.class in let field = c.args.field in let notes = c.args.what.noted in let e = c.args.world.now in
+    let n = c.args.what.notice in let x = c.number_at.result in let new = c.give_number.new.world in let q = c.give_number.result in
     let same : to_z w64 (of_z w64 x) ≡ x = search rules in
     let mode : g.suits.mode ≡ Integer = one (sym (suits_mode class field n g.value notes e g.suits) ∙ c.mode_at.ensures) ∙ c.in-Integer.is in
     let value : g.value ≡ Whole x = number_is c.args.rows.now (c.args.what.from + field) g.value x (g.suits.right ∙ mode) g.lies c.number_at.ensures in
@@ -42,15 +42,15 @@ returns-in-Integer c = λ g.
 
 pub give_text-requires : goal.give_text-requires
 give_text-requires c =
-    let class = c.args.what.class in let field = c.args.field in let notes = c.args.what.noted in let e = c.args.scene.now in
+    let class = c.args.what.class in let field = c.args.field in let notes = c.args.what.noted in let e = c.args.world.now in
     let g = c.requires in let x = c.text_at.result in
     let mode : g.suits.mode ≡ Alpha = one (sym (suits_mode class field c.args.what.notice g.value notes e g.suits) ∙ c.mode_at.ensures) ∙ c.in-Alpha.is in
     suiting_as class field notes g.value (Text x) e g.suits (sym mode)
 
 pub returns-in-Alpha : goal.returns-in-Alpha
 returns-in-Alpha c = λ g.
-    let class = c.args.what.class in let field = c.args.field in let notes = c.args.what.noted in let e = c.args.scene.now in
-    let n = c.args.what.notice in let x = c.text_at.result in let new = c.give_text.new.scene in let q = c.give_text.result in
+    let class = c.args.what.class in let field = c.args.field in let notes = c.args.what.noted in let e = c.args.world.now in
+    let n = c.args.what.notice in let x = c.text_at.result in let new = c.give_text.new.world in let q = c.give_text.result in
     let mode : g.suits.mode ≡ Alpha = one (sym (suits_mode class field n g.value notes e g.suits) ∙ c.mode_at.ensures) ∙ c.in-Alpha.is in
     let value : g.value ≡ Text x = text_is c.args.rows.now (c.args.what.from + field) g.value x (g.suits.right ∙ mode) g.lies c.text_at.ensures in
     subst (λ (v : Value). SettledIn g.suits.store (assigned_attribute class field (Whole n) v) e new q) (sym value) (c.give_text.ensures (suiting_as class field notes g.value (Text x) e g.suits (sym mode)))

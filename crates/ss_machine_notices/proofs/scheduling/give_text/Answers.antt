@@ -5,16 +5,16 @@ use Rattle.ss_machine_notices.proofs.Giving.{suits_class, suits_mode, text_set}
 use Rattle.ss_machine_notices.proofs.scheduling.give_text.Goals as goal
 
 pub set_text-requires-clause-class : goal.set_text-requires-clause-class
-set_text-requires-clause-class c = suits_class c.args.what.class c.args.field c.args.what.notice (Text c.args.text) c.args.what.noted c.args.scene.now c.requires
+set_text-requires-clause-class c = suits_class c.args.what.class c.args.field c.args.what.notice (Text c.args.text) c.args.what.noted c.args.world.now c.requires
 
 pub set_text-requires-clause-mode : goal.set_text-requires-clause-mode
 set_text-requires-clause-mode c =
-    suits_mode c.args.what.class c.args.field c.args.what.notice (Text c.args.text) c.args.what.noted c.args.scene.now c.requires ∙ ap Some (sym c.requires.right)
+    suits_mode c.args.what.class c.args.field c.args.what.notice (Text c.args.text) c.args.what.noted c.args.world.now c.requires ∙ ap Some (sym c.requires.right)
 
 pub returns : goal.returns
 returns c = λ g.
-    let class = c.args.what.class in let field = c.args.field in let n = c.args.what.notice in let e = c.args.scene.now in
-    let new = c.set_text.new.scene in let q = c.set_text.result in
+    let class = c.args.what.class in let field = c.args.field in let n = c.args.what.notice in let e = c.args.world.now in
+    let new = c.set_text.new.world in let q = c.set_text.result in
     let same : to_z w64 (of_z w64 n) ≡ n = search rules in
     let is = subst (λ (m : ℤ). SetsField class field m (Text c.args.text) e new q) same c.set_text.ensures in
     text_set class field n (Text c.args.text) c.args.what.noted e g new q (sym g.right) is

@@ -13,23 +13,23 @@ rest b = if b then Err AlreadyScheduled else Ok tt
 
 pub returns-in-Err : goal.returns-in-Err
 returns-in-Err c =
-    let class = c.args.class in let n = c.args.notice in let e = c.args.scene.now in
+    let class = c.args.class in let n = c.args.notice in let e = c.args.world.now in
     let same : to_z w64 (of_z w64 n) ≡ n = search rules in
-    let is = subst (λ (v : Seen). Err c.in-Err.kind ≡ known_in v.heap class n) c.scene.view_is (subst (λ (z : ℤ). Err c.in-Err.kind ≡ known_in c.scene.inside.population class z) same c.in-Err.ensures) in
+    let is = subst (λ (v : Seen). Err c.in-Err.kind ≡ known_in v.heap class n) c.world.view_is (subst (λ (z : ℤ). Err c.in-Err.kind ≡ known_in c.world.inside.population class z) same c.in-Err.ensures) in
     ap (λ k. and_then k (λ u. rest (is_pending n e.pending.entries))) is
 
 pub returns-then-is_scheduled : goal.returns-then-is_scheduled
 returns-then-is_scheduled c =
-    let class = c.args.class in let n = c.args.notice in let e = c.args.scene.now in
+    let class = c.args.class in let n = c.args.notice in let e = c.args.world.now in
     let same : to_z w64 (of_z w64 n) ≡ n = search rules in
-    let is = subst (λ (v : Seen). Ok tt ≡ known_in v.heap class n) c.scene.view_is (subst (λ (z : ℤ). Ok tt ≡ known_in c.scene.inside.population class z) same c.in-Ok.ensures) in
-    let pending = subst (λ (v : Seen). c.is_scheduled.result ≡ is_pending n v.pending.entries) c.scene.view_is (subst (λ (z : ℤ). c.is_scheduled.result ≡ is_pending z c.scene.inside.timeline.pending.entries) same c.is_scheduled.ensures) in
+    let is = subst (λ (v : Seen). Ok tt ≡ known_in v.heap class n) c.world.view_is (subst (λ (z : ℤ). Ok tt ≡ known_in c.world.inside.population class z) same c.in-Ok.ensures) in
+    let pending = subst (λ (v : Seen). c.is_scheduled.result ≡ is_pending n v.pending.entries) c.world.view_is (subst (λ (z : ℤ). c.is_scheduled.result ≡ is_pending z c.world.inside.timeline.pending.entries) same c.is_scheduled.ensures) in
     ap rest (sym (sym pending ∙ c.if-is_scheduled.true)) ∙ ap (λ k. and_then k (λ u. rest (is_pending n e.pending.entries))) is
 
 pub returns-else-is_scheduled : goal.returns-else-is_scheduled
 returns-else-is_scheduled c =
-    let class = c.args.class in let n = c.args.notice in let e = c.args.scene.now in
+    let class = c.args.class in let n = c.args.notice in let e = c.args.world.now in
     let same : to_z w64 (of_z w64 n) ≡ n = search rules in
-    let is = subst (λ (v : Seen). Ok tt ≡ known_in v.heap class n) c.scene.view_is (subst (λ (z : ℤ). Ok tt ≡ known_in c.scene.inside.population class z) same c.in-Ok.ensures) in
-    let pending = subst (λ (v : Seen). c.is_scheduled.result ≡ is_pending n v.pending.entries) c.scene.view_is (subst (λ (z : ℤ). c.is_scheduled.result ≡ is_pending z c.scene.inside.timeline.pending.entries) same c.is_scheduled.ensures) in
+    let is = subst (λ (v : Seen). Ok tt ≡ known_in v.heap class n) c.world.view_is (subst (λ (z : ℤ). Ok tt ≡ known_in c.world.inside.population class z) same c.in-Ok.ensures) in
+    let pending = subst (λ (v : Seen). c.is_scheduled.result ≡ is_pending n v.pending.entries) c.world.view_is (subst (λ (z : ℤ). c.is_scheduled.result ≡ is_pending z c.world.inside.timeline.pending.entries) same c.is_scheduled.ensures) in
     ap rest (sym (sym pending ∙ c.if-is_scheduled.false)) ∙ ap (λ k. and_then k (λ u. rest (is_pending n e.pending.entries))) is

@@ -7,26 +7,26 @@ use Rattle.ss_machine_notices.specs.Giving.{SetsField}
 use Rattle.ss_machine_notices.proofs.Giving.{number_set, number_read}
 use Rattle.ss_machine_notices.proofs.scheduling.set_number.Goals as goal
 
-pub invariant_of-scene : goal.invariant_of-scene
-invariant_of-scene c =
-    let i = c.scene.inside in
+pub invariant_of-world : goal.invariant_of-world
+invariant_of-world c =
+    let i = c.world.inside in
     let ss = i.timeline.histories.statistics in
-    said_still i.population.layout c.set_whole.new.self.layout i.notices.items ss ss i.classes.items c.set_whole.ensures.layout refl c.scene.invariant
+    said_still i.population.layout c.set_whole.new.self.layout i.notices.items ss ss i.classes.items c.set_whole.ensures.layout refl c.world.invariant
 
 pub returns-clause-set : goal.returns-clause-set
 returns-clause-set c =
     let n = c.args.notice in let x = c.args.number in
-    let i = c.scene.inside in let h = c.set_whole.new.self in let r = c.set_whole.result in
+    let i = c.world.inside in let h = c.set_whole.new.self in let r = c.set_whole.result in
     let e : Seen = seen_of i.disciplines.items i.notices.items i.population i.timeline in
     let same_n : to_z w64 (of_z w64 n) ≡ n = search rules in
     let same_x : to_z w64 (of_z w64 x) ≡ x = search rules in
-    subst (λ (old : Seen). SetsField c.args.class c.args.field n (Whole x) old (record e { heap = h }) r) c.scene.view_is
+    subst (λ (old : Seen). SetsField c.args.class c.args.field n (Whole x) old (record e { heap = h }) r) c.world.view_is
     (number_set e c.args.class c.args.field n x h r (simp (same_n, same_x) at c.set_whole.ensures.done) c.set_whole.ensures.layout)
 
 pub returns-clause-read : goal.returns-clause-read
 returns-clause-read c =
     let n = c.args.notice in let x = c.args.number in
-    let i = c.scene.inside in let h = c.set_whole.new.self in let r = c.set_whole.result in
+    let i = c.world.inside in let h = c.set_whole.new.self in let r = c.set_whole.result in
     let e : Seen = seen_of i.disciplines.items i.notices.items i.population i.timeline in
     let same_n : to_z w64 (of_z w64 n) ≡ n = search rules in
     let same_x : to_z w64 (of_z w64 x) ≡ x = search rules in

@@ -2,7 +2,7 @@ use Rattle.std.proofs.Common.{refl, ap, ◌∙◌}
 use Rattle.std.specs.List.{fold}
 use Rattle.std.proofs.lemmas.Result.{on_ok_weaker}
 use Rattle.ss_base.specs.declared.line.Line.{Line}
-use Rattle.ss_names_declarations.specs.Firsts.{entry_if}
+use Rattle.ss_names_declarations.specs.NameTable.{entry_if}
 use Rattle.ss_names_declarations.specs.declared.declaration.Declared.{Declared}
 use Rattle.ss_names.specs.Table.{Table, declares, variable_meaning}
 use Rattle.ss_names.specs.Filling.{Entering, enter_name, entered}

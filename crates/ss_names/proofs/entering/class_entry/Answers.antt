@@ -1,5 +1,5 @@
 use Rattle.std.proofs.Common.{ap, ◌∙◌}
-use Rattle.ss_names_declarations.specs.Firsts.{place_in}
+use Rattle.ss_names_declarations.specs.NameTable.{place_in}
 use Rattle.ss_names.specs.Table.{class_meaning}
 use Rattle.ss_names.proofs.entering.class_entry.Goals as goal
 

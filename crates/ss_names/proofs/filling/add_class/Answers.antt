@@ -1,7 +1,7 @@
 use Rattle.std.proofs.Common.{ap, ◌∙◌}
 use Rattle.std.specs.List.{fold}
 use Rattle.std.proofs.lemmas.Result.{on_ok_weaker}
-use Rattle.ss_names_declarations.specs.Firsts.{with_first}
+use Rattle.ss_names_declarations.specs.NameTable.{with_first}
 use Rattle.ss_names.specs.Table.{Table}
 use Rattle.ss_names.specs.Entries.{class_variables, notice_number, number_added}
 use Rattle.ss_names.specs.Filling.{with_ranks, with_variables}

@@ -4,7 +4,7 @@ use Rattle.std.proofs.lemmas.Result.{on_ok_weaker}
 use Rattle.ss_base.specs.declared.layout.ClassKind.{ClassKind}
 use Rattle.ss_base.specs.declared.layout.Mode.TheVariants.{Integer}
 use Rattle.ss_tree.specs.Names.{NameBytes}
-use Rattle.ss_names_declarations.specs.Firsts.{with_first}
+use Rattle.ss_names_declarations.specs.NameTable.{with_first}
 use Rattle.ss_names.specs.Entries.{class_variables}
 use Rattle.ss_names.proofs.filling.add_class_variables.Goals as goal
 

@@ -1,6 +1,6 @@
 use Rattle.std.proofs.Common.{◌≡◌, take, Some}
 use Rattle.std.specs.List.{filter}
-use Rattle.ss_names_declarations.specs.Firsts.{same_name}
+use Rattle.ss_names_declarations.specs.NameTable.{same_name}
 use Rattle.ss_names_meaning.specs.Answers.{each}
 use Rattle.ss_names_meaning.specs.Layouts.{tied_by}
 use Rattle.ss_names_meaning.proofs.ranking.ties_among.Given as goal

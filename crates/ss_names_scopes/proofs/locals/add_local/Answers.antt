@@ -3,7 +3,7 @@ use Rattle.std.specs.List.{fold}
 use Rattle.std.specs.Option.{option_or}
 use Rattle.std.proofs.lemmas.Result.{on_ok_weaker}
 use Rattle.ss_names.specs.Table.{Table}
-use Rattle.ss_names_declarations.specs.Firsts.{value_for, with_first}
+use Rattle.ss_names_declarations.specs.NameTable.{value_for, with_first}
 use Rattle.std.specs.Prelude.{option_to_list}
 use Rattle.ss_names_scopes.specs.Locals.{local_of, moded_in}
 use Rattle.ss_names_scopes.proofs.locals.add_local.Goals as goal

@@ -1,6 +1,6 @@
 use Rattle.std.proofs.Common.{◌≡◌, map, take}
 use Rattle.std.specs.List.{flat_map}
-use Rattle.ss_names_declarations.specs.Firsts.{first_entries}
+use Rattle.ss_names_declarations.specs.NameTable.{first_entries}
 use Rattle.ss_names_scopes.specs.Locals.{local_used, moded_in}
 use Rattle.ss_names_scopes.proofs.locals.collect.Given as goal
 

@@ -1,7 +1,7 @@
 use Rattle.std.proofs.Common.{List, []}
 use Rattle.ss_base.specs.declared.layout.Mode.{Mode}
 use Rattle.ss_tree.specs.Names.{NameBytes}
-use Rattle.ss_names_declarations.specs.Firsts.{with_first}
+use Rattle.ss_names_declarations.specs.NameTable.{with_first}
 use Rattle.ss_names_uses.specs.declared.used.Use.{Use}
 use Rattle.ss_names_scopes.specs.Locals.{defined_by}
 use Rattle.ss_names_scopes.proofs.Finding.{found_after}

@@ -1,5 +1,5 @@
 use Rattle.std.proofs.Common.{◌≡◌, take}
-use Rattle.ss_names_declarations.specs.Firsts.{first_entries}
+use Rattle.ss_names_declarations.specs.NameTable.{first_entries}
 use Rattle.ss_names_scopes.specs.Locals.{defined}
 use Rattle.ss_names_scopes.proofs.locals.modes_of.Given as goal
 

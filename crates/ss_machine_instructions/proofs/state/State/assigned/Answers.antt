@@ -8,9 +8,9 @@ pub returns-in-Err : goal.returns-in-Err
 returns-in-Err c =
     let note = attribute_noted c.args.class c.args.field c.args.entity in
     record {
-      scene = c.args.self.now.scene;
+      world = c.args.self.now.world;
       said = Err c.in-Err.kind;
-      after = after_fault c.args.answer c.in-Err.kind c.args.noted note c.args.self.now.scene c.in-Err.is;
+      after = after_fault c.args.answer c.in-Err.kind c.args.noted note c.args.self.now.world c.in-Err.is;
       state = c.fault.ensures.faulted;
       way = c.fault.ensures.none;
     }
@@ -18,11 +18,11 @@ returns-in-Err c =
 pub returns-then-noted : goal.returns-then-noted
 returns-then-noted c =
     let note = attribute_noted c.args.class c.args.field c.args.entity in
-    let changed : Changes note c.args.self.now.scene c.note_attribute-answer.new.self c.note_attribute-answer.result = search rules in
+    let changed : Changes note c.args.self.now.world c.note_attribute-answer.new.self c.note_attribute-answer.result = search rules in
     record {
-      scene = c.note_attribute-answer.new.self;
+      world = c.note_attribute-answer.new.self;
       said = c.note_attribute-answer.result;
-      after = after_noted c.args.answer tt c.args.noted note c.args.self.now.scene c.note_attribute-answer.new.self c.note_attribute-answer.result c.in-Ok.is c.if-noted.true changed;
+      after = after_noted c.args.answer tt c.args.noted note c.args.self.now.world c.note_attribute-answer.new.self c.note_attribute-answer.result c.in-Ok.is c.if-noted.true changed;
       state = c.done.ensures.state;
       way = c.done.ensures.way;
     }
@@ -31,9 +31,9 @@ pub returns-else-noted : goal.returns-else-noted
 returns-else-noted c =
     let note = attribute_noted c.args.class c.args.field c.args.entity in
     record {
-      scene = c.args.self.now.scene;
+      world = c.args.self.now.world;
       said = Ok tt;
-      after = after_unnoted c.args.answer tt c.args.noted note c.args.self.now.scene c.in-Ok.is c.if-noted.false;
+      after = after_unnoted c.args.answer tt c.args.noted note c.args.self.now.world c.in-Ok.is c.if-noted.false;
       state = refl;
       way = refl;
     }

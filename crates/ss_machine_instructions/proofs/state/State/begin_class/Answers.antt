@@ -39,7 +39,7 @@ returns c = λ skip w core r.
     let run = Runs c.args.class c.args.cell skip in
     let y = subst (Suits w.program w.code core.place r.placed.locals r.placed.cells) r.runs.carries.2 (suits w core c.args.here c.args.self.now run r) in
     let high : length core.cells ≡ r.runs.carries.0 = hold_length core.cells r.placed.cells r.fits.cells ∙ y.1 in
-    let count = length (records_in (slice_get c.args.self.now.scene.heap.permanents c.args.class)) in
+    let count = length (records_in (slice_get c.args.self.now.world.heap.permanents c.args.class)) in
     let within = class_within w core c.args.here c.args.self.now run r c.args.class c.args.cell r.runs.carries.0 skip r.runs.carries.1 y in
     let found : c.is_item.result ≡ has_item (pos 1) (pos count) = search rules in
     begins_class w core c.args.here c.args.self.now run r c.args.class c.args.cell r.runs.carries.0 count skip _ (on_if_at c.args.here c.is_item.result skip) r.runs.carries.2 r.runs.carries.1 high (class_count w core c.args.here c.args.self.now run r c.args.class) within (search rules) (ap (λ b. on_if_at c.args.here b skip) found)

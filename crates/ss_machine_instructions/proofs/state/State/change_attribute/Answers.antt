@@ -23,7 +23,7 @@ pub change-answer-requires-clause-class : goal.change-answer-requires-clause-cla
 change-answer-requires-clause-class c =
     let z = c.requires in
     let there = changes_mode z.0 z.1 c.args.here c.args.self.now (Runs c.args.attribute.class c.args.attribute.field c.args.entity.now c.args.by.now c.args.sign c.args.attribute.noted) z.2 c.args.sign c.args.attribute.class c.args.attribute.field c.args.entity.now c.args.by.now z.2.runs.carries.1 in
-    let lt = class_within c.args.self.now.scene.heap.layout.classes c.args.attribute.class c.args.attribute.field Integer there in
+    let lt = class_within c.args.self.now.world.heap.layout.classes c.args.attribute.class c.args.attribute.field Integer there in
     search rules
 
 pub change-answer-requires-clause-mode : goal.change-answer-requires-clause-mode
@@ -36,7 +36,7 @@ pub assigned-requires-clause-class : goal.assigned-requires-clause-class
 assigned-requires-clause-class c =
     let z = c.requires in
     let there = changes_mode z.0 z.1 c.args.here c.args.self.now (Runs c.args.attribute.class c.args.attribute.field c.args.entity.now c.args.by.now c.args.sign c.args.attribute.noted) z.2 c.args.sign c.args.attribute.class c.args.attribute.field c.args.entity.now c.args.by.now z.2.runs.carries.1 in
-    subst (λ (l : Layout). c.args.attribute.class < length l.classes) (sym c.change-answer.ensures.layout) (class_within c.args.self.now.scene.heap.layout.classes c.args.attribute.class c.args.attribute.field Integer there)
+    subst (λ (l : Layout). c.args.attribute.class < length l.classes) (sym c.change-answer.ensures.layout) (class_within c.args.self.now.world.heap.layout.classes c.args.attribute.class c.args.attribute.field Integer there)
 
 pub assigned-requires-clause-mode : goal.assigned-requires-clause-mode
 assigned-requires-clause-mode c =
@@ -48,10 +48,10 @@ pub returns : goal.returns
 returns c = λ w core r.
     let n = c.number-entity.result in let v = c.number-number.result in
     let s = c.args.self.now in
-    let q = c.change-answer.result in let e = c.change-answer.new.scene in
+    let q = c.change-answer.result in let e = c.change-answer.new.world in
     let same_n : to_z w64 (of_z w64 n) ≡ n = search rules in
     let same_v : to_z w64 (of_z w64 v) ≡ v = search rules in
-    let done : MatchResult q (λ _. IsChanged (λ z. computed (operator_of c.args.sign) z v) s.scene.heap c.args.attribute.class c.args.attribute.field n e.heap) (λ kind. (changed_number (λ z. computed (operator_of c.args.sign) z v) (value_in s.scene.heap c.args.attribute.class c.args.attribute.field n) ≡ Err kind) × (e.heap ≡ s.scene.heap)) = simp (same_n, same_v) at c.change-answer.ensures.done in
-    let noted : Notes c.args.attribute.noted (attribute_noted c.args.attribute.class c.args.attribute.field n) q (record s { scene = e }) c.assigned.new.self c.assigned.result = simp same_n at c.assigned.ensures in
-    let after = subst (λ (x : Seen). Notes c.args.attribute.noted (attribute_noted c.args.attribute.class c.args.attribute.field n) q (record s { scene = x }) c.assigned.new.self c.assigned.result) c.change-answer.ensures.same noted in
+    let done : MatchResult q (λ _. IsChanged (λ z. computed (operator_of c.args.sign) z v) s.world.heap c.args.attribute.class c.args.attribute.field n e.heap) (λ kind. (changed_number (λ z. computed (operator_of c.args.sign) z v) (value_in s.world.heap c.args.attribute.class c.args.attribute.field n) ≡ Err kind) × (e.heap ≡ s.world.heap)) = simp (same_n, same_v) at c.change-answer.ensures.done in
+    let noted : Notes c.args.attribute.noted (attribute_noted c.args.attribute.class c.args.attribute.field n) q (record s { world = e }) c.assigned.new.self c.assigned.result = simp same_n at c.assigned.ensures in
+    let after = subst (λ (x : Seen). Notes c.args.attribute.noted (attribute_noted c.args.attribute.class c.args.attribute.field n) q (record s { world = x }) c.assigned.new.self c.assigned.result) c.change-answer.ensures.same noted in
     changes_by w core c.args.here s (Runs c.args.attribute.class c.args.attribute.field c.args.entity.now c.args.by.now c.args.sign c.args.attribute.noted) r c.args.sign c.args.attribute.class c.args.attribute.field c.args.entity.now c.args.by.now c.args.attribute.noted n v q e.heap c.assigned.new.self c.assigned.result r.runs.carries.0 r.runs.carries.1 c.number-entity.ensures c.number-number.ensures done c.change-answer.ensures.layout after

@@ -11,7 +11,7 @@ use Rattle.ss_machine_instructions.proofs.state.State.clock.Goals as goal
 pub put-requires : goal.put-requires
 put-requires c =
     let z = c.requires in
-    let e : c.args.self.now.scene.time ≡ c.time-time.result = search rules in
+    let e : c.args.self.now.world.time ≡ c.time-time.result = search rules in
     let l = z.2.placed.line in
     let m = act z.0.code l z.2.placed.instruction z.1 in
     let same : to_z w64 (of_z w64 c.time-time.result) ≡ c.time-time.result = search rules in
@@ -19,7 +19,7 @@ put-requires c =
 
 pub returns : goal.returns
 returns c = λ w core r.
-    let e : c.args.self.now.scene.time ≡ c.time-time.result = search rules in
+    let e : c.args.self.now.world.time ≡ c.time-time.result = search rules in
     let d = clocks w core c.args.here c.args.self.now (Runs c.args.to.now) r c.args.to.now c.time-time.result r.runs.carries e in
     let l = r.placed.line in
     let m = act w.code l r.placed.instruction core in

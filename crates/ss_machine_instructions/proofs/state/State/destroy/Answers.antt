@@ -25,5 +25,5 @@ destroy-answer-requires-clause-single c =
 pub returns : goal.returns
 returns c = λ w core r.
     let same : to_z w64 (of_z w64 c.number-entity.result) ≡ c.number-entity.result = search rules in
-    let changed = subst (λ (x : ℤ). Changes (without c.args.class (Whole x)) c.args.self.now.scene c.destroy-answer.new.self c.destroy-answer.result) same c.destroy-answer.ensures in
+    let changed = subst (λ (x : ℤ). Changes (without c.args.class (Whole x)) c.args.self.now.world c.destroy-answer.new.self c.destroy-answer.result) same c.destroy-answer.ensures in
     destroys w core c.args.here c.args.self.now (Runs c.args.class c.args.entity.now) r c.args.class c.args.entity.now c.number-entity.result c.destroy-answer.new.self c.destroy-answer.result c.done.new.self (on_after c.args.here c.done.result) r.runs.carries c.number-entity.ensures changed c.done.ensures.state (ap (on_after c.args.here) c.done.ensures.way)

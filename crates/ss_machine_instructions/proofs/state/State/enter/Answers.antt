@@ -14,5 +14,5 @@ returns-in_err-push-clause-err c =
     let is = c.clear.ensures in
     let long = ap (λ (r : TwoRows). length r.numbers) is in
     let longer : length old.rows.numbers ≤ length c.clear.new.self.numbers = first_of (search (cleared_from, grown, is), search (cleared_from, rules), omega (arith, long, grown.longer, cleared_long)) in
-    let refused : IsOutOfMemory old new = record { ticks = refl; steps = refl; scene = refl; longer = longer } in
+    let refused : IsOutOfMemory old new = record { ticks = refl; steps = refl; world = refl; longer = longer } in
     on_err (IsOutOfMemory old new) _ refused

@@ -23,10 +23,10 @@ pub returns : goal.returns
 returns c = λ w core r.
     let s = c.args.self.now in let set = c.args.filing.set in let notes = c.args.filing.noted in
     let n = c.number-member.result in let m = c.number-owner.result in let k = c.number-beside.result in
-    let e = c.put_after-answer.new.scene in let q = c.put_after-answer.result in
+    let e = c.put_after-answer.new.world in let q = c.put_after-answer.result in
     let same_n : to_z w64 (of_z w64 n) ≡ n = search rules in
     let same_m : to_z w64 (of_z w64 m) ≡ m = search rules in
     let same_k : to_z w64 (of_z w64 k) ≡ k = search rules in
-    let raw = subst (λ (v : ℤ). Files (JustAfter (Whole v)) set notes s.scene e q (to_z w64 (of_z w64 m)) (to_z w64 (of_z w64 n))) same_k c.put_after-answer.ensures in
-    let filed = subst (λ (y : ℤ). Files (JustAfter (Whole k)) set notes s.scene e q y n) same_m (subst (λ (x : ℤ). Files (JustAfter (Whole k)) set notes s.scene e q (to_z w64 (of_z w64 m)) x) same_n raw) in
+    let raw = subst (λ (v : ℤ). Files (JustAfter (Whole v)) set notes s.world e q (to_z w64 (of_z w64 m)) (to_z w64 (of_z w64 n))) same_k c.put_after-answer.ensures in
+    let filed = subst (λ (y : ℤ). Files (JustAfter (Whole k)) set notes s.world e q y n) same_m (subst (λ (x : ℤ). Files (JustAfter (Whole k)) set notes s.world e q (to_z w64 (of_z w64 m)) x) same_n raw) in
     files_after w core c.args.here s (Runs c.args.filing.noted true c.args.filing.set c.args.member.now c.args.beside.now c.args.owner.now) r c.args.filing.set c.args.beside.now c.args.member.now c.args.owner.now k n m notes e q c.done.new.self (on_after c.args.here c.done.result) r.runs.carries.0 r.runs.carries.1 c.number-beside.ensures c.number-member.ensures c.number-owner.ensures filed (c.done.ensures.state, ap (on_after c.args.here) c.done.ensures.way)

@@ -19,8 +19,8 @@ pub returns : goal.returns
 returns c = λ w core r.
     let s = c.args.self.now in let set = c.args.set in let notes = c.args.noted in
     let n = c.number-member.result in let m = c.number-owner.result in
-    let e = c.put_last-answer.new.scene in let q = c.put_last-answer.result in
+    let e = c.put_last-answer.new.world in let q = c.put_last-answer.result in
     let same_n : to_z w64 (of_z w64 n) ≡ n = search rules in
     let same_m : to_z w64 (of_z w64 m) ≡ m = search rules in
-    let filed = subst (λ (y : ℤ). Files Hindmost set notes s.scene e q y n) same_m (subst (λ (x : ℤ). Files Hindmost set notes s.scene e q (to_z w64 (of_z w64 m)) x) same_n c.put_last-answer.ensures) in
+    let filed = subst (λ (y : ℤ). Files Hindmost set notes s.world e q y n) same_m (subst (λ (x : ℤ). Files Hindmost set notes s.world e q (to_z w64 (of_z w64 m)) x) same_n c.put_last-answer.ensures) in
     files_last w core c.args.here s (Runs c.args.set c.args.member.now c.args.owner.now c.args.noted) r c.args.set c.args.member.now c.args.owner.now n m notes e q c.done.new.self (on_after c.args.here c.done.result) r.runs.carries.0 r.runs.carries.1 c.number-member.ensures c.number-owner.ensures filed (c.done.ensures.state, ap (on_after c.args.here) c.done.ensures.way)

@@ -20,5 +20,5 @@ set_number_at-requires c =
 
 pub returns : goal.returns
 returns c = λ w core r.
-    let changed : Changes (noted (OfVariable c.args.variable) (pos 0) (Whole c.number-value.result)) c.args.self.now.scene c.note_variable-answer.new.self c.note_variable-answer.result = search rules in
+    let changed : Changes (noted (OfVariable c.args.variable) (pos 0) (Whole c.number-value.result)) c.args.self.now.world c.note_variable-answer.new.self c.note_variable-answer.result = search rules in
     keeps w core c.args.here c.args.self.now (Runs c.args.from.now c.args.variable) r c.args.variable c.args.from.now c.number-value.result c.note_variable-answer.new.self c.note_variable-answer.result c.done.new.self (on_after c.args.here c.done.result) r.runs.carries c.number-value.ensures changed (search rules) (ap (on_after c.args.here) c.done.ensures.way)

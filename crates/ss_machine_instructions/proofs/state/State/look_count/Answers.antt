@@ -8,5 +8,5 @@ use Rattle.ss_machine_instructions.proofs.state.State.look_count.Goals as goal
 
 pub returns : goal.returns
 returns c = λ w core r.
-    let looks : Looks (assignable_count c.args.class) c.args.self.now.scene c.look_count-answer.result = search rules in
+    let looks : Looks (assignable_count c.args.class) c.args.self.now.world c.look_count-answer.result = search rules in
     looks_at_count w core c.args.here c.args.self.now (Runs c.args.class) r c.args.class c.look_count-answer.result c.done.new.self (on_after c.args.here c.done.result) r.runs.carries looks c.done.ensures.state (ap (on_after c.args.here) c.done.ensures.way)

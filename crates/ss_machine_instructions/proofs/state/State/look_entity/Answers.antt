@@ -16,5 +16,5 @@ known-answer-requires c =
 
 pub returns : goal.returns
 returns c = λ w core r.
-    let known : c.known-answer.result ≡ known_in c.args.self.now.scene.heap c.args.class c.number-entity.result = search rules in
+    let known : c.known-answer.result ≡ known_in c.args.self.now.world.heap c.args.class c.number-entity.result = search rules in
     looks_at_entity w core c.args.here c.args.self.now (Runs c.args.class c.args.entity.now) r c.args.class c.args.entity.now c.number-entity.result c.known-answer.result c.done.new.self (on_after c.args.here c.done.result) r.runs.carries c.number-entity.ensures known c.done.ensures.state (ap (on_after c.args.here) c.done.ensures.way)

@@ -17,5 +17,5 @@ look_member-answer-requires c =
 
 pub returns : goal.returns
 returns c = λ w core r.
-    let known : c.look_member-answer.result ≡ no_value (joiner c.args.self.now.scene.heap c.args.set c.number-member.result) = search rules in
+    let known : c.look_member-answer.result ≡ no_value (joiner c.args.self.now.world.heap c.args.set c.number-member.result) = search rules in
     looks_at_member w core c.args.here c.args.self.now (Runs c.args.set c.args.member.now) r c.args.set c.args.member.now c.number-member.result c.look_member-answer.result c.done.new.self (on_after c.args.here c.done.result) r.runs.carries c.number-member.ensures known c.done.ensures.state (ap (on_after c.args.here) c.done.ensures.way)

@@ -17,5 +17,5 @@ look_owner-answer-requires c =
 
 pub returns : goal.returns
 returns c = λ w core r.
-    let known : c.look_owner-answer.result ≡ no_value (owner c.args.self.now.scene.heap c.args.set c.number-owner.result) = search rules in
+    let known : c.look_owner-answer.result ≡ no_value (owner c.args.self.now.world.heap c.args.set c.number-owner.result) = search rules in
     looks_at_owner w core c.args.here c.args.self.now (Runs c.args.set c.args.owner.now) r c.args.set c.args.owner.now c.number-owner.result c.look_owner-answer.result c.done.new.self (on_after c.args.here c.done.result) r.runs.carries c.number-owner.ensures known c.done.ensures.state (ap (on_after c.args.here) c.done.ensures.way)

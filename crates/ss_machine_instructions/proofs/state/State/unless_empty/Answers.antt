@@ -22,8 +22,8 @@ pub returns : goal.returns
 returns c = λ skip w core r.
     let n = c.number-owner.result in let s = c.args.self.now in
     let same : to_z w64 (of_z w64 n) ≡ n = search rules in
-    let value = subst (λ (x : ℤ). c.number_in.result ≡ count_in s.scene.heap c.args.set x) same c.number_in.ensures.value in
+    let value = subst (λ (x : ℤ). c.number_in.result ≡ count_in s.world.heap c.args.set x) same c.number_in.ensures.value in
     let test = c.are_none-answer.ensures ∙ ap none_of value in
     empties w core c.args.here s (Runs c.args.set c.args.owner.now skip c.args.negated) r c.args.set skip c.args.negated c.args.owner.now n c.tested.new.self (tested_at c.args.here c.tested.result skip) r.runs.carries c.number-owner.ensures
-    (c.tested.ensures.state ∙ ap (λ (e : Seen). faulted_test c.are_none-answer.result (record s { scene = e })) c.number_in.ensures.same ∙ ap (λ q. faulted_test q s) test)
+    (c.tested.ensures.state ∙ ap (λ (e : Seen). faulted_test c.are_none-answer.result (record s { world = e })) c.number_in.ensures.same ∙ ap (λ q. faulted_test q s) test)
     (ap (λ o. tested_at c.args.here o skip) (c.tested.ensures.way ∙ ap (λ q. test_of q c.args.negated) test))

@@ -26,7 +26,7 @@ returns c = λ skip w core r.
     let x = c.number-member.result in let o = c.number-owner.result in let s = c.args.self.now in
     let same_x : to_z w64 (of_z w64 x) ≡ x = search rules in
     let same_o : to_z w64 (of_z w64 o) ≡ o = search rules in
-    let test : c.is_member-answer.result ≡ member_test s.scene.heap c.args.set o x = simp (same_x, same_o) at c.is_member-answer.ensures.value in
+    let test : c.is_member-answer.result ≡ member_test s.world.heap c.args.set o x = simp (same_x, same_o) at c.is_member-answer.ensures.value in
     members w core c.args.here s (Runs c.args.set c.args.both.0.now c.args.both.1.now skip c.args.negated) r c.args.set skip c.args.negated c.args.both.0.now c.args.both.1.now x o c.tested.new.self (tested_at c.args.here c.tested.result skip) r.runs.carries c.number-member.ensures c.number-owner.ensures
-    (c.tested.ensures.state ∙ ap (λ (e : Seen). faulted_test c.is_member-answer.result (record s { scene = e })) c.is_member-answer.ensures.same ∙ ap (λ q. faulted_test q s) test)
+    (c.tested.ensures.state ∙ ap (λ (e : Seen). faulted_test c.is_member-answer.result (record s { world = e })) c.is_member-answer.ensures.same ∙ ap (λ q. faulted_test q s) test)
     (ap (λ o. tested_at c.args.here o skip) (c.tested.ensures.way ∙ ap (λ q. test_of q c.args.negated) test))

@@ -1,5 +1,5 @@
 use Rattle.std.proofs.Common.{sym, ap, ◌∙◌}
-use Rattle.ss_names_declarations.specs.Firsts.{place_in}
+use Rattle.ss_names_declarations.specs.NameTable.{place_in}
 use Rattle.ss_names.proofs.Short.{longer_absent, no_spelling}
 use Rattle.ss_names.proofs.meanings.Meanings.place.Goals as goal
 

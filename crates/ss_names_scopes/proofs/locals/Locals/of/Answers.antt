@@ -3,7 +3,7 @@ use Rattle.std.specs.List.{flat_map}
 use Rattle.std.specs.Prelude.{Option}
 use Rattle.ss_base.specs.declared.layout.Mode.{Mode}
 use Rattle.ss_tree.specs.Names.{NameBytes}
-use Rattle.ss_names_declarations.specs.Firsts.{first_entries}
+use Rattle.ss_names_declarations.specs.NameTable.{first_entries}
 use Rattle.ss_names_scopes.specs.Locals.{defined, local_used}
 use Rattle.ss_names_scopes.proofs.Entering.{moded_found}
 use Rattle.ss_names_scopes.proofs.locals.Locals.of.Goals as goal

@@ -1,7 +1,7 @@
 use Rattle.std.proofs.Common.{◌≡◌, Some, subst}
 use Rattle.std.specs.Prelude.{slice_get, option_map, IfSome}
 use Rattle.std.specs.Map.{keys_of}
-use Rattle.ss_names_declarations.specs.Firsts.{place_in}
+use Rattle.ss_names_declarations.specs.NameTable.{place_in}
 use Rattle.ss_tables.proofs.Places.{found_is_there, found_if_declared}
 use Rattle.ss_tables.proofs.tables.Tables.find.Goals as goal
 

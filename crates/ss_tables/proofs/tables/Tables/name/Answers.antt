@@ -1,5 +1,5 @@
 use Rattle.std.proofs.Common.{◌≡◌, Some, subst}
-use Rattle.ss_names_declarations.specs.Firsts.{place_in}
+use Rattle.ss_names_declarations.specs.NameTable.{place_in}
 use Rattle.ss_tables.proofs.Places.{there_is_found}
 use Rattle.ss_tables.proofs.tables.Tables.name.Goals as goal
 

@@ -1,0 +1,29 @@
+use Rattle.std.proofs.Common.{rules, ◌≡◌, true, false, Err, refl, subst, to_z, of_z, w64, ℤ}
+use Rattle.ss_base.specs.declared.value.Value.TheVariants.{Whole}
+use Rattle.ss_world.specs.PendingList.{is_pending}
+use Rattle.ss_meaning.specs.Entities.{gone, without}
+use Rattle.ss_meaning.specs.Values.{Fails}
+use Rattle.ss_machine_world.specs.Seen.{Changes, with_seen}
+use Rattle.ss_machine_world.proofs.Leaving.{gone_without}
+use Rattle.ss_machine_world.proofs.world.World.destroy.Goals as goal
+
+pub scheduled-requires-clause-pending : goal.scheduled-requires-clause-pending
+scheduled-requires-clause-pending c =
+    let n = c.args.number in
+    let same : to_z w64 (of_z w64 n) ≡ n = search rules in
+    let pending : is_pending n c.args.self.now.pending.entries ≡ true = search rules in
+    rw same pending
+
+pub returns-then-is_scheduled : goal.returns-then-is_scheduled
+returns-then-is_scheduled c =
+    let n = c.args.number in
+    let same : to_z w64 (of_z w64 n) ≡ n = search rules in
+    (λ s right. subst (λ (z : ℤ). without c.args.class (Whole z) (with_seen s c.args.self.now) ≡ Err (Fails c.scheduled.result)) same (c.scheduled.ensures s), refl)
+
+pub returns : goal.returns
+returns c =
+    let e = c.args.self.now in let class = c.args.class in let n = c.args.number in
+    let same : to_z w64 (of_z w64 n) ≡ n = search rules in
+    let free : is_pending n e.pending.entries ≡ false = search rules in
+    gone_without e class n c.requires.single c.remove_entity.new.self c.remove_entity.result free
+    (subst (λ (z : ℤ). Changes (gone class (Whole z)) e c.remove_entity.new.self c.remove_entity.result) same c.remove_entity.ensures)
